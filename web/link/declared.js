@@ -81,7 +81,8 @@ const filesOf = (folder) =>
 export const calls = ['programs', 'plain', 'runs', 'boards']
   .flatMap((name) => callsIn(read(`pram_page/src/${name}.rt`)));
 
-export const layouts = layoutsOf(filesOf('page_core/src').flatMap(structsIn));
+export const layouts = layoutsOf(
+  [...filesOf('page_core/src'), read('pram_step/src/last.rt')].flatMap(structsIn));
 
 const camelCase = (name) => name.replaceAll(/_([a-z])/g, (_, letter) => letter.toUpperCase());
 

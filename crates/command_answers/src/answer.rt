@@ -9,7 +9,7 @@ ghost use Rattle.command_answers.specs.Answering.{AnswersWords, AskForThreads, E
 use clap::error::ErrorKind;
 use command_line::read_line;
 use pram_commands::{
-    Console, DONE, FAILED, Folder, Line, MEMORY, Refusal, serve_files, serve_files_alone, tell,
+    Ask, Console, DONE, FAILED, Folder, Line, MEMORY, Refusal, serve_files, serve_files_alone, tell,
 };
 use pram_streams::{Sink, put};
 use std::alloc::Global;
@@ -41,8 +41,8 @@ pub fn answer_words<'a, R: Eprint + Threads + Wait + Clock + Sync, F: Folder, O:
     }
 }
 
-/// Does what `answer_words` does where the words mean no line that starts threads, and always
-/// returns; else it gives that line, for which nothing was done.
+/// Does what `answer_words` does where the words ask nothing on threads, and always returns; else it
+/// gives their line, for which nothing was done.
 pub fn answer_alone<'a, F: Folder, O: Sink, E: Sink>(
     alloc: Global,
     folder: &F,
@@ -67,10 +67,10 @@ pub fn answer_alone<'a, F: Folder, O: Sink, E: Sink>(
         Err(error) => return Ok(refusal_status(alloc, &error, console)),
     };
     console.explains |= asked.explain;
-    if !asked.line.starts_no_thread() {
-        return Err(asked.line);
+    match asked.line.ask {
+        Ask::Alone(ask) => Ok(serve_files_alone(alloc, folder, &asked.line, ask, console)),
+        Ask::OnThreads(_) => Err(asked.line),
     }
-    Ok(serve_files_alone(alloc, folder, &asked.line, console))
 }
 
 /// Prints what `read_line` answers in place of a line, and answers its status: help and the version

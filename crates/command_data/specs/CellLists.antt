@@ -13,12 +13,12 @@ parts_of = slice_split (λ byte. byte == 44)
 abbrev pub part_at : List (List ℕ) → ℕ → List ℕ
 part_at parts at = slice_index_or parts at []
 
-abbrev pub cell_of : List ℕ → ℕ
-cell_of part = digits_value 10 (without_leading_plus part)
+abbrev pub cell_listed : List ℕ → ℕ
+cell_listed part = digits_value 10 (without_leading_plus part)
 
 -- a number below 2^32
 abbrev pub SpellsCell : List ℕ → Type 0
-SpellsCell part = IsNumeral 10 (without_leading_plus part) × (cell_of part < 2 ^ 32)
+SpellsCell part = IsNumeral 10 (without_leading_plus part) × (cell_listed part < 2 ^ 32)
 
 -- whether it begins as a name does
 abbrev pub begins_place : List ℕ → Bool

@@ -1,7 +1,7 @@
 //! Cells as a word of the command line names them.
 ghost use Rattle.std.specs.Prelude.{◌≡◌, ◌↔◌, None, IfSome, IsTrue, MatchOption};
 ghost use Rattle.command_data.specs.CellLists.{SpellsCell, SpellsCells, SpellsPart, begins_place};
-ghost use Rattle.command_data.specs.CellLists.{cell_of, part_at, parts_of};
+ghost use Rattle.command_data.specs.CellLists.{cell_listed, part_at, parts_of};
 
 /// Cells by their numbers, or as places of a program, which a text parts by commas. The numbers are
 /// below 2^32; a cell may stand there several times.
@@ -62,7 +62,7 @@ fn begins_place(part: &str) -> bool
 /// The cell of a number.
 pub fn cell_of(part: &str) -> Option<u32>
     ensures { MatchOption result (¬ SpellsCell part.now)
-        (λ cell. SpellsCell part.now × (cell ≡ cell_of part.now)) }
+        (λ cell. SpellsCell part.now × (cell ≡ cell_listed part.now)) }
 {
     part.parse().ok()
 }

@@ -21,13 +21,13 @@ use Rattle.pardo_answers.specs.Language.{is_program}
 use Rattle.pardo_answers.proofs.LawAnswers.{printed_answers_are_the_programs}
 use Rattle.command_law.specs.Laws.{IsCutOff, IsProgramsAnswer}
 use Rattle.command_law.specs.Laws.{PlainPrintsTheProgramsAnswer, RunsPrintTheProgramsAnswer}
-use Rattle.pram_commands.specs.Names.{AreNames, IsNaming, NamingData, told}
+use Rattle.pram_commands.specs.Names.{AreNames, IsNaming, NamingData, printed_answer}
 use Rattle.pram_commands.specs.Threads.{EndsAt}
 
 -- by the names of a program
 by_names : (text : List ℕ) (job : JobData) (naming : NamingData) (answer : RunAnswer) →
     IsNaming text job naming → IsAnswer job answer →
-    IsProgramsAnswer text job (told (Some naming) answer job.steps)
+    IsProgramsAnswer text job (printed_answer (Some naming) answer job.steps)
 by_names text job naming answer is answers =
     let lawful : IsProgram naming.program =
     subst (λ (r : Result ProgramData PardoFault). IfOk r IsProgram) is.reads
@@ -52,7 +52,7 @@ by_names text job naming answer is answers =
 -- the text of a program is no text of the machine
 pub told_answer : (text : List ℕ) (job : JobData) (names : Option NamingData) (answer : RunAnswer) →
     is_program text ≡ true → AreNames text job names → IsAnswer job answer →
-    IsProgramsAnswer text job (told names answer job.steps)
+    IsProgramsAnswer text job (printed_answer names answer job.steps)
 told_answer text job None answer one is answers = absurd (false≢true (sym is.is_none ∙ one))
 told_answer text job (Some naming) answer one is answers = by_names text job naming answer is answers
 
@@ -65,7 +65,7 @@ alone text job bytes told back prints follows is =
 
 pub plain_prints : PlainPrintsTheProgramsAnswer
 plain_prints text job bytes answer one comes =
-    alone text job bytes (told comes.names comes.ended job.steps) comes.back comes.prints
+    alone text job bytes (printed_answer comes.names comes.ended job.steps) comes.back comes.prints
     comes.follows (told_answer text job comes.names comes.ended one comes.are_names comes.ends)
 
 -- how a run ended
@@ -84,7 +84,8 @@ pub runs_print : RunsPrintTheProgramsAnswer
 runs_print text job plan workers bytes answer one comes =
     elim (ended_so job plan comes.ends.0 comes.ended comes.ends.1) [
       | inl answers ↦ inl
-          (alone text job bytes (told comes.names comes.ended job.steps) comes.back comes.prints
+          (alone text job bytes (printed_answer comes.names comes.ended job.steps) comes.back
+          comes.prints
           comes.follows (told_answer text job comes.names comes.ended one comes.are_names answers))
       | inr cut ↦ inr
           (subst (λ (a : Option RunAnswer). IsCutOff plan a) (sym comes.gives) cut)

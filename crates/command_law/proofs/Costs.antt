@@ -12,7 +12,8 @@ use Rattle.pram_step.specs.declared.answer.RunAnswer.TheVariants.{Conflict}
 use Rattle.pram_step.specs.Runs.{IsFault, IsReached, state_after}
 use Rattle.pram_step.proofs.LawAnswer.{conflict_ends}
 use Rattle.pram_step.proofs.LawFixed.{reached_down}
-use Rattle.pram_cost.specs.Accesses.{is_running, put_to_cell, write_by}
+use Rattle.pram_cost.specs.Accesses.{put_to_cell, write_by}
+use Rattle.pram_step.specs.Running.{is_running}
 use Rattle.pram_cost.specs.Costs.{IsLength}
 use Rattle.pram_cost.specs.Meetings.{IsFirstMeeting, IsFirstOrNone, Meet, access_by}
 use Rattle.pram_cost.specs.Printed.{cost_text}
@@ -21,11 +22,11 @@ use Rattle.pram_cost.specs.declared.meeting.Meeting.{Meeting}
 use Rattle.pram_cost.specs.declared.meeting.Sharing.{Sharing}
 use Rattle.pram_cost.specs.declared.meeting.Sharing.TheVariants.{SameRead, SameWrite, OtherValue}
 use Rattle.pram_cost.proofs.Accessing.{idle_access}
-use Rattle.pardo_job.specs.Layouts.{layout_of}
+use Rattle.pardo_job.specs.Layouts.{program_layout}
 use Rattle.pardo_job.specs.Meaning.{after}
 use Rattle.pardo_job.specs.Printed.{IsConflictText, cell_text}
 use Rattle.pardo_job.specs.Runs.{line_number}
-use Rattle.pardo_law.specs.Between.{AreMade, IsInLine}
+use Rattle.pardo_law.specs.Between.{AreLinesMade, IsInLine}
 use Rattle.pardo_answers.specs.Language.{is_program}
 use Rattle.pardo_answers.specs.Laws.{IsAnswerText, IsCarrying}
 use Rattle.pardo_answers.proofs.LawAnswers.{printed_answers_are_the_programs}
@@ -85,9 +86,9 @@ module _ (text : List ℕ) (job : JobData) (naming : NamingData) (names : IsNami
 
   -- who writes to a place does so by the meaning
   both_write : (sharing : Sharing) (before n : ℕ) (meeting : Meeting) → IsReached job before →
-      AreMade naming.program time before n → (meet : Meet sharing
+      AreLinesMade naming.program time before n → (meet : Meet sharing
       (write_by job (state_after job before)) job.procs meeting.cell meeting.first
-      meeting.second) → meeting.cell < (layout_of naming.program).shared →
+      meeting.second) → meeting.cell < (program_layout naming.program).shared →
       BothWrite sharing naming.program n meeting
   both_write sharing before n meeting reached made meet below =
       let e = procs_are naming.program job is.made in
@@ -103,7 +104,7 @@ module _ (text : List ℕ) (job : JobData) (naming : NamingData) (names : IsNami
       }
 
   by_meaning : (sharing : Sharing) (before n : ℕ) (meeting : Meeting) → IsReached job before →
-      AreMade naming.program time before n → Meet sharing
+      AreLinesMade naming.program time before n → Meet sharing
       (access_by sharing job (state_after job before)) job.procs meeting.cell meeting.first
       meeting.second → MeetByMeaning sharing naming.program n meeting
   by_meaning SameRead before n meeting reached made meet = tt
@@ -117,7 +118,7 @@ module _ (text : List ℕ) (job : JobData) (naming : NamingData) (names : IsNami
       IsMeetingOf sharing naming time meeting
   meeting_is sharing n meeting reached first =
       let at : IsReached job first.before = reached first.before first.within in
-      let found : (k : ℕ) × AreMade naming.program time first.before k =
+      let found : (k : ℕ) × AreLinesMade naming.program time first.before k =
       is.goes.made first.before at in
       let meet = first.least.meet in
       let low : meeting.first < naming.program.procs =

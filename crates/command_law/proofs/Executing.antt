@@ -18,7 +18,7 @@ use Rattle.pram_cost.specs.Meetings.{access_by}
 use Rattle.pram_cost.specs.declared.meeting.Sharing.{Sharing}
 use Rattle.pram_cost.specs.declared.meeting.Sharing.TheVariants.{SameRead, SameWrite, OtherValue}
 use Rattle.pardo_law.specs.Between.{Executes, LeavesIn}
-use Rattle.pardo_answers.proofs.Leaving.{counter_next}
+use Rattle.pram_step.proofs.LawCounters.{counter_next}
 
 -- ---- what is asked for
 

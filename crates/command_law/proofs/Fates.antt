@@ -21,12 +21,12 @@ use Rattle.pram_fates.specs.Fates.{AllName, AreFates, AreMade as AreStepsMade, I
 use Rattle.pram_fates.specs.Fates.{IsFirstLost, IsFirstLostOrNone, NamesNone}
 use Rattle.pardo_text.specs.Program.{ProgramData}
 use Rattle.pardo_job.specs.Compiled.{IsWhole}
-use Rattle.pardo_job.specs.Conflicts.{Dispute}
+use Rattle.pram_step.specs.declared.answer.Dispute.{Dispute}
 use Rattle.pardo_job.specs.Leaving.{GoneIn, Leaves}
 use Rattle.pardo_job.specs.Meaning.{after}
-use Rattle.pardo_job.specs.Runs.{IsConflict, IsEnd, IsOver, line_number}
+use Rattle.pardo_job.specs.Runs.{IsProgramConflict, IsProgramEnd, IsProgramOver, line_number}
 use Rattle.pardo_job.specs.Runs as source
-use Rattle.pardo_law.specs.Between.{AreMade, IsInLine}
+use Rattle.pardo_law.specs.Between.{AreLinesMade, IsInLine}
 use Rattle.pardo_law.proofs.Showing.{whole_at}
 use Rattle.pram_commands.specs.Names.{IsNaming, NamingData}
 use Rattle.pram_commands.specs.Why.{told_steps}
@@ -113,7 +113,7 @@ module _ (text : List ℕ) (job : JobData) (naming : NamingData) (names : IsNami
           (let e = conflict.2 in omega arith) reached)
 
   -- one that runs in a line stands in it
-  in_line : (t n i : ℕ) → 1 ≤ t → (IsOver program (after program n) → ⊥) →
+  in_line : (t n i : ℕ) → 1 ≤ t → (IsProgramOver program (after program n) → ⊥) →
       IsInLine program job line_of t (after program n) i →
       line_of (counter job (state_after job t) i) ≡ line_number program (after program n)
   in_line t n i some goes_on (inl comes) = comes
@@ -132,9 +132,9 @@ module _ (text : List ℕ) (job : JobData) (naming : NamingData) (names : IsNami
       let past = stopped first ends.1.first_is.within in
       absurd (omega arith)
   end_done cells made (Some (Stopped step)) answers steps ends =
-      let within = ends.1.within in
+      let within = ends.1.0 in
       let late = stopped_at step (reached_down job step job.steps within answers.1.reached)
-      ends.1.stopped in
+      ends.1.1.stopped in
       let e : step ≡ job.steps = omega arith in
       ap (λ (n : ℕ). Some (Stopped n)) e
 
@@ -151,8 +151,8 @@ module _ (text : List ℕ) (job : JobData) (naming : NamingData) (names : IsNami
   end_cut step made None reached below steps less =
       absurd (steps.against less (reached made less))
   end_cut step made (Some (Stopped at)) reached below steps ends =
-      let within = ends.1.within in
-      let late = stopped_at at (reached_down job at step within reached) ends.1.stopped in
+      let within = ends.1.0 in
+      let late = stopped_at at (reached_down job at step within reached) ends.1.1.stopped in
       absurd (omega arith)
   end_cut step made (Some (Running count first index)) reached below steps ends = (
     count,
@@ -184,7 +184,7 @@ module _ (text : List ℕ) (job : JobData) (naming : NamingData) (names : IsNami
   gone_first n i e = ap (λ (k : ℕ). (after program k).gone i) e
 
   -- who is gone after lines that are made leaves in one of these steps
-  all_there : (u n : ℕ) → source.IsReached program n → ((n ≡ 0) ⊎ (time n ≤ u)) →
+  all_there : (u n : ℕ) → source.IsLineReached program n → ((n ≡ 0) ⊎ (time n ≤ u)) →
       ((t : ℕ) → t < u → AllName job (state_after job t)) → AllThere program n
   all_there u n reached (inl none) all i lt = gone_first n i none
   all_there u n reached (inr late) all i lt = by_gone ((after program n).gone i) refl
@@ -211,7 +211,7 @@ module _ (text : List ℕ) (job : JobData) (naming : NamingData) (names : IsNami
       reached_down job first.before made (omega arith) reached in
       let then : IsReached job (first.before + 1) =
       reached_down job (first.before + 1) made (omega arith) reached in
-      let found : (n : ℕ) × AreMade program time first.before n =
+      let found : (n : ℕ) × AreLinesMade program time first.before n =
       is.goes.made first.before here in
       let lt : lost.processor < program.procs =
       (let e = procs_are program job is.made in let f = names_none.within in omega arith) in
@@ -231,7 +231,8 @@ module _ (text : List ℕ) (job : JobData) (naming : NamingData) (names : IsNami
 
   -- none was lost
   none_done : (cells : List ℕ) → IsAnswer job (Final cells) →
-      ((t : ℕ) → t < job.steps → AllName job (state_after job t)) → (n : ℕ) → IsEnd program n →
+      ((t : ℕ) → t < job.steps → AllName job (state_after job t)) → (n : ℕ) →
+      IsProgramEnd program n →
       AllThere program n
   none_done cells answers all n ends i lt = by_gone ((after program n).gone i) refl
       ((is.goes.carries.ends n ends).0.gone i lt)
@@ -247,7 +248,7 @@ module _ (text : List ℕ) (job : JobData) (naming : NamingData) (names : IsNami
           (record { was_there = left.was_there; is_gone = left.is_gone })))
 
   -- the lines before a conflict are made before its step
-  made_before : (n before : ℕ) (dispute : Dispute) → IsConflict program n dispute →
+  made_before : (n before : ℕ) (dispute : Dispute) → IsProgramConflict program n dispute →
       time (n + 1) ≡ before + 1 → (AgreesAfter job before → ⊥) → time n ≤ before
   made_before n before dispute conflict e against = ⊎_elim
       (λ (low : time n < before + 1). omega arith)
@@ -257,7 +258,7 @@ module _ (text : List ℕ) (job : JobData) (naming : NamingData) (names : IsNami
 
   none_disputed : (fault : Fault) (made : ℕ) → AreStepsMade job job.steps made →
       IsFault job fault → ((t : ℕ) → t < made → AllName job (state_after job t)) → (n : ℕ)
-      (dispute : Dispute) → IsConflict program n dispute → AllThere program n
+      (dispute : Dispute) → IsProgramConflict program n dispute → AllThere program n
   none_disputed fault made steps is_fault all n dispute conflict =
       let d = is.goes.carries.disputes n dispute conflict in
       let first = d.3.first in

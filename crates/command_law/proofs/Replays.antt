@@ -6,7 +6,7 @@ use Rattle.pram_step.specs.declared.answer.RunAnswer.{RunAnswer}
 use Rattle.pram_step.specs.declared.answer.RunAnswer.TheVariants.{Final, Conflict, Unfinished}
 use Rattle.pram_step.specs.Runs.{IsAnswer}
 use Rattle.stop_plan.specs.Plan.{PlanData}
-use Rattle.pram_world.specs.Worlds.{start}
+use Rattle.pram_world.specs.Worlds.{start_compact}
 use Rattle.pram_world.proofs.Counting.{run_board}
 use Rattle.pram_run.specs.Replays.{IsReplay}
 use Rattle.pram_run.specs.declared.trace.TraceRow.{TraceRow}
@@ -23,10 +23,10 @@ ended_so : (job : JobData) (plan : PlanData) (trace : List TraceRow) (ended : Ru
     IsReplay job plan ended trace → IsAnswer job ended ⊎ IsCutOff plan (Some ended)
 ended_so job plan trace (Final cells) is =
     inl (subst (λ (j : JobData). IsAnswer j (Final cells))
-    (run_board (start job plan.workers) is.schedule).0 is.outcome.2)
+    (run_board (start_compact job plan.workers) is.schedule).0 is.outcome.2)
 ended_so job plan trace (Conflict fault) is =
     inl (subst (λ (j : JobData). IsAnswer j (Conflict fault))
-    (run_board (start job plan.workers) is.schedule).0 is.outcome.1)
+    (run_board (start_compact job plan.workers) is.schedule).0 is.outcome.1)
 ended_so job plan trace (Unfinished step) is =
     inr (record { stops = is.stops tt; step = step; is = refl })
 

@@ -8,7 +8,7 @@ use Rattle.pram_job.specs.Job.{JobData}
 use Rattle.pram_machine.specs.Machine.{counter, halted}
 use Rattle.pram_step.specs.declared.answer.RunAnswer.{RunAnswer}
 use Rattle.pram_step.specs.Runs.{IsAnswer, state_after}
-use Rattle.pram_rows.specs.Rows.{line_text, row_end, rows_text}
+use Rattle.pram_rows.specs.Rows.{line_number_text, row_end, rows_text}
 use Rattle.pram_rows.specs.Shown.{last_step}
 use Rattle.pram_rows.specs.declared.window.Window.{Window}
 use Rattle.pardo_job.specs.Meaning.{after}
@@ -17,14 +17,14 @@ use Rattle.pardo_law.specs.Between.{IsInLine}
 use Rattle.pardo_answers.specs.Language.{is_program}
 use Rattle.pram_commands.specs.Did.{ending}
 use Rattle.pram_commands.specs.Names.{AreNames, NamingData}
-use Rattle.pram_commands.specs.Steps.{lines_of}
+use Rattle.pram_commands.specs.Steps.{numbers_told}
 use Rattle.command_law.specs.Programs.{AreProgramsSteps, IsEnding, IsProgramsJob}
 use Rattle.command_law.specs.Programs.{StepsTellTheProgramsLines, TellLines, told_line}
 use Rattle.command_law.proofs.Answers.{told_answer}
 use Rattle.command_law.proofs.Jobs.{no_machines, programs_job}
 
 told_as : (numbers : List ℕ) (job : JobData) (at : ℕ) → at < halted job →
-    line_text numbers job at ≡ told_line (slice_index numbers at)
+    line_number_text numbers job at ≡ told_line (slice_index numbers at)
 told_as numbers job at low = ap (λ (b : Bool). if b && nat_lt 0 (slice_index numbers at)
     then decimal (slice_index numbers at) else []) (lt-ltb at (halted job) low)
 
@@ -55,7 +55,7 @@ module _ (text : List ℕ) (job : JobData) (window : Window) (bytes : List ℕ) 
 
   by_names : (alone : Bool) (names of_end : Option NamingData) → AreNames text job names →
       AreNames text job of_end → IsAnswer job ended →
-      bytes ≡ rows_text (lines_of names) job window.from window.to (last_step job ended)
+      bytes ≡ rows_text (numbers_told names) job window.from window.to (last_step job ended)
       ++ ending alone of_end ended job.steps →
       AreProgramsSteps alone window text job bytes
   by_names alone None of_end is are answers prints = no_machines text job one is

@@ -9,7 +9,7 @@ use Rattle.std.proofs.lemmas.Slice.Eq.{bytes_eq-Decides}
 use Rattle.pram_job.specs.Job.{JobData}
 use Rattle.pram_text.specs.Judgement.{version_of}
 use Rattle.text_lines.specs.Lines.{Line, Word, is_filled, lines_of, words_of, worded}
-use Rattle.pram_text.specs.Text.{Spells, code_line}
+use Rattle.pram_text.specs.Text.{Spells, code_heading}
 use Rattle.pram_text.proofs.LawOneJob.{spells_once}
 use Rattle.pram_text.proofs.Lawful.{spells_lawful}
 use Rattle.job_text.specs.Printed.{text_of}
@@ -76,7 +76,7 @@ spelled_is_no_program text job spells =
     let lines = spells.lines in
     let sizes = lines.sizes in
     let line = version_line sizes.version_line lines.version sizes.version_said in
-    let after = lines.inits ++ code_line ∷ lines.body in
+    let after = lines.inits ++ code_heading ∷ lines.body in
     let others = sizes.cells_line ∷ sizes.procs_line ∷ sizes.steps_line ∷ (sizes.rule_lines ++ after) in
     by_words (lines_of text) line.first line.others others
     (lines.parts ∙ ap (λ (ls : List Line). ls ++ after) sizes.parts

@@ -8,12 +8,12 @@ use Rattle.pram_step.specs.Runs.{IsAnswer, state_after}
 use Rattle.stop_plan.specs.Plan.{PlanData}
 use Rattle.pram_run.specs.declared.sight.Sight.{Sight}
 use Rattle.pardo_text.specs.Program.{ProgramData}
-use Rattle.pardo_law.specs.Between.{AreMade, GoesThrough, Holds}
+use Rattle.pardo_law.specs.Between.{AreLinesMade, GoesThrough, HoldsVariables}
 use Rattle.pardo_job.specs.Meaning.{after}
 use Rattle.pardo_answers.specs.Language.{is_program}
 use Rattle.pram_commands.specs.CellLists.{AreCellsOf}
 use Rattle.pram_commands.specs.Did.{Answering}
-use Rattle.pram_commands.specs.Names.{AreNames, NamingData, told}
+use Rattle.pram_commands.specs.Names.{AreNames, NamingData, printed_answer}
 use Rattle.pram_commands.specs.Threads.{IsTrueOf, TellsSights}
 use Rattle.command_law.specs.Laws.{IsCutOff, IsProgramsAnswer}
 use Rattle.command_law.specs.Programs.{IsProgramsWatch, IsSightOf, WatchesTellThePrograms}
@@ -24,9 +24,9 @@ pub sight_of : (program : ProgramData) (job : JobData) (line_of : ℕ → ℕ)
     (goes : GoesThrough program job line_of) (sight : Sight) → IsTrueOf job sight →
     IsSightOf program goes.carries.time sight
 sight_of program job line_of goes sight is =
-    let found : (n : ℕ) × AreMade program goes.carries.time sight.step n =
+    let found : (n : ℕ) × AreLinesMade program goes.carries.time sight.step n =
     goes.made sight.step is.reached in
-    let held : Holds program (after program found.0) (state_after job sight.step) =
+    let held : HoldsVariables program (after program found.0) (state_after job sight.step) =
     goes.holds sight.step found.0 is.reached found.1 in record {
       lines = found.0;
       are_made = found.1;
@@ -40,7 +40,7 @@ module _ (text : List ℕ) (job : JobData) (plan : PlanData) (rounds : ℕ) (par
   -- the answer after the sights
   ends_so : (names : Option NamingData) (ended : RunAnswer) → AreNames text job names →
       answer ≡ Some ended → IsAnswer job ended ⊎ IsCutOff plan (Some ended) →
-      IsProgramsAnswer text job (told names ended job.steps) ⊎ IsCutOff plan answer
+      IsProgramsAnswer text job (printed_answer names ended job.steps) ⊎ IsCutOff plan answer
   ends_so names ended are gives (inl is) = inl (told_answer text job names ended one are is)
   ends_so names ended are gives (inr cut) =
       inr (subst (λ (a : Option RunAnswer). IsCutOff plan a) (sym gives) cut)
@@ -53,7 +53,7 @@ module _ (text : List ℕ) (job : JobData) (plan : PlanData) (rounds : ℕ) (par
   by_names (Some naming) is cells named shows =
       let seen = shows.ends in
       let its = programs_job text job naming is in
-      let back : List ℕ = told shows.names shows.ended job.steps in record {
+      let back : List ℕ = printed_answer shows.names shows.ended job.steps in record {
         naming = naming;
         is = its;
         cells = cells;

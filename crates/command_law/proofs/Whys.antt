@@ -8,7 +8,7 @@ use Rattle.pram_step.specs.Runs.{IsAnswer, IsReached}
 use Rattle.stop_plan.specs.Plan.{PlanData}
 use Rattle.pram_board.specs.Seats.{SeatData}
 use Rattle.pardo_answers.specs.Language.{is_program}
-use Rattle.pram_commands.specs.Names.{AreNames, NamingData, line_at, told}
+use Rattle.pram_commands.specs.Names.{AreNames, NamingData, line_at, printed_answer}
 use Rattle.pram_commands.specs.Threads.{EndsAt}
 use Rattle.pram_commands.specs.Why.{Follows}
 use Rattle.command_law.specs.Laws.{IsCutOff, IsProgramsAnswer}
@@ -61,12 +61,12 @@ pub plain_tells_why : PlainTellsWhy
 plain_tells_why text job bytes answer one comes =
     by_names text job bytes answer one comes.ended comes.back comes.gives
     (IsProgramsAnswer text job) (known_answer job comes.ended comes.ends) comes.names
-    comes.are_names comes.follows (told comes.names comes.ended job.steps)
+    comes.are_names comes.follows (printed_answer comes.names comes.ended job.steps)
     (told_answer text job comes.names comes.ended one comes.are_names comes.ends) comes.prints
 
 pub runs_tell_why : RunsTellWhy
 runs_tell_why text job plan workers bytes answer one comes =
-    let ends : IsProgramsAnswer text job (told comes.names comes.ended job.steps)
+    let ends : IsProgramsAnswer text job (printed_answer comes.names comes.ended job.steps)
     ⊎ IsCutOff plan answer = elim (ended_so job plan comes.ends.0 comes.ended comes.ends.1) [
       | inl answers ↦ inl (told_answer text job comes.names comes.ended one comes.are_names answers)
       | inr cut ↦ inr (subst (λ (a : Option RunAnswer). IsCutOff plan a) (sym comes.gives) cut)
@@ -74,4 +74,4 @@ runs_tell_why text job plan workers bytes answer one comes =
     by_names text job bytes answer one comes.ended comes.back comes.gives
     (λ front. IsProgramsAnswer text job front ⊎ IsCutOff plan answer)
     (known_end job plan comes.ends.0 comes.ended comes.ends.1) comes.names comes.are_names
-    comes.follows (told comes.names comes.ended job.steps) ends comes.prints
+    comes.follows (printed_answer comes.names comes.ended job.steps) ends comes.prints

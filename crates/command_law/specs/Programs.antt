@@ -21,7 +21,7 @@ use Rattle.pram_rows.specs.Shown.{last_step}
 use Rattle.pram_rows.specs.declared.window.Window.{Window}
 use Rattle.pram_cost.specs.Costs.{IsCost}
 use Rattle.pram_cost.specs.Meetings.{Differ}
-use Rattle.pram_cost.specs.Models.{IsNeeded}
+use Rattle.pram_cost.specs.Models.{IsWeakestModel}
 use Rattle.pram_cost.specs.Printed.{cost_text}
 use Rattle.pram_cost.specs.declared.cost.Cost.{Cost}
 use Rattle.pram_cost.specs.declared.meeting.Meeting.{Meeting}
@@ -35,14 +35,14 @@ use Rattle.pram_run.specs.Printed.{sights_text, trace_text}
 use Rattle.pram_run.specs.Replays.{IsReplay}
 use Rattle.pardo_text.specs.Program.{ProgramData}
 use Rattle.pardo_text.specs.Reading.{program_of}
-use Rattle.pardo_job.specs.Conflicts.{Writes}
-use Rattle.pardo_job.specs.Layouts.{layout_of, private_cells}
+use Rattle.pardo_job.specs.Conflicts.{Assigns}
+use Rattle.pardo_job.specs.Layouts.{program_layout, private_cells}
 use Rattle.pardo_job.specs.Lines.{job_of}
 use Rattle.pardo_job.specs.Meaning.{after}
 use Rattle.pardo_job.specs.Printed.{IsConflictText, cell_text}
-use Rattle.pardo_job.specs.Runs.{IsConflict, IsEnd, IsOver, line_number}
+use Rattle.pardo_job.specs.Runs.{IsProgramConflict, IsProgramEnd, IsProgramOver, line_number}
 use Rattle.pardo_job.specs.Runs as source
-use Rattle.pardo_law.specs.Between.{AreMade, GoesThrough, PutsTo}
+use Rattle.pardo_law.specs.Between.{AreLinesMade, GoesThrough, PutsTo}
 use Rattle.pardo_answers.specs.Language.{is_program}
 use Rattle.pram_commands.specs.CellLists.{AreCellsOf}
 use Rattle.pram_commands.specs.Costs.{cost_words, costing, place_or_cell}
@@ -61,10 +61,10 @@ pub record IsProgramsJob (text : List ℕ) (job : JobData) (naming : NamingData)
   pub made : job ≡ job_of naming.program job.steps
   pub goes : GoesThrough naming.program job (slice_index naming.numbers)
 
--- so many lines are made after a step
+-- how many lines of the program are made after a number of steps of its job
 abbrev pub Made : (text : List ℕ) (job : JobData) (naming : NamingData) →
     IsProgramsJob text job naming → ℕ → ℕ → Type 0
-Made text job naming is = AreMade naming.program is.goes.carries.time
+Made text job naming is = AreLinesMade naming.program is.goes.carries.time
 
 -- ---- `check`
 
@@ -85,11 +85,11 @@ CheckTellsTheProgramsJob = (text : List ℕ) (job : JobData) (bytes : List ℕ)
 -- private variable, was seen to hold what it holds after these.
 pub record IsSightOf (program : ProgramData) (time : ℕ → ℕ) (sight : Sight) : Type 0 where
   pub lines : ℕ
-  pub are_made : AreMade program time sight.step lines
-  pub place : sight.cell < (layout_of program).shared →
+  pub are_made : AreLinesMade program time sight.step lines
+  pub place : sight.cell < (program_layout program).shared →
       sight.value ≡ (after program lines).cells sight.cell
-  pub private : (x i : ℕ) → x < (layout_of program).privates → i < program.procs →
-      sight.cell ≡ (private_cells (layout_of program) x).base + i →
+  pub private : (x i : ℕ) → x < (program_layout program).privates → i < program.procs →
+      sight.cell ≡ (private_cells (program_layout program) x).base + i →
       sight.value ≡ (after program lines).privates x i
 
 -- The bytes tell what was seen of these cells, so many rounds, and then the program's answer.
@@ -124,7 +124,7 @@ told_line number = if nat_lt 0 number then decimal number else []
 abbrev pub TellLines : (text : List ℕ) (job : JobData) (naming : NamingData) →
     IsProgramsJob text job naming → Type 0
 TellLines text job naming is = (t n i : ℕ) → IsReached job t → Made text job naming is t n →
-    1 ≤ t → (IsOver naming.program (after naming.program n) → ⊥) → i < naming.program.procs →
+    1 ≤ t → (IsProgramOver naming.program (after naming.program n) → ⊥) → i < naming.program.procs →
     counter job (state_after job t) i < halted job →
     row_end (Some naming.numbers) job (counter job (state_after job t) i)
     ≡ codes "," ++ told_line (line_number naming.program (after naming.program n)) ++ codes "\n"
@@ -135,8 +135,8 @@ abbrev pub TellWrites : (text : List ℕ) (job : JobData) (naming : NamingData) 
     IsProgramsJob text job naming → Type 0
 TellWrites text job naming is = (t n cell i value : ℕ) → IsReached job t →
     Made text job naming is t n → i < naming.program.procs →
-    cell < (layout_of naming.program).shared → PutsTo job t cell i value →
-    Writes naming.program (after naming.program n) cell i value
+    cell < (program_layout naming.program).shared → PutsTo job t cell i value →
+    Assigns naming.program (after naming.program n) cell i value
 
 -- what follows the rows: the program's answer, unless they stand alone
 abbrev pub IsEnding : Bool → List ℕ → JobData → List ℕ → Type 0
@@ -199,8 +199,8 @@ pub record BothWrite (sharing : Sharing) (program : ProgramData) (lines : ℕ) (
     : Type 0 where
   pub value : ℕ
   pub other : ℕ
-  pub writes : Writes program (after program lines) meeting.cell meeting.first value
-  pub writes_too : Writes program (after program lines) meeting.cell meeting.second other
+  pub writes : Assigns program (after program lines) meeting.cell meeting.first value
+  pub writes_too : Assigns program (after program lines) meeting.cell meeting.second other
   pub differ : Differ sharing meeting.first value meeting.second other
 
 -- who meets at a place of the program by writing does so by the meaning; of what is read the
@@ -208,7 +208,7 @@ pub record BothWrite (sharing : Sharing) (program : ProgramData) (lines : ℕ) (
 abbrev pub MeetByMeaning : Sharing → ProgramData → ℕ → Meeting → Type 0
 MeetByMeaning SameRead program lines meeting = ⊤
 MeetByMeaning sharing program lines meeting =
-    meeting.cell < (layout_of program).shared → BothWrite sharing program lines meeting
+    meeting.cell < (program_layout program).shared → BothWrite sharing program lines meeting
 
 -- The meeting's step lies in this line of the program, and it is told by its number, and by the
 -- place.
@@ -217,7 +217,7 @@ pub record IsMeetingOf (sharing : Sharing) (naming : NamingData) (time : ℕ →
   pub before : ℕ
   pub step : meeting.step ≡ before + 1
   pub lines : ℕ
-  pub are_made : AreMade naming.program time before lines
+  pub are_made : AreLinesMade naming.program time before lines
   pub told : (cost_words (Some naming)).spot meeting ≡ codes " line="
       ++ decimal (line_number naming.program (after naming.program lines))
       ++ place_or_cell (cell_text naming.program.arrays meeting.cell) meeting
@@ -232,7 +232,7 @@ pub record AreProgramsCosts (text : List ℕ) (job : JobData) (bytes : List ℕ)
   pub pram : Pram
   pub costs : IsCost job cost
   pub procs : cost.procs ≡ naming.program.procs
-  pub needs : IsNeeded job cost.steps pram
+  pub needs : IsWeakestModel job cost.steps pram
   pub same_read : IfSome cost.meetings.same_read
       (IsMeetingOf SameRead naming is.goes.carries.time)
   pub same_write : IfSome cost.meetings.same_write
@@ -252,10 +252,11 @@ CostsTellTheProgramsLines = (text : List ℕ) (job : JobData) (bytes : List ℕ)
 
 -- the answer speaks of the program after so many lines
 abbrev pub SpeaksOf : ProgramData → (ℕ → ℕ) → RunAnswer → ℕ → Type 0
-SpeaksOf program time (Final cells) n = IsEnd program n
+SpeaksOf program time (Final cells) n = IsProgramEnd program n
 SpeaksOf program time (Conflict fault) n =
-    IsConflict program n (record { cell = fault.cell; first = fault.first; second = fault.second })
-SpeaksOf program time (Unfinished step) n = AreMade program time step n
+    IsProgramConflict program n
+    (record { cell = fault.cell; first = fault.first; second = fault.second })
+SpeaksOf program time (Unfinished step) n = AreLinesMade program time step n
 
 -- nobody is gone after so many lines
 abbrev pub AllThere : ProgramData → ℕ → Type 0
@@ -264,7 +265,7 @@ AllThere program n = (i : ℕ) → i < program.procs → (after program n).gone 
 -- In the line of this number processor i is gone, and before it nobody is.
 pub record IsFirstGone (program : ProgramData) (i number : ℕ) : Type 0 where
   pub lines : ℕ
-  pub reached : source.IsReached program lines
+  pub reached : source.IsLineReached program lines
   pub all_there : AllThere program lines
   pub leaves : (after program (lines + 1)).gone i ≡ Some number
   pub in_line : number ≡ line_number program (after program lines)
@@ -284,8 +285,8 @@ IsEndOf naming time job (Final cells) end = end ≡ Some (Stopped job.steps)
 IsEndOf naming time job (Conflict fault) end = end ≡ None
 IsEndOf naming time job (Unfinished step) end = (count first index : ℕ)
     × (end ≡ Some (Running count first index))
-    × ((n : ℕ) → 1 ≤ step → AreMade naming.program time step n →
-    (IsOver naming.program (after naming.program n) → ⊥) →
+    × ((n : ℕ) → 1 ≤ step → AreLinesMade naming.program time step n →
+    (IsProgramOver naming.program (after naming.program n) → ⊥) →
     slice_index naming.numbers index ≡ line_number naming.program (after naming.program n))
 
 -- The bytes are the program's answer, and then what became of its processors.

@@ -12,11 +12,17 @@ use Rattle.clap.specs.Words.{Row, Text, first_of, one_of}
 use Rattle.command_data.specs.CellLists.{SpellsCells}
 use Rattle.command_data.specs.Manner.{IsGrain, size_of}
 use Rattle.command_data.specs.declared.block.Block.{Block}
+use Rattle.command_data.specs.declared.line.Ask.{Ask}
+use Rattle.command_data.specs.declared.line.Ask.TheVariants.{Alone, OnThreads}
+use Rattle.command_data.specs.declared.line.AskAlone.{AskAlone}
+use Rattle.command_data.specs.declared.line.AskAlone.TheVariants.{Check, Compile, Plain, Cost}
+use Rattle.command_data.specs.declared.line.AskAlone.TheVariants.{Steps, Replay}
+use Rattle.command_data.specs.declared.line.AskOnThreads.{AskOnThreads}
+use Rattle.command_data.specs.declared.line.AskOnThreads.TheVariants.{Run, Watch}
 use Rattle.command_data.specs.declared.line.Line.{Line}
-use Rattle.command_data.specs.declared.line.Line.TheVariants.{Check, Compile, Plain, Cost}
-use Rattle.command_data.specs.declared.line.Line.TheVariants.{Steps, Run, Watch, Replay}
 use Rattle.command_line.specs.CommandLine.{HasBadBlock, HasBadCells, HasBadValue, HasBadWindow}
-use Rattle.command_line.specs.CommandLine.{IsBadIn, IsBlockIfSet, IsMet, IsNumberOf, IsNumberOr}
+use Rattle.command_line.specs.CommandLine.{IsBadIn, IsBlockIfSet, IsMet, IsMetAlone, IsMetAs}
+use Rattle.command_line.specs.CommandLine.{IsMetOnThreads, IsNumberOf, IsNumberOr}
 
 abbrev value_of : Text → ℕ
 value_of text = digits_value 10 (without_leading_plus text)
@@ -112,49 +118,62 @@ no_values matches name rows met watch run steps bad =
     no_bad matches name rows met (λ is b. watch is) (λ is b. run is) (λ is b. watch is)
     (λ is b. steps is) bad
 
-pub no_bad_value : (matches : Option (Text × List Row)) (line : Line) → IsMet matches line →
-    HasBadValue matches → ⊥
-no_bad_value matches (Check file) met bad =
-    no_values matches (codes "check") met.rows met.met
+no_bad_alone : (matches : Option (Text × List Row)) (file : Text) (plan : Option Text)
+    (ask : AskAlone) → IsMetAlone matches file plan ask → HasBadValue matches → ⊥
+no_bad_alone matches file plan Check met bad =
+    no_values matches (codes "check") met.0.rows met.0.met
     (apart (codes "check") (codes "watch") 0 (λ (e : 99 ≡ 119). absurd (omega (arith, e))))
     (apart (codes "check") (codes "run") 0 (λ (e : 99 ≡ 114). absurd (omega (arith, e))))
     (apart (codes "check") (codes "steps") 0 (λ (e : 99 ≡ 115). absurd (omega (arith, e)))) bad
-no_bad_value matches (Compile file) met bad =
-    no_values matches (codes "compile") met.rows met.met
+no_bad_alone matches file plan Compile met bad =
+    no_values matches (codes "compile") met.0.rows met.0.met
     (apart (codes "compile") (codes "watch") 0 (λ (e : 99 ≡ 119). absurd (omega (arith, e))))
     (apart (codes "compile") (codes "run") 0 (λ (e : 99 ≡ 114). absurd (omega (arith, e))))
     (apart (codes "compile") (codes "steps") 0 (λ (e : 99 ≡ 115). absurd (omega (arith, e)))) bad
-no_bad_value matches (Plain file why) met bad =
+no_bad_alone matches file plan (Plain why) met bad =
     no_values matches (codes "plain") met.0.rows met.0.met
     (apart (codes "plain") (codes "watch") 0 (λ (e : 112 ≡ 119). absurd (omega (arith, e))))
     (apart (codes "plain") (codes "run") 0 (λ (e : 112 ≡ 114). absurd (omega (arith, e))))
     (apart (codes "plain") (codes "steps") 0 (λ (e : 112 ≡ 115). absurd (omega (arith, e)))) bad
-no_bad_value matches (Cost file) met bad =
-    no_values matches (codes "cost") met.rows met.met
+no_bad_alone matches file plan Cost met bad =
+    no_values matches (codes "cost") met.0.rows met.0.met
     (apart (codes "cost") (codes "watch") 0 (λ (e : 99 ≡ 119). absurd (omega (arith, e))))
     (apart (codes "cost") (codes "run") 0 (λ (e : 99 ≡ 114). absurd (omega (arith, e))))
     (apart (codes "cost") (codes "steps") 0 (λ (e : 99 ≡ 115). absurd (omega (arith, e)))) bad
-no_bad_value matches (Steps file from to alone) met bad =
-    no_bad matches (codes "steps") met.of_file.rows met.of_file.met
+no_bad_alone matches file plan (Steps from to alone) met bad =
+    no_bad matches (codes "steps") met.0.of_file.rows met.0.of_file.met
     (λ is b. apart (codes "steps") (codes "watch") 0 (λ (e : 115 ≡ 119). absurd (omega (arith, e))) is)
     (λ is b. apart (codes "steps") (codes "run") 0 (λ (e : 115 ≡ 114). absurd (omega (arith, e))) is)
     (λ is b. apart (codes "steps") (codes "watch") 0 (λ (e : 115 ≡ 119). absurd (omega (arith, e))) is)
-    (λ is b. no_window met.of_file.rows from to met.has_from met.has_to met.some b) bad
-no_bad_value matches (Run file plan manner why) met bad =
-    no_bad matches (codes "run") met.0.of_file.rows met.0.of_file.met
-    (λ is b. apart (codes "run") (codes "watch") 0 (λ (e : 114 ≡ 119). absurd (omega (arith, e))) is)
-    (λ is b. no_block met.0.of_file.rows manner.block met.0.has_manner.has_block b)
-    (λ is b. no_block met.0.of_file.rows manner.block met.0.has_manner.has_block b)
-    (λ is b. apart (codes "run") (codes "steps") 0 (λ (e : 114 ≡ 115). absurd (omega (arith, e))) is) bad
-no_bad_value matches (Watch file plan manner cells rounds) met bad =
-    let rows = met.has_run.of_file.rows in
-    no_bad matches (codes "watch") rows met.has_run.of_file.met
-    (λ is b. no_cells rows cells.text.now met.has_cells met.spells b)
-    (λ is b. no_block rows manner.block met.has_run.has_manner.has_block b)
-    (λ is b. no_block rows manner.block met.has_run.has_manner.has_block b)
-    (λ is b. apart (codes "watch") (codes "steps") 0 (λ (e : 119 ≡ 115). absurd (omega (arith, e))) is) bad
-no_bad_value matches (Replay file workers plan alone) met bad =
+    (λ is b. no_window met.0.of_file.rows from to met.0.has_from met.0.has_to met.0.some b) bad
+no_bad_alone matches file plan (Replay workers alone) met bad =
     no_values matches (codes "replay") met.of_file.rows met.of_file.met
     (apart (codes "replay") (codes "watch") 0 (λ (e : 114 ≡ 119). absurd (omega (arith, e))))
     (apart (codes "replay") (codes "run") 1 (λ (e : 101 ≡ 117). absurd (omega (arith, e))))
     (apart (codes "replay") (codes "steps") 0 (λ (e : 114 ≡ 115). absurd (omega (arith, e)))) bad
+
+no_bad_on_threads : (matches : Option (Text × List Row)) (file : Text) (plan : Option Text)
+    (ask : AskOnThreads) → IsMetOnThreads matches file plan ask → HasBadValue matches → ⊥
+no_bad_on_threads matches file plan (Run run) met bad =
+    no_bad matches (codes "run") met.0.of_file.rows met.0.of_file.met
+    (λ is b. apart (codes "run") (codes "watch") 0 (λ (e : 114 ≡ 119). absurd (omega (arith, e))) is)
+    (λ is b. no_block met.0.of_file.rows run.manner.block met.0.has_manner.has_block b)
+    (λ is b. no_block met.0.of_file.rows run.manner.block met.0.has_manner.has_block b)
+    (λ is b. apart (codes "run") (codes "steps") 0 (λ (e : 114 ≡ 115). absurd (omega (arith, e))) is) bad
+no_bad_on_threads matches file plan (Watch watch) met bad =
+    let rows = met.has_run.of_file.rows in
+    no_bad matches (codes "watch") rows met.has_run.of_file.met
+    (λ is b. no_cells rows watch.cells.text.now met.has_cells met.spells b)
+    (λ is b. no_block rows watch.manner.block met.has_run.has_manner.has_block b)
+    (λ is b. no_block rows watch.manner.block met.has_run.has_manner.has_block b)
+    (λ is b. apart (codes "watch") (codes "steps") 0 (λ (e : 119 ≡ 115). absurd (omega (arith, e))) is) bad
+
+no_bad_ask : (matches : Option (Text × List Row)) (file : Text) (plan : Option Text)
+    (ask : Ask) → IsMetAs matches file plan ask → HasBadValue matches → ⊥
+no_bad_ask matches file plan (Alone ask) met bad = no_bad_alone matches file plan ask met bad
+no_bad_ask matches file plan (OnThreads ask) met bad =
+    no_bad_on_threads matches file plan ask met bad
+
+pub no_bad_value : (matches : Option (Text × List Row)) (line : Line) → IsMet matches line →
+    HasBadValue matches → ⊥
+no_bad_value matches line met bad = no_bad_ask matches _ _ line.ask met bad

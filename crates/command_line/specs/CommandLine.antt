@@ -12,16 +12,21 @@ use Rattle.clap.specs.declared.error.Error.{Error}
 use Rattle.clap.specs.declared.error.kind.ErrorKind.TheVariants.{OutOfMemory, ValueValidation}
 use Rattle.clap.specs.declared.builder.value_parser.ValueParser.TheVariants.{Signed}
 use Rattle.command_data.specs.CellLists.{SpellsCells}
-use Rattle.command_data.specs.Line.{text_of}
+use Rattle.command_data.specs.Line.{text_now}
 use Rattle.command_data.specs.Manner.{IsGrain, is_told, size_of}
 use Rattle.command_data.specs.declared.block.Block.{Block}
 use Rattle.command_data.specs.declared.manner.Manner.{Manner}
 use Rattle.command_data.specs.declared.manner.Telling.{Telling}
 use Rattle.command_data.specs.declared.manner.Telling.TheVariants.{Silent, Lines, OneLine}
+use Rattle.command_data.specs.declared.line.Ask.{Ask}
+use Rattle.command_data.specs.declared.line.Ask.TheVariants.{Alone, OnThreads}
+use Rattle.command_data.specs.declared.line.AskAlone.{AskAlone}
+use Rattle.command_data.specs.declared.line.AskAlone.TheVariants.{Check, Compile, Plain, Cost}
+use Rattle.command_data.specs.declared.line.AskAlone.TheVariants.{Steps, Replay}
+use Rattle.command_data.specs.declared.line.AskOnThreads.{AskOnThreads}
+use Rattle.command_data.specs.declared.line.AskOnThreads.TheVariants.{Run, Watch}
 use Rattle.command_data.specs.declared.line.Line.{Line}
 use Rattle.command_line.specs.declared.line.Asked.{Asked}
-use Rattle.command_data.specs.declared.line.Line.TheVariants.{Check, Compile, Plain, Cost}
-use Rattle.command_data.specs.declared.line.Line.TheVariants.{Steps, Run, Watch, Replay}
 
 -- an argument that is known by its place
 abbrev pub placed_rule : Text → Rule
@@ -36,7 +41,7 @@ abbrev pub number_rule : Text → (least most : ℕ) → Rule
 number_rule name least most =
     record (option_rule name) { parser = Some (Signed (pos least) (pos most)) }
 
--- the same argument, which has to stand
+-- an argument that has to stand
 abbrev pub needed : Rule → Rule
 needed rule = record rule { required = true }
 
@@ -143,7 +148,7 @@ pub record HasWorkers (matches : Option (Text × List Row)) (name file : Text) (
   pub has_plan : first_of (codes "plan") of_file.rows ≡ plan
   pub has_csv : IsFlag (one_of (codes "csv") of_file.rows) alone
 
--- The same, or this number where the option is left out.
+-- The number is that of the option's value, or this other one where the option is left out.
 abbrev pub IsNumberOr : Text → List Row → ℕ → ℕ → Type 0
 IsNumberOr option rows other number =
     MatchOption (first_of option rows) (number ≡ other) (λ _. IsNumberOf option rows number)
@@ -177,42 +182,55 @@ pub record HasManner (rows : List Row) (manner : Manner) : Type 0 where
   pub has_block : IsBlockIfSet rows manner.block
 
 -- The subcommand of this name was met, with this file, this plan if it has one, and this manner.
-pub record HasRun (matches : Option (Text × List Row)) (name file : Text) (plan : Option Text)
+pub record HasRunArguments (matches : Option (Text × List Row)) (name file : Text)
+    (plan : Option Text)
     (manner : Manner) : Type 0 where
   pub of_file : HasFile matches name file
   pub has_plan : first_of (codes "plan") of_file.rows ≡ plan
   pub has_manner : HasManner of_file.rows manner
 
--- The same, with this text for its cells, which names some, and these rounds.
+-- The subcommand of this name was met, with this file, this plan if it has one, this manner, this
+-- text for its cells, which names some, and these rounds.
 pub record HasWatch (matches : Option (Text × List Row)) (name file : Text) (plan : Option Text)
     (manner : Manner) (cells : Text) (rounds : ℕ) : Type 0 where
-  pub has_run : HasRun matches name file plan manner
+  pub has_run : HasRunArguments matches name file plan manner
   pub has_cells : first_of (codes "cells") has_run.of_file.rows ≡ Some cells
   pub spells : SpellsCells cells
   pub has_rounds : IsNumberOf (codes "rounds") has_run.of_file.rows rounds
 
+-- a file, a plan if there is one, and what the thread that calls is asked alone are what was met
+abbrev pub IsMetAlone : Option (Text × List Row) → Text → Option Text → AskAlone → Type 0
+IsMetAlone matches file plan Check = HasFile matches (codes "check") file × (plan ≡ None)
+IsMetAlone matches file plan Compile = HasFile matches (codes "compile") file × (plan ≡ None)
+IsMetAlone matches file plan (Plain why) =
+    HasFile matches (codes "plain") file × HasFlag (codes "why") matches why × (plan ≡ None)
+IsMetAlone matches file plan Cost = HasFile matches (codes "cost") file × (plan ≡ None)
+IsMetAlone matches file plan (Steps from to alone) =
+    HasSteps matches (codes "steps") file from to alone × (plan ≡ None)
+IsMetAlone matches file plan (Replay workers alone) =
+    HasWorkers matches (codes "replay") file workers.count plan alone
+
+-- what threads are asked, so
+abbrev pub IsMetOnThreads : Option (Text × List Row) → Text → Option Text → AskOnThreads → Type 0
+IsMetOnThreads matches file plan (Run run) =
+    HasRunArguments matches (codes "run") file plan run.manner
+    × HasFlag (codes "why") matches run.why
+IsMetOnThreads matches file plan (Watch watch) =
+    HasWatch matches (codes "watch") file plan watch.manner watch.cells.text.now watch.rounds
+
+abbrev pub IsMetAs : Option (Text × List Row) → Text → Option Text → Ask → Type 0
+IsMetAs matches file plan (Alone ask) = IsMetAlone matches file plan ask
+IsMetAs matches file plan (OnThreads ask) = IsMetOnThreads matches file plan ask
+
 -- the line is what was met
 abbrev pub IsMet : Option (Text × List Row) → Line → Type 0
-IsMet matches (Check file) = HasFile matches (codes "check") file.now
-IsMet matches (Compile file) = HasFile matches (codes "compile") file.now
-IsMet matches (Plain file why) =
-    HasFile matches (codes "plain") file.now × HasFlag (codes "why") matches why
-IsMet matches (Cost file) = HasFile matches (codes "cost") file.now
-IsMet matches (Steps file from to alone) =
-    HasSteps matches (codes "steps") file.now from to alone
-IsMet matches (Run file plan manner why) =
-    HasRun matches (codes "run") file.now (text_of plan) manner
-    × HasFlag (codes "why") matches why
-IsMet matches (Watch file plan manner cells rounds) =
-    HasWatch matches (codes "watch") file.now (text_of plan) manner cells.text.now rounds
-IsMet matches (Replay file workers plan alone) =
-    HasWorkers matches (codes "replay") file.now workers.count (text_of plan) alone
+IsMet matches line = IsMetAs matches line.file.now (text_now line.plan) line.ask
 
--- how a line tells how far the workers are
-abbrev pub telling_of : Line → Telling
-telling_of (Run file plan manner why) = manner.progress
-telling_of (Watch file plan manner cells rounds) = manner.progress
-telling_of _ = Silent
+-- how standard error is told how far the workers are
+abbrev pub telling_of : Ask → Telling
+telling_of (Alone ask) = Silent
+telling_of (OnThreads (Run run)) = run.manner.progress
+telling_of (OnThreads (Watch watch)) = watch.manner.progress
 
 -- What is told goes on one line of a terminal, and elsewhere on one line after the other.
 abbrev pub SuitsTerminal : Bool → Telling → Type 0
@@ -222,10 +240,10 @@ SuitsTerminal on_terminal OneLine = on_terminal ≡ true
 
 -- The line is what was met, and so is whether a refusal is to be explained; what the line tells
 -- suits the device.
-pub record IsAsked (on_terminal : Bool) (matches : Option (Text × List Row))
+pub record IsAskedLine (on_terminal : Bool) (matches : Option (Text × List Row))
     (asked : Asked) : Type 0 where
   pub line : IsMet matches asked.line
-  pub telling : SuitsTerminal on_terminal (telling_of asked.line)
+  pub telling : SuitsTerminal on_terminal (telling_of asked.line.ask)
   pub explain : HasFlag (codes "explain") matches asked.explain
 
 -- What stands for cells names none.

@@ -8,7 +8,7 @@ ghost use Rattle.command_data.specs.CellLists.{SpellsCells};
 ghost use Rattle.command_data.specs.Manner.{is_told};
 ghost use Rattle.command_line.specs.CommandLine.{AreRefused, FailsByWords, HasBadBlock};
 ghost use Rattle.command_line.specs.CommandLine.{HasBadCells, HasBadValue, HasBadWindow};
-ghost use Rattle.command_line.specs.CommandLine.{HasManner, IsAsked, IsBlockIfSet, IsMet};
+ghost use Rattle.command_line.specs.CommandLine.{HasManner, IsAskedLine, IsBlockIfSet, IsMet};
 ghost use Rattle.command_line.specs.CommandLine.{IsNumberIfSet, IsNumberOf, IsNumberOr};
 ghost use Rattle.command_line.specs.CommandLine.{MeanNoLine, bare};
 ghost use Rattle.command_line.specs.CommandLine.{flag_rule, needed, number_rule, on_file};
@@ -20,7 +20,9 @@ ghost use Rattle.command_line.specs.CommandLine.{with_manner, with_progress, wit
 use clap::builder::ValueParser;
 use clap::error::ErrorKind;
 use clap::{Arg, ArgAction, ArgMatches, Command, Error, value_parser};
-use command_data::{Block, CellList, Line, Manner, Telling, Workers};
+use command_data::{
+    Ask, AskAlone, AskOnThreads, AskRun, AskWatch, Block, CellList, Line, Manner, Telling, Workers,
+};
 use std::alloc::{AllocError, Global};
 
 const EXAMPLES: &str = "\
@@ -91,7 +93,7 @@ pub fn read_line<'a>(
     on_terminal: bool,
 ) -> Result<Asked<'a>, Error>
     ensures met { IfOk result
-        (IsAsked on_terminal (subcommand_of pramx (map (λ word. word.now) words.entry.now))) }
+        (IsAskedLine on_terminal (subcommand_of pramx (map (λ word. word.now) words.entry.now))) }
     ensures taken { IfOk result (λ asked. ¬ MeanNoLine (map (λ word. word.now)
         words.entry.now)) }
     ensures refused { IfErr result (λ error. kind_of error ≢ ErrorKind.OutOfMemory
@@ -450,7 +452,7 @@ fn flag<'a>(alloc: Global, name: &'a str, help: &'a str) -> Arg<'a>
         .action(ArgAction::SetTrue)
 }
 
-// The same argument, whose value is a number within the bounds.
+// Makes an argument one whose value is a number within the bounds.
 fn numbered<'a>(arg: Arg<'a>, bounds: ValueParser<'a>) -> Arg<'a>
     ensures rule { rule_of result ≡ record (rule_of arg.entry) { parser = Some bounds.entry } }
     ensures local { result.global ≡ arg.entry.global }
@@ -458,7 +460,7 @@ fn numbered<'a>(arg: Arg<'a>, bounds: ValueParser<'a>) -> Arg<'a>
     arg.value_parser(bounds)
 }
 
-// The same argument, which has to stand.
+// Makes an argument one that has to stand.
 fn needed<'a>(arg: Arg<'a>) -> Arg<'a>
     ensures rule { rule_of result ≡ needed (rule_of arg.entry) }
     ensures local { result.global ≡ arg.entry.global }
@@ -467,7 +469,7 @@ fn needed<'a>(arg: Arg<'a>) -> Arg<'a>
 }
 
 fn asked_of<'a>(matches: &ArgMatches<'a>, on_terminal: bool) -> Option<Asked<'a>>
-    ensures { IfSome result (IsAsked on_terminal (subcommand_rows_of matches.now)) }
+    ensures { IfSome result (IsAskedLine on_terminal (subcommand_rows_of matches.now)) }
 {
     let line = line_of(matches, on_terminal)?;
     let (_, inner) = matches.subcommand()?;
@@ -479,35 +481,72 @@ fn asked_of<'a>(matches: &ArgMatches<'a>, on_terminal: bool) -> Option<Asked<'a>
 
 fn line_of<'a>(matches: &ArgMatches<'a>, on_terminal: bool) -> Option<Line<'a>>
     ensures met { IfSome result (IsMet (subcommand_rows_of matches.now)) }
-    ensures suits { IfSome result (λ line. SuitsTerminal on_terminal (telling_of line)) }
+    ensures suits { IfSome result (λ line. SuitsTerminal on_terminal (telling_of line.ask)) }
 {
     let (name, inner) = matches.subcommand()?;
     let file = inner.get_str("file")?;
     match name {
-        "check" => Some(Line::Check { file }),
-        "compile" => Some(Line::Compile { file }),
+        "check" => Some(Line {
+            file,
+            plan: None,
+            ask: Ask::Alone(AskAlone::Check),
+        }),
+        "compile" => Some(Line {
+            file,
+            plan: None,
+            ask: Ask::Alone(AskAlone::Compile),
+        }),
         "plain" => {
             let why = inner.get_flag("why");
-            Some(Line::Plain { file, why })
-        }
-        "cost" => Some(Line::Cost { file }),
-        "steps" => {
-            let (from, to) = steps_of(inner)?;
-            Some(Line::Steps {
+            Some(Line {
                 file,
-                from,
-                to,
-                alone: inner.get_flag("csv"),
+                plan: None,
+                ask: Ask::Alone(AskAlone::Plain { why }),
             })
         }
-        _ => workers_line_of(matches, on_terminal),
+        "cost" => Some(Line {
+            file,
+            plan: None,
+            ask: Ask::Alone(AskAlone::Cost),
+        }),
+        _ => rows_line_of(matches, on_terminal),
     }
 }
 
-// The same of the lines that have workers.
-fn workers_line_of<'a>(matches: &ArgMatches<'a>, on_terminal: bool) -> Option<Line<'a>>
+// The line that asks for rows, or for threads.
+fn rows_line_of<'a>(matches: &ArgMatches<'a>, on_terminal: bool) -> Option<Line<'a>>
     ensures met { IfSome result (IsMet (subcommand_rows_of matches.now)) }
-    ensures suits { IfSome result (λ line. SuitsTerminal on_terminal (telling_of line)) }
+    ensures suits { IfSome result (λ line. SuitsTerminal on_terminal (telling_of line.ask)) }
+{
+    let (name, inner) = matches.subcommand()?;
+    let file = inner.get_str("file")?;
+    let alone = inner.get_flag("csv");
+    match name {
+        "steps" => {
+            let (from, to) = steps_of(inner)?;
+            Some(Line {
+                file,
+                plan: None,
+                ask: Ask::Alone(AskAlone::Steps { from, to, alone }),
+            })
+        }
+        "replay" => {
+            let workers = workers_of(inner)?;
+            let plan = inner.get_str("plan");
+            Some(Line {
+                file,
+                plan,
+                ask: Ask::Alone(AskAlone::Replay { workers, alone }),
+            })
+        }
+        _ => threads_line_of(matches, on_terminal),
+    }
+}
+
+// The line that asks for threads.
+fn threads_line_of<'a>(matches: &ArgMatches<'a>, on_terminal: bool) -> Option<Line<'a>>
+    ensures met { IfSome result (IsMet (subcommand_rows_of matches.now)) }
+    ensures suits { IfSome result (λ line. SuitsTerminal on_terminal (telling_of line.ask)) }
 {
     let (name, inner) = matches.subcommand()?;
     let file = inner.get_str("file")?;
@@ -515,31 +554,24 @@ fn workers_line_of<'a>(matches: &ArgMatches<'a>, on_terminal: bool) -> Option<Li
     match name {
         "run" => {
             let manner = manner_of(inner, on_terminal)?;
-            Some(Line::Run {
+            let why = inner.get_flag("why");
+            Some(Line {
                 file,
                 plan,
-                manner,
-                why: inner.get_flag("why"),
+                ask: Ask::OnThreads(AskOnThreads::Run(AskRun { manner, why })),
             })
         }
         "watch" => {
             let manner = manner_of(inner, on_terminal)?;
             let (cells, rounds) = reads_of(inner)?;
-            Some(Line::Watch {
+            Some(Line {
                 file,
                 plan,
-                manner,
-                cells,
-                rounds,
-            })
-        }
-        "replay" => {
-            let workers = workers_of(inner)?;
-            Some(Line::Replay {
-                file,
-                workers,
-                plan,
-                alone: inner.get_flag("csv"),
+                ask: Ask::OnThreads(AskOnThreads::Watch(AskWatch {
+                    manner,
+                    cells,
+                    rounds,
+                })),
             })
         }
         _ => None,

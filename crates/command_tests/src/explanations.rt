@@ -1,6 +1,7 @@
 //! The sentence that explains a refusal.
 use pram_commands::{
-    Bytes, CommandFault, Console, Explanation, Line, Reasons, Sources, Workers, serve,
+    Ask, AskAlone, Bytes, CommandFault, Console, Explanation, Line, Reasons, Sources, Workers,
+    serve,
 };
 use pram_streams::{Empty, IntoWrite, Reason};
 use pram_text::TextKind;
@@ -11,11 +12,13 @@ use std::test::Fail;
 use std::thread::Threads;
 use stop_plan::PlanKind;
 
-const REPLAY: Line<'static> = Line::Replay {
+const REPLAY: Line<'static> = Line {
     file: "sum.pram",
-    workers: Workers { count: 2 },
     plan: Some("-"),
-    alone: false,
+    ask: Ask::Alone(AskAlone::Replay {
+        workers: Workers { count: 2 },
+        alone: false,
+    }),
 };
 
 const FAULTS: [CommandFault; 9] = [
@@ -98,7 +101,11 @@ fn checked<R: AllocGlobal + Threads + Wait + Clock + Eprint + Sync>(
         job: Bytes::new(b"no job\n"),
         plan: Empty,
     };
-    let check = Line::Check { file: "job" };
+    let check = Line {
+        file: "job",
+        plan: None,
+        ask: Ask::Alone(AskAlone::Check),
+    };
     let status = serve(rt, rt.alloc(), &check, &mut sources, &mut console);
     let Console { out, err, .. } = console;
     let left = err.into_inner().len();

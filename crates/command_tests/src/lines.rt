@@ -10,48 +10,44 @@ use std::test::Fail;
 
 // Words, and what they ask, or the kind of their error.
 const LINES: &str = "\
-pramx check f -> Asked { line: Check { file: \"f\" }, explain: false }
-pramx check --explain f -> Asked { line: Check { file: \"f\" }, explain: true }
-pramx compile f -> Asked { line: Compile { file: \"f\" }, explain: false }
-pramx plain f -> Asked { line: Plain { file: \"f\", why: false }, explain: false }
-pramx plain --why f -> Asked { line: Plain { file: \"f\", why: true }, explain: false }
-pramx cost f -> Asked { line: Cost { file: \"f\" }, explain: false }
-pramx steps f \
-    -> Asked { line: Steps { file: \"f\", from: 1, to: 4294967295, alone: false }, \
-    explain: false }
-pramx steps f --from 101 \
-    -> Asked { line: Steps { file: \"f\", from: 101, to: 4294967295, alone: false }, \
-    explain: false }
-pramx steps --to 4294967295 f --from=9 \
-    -> Asked { line: Steps { file: \"f\", from: 9, to: 4294967295, alone: false }, \
-    explain: false }
-pramx steps --csv f \
-    -> Asked { line: Steps { file: \"f\", from: 1, to: 4294967295, alone: true }, \
-    explain: false }
-pramx run job.txt --workers 2 --plan p.csv --progress \
-    -> Asked { line: Run { file: \"job.txt\", plan: Some(\"p.csv\"), \
-    manner: Manner { workers: Workers { count: 2 }, progress: Lines, pace: None, block: None }, \
-    why: false }, explain: false }
-pramx run job.txt --workers 2 --progress on a terminal \
-    -> Asked { line: Run { file: \"job.txt\", plan: None, \
-    manner: Manner { workers: Workers { count: 2 }, progress: OneLine, pace: None, \
-    block: None }, why: false }, explain: false }
-pramx run f --workers 1 --pace 1000000 \
-    -> Asked { line: Run { file: \"f\", plan: None, \
-    manner: Manner { workers: Workers { count: 1 }, progress: Silent, pace: Some(1000000), \
-    block: None }, why: false }, explain: false }
-pramx run --workers=64 --block=1 job.txt --why \
-    -> Asked { line: Run { file: \"job.txt\", plan: None, \
-    manner: Manner { workers: Workers { count: 64 }, progress: Silent, pace: None, \
-    block: Some(Block { exponent: 0 }) }, why: true }, explain: false }
-pramx watch job.txt --workers 3 --cells 7,0,7 --rounds 1000000 --pace=0 --block 64 \
-    -> Asked { line: Watch { file: \"job.txt\", plan: None, \
-    manner: Manner { workers: Workers { count: 3 }, progress: Silent, pace: Some(0), \
-    block: Some(Block { exponent: 6 }) }, cells: CellList { text: \"7,0,7\" }, \
-    rounds: 1000000 }, explain: false }
-pramx replay job.txt --workers 1 \
-    -> Asked { line: Replay { file: \"job.txt\", workers: Workers { count: 1 }, plan: None, \
-    alone: false }, explain: false }
+pramx check f -> Asked { line: Line { file: \"f\", plan: None, ask: Alone(Check) }, explain: \
+    false }
+pramx check --explain f -> Asked { line: Line { file: \"f\", plan: None, ask: Alone(Check) }, \
+    explain: true }
+pramx compile f -> Asked { line: Line { file: \"f\", plan: None, ask: Alone(Compile) }, explain: \
+    false }
+pramx plain f -> Asked { line: Line { file: \"f\", plan: None, ask: Alone(Plain { why: false }) \
+    }, explain: false }
+pramx plain --why f -> Asked { line: Line { file: \"f\", plan: None, ask: Alone(Plain { why: \
+    true }) }, explain: false }
+pramx cost f -> Asked { line: Line { file: \"f\", plan: None, ask: Alone(Cost) }, explain: false }
+pramx steps f -> Asked { line: Line { file: \"f\", plan: None, ask: Alone(Steps { from: 1, to: \
+    4294967295, alone: false }) }, explain: false }
+pramx steps f --from 101 -> Asked { line: Line { file: \"f\", plan: None, ask: Alone(Steps { \
+    from: 101, to: 4294967295, alone: false }) }, explain: false }
+pramx steps --to 4294967295 f --from=9 -> Asked { line: Line { file: \"f\", plan: None, ask: \
+    Alone(Steps { from: 9, to: 4294967295, alone: false }) }, explain: false }
+pramx steps --csv f -> Asked { line: Line { file: \"f\", plan: None, ask: Alone(Steps { from: 1, \
+    to: 4294967295, alone: true }) }, explain: false }
+pramx run job.txt --workers 2 --plan p.csv --progress -> Asked { line: Line { file: \"job.txt\", \
+    plan: Some(\"p.csv\"), ask: OnThreads(Run(AskRun { manner: Manner { workers: Workers { \
+    count: 2 }, progress: Lines, pace: None, block: None }, why: false })) }, explain: false }
+pramx run job.txt --workers 2 --progress on a terminal -> Asked { line: Line { file: \
+    \"job.txt\", plan: None, ask: OnThreads(Run(AskRun { manner: Manner { workers: Workers { \
+    count: 2 }, progress: OneLine, pace: None, block: None }, why: false })) }, explain: false }
+pramx run f --workers 1 --pace 1000000 -> Asked { line: Line { file: \"f\", plan: None, ask: \
+    OnThreads(Run(AskRun { manner: Manner { workers: Workers { count: 1 }, progress: Silent, \
+    pace: Some(1000000), block: None }, why: false })) }, explain: false }
+pramx run --workers=64 --block=1 job.txt --why -> Asked { line: Line { file: \"job.txt\", plan: \
+    None, ask: OnThreads(Run(AskRun { manner: Manner { workers: Workers { count: 64 }, progress: \
+    Silent, pace: None, block: Some(Block { exponent: 0 }) }, why: true })) }, explain: false }
+pramx watch job.txt --workers 3 --cells 7,0,7 --rounds 1000000 --pace=0 --block 64 -> Asked { \
+    line: Line { file: \"job.txt\", plan: None, ask: OnThreads(Watch(AskWatch { manner: Manner { \
+    workers: Workers { count: 3 }, progress: Silent, pace: Some(0), block: Some(Block { \
+    exponent: 6 }) }, cells: CellList { text: \"7,0,7\" }, rounds: 1000000 })) }, explain: false \
+    }
+pramx replay job.txt --workers 1 -> Asked { line: Line { file: \"job.txt\", plan: None, ask: \
+    Alone(Replay { workers: Workers { count: 1 }, alone: false }) }, explain: false }
 pramx -> MissingSubcommand
 pramx walk f -> InvalidSubcommand
 pramx plain -> MissingRequiredArgument

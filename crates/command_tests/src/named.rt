@@ -23,7 +23,7 @@ struct Program<'a> {
 fn program_of(piece: &str) -> Option<Program<'_>> {
     let (text, told) = piece.split_once("=== plain ")?;
     let (status, told) = told.split_once('\n')?;
-    let (answer, cost) = told.split_once("=== cost\n")?;
+    let (answer, cost) = told.split_once("=== ")?;
     Some(Program {
         text,
         status: status.parse().ok()?,

@@ -44,6 +44,7 @@ fn work(board: &Board, mut seat: Seat, number: u32) -> Seat
         worker = Worker::back(number);
     }
     board.facts();
+    Seat::workers_stay_known();
     let Reading::At { .. } = board.read(&mut seat, 0);
     board.work(&mut seat, &mut worker, &Open, None);
     seat

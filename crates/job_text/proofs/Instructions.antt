@@ -4,9 +4,7 @@ use Rattle.std.proofs.Common.{Ok, Option, Some, refl, arith, codes, decimal}
 use Rattle.std.specs.List.{AllByRecursion}
 use Rattle.pram_job.specs.declared.instr.Array.{Array}
 use Rattle.pram_job.specs.declared.instr.Instr.{Instr}
-use Rattle.pram_job.specs.declared.instr.Instr.TheVariants.{Set, Pid, Add, Sub, Mul, And, Or, Xor}
-use Rattle.pram_job.specs.declared.instr.Instr.TheVariants.{Lt, Eq, Shl, Shr, Ld, St, Jz, Jmp}
-use Rattle.pram_job.specs.declared.instr.Instr.TheVariants.{Halt}
+use Rattle.pram_job.specs.declared.instr.Instr.TheVariants.{Set, Pid, Ld, St, Jz, Jmp, Halt}
 use Rattle.pram_job.specs.declared.instr.Operand.{Operand}
 use Rattle.pram_job.specs.declared.instr.Operands.{Operands}
 use Rattle.pram_job.specs.declared.instr.Operands.TheVariants as o
@@ -16,7 +14,7 @@ use Rattle.pram_job.specs.declared.limits.TheConstants.{REGISTERS}
 use Rattle.pram_job.specs.Instructions.{IsOperand, IsPlace, AreOperands, row_of}
 use Rattle.pram_job.specs.Job.{IsInstr}
 use Rattle.pram_text.specs.Judgement.{Scope, instr_of, most, one_register, two_operands}
-use Rattle.pram_text.specs.Judgement.{register_place, place_operand, register_number, one_label}
+use Rattle.pram_text.specs.Judgement.{register_and_place, place_operand, register_number, one_label}
 use Rattle.pram_text.specs.Judgement.{register_label, number_in}
 use Rattle.text_lines.specs.Lines.{Word, Line}
 use Rattle.job_text.specs.Printed.{operand_words, operand_word, register_word, array_word, label}
@@ -65,7 +63,7 @@ module _ (cells : ℕ) (arrays : Word → Option Array) (find : Word → Option 
 
   load_read : (make : ℕ → Place → Instr) (r : ℕ) (place : Place) → r < REGISTERS →
       IsPlace cells place → AreNamed arrays (place_arrays place) →
-      register_place (third arrays) make (register_word r ∷ place_words place)
+      register_and_place (third arrays) make (register_word r ∷ place_words place)
       ≡ Ok (make r place)
   load_read make r (Cell index) h k n = rw (register_read r h) (rw (operand_read index k) refl)
   load_read make r (Named array index) h k n =
@@ -94,21 +92,12 @@ module _ (cells : ℕ) (arrays : Word → Option Array) (find : Word → Option 
   unfolding instr_of
   instr_read len (Set r n) h k l = number_read (λ r n. Set r n) r n h.0 h.1
   instr_read len (Pid r) h k l = one_read (λ r. Pid r) r h
-  instr_read len (Add r a b) h k l = two_read (λ r a b. Add r a b) r a b h.0 h.1 h.2
-  instr_read len (Sub r a b) h k l = two_read (λ r a b. Sub r a b) r a b h.0 h.1 h.2
-  instr_read len (Mul r a b) h k l = two_read (λ r a b. Mul r a b) r a b h.0 h.1 h.2
-  instr_read len (And r a b) h k l = two_read (λ r a b. And r a b) r a b h.0 h.1 h.2
-  instr_read len (Or r a b) h k l = two_read (λ r a b. Or r a b) r a b h.0 h.1 h.2
-  instr_read len (Xor r a b) h k l = two_read (λ r a b. Xor r a b) r a b h.0 h.1 h.2
-  instr_read len (Lt r a b) h k l = two_read (λ r a b. Lt r a b) r a b h.0 h.1 h.2
-  instr_read len (Eq r a b) h k l = two_read (λ r a b. Eq r a b) r a b h.0 h.1 h.2
-  instr_read len (Shl r a b) h k l = two_read (λ r a b. Shl r a b) r a b h.0 h.1 h.2
-  instr_read len (Shr r a b) h k l = two_read (λ r a b. Shr r a b) r a b h.0 h.1 h.2
   instr_read len (Ld r place) h k l = load_read (λ r p. Ld r p) r place h.0 h.1 k
   instr_read len (St place b) h k l = store_read (λ p b. St p b) place b h.0 h.1 k
   instr_read len (Jz r index) h k l = branch_read (λ r i. Jz r i) r index h.0 l
   instr_read len (Jmp index) h k l = jump_read (λ i. Jmp i) index l
   instr_read len Halt h k l = refl
+  instr_read len _ h k l = two_read _ _ _ _ h.0 h.1 h.2
 
 -- ---- the words are plain
 
@@ -141,23 +130,8 @@ operands_plain cells len (o.RegisterIndex r index) few h k =
 operands_plain cells len (o.Index index) few h k = (label_plain index (omega (arith, few, h)), tt)
 
 name_plain : (instr : Instr) → PlainWord (row_of instr).0
-name_plain (Set r n) = record { filled = refl; plain = refl }
-name_plain (Pid r) = record { filled = refl; plain = refl }
-name_plain (Add r a b) = record { filled = refl; plain = refl }
-name_plain (Sub r a b) = record { filled = refl; plain = refl }
-name_plain (Mul r a b) = record { filled = refl; plain = refl }
-name_plain (And r a b) = record { filled = refl; plain = refl }
-name_plain (Or r a b) = record { filled = refl; plain = refl }
-name_plain (Xor r a b) = record { filled = refl; plain = refl }
-name_plain (Lt r a b) = record { filled = refl; plain = refl }
-name_plain (Eq r a b) = record { filled = refl; plain = refl }
-name_plain (Shl r a b) = record { filled = refl; plain = refl }
-name_plain (Shr r a b) = record { filled = refl; plain = refl }
-name_plain (Ld r place) = record { filled = refl; plain = refl }
-name_plain (St place b) = record { filled = refl; plain = refl }
-name_plain (Jz r index) = record { filled = refl; plain = refl }
-name_plain (Jmp index) = record { filled = refl; plain = refl }
 name_plain Halt = record { filled = refl; plain = refl }
+name_plain _ = record { filled = refl; plain = refl }
 
 pub words_plain : (cells len : ℕ) (instr : Instr) → len ≤ 4096 → IsInstr cells len instr →
     AllByRecursion SmallArray (operand_arrays (row_of instr).1) → PlainWords (words_for instr)

@@ -10,14 +10,12 @@ use Rattle.std.proofs.lemmas.Fmt.{decimal_injective}
 use Rattle.std.proofs.lemmas.List.{get_or_push, take_at, length_push}
 use Rattle.std.proofs.lemmas.Slice.Eq.{bytes_eq-Decides}
 use Rattle.pram_job.specs.declared.instr.Instr.{Instr}
-use Rattle.pram_job.specs.declared.instr.Instr.TheVariants.{Set, Pid, Add, Sub, Mul, And, Or, Xor}
-use Rattle.pram_job.specs.declared.instr.Instr.TheVariants.{Lt, Eq, Shl, Shr, Ld, St, Jz, Jmp}
 use Rattle.pram_job.specs.declared.instr.Instr.TheVariants.{Halt}
 use Rattle.pram_job.specs.Instructions.{row_of}
 use Rattle.pram_text.specs.Judgement.{is_label, is_name, label_of, unlabelled}
 use Rattle.text_lines.specs.Lines.{Word, Line}
-use Rattle.pram_text.specs.Text.{defines, index_of, is_named, IsLabelled}
-use Rattle.job_text.specs.Printed.{label, instruction_line, instruction_lines, operand_words}
+use Rattle.pram_text.specs.Text.{defines, label_index, is_named, IsLabelled}
+use Rattle.job_text.specs.Printed.{label, instruction_line, printed_instructions, operand_words}
 use Rattle.job_text.proofs.Naming.{letter_name}
 use Rattle.job_text.proofs.Header.{bytes_same}
 use Rattle.job_text.proofs.Instructions.{words_for}
@@ -38,23 +36,8 @@ is_label-colon : (word : Word) → is_label (word ++ 58 ∷ []) ≡ true
 is_label-colon word = ap (λ byte. byte == 58) (colon_last word)
 
 name_is_no_label : (instr : Instr) → is_label (row_of instr).0 ≡ false
-name_is_no_label (Set r n) = refl
-name_is_no_label (Pid r) = refl
-name_is_no_label (Add r a b) = refl
-name_is_no_label (Sub r a b) = refl
-name_is_no_label (Mul r a b) = refl
-name_is_no_label (And r a b) = refl
-name_is_no_label (Or r a b) = refl
-name_is_no_label (Xor r a b) = refl
-name_is_no_label (Lt r a b) = refl
-name_is_no_label (Eq r a b) = refl
-name_is_no_label (Shl r a b) = refl
-name_is_no_label (Shr r a b) = refl
-name_is_no_label (Ld r place) = refl
-name_is_no_label (St place b) = refl
-name_is_no_label (Jz r index) = refl
-name_is_no_label (Jmp index) = refl
 name_is_no_label Halt = refl
+name_is_no_label _ = refl
 
 pub unlabelled_read : (b : Bool) (index : ℕ) (instr : Instr) →
     unlabelled (instruction_line b index instr) ≡ words_for instr
@@ -92,12 +75,12 @@ other_label i j h k other = false_from_ne_true (bytes_eq (label i) (label j))
 
 module _ (aim : ℕ → Bool) where
   pub length-lines : (n : ℕ) (code : List Instr) →
-      length (instruction_lines aim n code) ≡ length code
+      length (printed_instructions aim n code) ≡ length code
   length-lines n [] = refl
   length-lines n (instr ∷ code) = ap suc (length-lines (n + 1) code)
 
   label_at : (n k : ℕ) (d : Line) (code : List Instr) → k < length code →
-      label_of (get_or (instruction_lines aim n code) k d) ≡ label_if (aim (n + k)) (n + k)
+      label_of (get_or (printed_instructions aim n code) k d) ≡ label_if (aim (n + k)) (n + k)
   label_at n k d [] h = absurd (omega (arith, h))
   label_at n zero d (instr ∷ code) h =
       let at : n ≡ n + 0 = omega arith in
@@ -109,7 +92,7 @@ module _ (aim : ℕ → Bool) where
   -- the place of a label that is aimed at
   label_place : (i n : ℕ) (code : List Instr) → aim i ≡ true → n ≤ i → i < n + length code →
       n + length code < 2 ^ 64 →
-      n + position_or_len (defines (label i)) (instruction_lines aim n code) ≡ i
+      n + position_or_len (defines (label i)) (printed_instructions aim n code) ≡ i
   label_place i n [] aimed low high few = absurd (omega (arith, low, high))
   label_place i n (instr ∷ code) aimed low high few =
       ⊎_elim
@@ -138,16 +121,16 @@ module _ (aim : ℕ → Bool) where
           by_test false = refl
 
   pub label_found : (i : ℕ) (code : List Instr) → aim i ≡ true → i < length code →
-      length code ≤ 4096 → index_of (instruction_lines aim 0 code) (label i) ≡ Some i
+      length code ≤ 4096 → label_index (printed_instructions aim 0 code) (label i) ≡ Some i
   label_found i code aimed low few =
       let place = label_place i 0 code aimed (omega arith) (omega (arith, low))
       (omega (arith, few)) in
-      let at : position_or_len (defines (label i)) (instruction_lines aim 0 code) ≡ i =
+      let at : position_or_len (defines (label i)) (printed_instructions aim 0 code) ≡ i =
       omega (arith, place) in
       let len = length-lines 0 code in
-      ap (λ p. cond (nat_lt p (length (instruction_lines aim 0 code))) (Some p) None) at
+      ap (λ p. cond (nat_lt p (length (printed_instructions aim 0 code))) (Some p) None) at
       ∙ ap (λ b. cond b (Some i) None)
-      (lt-ltb i (length (instruction_lines aim 0 code)) (omega (arith, len, low)))
+      (lt-ltb i (length (printed_instructions aim 0 code)) (omega (arith, len, low)))
 
   name_if : (b : Bool) (i : ℕ) → i < 2 ^ 64 →
       IfSome (label_if b i) (λ word. IsTrue (is_name word))
@@ -162,7 +145,7 @@ module _ (aim : ℕ → Bool) where
   apart_if false c i j h k less word e f = cc
 
   pub labelled : (code : List Instr) → length code ≤ 4096 →
-      IsLabelled (instruction_lines aim 0 code)
+      IsLabelled (printed_instructions aim 0 code)
   labelled code few =
       let len = length-lines 0 code in
       record {

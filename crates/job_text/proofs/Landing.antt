@@ -19,19 +19,20 @@ use Rattle.pram_job.specs.declared.instr.Place.TheVariants.{Cell, Named}
 use Rattle.pram_job.specs.Instructions.{Form, bare, only_target, target_number, target_place}
 use Rattle.pram_job.specs.Instructions.{target_two, place_value, register_index, only_index}
 use Rattle.pram_job.specs.Instructions.{row_of, table}
-use Rattle.pram_text.specs.Judgement.{◌>>=◌, Scope, made_of, instr_by, instr_of, index_in}
-use Rattle.pram_text.specs.Judgement.{no_operand, one_register, two_operands, register_place}
+use Rattle.pram_text.specs.Judgement.{Scope, made_of, instr_by, instr_of, index_in}
+use Rattle.text_lines.specs.Reads.{◌>>=◌}
+use Rattle.pram_text.specs.Judgement.{no_operand, one_register, two_operands, register_and_place}
 use Rattle.pram_text.specs.Judgement.{place_operand, register_number, one_label, register_label}
 use Rattle.pram_text.specs.Judgement.{unlabelled, is_later, register_of, number_in, most}
 use Rattle.pram_text.specs.Judgement.{operand_of, array_at}
 use Rattle.text_lines.specs.Lines.{Word, Line}
-use Rattle.pram_text.specs.Text.{defines, index_of, scope_of}
+use Rattle.pram_text.specs.Text.{defines, label_index, scope_of}
 use Rattle.pram_text.proofs.Table.{IsRow, table_is}
 use Rattle.job_text.specs.Laws.{LandsWithin, SpelledJumpsLand}
 
 -- the index of a label is that of a line
 index_within : (body : List Line) (name : Word) (index : ℕ) →
-    index_of body name ≡ Some index → index < length body
+    label_index body name ≡ Some index → index < length body
 index_within body name index e =
     let p = position_or_len (defines name) body in
     ⊎_elim
@@ -104,7 +105,7 @@ module _ (len : ℕ) where
 
       load : (make : ℕ → Place → Instr) →
           ((r : ℕ) (place : Place) → row_of (make r place) ≡ (name, o.TargetPlace r place)) →
-          (words : Line) → Lands (register_place scope make words)
+          (words : Line) → Lands (register_and_place scope make words)
       load make is (r ∷ a ∷ []) = after (register_of r) _ (λ x.
           after (operand_of scope.later a) _ (λ y.
           made name (make x (Cell y)) (o.TargetPlace x (Cell y)) (is x (Cell y)) tt))
@@ -182,11 +183,11 @@ jumps_land text job spells =
     let s = spells.lines in
     let scope = scope_of (is_later s.version) s.entries in
     let says : Line → Result Instr TextKind =
-    λ line. instr_of scope (index_of s.body) (unlabelled line) in
+    λ line. instr_of scope (label_index s.body) (unlabelled line) in
     let len : length s.body ≡ length job.code =
     sym (length-map s.body says) ∙ ap length s.code.said ∙ length-map job.code _ in
     All-from_recursion (λ instr. LandsWithin (length job.code) (row_of instr).1) job.code
     (subst (λ n. AllByRecursion (λ instr. LandsWithin n (row_of instr).1) job.code) len
     (all_land (length s.body) says
-    (λ line. line_lands (length s.body) scope (index_of s.body) (index_within s.body)
+    (λ line. line_lands (length s.body) scope (label_index s.body) (index_within s.body)
     (unlabelled line)) s.body job.code s.code.said))

@@ -11,7 +11,7 @@ use Rattle.pram_job.specs.declared.instr.Operand.{Operand}
 use Rattle.pram_job.specs.declared.instr.Operand.TheVariants.{Register, Number}
 use Rattle.pram_job.specs.declared.limits.TheConstants.{REGISTERS}
 use Rattle.pram_job.specs.Instructions.{IsOperand}
-use Rattle.pram_text.specs.Judgement.{is_number, number_of, number_in, register_of, most}
+use Rattle.pram_text.specs.Judgement.{is_number, value_of_digits, number_in, register_of, most}
 use Rattle.pram_text.specs.Judgement.{operand_of}
 use Rattle.text_lines.specs.Lines.{Word, is_filled}
 use Rattle.job_text.specs.Printed.{operand_word, register_word}
@@ -60,7 +60,7 @@ pub decimal_is_number : (n : ℕ) → n < 2 ^ 64 → is_number (decimal n) ≡ t
 decimal_is_number n h = and_from (is_filled (decimal n)) (list_all is_ascii_digit (decimal n))
     (decimal_plain n h).filled (decimal_digits n h)
 
-pub decimal_value : (n : ℕ) → n < 2 ^ 64 → number_of (decimal n) ≡ n
+pub decimal_value : (n : ℕ) → n < 2 ^ 64 → value_of_digits (decimal n) ≡ n
 decimal_value n h = (decimal_is_IsNumeral n h).1
 
 pub decimal_in : (low high n : ℕ) → n < 2 ^ 64 → low ≤ n → n ≤ high →

@@ -15,7 +15,7 @@ use Rattle.std.proofs.lemmas.List.{take_more}
 use Rattle.std.proofs.lemmas.List.Elements.{filter-append}
 use Rattle.std.proofs.lemmas.List.Folds.{list_any-append}
 use Rattle.pram_job.specs.declared.instr.Array.{Array}
-use Rattle.job_text.specs.Inner.Printing.{with_array}
+use Rattle.job_text.specs.Inner.Printing.{with_new_array}
 use Rattle.pram_job.specs.declared.instr.Instr.{Instr}
 use Rattle.pram_job.specs.Instructions.{row_of}
 use Rattle.job_text.specs.Printed.{arrays_in, is_same, once, operand_arrays}
@@ -60,7 +60,7 @@ filter_other x a false e =
     cond-true (other_than x a) (a ∷ []) [] (not_from_false (is_same x a) e)
 
 pub once-push : (arrays : List Array) (a : Array) →
-    once (arrays ++ a ∷ []) ≡ with_array (once arrays) a
+    once (arrays ++ a ∷ []) ≡ with_new_array (once arrays) a
 once-push [] a = refl
 once-push (x ∷ arrays) a =
     let kept = filter (other_than x) (once arrays) in
@@ -120,10 +120,10 @@ arrays-push code k d low =
 -- an instruction with an array, and one without
 pub once_step : (code : List Instr) (k : ℕ) (d : Instr) (old new : List Array) (a : Array) →
     k < length code → a ∷ [] ≡ operand_arrays (row_of (get_or code k d)).1 →
-    old ≡ once (arrays_in (take k code)) → new ≡ with_array old a →
+    old ≡ once (arrays_in (take k code)) → new ≡ with_new_array old a →
     new ≡ once (arrays_in (take (k + 1) code))
 once_step code k d old new a low has so now =
-    now ∙ ap (λ arrays. with_array arrays a) so
+    now ∙ ap (λ arrays. with_new_array arrays a) so
     ∙ sym (once-push (arrays_in (take k code)) a)
     ∙ sym (ap once (arrays-push code k d low
     ∙ ap (λ more. arrays_in (take k code) ++ more) (sym has)))

@@ -17,10 +17,12 @@ use Rattle.pram_job.specs.Instructions.{IsArray, IsPlace, AreOperands, row_of}
 use Rattle.pram_job.specs.Job.{JobData, IsJob, IsInstr}
 use Rattle.pram_text.specs.Judgement.{Entry, instr_of, unlabelled}
 use Rattle.text_lines.specs.Lines.{Word, Line, is_allowed, worded}
-use Rattle.pram_text.specs.Text.{array_in, code_line, index_of, scope_of, SpellsCode, SpellsLines}
+use Rattle.pram_text.specs.Text.{array_in, code_heading, label_index, scope_of, SpellsCode}
+use Rattle.pram_text.specs.Text.{SpellsLines}
 use Rattle.job_text.specs.Laws.{JumpsLand, LandsWithin, PrintedIsReadBack}
 use Rattle.job_text.specs.Printed.{aims_at, array_line, array_word, arrays_in, header_lines}
-use Rattle.job_text.specs.Printed.{init_lines, instruction_line, instruction_lines, is_aim, is_same}
+use Rattle.job_text.specs.Printed.{init_lines, instruction_line, printed_instructions, is_aim}
+use Rattle.job_text.specs.Printed.{is_same}
 use Rattle.job_text.specs.Printed.{job_lines, label, once, operand_arrays, place_arrays, text_of}
 use Rattle.job_text.proofs.Naming.{SmallArray, arrays_plain, is_same-itself, once_keeps}
 use Rattle.job_text.proofs.Naming.{once_stands}
@@ -132,7 +134,7 @@ line_plain false index instr h k = record { filled = refl; plain = k }
 
 lines_plain : (aim : ℕ → Bool) (index : ℕ) (code : List Instr) →
     AllByRecursion (λ instr. PlainWords (words_for instr)) code →
-    index + length code < 2 ^ 64 → PlainLines (instruction_lines aim index code)
+    index + length code < 2 ^ 64 → PlainLines (printed_instructions aim index code)
 lines_plain aim index [] h few = tt
 lines_plain aim index (instr ∷ code) h few = (
   line_plain (aim index) index instr (omega (arith, few)) h.0,
@@ -142,7 +144,8 @@ lines_plain aim index (instr ∷ code) h few = (
 lines_said : (arrays : Word → Option Array) (find : Word → Option ℕ) (aim : ℕ → Bool) (index : ℕ)
     (code : List Instr) →
     AllByRecursion (λ instr. instr_of (third arrays) find (words_for instr) ≡ Ok instr) code →
-    map (λ line. instr_of (third arrays) find (unlabelled line)) (instruction_lines aim index code)
+    map (λ line. instr_of (third arrays) find (unlabelled line))
+    (printed_instructions aim index code)
     ≡ map (λ instr. Ok instr) code
 lines_said arrays find aim index [] h = refl
 lines_said arrays find aim index (instr ∷ code) h =
@@ -166,7 +169,7 @@ module _ (job : JobData) (h : IsJob job) where
   entries = entries_for arrays runs
 
   abbrev body : List Line
-  body = instruction_lines (is_aim job.code) 0 job.code
+  body = printed_instructions (is_aim job.code) 0 job.code
 
   few_cells : job.cells ≤ 65536
   few_cells = h.cells.1
@@ -195,15 +198,17 @@ module _ (job : JobData) (h : IsJob job) where
 
   module _ (jumps : JumpsLand job) where
     instrs_read : AllByRecursion (λ instr.
-        instr_of (third (array_in entries)) (index_of body) (words_for instr) ≡ Ok instr) job.code
+        instr_of (third (array_in entries)) (label_index body) (words_for instr) ≡ Ok instr)
+        job.code
     instrs_read = recursion_from_All (λ instr.
-        instr_of (third (array_in entries)) (index_of body) (words_for instr) ≡ Ok instr) job.code
-        (λ k d low. instr_read job.cells (array_in entries) (index_of body) (length job.code)
+        instr_of (third (array_in entries)) (label_index body) (words_for instr) ≡ Ok instr)
+        job.code
+        (λ k d low. instr_read job.cells (array_in entries) (label_index body) (length job.code)
         (get_or job.code k d) (h.code_fits k d low)
         (All-from_recursion (λ instr. AreNamed (array_in entries) (used instr)) job.code
         (each_of (λ array. array_in entries (array_word array) ≡ Some array) used job.code stand)
         k d low)
-        (aim_found job.code (index_of body) (get_or job.code k d)
+        (aim_found job.code (label_index body) (get_or job.code k d)
         (λ i aimed within. label_found (is_aim job.code) i job.code aimed within few_instrs)
         (λ i aimed. list_any_at (λ instr. aims_at i (row_of instr).1) job.code k d low aimed)
         (jumps k d low)))
@@ -212,7 +217,8 @@ module _ (job : JobData) (h : IsJob job) where
     code_read = record {
       some = omega (arith, length-lines (is_aim job.code) 0 job.code, h.code_len.0);
       labelled = labelled (is_aim job.code) job.code few_instrs;
-      said = lines_said (array_in entries) (index_of body) (is_aim job.code) 0 job.code instrs_read;
+      said = lines_said (array_in entries) (label_index body) (is_aim job.code) 0 job.code
+          instrs_read;
     }
 
     lines_read : SpellsLines job (job_lines job)
@@ -224,7 +230,7 @@ module _ (job : JobData) (h : IsJob job) where
       entries = entries;
       parts = ap (λ lines. header_lines job ++ lines)
           (sym (append_assoc (map array_line (once arrays)) (init_lines job.init)
-          (code_line ∷ body)));
+          (code_heading ∷ body)));
       sizes = header_read job h;
       said = entries_said job.cells arrays runs few_cells fit small runs_are;
       init = init_said job.cells arrays job.init h.init_len;

@@ -14,13 +14,13 @@ use Rattle.pram_job.specs.declared.instr.Instr.{Instr}
 use Rattle.pram_job.specs.Instructions.{row_of}
 use Rattle.text_lines.specs.Lines.{Word, Line}
 use Rattle.job_text.specs.Inner.Printing.{aims_of, spaced}
-use Rattle.job_text.specs.Printed.{aims_at, instruction_line, instruction_lines, is_aim}
+use Rattle.job_text.specs.Printed.{aims_at, instruction_line, printed_instructions, is_aim}
 use Rattle.job_text.specs.Printed.{line_if_any}
 use Rattle.job_text.specs.Printed.{line_text, lines_text, run_lines, array_line, arrays_in, once}
 use Rattle.job_text.specs.Printed.{header_lines, init_lines, text_of}
 use Rattle.pram_job.specs.declared.instr.Array.{Array}
 use Rattle.pram_job.specs.Job.{JobData}
-use Rattle.pram_text.specs.Text.{code_line}
+use Rattle.pram_text.specs.Text.{code_heading}
 
 -- ---- words after another one
 
@@ -91,15 +91,15 @@ notes_stay code k d aims low at h = record {
 pub code_step : (aim : ℕ → Bool) (code : List Instr) (index : ℕ) (d : Instr) (b : Bool)
     (now new all : List ℕ) → index < length code → b ≡ aim index →
     new ≡ now ++ line_text (instruction_line b index (get_or code index d)) →
-    now ++ lines_text (instruction_lines aim index (drop index code)) ≡ all →
-    new ++ lines_text (instruction_lines aim (index + 1) (drop (index + 1) code)) ≡ all
+    now ++ lines_text (printed_instructions aim index (drop index code)) ≡ all →
+    new ++ lines_text (printed_instructions aim (index + 1) (drop (index + 1) code)) ≡ all
 code_step aim code index d b now new all low same added h =
     let instr = get_or code index d in
-    let rest = lines_text (instruction_lines aim (index + 1) (drop (index + 1) code)) in
+    let rest = lines_text (printed_instructions aim (index + 1) (drop (index + 1) code)) in
     ap (λ text. text ++ rest)
     (added ∙ ap (λ c. now ++ line_text (instruction_line c index instr)) same)
     ∙ append_assoc now (line_text (instruction_line (aim index) index instr)) rest
-    ∙ sym (ap (λ left. now ++ lines_text (instruction_lines aim index left))
+    ∙ sym (ap (λ left. now ++ lines_text (printed_instructions aim index left))
     (drop_more code index d low)) ∙ h
 
 -- what holds where bytes were added, holds on `Ok`
@@ -137,14 +137,14 @@ pub whole : (job : JobData) (arrays : List Array) (none header named given said 
     none ≡ [] → header ≡ none ++ lines_text (header_lines job) →
     arrays ≡ once (arrays_in job.code) → named ≡ header ++ lines_text (map array_line arrays) →
     given ≡ named ++ lines_text (init_lines job.init) → said ≡ given ++ codes "code\n" →
-    all ≡ said ++ lines_text (instruction_lines (is_aim job.code) 0 job.code) → all ≡ text_of job
+    all ≡ said ++ lines_text (printed_instructions (is_aim job.code) 0 job.code) → all ≡ text_of job
 unfolding text_of
 whole job arrays none header named given said all n h are a i c b =
     let code = codes "code\n" in
     let heads = header_lines job in
     let names = map array_line (once (arrays_in job.code)) in
     let inits = init_lines job.init in
-    let body = instruction_lines (is_aim job.code) 0 job.code in
+    let body = printed_instructions (is_aim job.code) 0 job.code in
     let t = lines_text heads in
     let u = lines_text names in
     let v = lines_text inits in
@@ -154,6 +154,6 @@ whole job arrays none header named given said all n h are a i c b =
     are)))
     ∙ append_assoc ((t ++ u) ++ v) code w ∙ append_assoc (t ++ u) v (code ++ w)
     ∙ append_assoc t u (v ++ (code ++ w))
-    ∙ sym (flat_map-append line_text heads (names ++ (inits ++ code_line ∷ body))
-    ∙ ap (λ text. t ++ text) (flat_map-append line_text names (inits ++ code_line ∷ body)
-    ∙ ap (λ text. u ++ text) (flat_map-append line_text inits (code_line ∷ body))))
+    ∙ sym (flat_map-append line_text heads (names ++ (inits ++ code_heading ∷ body))
+    ∙ ap (λ text. t ++ text) (flat_map-append line_text names (inits ++ code_heading ∷ body)
+    ∙ ap (λ text. u ++ text) (flat_map-append line_text inits (code_heading ∷ body))))

@@ -17,7 +17,7 @@ use Rattle.pram_job.specs.declared.instr.Rule.TheVariants.{Common, Priority, Cre
 use Rattle.pram_job.specs.Instructions.{row_of}
 use Rattle.pram_job.specs.Job.{JobData}
 use Rattle.text_lines.specs.Lines.{Word, Line, is_filled}
-use Rattle.pram_text.specs.Text.{code_line}
+use Rattle.pram_text.specs.Text.{code_heading}
 
 -- ---- the header
 
@@ -135,16 +135,16 @@ instruction_line is_aim index instr =
     label_words is_aim index ++ (row_of instr).0 ∷ operand_words (row_of instr).1
 
 -- the lines of instructions, the first of which has this index
-abbrev pub instruction_lines : (ℕ → Bool) → ℕ → List Instr → List Line
-instruction_lines is_aim index [] = []
-instruction_lines is_aim index (instr ∷ code) =
-    instruction_line (is_aim index) index instr ∷ instruction_lines is_aim (index + 1) code
+abbrev pub printed_instructions : (ℕ → Bool) → ℕ → List Instr → List Line
+printed_instructions is_aim index [] = []
+printed_instructions is_aim index (instr ∷ code) =
+    instruction_line (is_aim index) index instr ∷ printed_instructions is_aim (index + 1) code
 
 -- ---- the whole
 
 abbrev pub job_lines : JobData → List Line
 job_lines job = header_lines job ++ (map array_line (once (arrays_in job.code))
-    ++ (init_lines job.init ++ code_line ∷ instruction_lines (is_aim job.code) 0 job.code))
+    ++ (init_lines job.init ++ code_heading ∷ printed_instructions (is_aim job.code) 0 job.code))
 
 -- the words of a line with a blank between each two, and a line feed
 abbrev pub line_text : Line → List ℕ

@@ -1,7 +1,7 @@
 //! The arrays that the instructions of a job name, each of them once.
 ghost use Rattle.std.specs.Prelude.{◌≡◌, ◌++◌, [], map, string_bytes, IfOk, OnOk};
 ghost use Rattle.std.specs.Option.{option_to_list};
-ghost use Rattle.job_text.specs.Inner.Printing.{with_array};
+ghost use Rattle.job_text.specs.Inner.Printing.{with_new_array};
 ghost use Rattle.job_text.specs.Printed.{array_line, arrays_in, line_text, lines_text, once};
 ghost use Rattle.job_text.specs.Printed.{operand_arrays};
 ghost use Rattle.pram_job.specs.Instructions.{row_of};
@@ -46,9 +46,9 @@ impl Arrays {
         }
     }
 
-    // The same with one more, unless it is among them.
+    // The arrays with one more, unless it is among them.
     fn with(mut self, array: Array) -> Result<Arrays, AllocError>
-        ensures { IfOk result (λ arrays. arrays ≡ with_array self array) }
+        ensures { IfOk result (λ arrays. arrays ≡ with_new_array self array) }
     {
         if self.known.insert((array.base, array.len))? {
             self.items.push(array)?;

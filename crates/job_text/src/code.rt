@@ -2,7 +2,7 @@
 ghost use Rattle.std.specs.Prelude.{◌≡◌, ℕ, ◌++◌, ◌∷◌, ◌==◌, [], true, false, slice_set};
 ghost use Rattle.std.specs.Prelude.{string_bytes, IfOk, MatchOption, OnOk};
 ghost use Rattle.job_text.specs.Inner.Printing.{aims_of, spaced};
-ghost use Rattle.job_text.specs.Printed.{aims_at, instruction_line, instruction_lines, is_aim};
+ghost use Rattle.job_text.specs.Printed.{aims_at, instruction_line, printed_instructions, is_aim};
 ghost use Rattle.job_text.specs.Printed.{line_text, lines_text, operand_word, operand_words};
 ghost use Rattle.job_text.specs.Printed.{place_words};
 ghost use Rattle.pram_job.specs.Instructions.{row_of};
@@ -49,7 +49,7 @@ fn mark(aims: &mut [bool], aim: usize)
 pub(crate) fn push_code(text: &mut String, code: &[Instr], aims: &[bool]) -> Result<(), AllocError>
     requires { aims.now ≡ aims_of code.now }
     ensures { OnOk result (string_bytes text.new ≡ string_bytes text.old
-        ++ lines_text (instruction_lines (is_aim code.now) 0 code.now)) }
+        ++ lines_text (printed_instructions (is_aim code.now) 0 code.now)) }
 {
     for (index, instr) in code.iter().enumerate() {
         push_instruction(text, aims[index], index, *instr)?;

@@ -11,9 +11,9 @@ use Rattle.library_boards.specs.declared.told.ReadingTold.{ReadingTold}
 use Rattle.library_boards.specs.declared.told.FaultTold.{FaultTold}
 use Rattle.library_boards.specs.Calls.{Between, HasComeBack, HasMade, HasOpened, HasWorked}
 use Rattle.library_boards.specs.Calls.{IsFaultTold, IsHeld, IsNoWorkerFor, IsNoWorkerStatus}
-use Rattle.library_boards.specs.Calls.{IsPut, TellsFault, TellsMemory, TellsProgress}
+use Rattle.library_boards.specs.Calls.{IsPut, TellsFault, TellsMemory, TellsMemberProgress}
 use Rattle.library_boards.specs.Calls.{TellsReading, WasReadTold}
-use Rattle.library_boards.specs.Members.{GoesOn, IsBack, IsMember, IsOpenedFor, IsWork}
+use Rattle.library_boards.specs.Members.{MemberGoesOn, IsBack, IsMember, IsOpenedFor, IsMembersWork}
 use Rattle.library_boards.specs.Members.{NoneIsKnown, StepsAreLeft, shared_at}
 
 pub opened : (text : List ℕ) (workers grain : ℕ) (handle : Option Member) (member : Member) →
@@ -32,7 +32,7 @@ pub no_worker : (board : Option Member) (number status : ℕ) (at : Member) → 
 no_worker board number status at was is = record { at = at; was = was; is = is }
 
 is_member_worked : (limit : ℕ) (before later : Member) (stay : Option Stay) → IsMember before →
-    IsWork before limit later stay → IsMember later
+    IsMembersWork before limit later stay → IsMember later
 is_member_worked limit before later None is work = subst IsMember (sym work.1) is
 is_member_worked limit before later (Some stay) is work = work.is_member
 
@@ -66,8 +66,8 @@ came_back old new before later status held was is back = record {
 }
 
 pub told_progress : (old new : Option Member) (before later : Member) (told : ProgressTold) →
-    old ≡ Some before → new ≡ Some later → TellsProgress told before later →
-    Between old new (TellsProgress told)
+    old ≡ Some before → new ≡ Some later → TellsMemberProgress told before later →
+    Between old new (TellsMemberProgress told)
 told_progress old new before later told was is tells = record {
   before = before;
   was = was;
@@ -98,7 +98,7 @@ pub told_memory : (old new : Option Member) (before later : Member) (cells fille
     (status ≡ UNFINISHED → StepsAreLeft before later) →
     (status ≡ DONE) ⊎ ((status ≡ UNFINISHED) ⊎ (status ≡ MEMORY)) →
     (status ≢ DONE → filled ≡ cells) →
-    GoesOn before later → Between old new (TellsMemory cells filled status)
+    MemberGoesOn before later → Between old new (TellsMemory cells filled status)
 told_memory old new before later cells filled status was is put left ends kept on = record {
   before = before;
   was = was;
@@ -114,7 +114,7 @@ pub told_fault : (old new : Option Member) (before later : Member) (was_told tol
     (status ≡ UNFINISHED → NoneIsKnown before later) →
     (status ≡ CONFLICT) ⊎ ((status ≡ UNFINISHED) ⊎ (status ≡ MEMORY)) →
     (status ≢ CONFLICT → told ≡ was_told) →
-    GoesOn before later → Between old new (TellsFault was_told told status)
+    MemberGoesOn before later → Between old new (TellsFault was_told told status)
 told_fault old new before later was_told told status was is fault none ends kept on = record {
   before = before;
   was = was;

@@ -2,7 +2,8 @@
 ghost use Rattle.std.specs.Prelude.{◌≡◌, ◌≢◌, ◌<◌, ◌≤◌, None};
 ghost use Rattle.library_boards.specs.Calls.{Between, HasComeBack, HasMade, HasOpened, HasWorked};
 ghost use Rattle.library_boards.specs.Calls.{IsHeld, IsNoWorkerFor, IsOpenStatus};
-ghost use Rattle.library_boards.specs.Calls.{TellsFault, TellsMemory, TellsProgress, TellsReading};
+ghost use Rattle.library_boards.specs.Calls.{TellsFault, TellsMemory, TellsMemberProgress};
+ghost use Rattle.library_boards.specs.Calls.{TellsReading};
 ghost use Rattle.library_boards.specs.Members.{IsReaderAt, IsWorkerAt};
 ghost use Rattle.library_boards.specs.declared.status.TheConstants.{DONE, MEMORY};
 
@@ -110,7 +111,7 @@ pub extern "C" fn ks_back(alloc: Global, worker: &mut Handle) -> u32
 #[unsafe(no_mangle)]
 pub extern "C" fn ks_progress(alloc: Global, seat: &mut Handle, progress: &mut ProgressTold) -> u32
     requires { IsHeld seat.old.member }
-    ensures told { Between seat.old.member seat.new.member (TellsProgress progress.new) }
+    ensures told { Between seat.old.member seat.new.member (TellsMemberProgress progress.new) }
     ensures done { result ≡ DONE }
 {
     let mut member = seat.take(alloc);

@@ -1,12 +1,12 @@
 //! Calls of commands, from bytes to bytes.
 ghost use Rattle.std.specs.Prelude.{◌≡◌, ◌+◌, ◌*◌, []};
 ghost use Rattle.library_core.specs.Calls.{IsCall};
-ghost use Rattle.library_core.specs.Cells.{AreCells, IsNoJob};
+ghost use Rattle.library_core.specs.Cells.{AreCells, MeansNoJob};
 ghost use Rattle.library_core.specs.Commands.{checking, compiling, costing, plainly, replaying};
 ghost use Rattle.library_core.specs.Commands.{stepping};
 ghost use Rattle.library_core.specs.Plans.{AreRows, IsNoPlan};
 ghost use Rattle.library_core.specs.Requests.{is_set, window_of, wrong_in};
-ghost use Rattle.library_core.specs.Serving.{Serves};
+ghost use Rattle.library_core.specs.Serving.{ServesRequest};
 ghost use Rattle.library_core.specs.declared.request.Call.TheVariants.{Check, Compile, Cost};
 ghost use Rattle.library_core.specs.declared.request.Call.TheVariants.{Plain, Replay, Steps};
 
@@ -43,7 +43,8 @@ pub extern "C" fn ks_check(
     out: &mut [u8],
     answer: &mut Answer,
 ) -> u32
-    ensures { Serves checking (wrong_in Check request.now) text.now [] out.old out.new answer.old
+    ensures { ServesRequest checking (wrong_in Check request.now) text.now [] out.old out.new
+        answer.old
         answer.new result }
 {
     let asked = Asked {
@@ -64,7 +65,8 @@ pub extern "C" fn ks_compile(
     out: &mut [u8],
     answer: &mut Answer,
 ) -> u32
-    ensures { Serves compiling (wrong_in Compile request.now) text.now [] out.old out.new answer.old
+    ensures { ServesRequest compiling (wrong_in Compile request.now) text.now [] out.old out.new
+        answer.old
         answer.new result }
 {
     let asked = Asked {
@@ -85,7 +87,8 @@ pub extern "C" fn ks_plain(
     out: &mut [u8],
     answer: &mut Answer,
 ) -> u32
-    ensures { Serves (plainly (is_set request.now.why)) (wrong_in Plain request.now) text.now []
+    ensures { ServesRequest (plainly (is_set request.now.why)) (wrong_in Plain request.now) text.now
+        []
         out.old out.new answer.old answer.new result }
 {
     let asked = Asked {
@@ -106,7 +109,8 @@ pub extern "C" fn ks_cost(
     out: &mut [u8],
     answer: &mut Answer,
 ) -> u32
-    ensures { Serves costing (wrong_in Cost request.now) text.now [] out.old out.new answer.old
+    ensures { ServesRequest costing (wrong_in Cost request.now) text.now [] out.old out.new
+        answer.old
         answer.new result }
 {
     let asked = Asked {
@@ -127,7 +131,7 @@ pub extern "C" fn ks_steps(
     out: &mut [u8],
     answer: &mut Answer,
 ) -> u32
-    ensures { Serves (stepping (is_set request.now.rows_alone) (window_of request.now))
+    ensures { ServesRequest (stepping (is_set request.now.rows_alone) (window_of request.now))
         (wrong_in Steps request.now) text.now [] out.old out.new answer.old answer.new result }
 {
     let asked = Asked {
@@ -149,7 +153,7 @@ pub extern "C" fn ks_replay(
     out: &mut [u8],
     answer: &mut Answer,
 ) -> u32
-    ensures { Serves (replaying (is_set request.now.rows_alone) request.now.workers)
+    ensures { ServesRequest (replaying (is_set request.now.rows_alone) request.now.workers)
         (wrong_in Replay request.now) text.now plan.now out.old out.new answer.old answer.new
         result }
 {
@@ -170,7 +174,7 @@ pub extern "C" fn ks_cells(
     cells: &mut [u32],
     answer: &mut Answer,
 ) -> u32
-    ensures { IsCall (AreCells text.now) (IsNoJob text.now) cells.old cells.new answer.old
+    ensures { IsCall (AreCells text.now) (MeansNoJob text.now) cells.old cells.new answer.old
         answer.new result }
 {
     tell_cells(alloc, text, cells, answer)

@@ -10,7 +10,7 @@ use Rattle.walkx.specs.declared.operation.Ended.TheVariants as ended
 use Rattle.walkx.specs.declared.operation.Op.{Op}
 use Rattle.walkx.specs.declared.operation.Op.TheVariants.{Load, Store, Max}
 use Rattle.walkx.specs.Walk.{Then, turns, begins, stops, begin_script}
-use Rattle.walkx.specs.Walk.{back_script, marks, stands_at}
+use Rattle.walkx.specs.Walk.{back_script, marks_node, stands_at}
 use Rattle.walkx.specs.Scripts.{Script, asks, ends}
 use Rattle.lawful_walk.specs.Writes.{Floor}
 use Rattle.lawful_walk.specs.Board.{held, Stands}
@@ -83,7 +83,7 @@ module _ (job : JobData) (y : LayoutData) (w q : ℕ) (aim : Aim) (x : ℕ)
   pub inner_safe : (n l r : ℕ) (history : List (Op × ℕ)) → 1 ≤ n → n < y.leaves → q ≤ l → q ≤ r →
       Sees job y history (Moment job y (Load (number_of y (Node (2 * n + 1)))) r
       (Moment job y (Load (number_of y (Node (2 * n)))) l P)) →
-      Safe job y w q aim (marks y n q) history
+      Safe job y w q aim (marks_node y n q) history
   inner_safe n l r history low high left right sees = (
     so job y history (Moment job y (Load (number_of y (Node (2 * n + 1)))) r
         (Moment job y (Load (number_of y (Node (2 * n)))) l P))

@@ -15,7 +15,7 @@ use Rattle.walkx.specs.declared.operation.Op.TheVariants.{Load, Max, Swap}
 use Rattle.walkx.specs.Scripts.{Script}
 use Rattle.pram_words.specs.Stamps.{newer_payload}
 use Rattle.walkx.specs.Tasks.{is_late, hears_part, reads_place, reports}
-use Rattle.walkx.specs.Walk.{Then, marks}
+use Rattle.walkx.specs.Walk.{Then, marks_node}
 use Rattle.pram_step.specs.History.{part_after}
 use Rattle.lawful_walk.specs.Writes.{Floor}
 use Rattle.lawful_walk.specs.Board.{LeafDone, held, root, stamp_at, Done, Stands, Grows}
@@ -171,7 +171,7 @@ module _ (job : JobData) (y : LayoutData) (w q : ℕ) (aim : Aim) (x : ℕ)
 
   pub marks_safe : (n : ℕ) → y.leaves ≤ n → n < 2 * y.leaves → (history : List (Op × ℕ)) →
       Sees job y history (λ words. P words × (aim.given words → root y words + 1 ≡ q →
-      LeafDone job y x (kind_at q) n words)) → Safe job y w q aim (marks y n q) history
+      LeafDone job y x (kind_at q) n words)) → Safe job y w q aim (marks_node y n q) history
   marks_safe n low high history sees = (
     so job y history (λ words. P words × (aim.given words → root y words + 1 ≡ q →
         LeafDone job y x (kind_at q) n words))

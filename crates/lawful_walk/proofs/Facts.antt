@@ -6,7 +6,8 @@ use Rattle.pram_job.specs.Job.{JobData, IsJob}
 use Rattle.pram_job.specs.declared.instr.Rule.{Rule}
 use Rattle.pram_job.specs.declared.instr.Rule.TheVariants.{Common, Priority, Crew}
 use Rattle.pram_machine.specs.Machine.{place_count}
-use Rattle.pram_step.specs.Steps.{Counts, Forbids}
+use Rattle.pram_step.specs.Disputes.{Forbids}
+use Rattle.pram_step.specs.Steps.{Counts}
 use Rattle.pram_step.specs.Runs.{IsReached, AgreesAfter, state_after, requests_after}
 use Rattle.pram_step.proofs.LawWriters.{writer_cases}
 use Rattle.pram_step.proofs.LawPlaces.{writer_is}
@@ -402,15 +403,15 @@ module _ (job : JobData) (y : LayoutData) (words : List ℕ) (gone : ℕ) (limit
   agrees_by Common e none done = λ c i j clash.
       let differ : clash.value ≢ clash.other =
       subst (λ (r : Rule). Forbids r i clash.value j clash.other) e clash.forbidden in
-      let small = clash.is_cell in
+      let small = clash.writes.0 in
       let cells = same_cells job y board in
-      elim (done i (writer_below (gone) c i clash.value clash.writes)) [
+      elim (done i (writer_below (gone) c i clash.value clash.writes.1)) [
         | inl u ↦ absurd (omega arith)
-        | inr one ↦ elim (done j (writer_below (gone) c j clash.other clash.writes_too)) [
+        | inr one ↦ elim (done j (writer_below (gone) c j clash.other clash.writes_too.1)) [
           | inl u ↦ absurd (omega arith)
           | inr two ↦ differ (one_new c clash.value clash.other (omega arith)
-              (one c clash.value (clash.writes, λ g. omega arith))
-              (two c clash.other (clash.writes_too, λ g. omega arith)))
+              (one c clash.value (clash.writes.1, λ g. omega arith))
+              (two c clash.other (clash.writes_too.1, λ g. omega arith)))
         ]
       ]
   agrees_by Priority e none done =
@@ -418,14 +419,14 @@ module _ (job : JobData) (y : LayoutData) (words : List ℕ) (gone : ℕ) (limit
   agrees_by Crew e none done = λ c i j clash.
       let differ : i ≢ j =
       subst (λ (r : Rule). Forbids r i clash.value j clash.other) e clash.forbidden in
-      let a = (writer_is job (state_after job (gone)) c i clash.value clash.writes).0 in
-      let b = (writer_is job (state_after job (gone)) c j clash.other clash.writes_too).0 in
-      elim (done i (writer_below (gone) c i clash.value clash.writes)) [
+      let a = (writer_is job (state_after job (gone)) c i clash.value clash.writes.1).0 in
+      let b = (writer_is job (state_after job (gone)) c j clash.other clash.writes_too.1).0 in
+      elim (done i (writer_below (gone) c i clash.value clash.writes.1)) [
         | inl u ↦ absurd (omega arith)
-        | inr one ↦ elim (done j (writer_below (gone) c j clash.other clash.writes_too)) [
+        | inr one ↦ elim (done j (writer_below (gone) c j clash.other clash.writes_too.1)) [
           | inl u ↦ absurd (omega arith)
-          | inr two ↦ differ (let g = one c clash.value clash.writes clash.is_cell in
-              let h = two c clash.other clash.writes_too clash.is_cell in omega arith)
+          | inr two ↦ differ (let g = one c clash.value clash.writes.1 clash.writes.0 in
+              let h = two c clash.other clash.writes_too.1 clash.writes.0 in omega arith)
         ]
       ]
 

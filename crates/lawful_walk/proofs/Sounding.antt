@@ -16,7 +16,7 @@ use Rattle.walkx.proofs.Knowing.{has_newest}
 use Rattle.lawful_walk.specs.Moments.{WasBacked, Sound}
 use Rattle.lawful_walk.specs.Seen.{Heard}
 use Rattle.lawful_walk.specs.WalkLaws.{BackedRecordsAreSound, KnownStepsAreReached}
-use Rattle.lawful_walk.specs.WalkLaws.{OwnStepsAreBounded, EndsAreTrue, ReadsAreLawful}
+use Rattle.lawful_walk.specs.WalkLaws.{RecordedStepsAreBounded, EndsAreTrue, ReadsAreLawful}
 use Rattle.lawful_walk.specs.WalkLaws.{ProgressIsTrue, FinalValuesAreHeld, ConflictRequestsAreHeld}
 use Rattle.lawful_walk.specs.Walks.{DoneWell, IsConflict}
 use Rattle.lawful_walk.proofs.Knowing.{known_now}
@@ -150,7 +150,7 @@ sound_heard job y w r (e ∷ es) worker sound has =
     backed_is_heard job y w p.part (e ∷ es) was.words worker was.backed p.has
 
 -- So a worker that is going has made fewer than the bound.
-pub sound_steps : OwnStepsAreBounded
+pub sound_steps : RecordedStepsAreBounded
 sound_steps job y r w answers is fits sound has going =
     bound.0 job y w is fits answers going
     (sound_heard job y w.number r (history_of job y w answers) fits.number sound has)

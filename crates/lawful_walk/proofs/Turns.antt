@@ -26,7 +26,7 @@ use Rattle.walkx.specs.Walk.{after_part, begun_phase, has_rank, part_script, pha
 use Rattle.walkx.specs.Walk.{processor_at}
 use Rattle.walkx.specs.Records.{script_at_rank}
 use Rattle.walkx.proofs.Firsts.{rank_parts, rank_there}
-use Rattle.walkx.specs.Walk.{turn_script, leaf_script, marks, stands_at, way_down, IsBoard}
+use Rattle.walkx.specs.Walk.{turn_script, leaf_script, marks_node, stands_at, way_down, IsBoard}
 use Rattle.walkx.proofs.Boards.{same_procs}
 use Rattle.walkx.proofs.Ends.{way_inside}
 use Rattle.walkx.proofs.Fitting.{node_range}
@@ -108,17 +108,19 @@ module _ (job : JobData) (y : LayoutData) (w q : ℕ) (aim : Aim) (x : ℕ)
       (history : List (Op × ℕ)) → Sees job y history (Floor job y q x) →
       Safe job y w q aim (asks (Load (number_of y (Node (2 * n))))
       (λ l. asks (Load (number_of y (Node (2 * n + 1)))) (λ r. if nat_le q l && nat_le q r
-      then marks y n q else stands_at y w (way_down y w n q l r) q))) history
+      then marks_node y n q else stands_at y w (way_down y w n q l r) q))) history
   down_safe n worker low high history sees =
       load_safe job y w q aim (number_of y (Node (2 * n)))
       (λ l. asks (Load (number_of y (Node (2 * n + 1)))) (λ r.
-      if nat_le q l && nat_le q r then marks y n q else stands_at y w (way_down y w n q l r) q))
+      if nat_le q l && nat_le q r then marks_node y n q else stands_at y w (way_down y w n q l r)
+      q))
       history (λ l ok. load_safe job y w q aim (number_of y (Node (2 * n + 1))) (λ r.
-      if nat_le q l && nat_le q r then marks y n q else stands_at y w (way_down y w n q l r) q)
+      if nat_le q l && nat_le q r then marks_node y n q else stands_at y w (way_down y w n q l r) q)
       ((Load (number_of y (Node (2 * n))), l) ∷ history) (λ r ok_too.
       let longer : List (Op × ℕ) = (Load (number_of y (Node (2 * n + 1))), r)
       ∷ (Load (number_of y (Node (2 * n))), l) ∷ history in
-      cond_both (nat_le q l && nat_le q r) (marks y n q) (stands_at y w (way_down y w n q l r) q)
+      cond_both (nat_le q l && nat_le q r) (marks_node y n q)
+      (stands_at y w (way_down y w n q l r) q)
       (λ (s : Script Then). Safe job y w q aim s longer) (λ e.
       let h = both_true l r e in
       inner_safe job y w q aim x some most step (Floor job y q x)
@@ -188,7 +190,7 @@ module _ (job : JobData) (y : LayoutData) (w q x : ℕ) (some : 1 ≤ q) (most :
       (task_safe job y w q aim x some most step board i proc job.rule (kind_at q) refl
       (phase_at x q (kind_at q) some step refl) (after_part y n q rank)
       (λ longer more. cond_both (has_rank y n (suc rank)) (ends (works n q (suc rank)))
-      (marks y n q) (λ (s : Script Then). Safe job y w q aim s longer)
+      (marks_node y n q) (λ (s : Script Then). Safe job y w q aim s longer)
       (λ e. so job y longer (λ words. Floor job y q x words × (root y words + 1 ≡ q →
       Done job.rule (kind_at q) job y x words i)) aim.done
       (λ words stands h live. subst (λ (t : ℕ). Done job.rule (kind_at q) job y t words i)
@@ -204,7 +206,7 @@ module _ (job : JobData) (y : LayoutData) (w q x : ℕ) (some : 1 ≤ q) (most :
       n < 2 * y.leaves → (history : List (Op × ℕ)) → Sees job y history (Floor job y q x) →
       Safe job y w q (aim_at job y q n 0) (leaf_script job y n q) history
   leaf_safe n low high history sees =
-      cond_both (has_rank y n 0) (part_script job y n q 0) (marks y n q)
+      cond_both (has_rank y n 0) (part_script job y n q 0) (marks_node y n q)
       (λ (s : Script Then). Safe job y w q (aim_at job y q n 0) s history)
       (λ e. part_safe n 0 low high e history sees)
       (λ e. marks_safe job y w q (aim_at job y q n 0) x some most step (Floor job y q x)
@@ -226,7 +228,8 @@ module _ (job : JobData) (y : LayoutData) (w q x : ℕ) (some : 1 ≤ q) (most :
   turn_safe_on n worker low high history sees =
       let down = asks (Load (number_of y (Node (2 * n))))
       (λ l. asks (Load (number_of y (Node (2 * n + 1)))) (λ r.
-      if nat_le q l && nat_le q r then marks y n q else stands_at y w (way_down y w n q l r) q)) in
+      if nat_le q l && nat_le q r then marks_node y n q else stands_at y w (way_down y w n q l r)
+      q)) in
       load_safe job y w q (aim_at job y q n 0) (number_of y (Node n))
       (λ found. if nat_le q found then (if n == 1 then ends (begins 1) else stands_at y w (n / 2) q)
       else (if nat_le y.leaves n then leaf_script job y n q else down)) history (λ found ok.

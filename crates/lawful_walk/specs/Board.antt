@@ -66,7 +66,7 @@ abbrev pub Carried : JobData → LayoutData → ℕ → List ℕ → ℕ → Typ
 Carried job layout t words i =
     (place value : ℕ) → Asks job t place i value → IsLate layout t place words
 
--- so are those where i's write wins
+-- all places that i writes where its write wins are written
 abbrev pub CarriedWon : JobData → LayoutData → ℕ → List ℕ → ℕ → Type 0
 CarriedWon job layout t words i =
     (place value : ℕ) → Asks job t place i value → Wins job t place i → IsLate layout t place words
@@ -102,7 +102,7 @@ Done Crew Compute job layout t words i = Raised job layout t words i
 Done Crew Apply job layout t words i = Carried job layout t words i × Claimed job layout t words i
 Done Crew Verify job layout t words i = ClaimStays job layout t words i
 
--- so it is for all processors of the block of a leaf
+-- the task of this kind is done for all processors of the block of a leaf
 abbrev pub LeafDone : JobData → LayoutData → ℕ → Kind → ℕ → List ℕ → Type 0
 LeafDone job layout t kind node words =
     (i : ℕ) → i < layout.procs → leaf_of layout i ≡ node → Done job.rule kind job layout t words i

@@ -24,7 +24,7 @@ use Rattle.lawful_walk.specs.Board.{Stands, Grows, held, root, finished}
 use Rattle.lawful_walk.specs.Moments.{Backed, WasBacked, Sound, afters}
 use Rattle.lawful_walk.specs.Seen.{Heard, KnowsStep}
 use Rattle.lawful_walk.specs.Walks.{Moves, IsLawfulRead, DoneWell, IsConflict}
-use Rattle.lawful_walk.specs.Walks.{ProgressWell, phase_now, steps_of}
+use Rattle.lawful_walk.specs.Walks.{ProgressWell, phase_now, steps_heard}
 
 -- ---- a worker that a record knows, where the words bear the record out
 
@@ -56,8 +56,8 @@ KnownWorkersStayKnown =
     Knows job layout (after past op found) other)
 
 -- it is still going with these answers, which the record has
-abbrev pub OwnStepsAreBounded : Type 0
-OwnStepsAreBounded =
+abbrev pub RecordedStepsAreBounded : Type 0
+RecordedStepsAreBounded =
     (job : JobData) (layout : LayoutData) (past : Record) (worker : Walking) (answers : List ℕ) →
     IsBoard job layout → Fits job layout worker →
     Sound job layout past → Has past (history_of job layout worker answers) →
@@ -69,7 +69,7 @@ abbrev pub HistoriesAreKept : Type 0
 HistoriesAreKept =
     (job : JobData) (layout : LayoutData) (past : Record) (worker : Walking) (answers : List ℕ) →
     Knows job layout past worker →
-    Has (afters past (steps_of job layout worker answers)) (history_of job layout worker answers)
+    Has (afters past (steps_heard job layout worker answers)) (history_of job layout worker answers)
 
 -- it is over
 abbrev pub EndsAreTrue : Type 0

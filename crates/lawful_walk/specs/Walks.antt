@@ -41,11 +41,11 @@ pub record Moves (job : JobData) (layout : LayoutData) (past : Record) (worker :
       (words_after words (ask_of job layout worker))
 
 -- its steps with these answers, the newest first
-abbrev pub steps_of : JobData → LayoutData → Walking → List ℕ → List (Op × ℕ)
-steps_of job layout worker [] = []
-steps_of job layout worker (found ∷ earlier) =
+abbrev pub steps_heard : JobData → LayoutData → Walking → List ℕ → List (Op × ℕ)
+steps_heard job layout worker [] = []
+steps_heard job layout worker (found ∷ earlier) =
     (ask_of job layout (told_all job layout worker earlier), found)
-    ∷ steps_of job layout worker earlier
+    ∷ steps_heard job layout worker earlier
 
 -- an answer of a read, the record before the read and the one after it being these
 pub record IsLawfulRead (job : JobData) (layout : LayoutData) (before later : Record)
@@ -53,7 +53,7 @@ pub record IsLawfulRead (job : JobData) (layout : LayoutData) (before later : Re
   pub reached : IsReached job step
   pub holds : value ≡ slice_index (state_after job step) cell
   pub lasts : (t : ℕ) → KnowsStep layout before t → t ≤ step
-  -- so is what the loads of this read show of the root and of word 0
+  -- what the loads of this read show of the root and of word 0 is no later step
   pub seen : (t : ℕ) → Shows layout later t → t ≤ step
   pub known : (t : ℕ) × KnowsStep layout later t × (step ≤ t)
   pub named : (conflict : ℕ) → conflict ≢ 0 →

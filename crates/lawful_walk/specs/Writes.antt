@@ -43,7 +43,7 @@ pub record Does (job : JobData) (layout : LayoutData) (phase : ℕ) (op : Op)
   pub still : phase ≤ root layout words → words_after words op ≡ words
 
 -- A position's store keeps the words, whatever the phase, and changes no other word.
-pub record Moves (job : JobData) (layout : LayoutData) (worker node : ℕ)
+pub record MovesPosition (job : JobData) (layout : LayoutData) (worker node : ℕ)
     (words : List ℕ) : Type 0 where
   pub keeps : Keeps job layout (Store (number_of layout (Position worker)) node) words
   pub others : (word : Word) → IsWord layout word → word ≢ Position worker →
@@ -78,4 +78,4 @@ pub record MayWrite (job : JobData) (layout : LayoutData)
       Does job layout phase
       (Max (number_of layout (Claim cell)) (stamped_word (suc t) (claim_of job i))) words
   pub position : (worker node : ℕ) → worker < layout.workers → 1 ≤ node → node < 2 * layout.leaves →
-      Moves job layout worker node words
+      MovesPosition job layout worker node words

@@ -1,7 +1,7 @@
 //! Laws of workers and readers: each function here does nothing, and its contract is the law.
 ghost use Rattle.lawful_walk.specs.WalkLaws.{WorkersKeepWordsLawful, LateWorkersChangeNothing};
 ghost use Rattle.lawful_walk.specs.WalkLaws.{KnownWorkersStayKnown, HistoriesAreKept};
-ghost use Rattle.lawful_walk.specs.WalkLaws.{OwnStepsAreBounded, EndsAreTrue};
+ghost use Rattle.lawful_walk.specs.WalkLaws.{RecordedStepsAreBounded, EndsAreTrue};
 ghost use Rattle.lawful_walk.specs.WalkLaws.{RecordsOutliveGrowth, LoadsKeepRecords};
 ghost use Rattle.lawful_walk.specs.WalkLaws.{BackedRecordsAreSound, KnownStepsAreReached};
 ghost use Rattle.lawful_walk.specs.WalkLaws.{KnownStepsLast};
@@ -37,7 +37,7 @@ pub fn histories_are_kept()
 /// do.
 #[tactic(auto, using(crate::proofs::Sounding::sound_steps))]
 pub fn own_steps_are_bounded()
-    ensures { OwnStepsAreBounded }
+    ensures { RecordedStepsAreBounded }
 {}
 
 /// A worker that is over tells the truth: the last step is reached, or the step that it names is

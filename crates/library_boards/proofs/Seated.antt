@@ -12,20 +12,21 @@ use Rattle.pram_board.specs.declared.task.Task.{Task}
 use Rattle.pram_board.specs.Seats.{Desk, SeatData, HasLoaded, HasSeen, IsLater, IsOpened}
 use Rattle.pram_board.specs.Seats.{KnowsConflict, Remembers}
 use Rattle.pram_board.proofs.Memory.{still_known}
+use Rattle.pram_board.proofs.Remembering.{still_knows}
 use Rattle.pram_board.specs.Worked.{Works}
 use Rattle.library_boards.specs.declared.member.Member.{Member}
 use Rattle.library_boards.specs.declared.shared.Shared.{Shared}
-use Rattle.library_boards.specs.Grains.{grain_of}
+use Rattle.library_boards.specs.Grains.{grain_or_default}
 use Rattle.library_boards.specs.Jobs.{IsJobOf}
-use Rattle.library_boards.specs.Members.{GoesOn, IsKnownFault, IsLastMemory, IsMember}
-use Rattle.library_boards.specs.Members.{IsOpenedFor, board_at, task_at}
+use Rattle.library_boards.specs.Members.{MemberGoesOn, IsKnownFault, IsLastMemory, IsMember}
+use Rattle.library_boards.specs.Members.{IsOpenedFor, board_at, member_task}
 
 later_works : (board : Desk) (p q : SeatData) (worker : WorkerData) →
     IsLater board p q → Works board p worker → Works board q worker
 later_works board p q worker later works = record {
   desk = later.desk;
   serves = works.serves;
-  knows = later.knows worker.walking works.knows;
+  knows = still_knows board.task p.record_of q.record_of later.keeps worker.walking works.knows;
 }
 
 later_yet : (board : Desk) (p q r : SeatData) →
@@ -33,8 +34,6 @@ later_yet : (board : Desk) (p q r : SeatData) →
 later_yet board p q r first second = record {
   desk = second.desk;
   keeps = λ steps has. second.keeps steps (first.keeps steps has);
-  knows = λ walking knows. second.knows walking (first.knows walking knows);
-  sound = second.sound;
 }
 
 is_member_later : (m : Member) (q : SeatData) → IsMember m → IsLater (board_at m) m.seat q →
@@ -45,12 +44,13 @@ is_member_later m q is later = record {
 }
 
 pub goes_on : (m : Member) (q : SeatData) → IsMember m → IsLater (board_at m) m.seat q →
-    GoesOn m (record { shared = m.shared; seat = q; worker = m.worker })
+    MemberGoesOn m (record { shared = m.shared; seat = q; worker = m.worker })
 goes_on m q is later =
     record { goes = later; worker = refl; same = refl; is_member = is_member_later m q is later }
 
-pub goes_further : (m n : Member) (q : SeatData) → GoesOn m n → IsLater (board_at n) n.seat q →
-    GoesOn m (record { shared = n.shared; seat = q; worker = n.worker })
+pub goes_further : (m n : Member) (q : SeatData) → MemberGoesOn m n →
+    IsLater (board_at n) n.seat q →
+    MemberGoesOn m (record { shared = n.shared; seat = q; worker = n.worker })
 goes_further m n q on later =
     let same : board_at n ≡ board_at m = λ i. (arc_value (on.same i)).board in
     record {
@@ -63,8 +63,8 @@ goes_further m n q on later =
 
 -- the board is that of an earlier member, too
 module _ (m n : Member) (s : Shared) (q : SeatData) (same : s ≡ arc_value n.shared)
-    (goes : GoesOn m n) where
-  task_is : s.board.task ≡ task_at m
+    (goes : MemberGoesOn m n) where
+  task_is : s.board.task ≡ member_task m
   task_is = ap (λ (r : Shared). r.board.task) same
       ∙ (λ i. (arc_value (goes.same i)).board.task)
 
@@ -103,7 +103,7 @@ nobody worker e = search rules
 
 pub opened_for : (text : List ℕ) (workers grain : ℕ) (job : JobData) (m : Member) →
     IsJobOf text job →
-    IsOpened job (Wide (grain_of grain job.procs)) workers (board_at m, m.seat) →
+    IsOpened job (Wide (grain_or_default grain job.procs)) workers (board_at m, m.seat) →
     m.worker ≡ None → IsOpenedFor text workers grain m
 opened_for text workers grain job m is opened none = record {
   job = job;

@@ -26,9 +26,9 @@ use Rattle.library_boards.specs.declared.told.FaultTold.{FaultTold}
 use Rattle.library_boards.specs.Grains.{IsGrainAsked}
 use Rattle.library_boards.specs.Jobs.{IsNoJob}
 use Rattle.library_boards.specs.declared.shared.Shared.{Shared}
-use Rattle.library_boards.specs.Members.{GoesOn, IsBack, IsKnownFault, IsLastMemory, IsMember}
-use Rattle.library_boards.specs.Members.{IsOpenedFor, IsWork}
-use Rattle.library_boards.specs.Members.{NoneIsKnown, StepsAreLeft, job_at, shared_at, task_at}
+use Rattle.library_boards.specs.Members.{MemberGoesOn, IsBack, IsKnownFault, IsLastMemory, IsMember}
+use Rattle.library_boards.specs.Members.{IsOpenedFor, IsMembersWork}
+use Rattle.library_boards.specs.Members.{NoneIsKnown, StepsAreLeft, job_at, shared_at, member_task}
 
 -- ---- handles
 
@@ -84,14 +84,14 @@ status_of_fault (Program (refusal.Text fault)) = status_of_program fault.kind
 status_of_fault (Program (refusal.Job fault)) = status_of_job fault.kind
 status_of_fault Memory = MEMORY
 
-abbrev pub AreLawful : (workers grain : ℕ) → Type 0
-AreLawful workers grain = (1 ≤ workers) × (workers ≤ 64) × IsGrainAsked grain
+abbrev pub AreWithinLimits : (workers grain : ℕ) → Type 0
+AreWithinLimits workers grain = (1 ≤ workers) × (workers ≤ 64) × IsGrainAsked grain
 
 -- why there is no board: the text has none; the numbers allow none; or there is no memory
 pub data IsOpenStatus (text : List ℕ) (workers grain status : ℕ) : Type 0 where
   of_text : (fault : OpenFault) → IsNoJob text fault → status ≡ status_of_fault fault →
       IsOpenStatus text workers grain status
-  of_numbers : ¬ AreLawful workers grain → status ≡ FAILED →
+  of_numbers : ¬ AreWithinLimits workers grain → status ≡ FAILED →
       IsOpenStatus text workers grain status
   of_memory : status ≡ MEMORY → IsOpenStatus text workers grain status
 
@@ -105,7 +105,7 @@ status_of_stay (Some Stopped) = UNFINISHED
 
 pub record HasWorked (limit status : ℕ) (before later : Member) : Type 0 where
   pub stay : Option Stay
-  pub works : IsWork before limit later stay
+  pub works : IsMembersWork before limit later stay
   pub is : status ≡ status_of_stay stay
 
 pub record HasComeBack (status : ℕ) (before later : Member) : Type 0 where
@@ -123,15 +123,15 @@ progress_told job progress = record {
   cells = job.cells;
 }
 
-pub record TellsProgress (told : ProgressTold) (before later : Member) : Type 0 where
+pub record TellsMemberProgress (told : ProgressTold) (before later : Member) : Type 0 where
   pub progress : Progress
-  pub progressed : Progressed (task_at before) before.seat later.seat progress
+  pub progressed : Progressed (member_task before) before.seat later.seat progress
   pub is : told ≡ progress_told (job_at before) progress
-  pub goes_on : GoesOn before later
+  pub goes_on : MemberGoesOn before later
 
 pub record WasReadTold (cell : ℕ) (told : ReadingTold) (before later : Member) : Type 0 where
-  pub read : WasRead (task_at before) before.seat later.seat cell (At told.step told.value)
-  pub goes_on : GoesOn before later
+  pub read : WasRead (member_task before) before.seat later.seat cell (At told.step told.value)
+  pub goes_on : MemberGoesOn before later
 
 -- the numbers at the front of the buffer, as many as there is room for
 abbrev pub front_of : List ℕ → List ℕ → List ℕ
@@ -164,14 +164,14 @@ pub record TellsMemory (old new : List ℕ) (status : ℕ) (before later : Membe
   pub left : status ≡ UNFINISHED → StepsAreLeft before later
   pub ends : (status ≡ DONE) ⊎ ((status ≡ UNFINISHED) ⊎ (status ≡ MEMORY))
   pub kept : status ≢ DONE → new ≡ old
-  pub goes_on : GoesOn before later
+  pub goes_on : MemberGoesOn before later
 
 pub record TellsFault (old new : FaultTold) (status : ℕ) (before later : Member) : Type 0 where
   pub fault : status ≡ CONFLICT → IsFaultTold new before later
   pub none : status ≡ UNFINISHED → NoneIsKnown before later
   pub ends : (status ≡ CONFLICT) ⊎ ((status ≡ UNFINISHED) ⊎ (status ≡ MEMORY))
   pub kept : status ≢ CONFLICT → new ≡ old
-  pub goes_on : GoesOn before later
+  pub goes_on : MemberGoesOn before later
 
 pub record IsNoWorkerFor (board : Option Member) (number status : ℕ) : Type 0 where
   pub at : Member

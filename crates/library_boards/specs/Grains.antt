@@ -6,5 +6,5 @@ use Rattle.pram_words.specs.Words.{IsGrain, grain_for}
 abbrev pub IsGrainAsked : ℕ → Type 0
 IsGrainAsked grain = (grain ≡ 0) ⊎ IsGrain grain
 
-abbrev pub grain_of : ℕ → ℕ → ℕ
-grain_of grain procs = if grain == 0 then grain_for procs else grain
+abbrev pub grain_or_default : ℕ → ℕ → ℕ
+grain_or_default grain procs = if grain == 0 then grain_for procs else grain

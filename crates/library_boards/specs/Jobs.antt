@@ -5,7 +5,7 @@ use Rattle.pram_text.specs.Text.{Spells, IsRefusal as IsTextRefusal}
 use Rattle.pardo_text.specs.Program.{ProgramData}
 use Rattle.pardo_text.specs.Reading.{program_of}
 use Rattle.pardo_job.specs.Compiled.{IsCompiled}
-use Rattle.pardo_job.specs.Refusals.{IsRefusal}
+use Rattle.pardo_job.specs.Refusals.{IsProgramRefusal}
 use Rattle.pardo_answers.specs.Language.{is_program}
 use Rattle.library_boards.specs.declared.job.OpenFault.{OpenFault}
 use Rattle.library_boards.specs.declared.job.OpenFault.TheVariants.{Text, Program, Memory}
@@ -31,5 +31,5 @@ pub data IsJobOf (text : List ℕ) (job : JobData) : Type 0 where
 abbrev pub IsNoJob : List ℕ → OpenFault → Type 0
 IsNoJob text (Text fault) =
     (is_program text ≡ false) × IsTextRefusal text fault.line fault.kind
-IsNoJob text (Program refusal) = (is_program text ≡ true) × IsRefusal text refusal
+IsNoJob text (Program refusal) = (is_program text ≡ true) × IsProgramRefusal text refusal
 IsNoJob text Memory = ⊤

@@ -9,7 +9,7 @@ use Rattle.pram_step.specs.declared.answer.RunAnswer.TheVariants.{Final}
 use Rattle.pram_words.specs.declared.layout.Form.TheVariants.{Wide}
 use Rattle.walkx.specs.Inner.Workers.{WorkerData}
 use Rattle.walkx.specs.Records.{empty}
-use Rattle.walkx.specs.Serving.{IsNew}
+use Rattle.walkx.specs.Serving.{IsNewWorker}
 use Rattle.walkx.specs.Walk.{come_back, started}
 use Rattle.pram_board.specs.declared.task.Task.{Task}
 use Rattle.pram_board.specs.declared.look.Progress.{Progress}
@@ -19,7 +19,7 @@ use Rattle.pram_board.specs.Seats.{Progressed}
 use Rattle.pram_board.specs.Worked.{Worked, Works}
 use Rattle.library_boards.specs.declared.member.Member.{Member}
 use Rattle.library_boards.specs.declared.shared.Shared.{Shared}
-use Rattle.library_boards.specs.Grains.{grain_of}
+use Rattle.library_boards.specs.Grains.{grain_or_default}
 use Rattle.library_boards.specs.Jobs.{IsJobOf}
 
 abbrev pub shared_at : Member → Shared
@@ -28,8 +28,8 @@ shared_at member = arc_value member.shared
 abbrev pub board_at : Member → Desk
 board_at member = (arc_value member.shared).board
 
-abbrev pub task_at : Member → Task
-task_at member = (arc_value member.shared).board.task
+abbrev pub member_task : Member → Task
+member_task member = (arc_value member.shared).board.task
 
 abbrev pub job_at : Member → JobData
 job_at member = (arc_value member.shared).board.task.job
@@ -46,7 +46,7 @@ pub record IsMember (member : Member) : Type 0 where
 pub record IsOpenedFor (text : List ℕ) (workers grain : ℕ) (member : Member) : Type 0 where
   pub job : JobData
   pub job_is : IsJobOf text job
-  pub opened : IsOpened job (Wide (grain_of grain job.procs)) workers
+  pub opened : IsOpened job (Wide (grain_or_default grain job.procs)) workers
       (board_at member, member.seat)
   pub reader : member.worker ≡ None
   pub is_member : IsMember member
@@ -65,7 +65,7 @@ pub record IsWorkerAt (shared : Shared) (number : ℕ) (member : Member) : Type 
   pub new : IsNewAt shared member
   pub worker : WorkerData
   pub is : member.worker ≡ Some worker
-  pub starts : IsNew number (started number) worker
+  pub starts : IsNewWorker number (started number) worker
 
 -- ---- work
 
@@ -79,15 +79,15 @@ pub record WorkedOn (before : Member) (limit : ℕ) (later : Member) (stay : Sta
   pub was : before.worker ≡ Some worker
   pub now : WorkerData
   pub is : later.worker ≡ Some now
-  pub worked : Worked (task_at before) before.seat worker.walking (limit_of limit) later.seat
+  pub worked : Worked (member_task before) before.seat worker.walking (limit_of limit) later.seat
       now.walking stay
   pub goes : IsLater (board_at before) before.seat later.seat
   pub same : later.shared ≡ before.shared
   pub is_member : IsMember later
 
-abbrev pub IsWork : Member → ℕ → Member → Option Stay → Type 0
-IsWork before limit later None = (before.worker ≡ None) × (later ≡ before)
-IsWork before limit later (Some stay) = WorkedOn before limit later stay
+abbrev pub IsMembersWork : Member → ℕ → Member → Option Stay → Type 0
+IsMembersWork before limit later None = (before.worker ≡ None) × (later ≡ before)
+IsMembersWork before limit later (Some stay) = WorkedOn before limit later stay
 
 -- the worker comes back with its number, by the same seat
 pub record CameBack (before later : Member) : Type 0 where
@@ -95,7 +95,7 @@ pub record CameBack (before later : Member) : Type 0 where
   pub was : before.worker ≡ Some worker
   pub now : WorkerData
   pub is : later.worker ≡ Some now
-  pub back : IsNew worker.walking.number (come_back worker.walking.number) now
+  pub back : IsNewWorker worker.walking.number (come_back worker.walking.number) now
   pub seat : later.seat ≡ before.seat
   pub same : later.shared ≡ before.shared
   pub is_member : IsMember later
@@ -106,8 +106,8 @@ IsBack before later true = CameBack before later
 
 -- ---- looks
 
--- the same board and worker; the seat later
-pub record GoesOn (before later : Member) : Type 0 where
+-- the board and the worker are as before, and the seat is a later one
+pub record MemberGoesOn (before later : Member) : Type 0 where
   pub goes : IsLater (board_at before) before.seat later.seat
   pub worker : later.worker ≡ before.worker
   pub same : later.shared ≡ before.shared
@@ -116,21 +116,21 @@ pub record GoesOn (before later : Member) : Type 0 where
 -- the last look showed that steps are left
 pub record StepsAreLeft (before later : Member) : Type 0 where
   pub progress : Progress
-  pub progressed : Progressed (task_at before) before.seat later.seat progress
+  pub progressed : Progressed (member_task before) before.seat later.seat progress
   pub left : progress.step ≢ (job_at before).steps
 
 -- the last look showed no step that is against the rule
 pub record NoneIsKnown (before later : Member) : Type 0 where
   pub progress : Progress
-  pub progressed : Progressed (task_at before) before.seat later.seat progress
+  pub progressed : Progressed (member_task before) before.seat later.seat progress
   pub none : progress.conflict ≡ None
 
 -- the last step was seen to be finished, and this is what the cells hold after it
 pub record IsLastMemory (before later : Member) (cells : List ℕ) : Type 0 where
-  pub seen : HasSeen (task_at before).layout later.seat.record_of (job_at before).steps
+  pub seen : HasSeen (member_task before).layout later.seat.record_of (job_at before).steps
   pub answers : IsAnswer (job_at before) (Final cells)
 
 -- word 0 was heard to name a step, and this is the first fault
 pub record IsKnownFault (before later : Member) (fault : Fault) : Type 0 where
-  pub heard : KnowsConflict (task_at before).layout later.seat.record_of
+  pub heard : KnowsConflict (member_task before).layout later.seat.record_of
   pub is : IsFault (job_at before) fault

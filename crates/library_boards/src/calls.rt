@@ -1,11 +1,12 @@
 //! What calls of another language do with a member.
 ghost use Rattle.std.specs.Prelude.{◌≡◌, ◌≢◌, ◌⊎◌, ◌<◌, ◌≤◌, IfErr, IfOk, IsTrue};
 ghost use Rattle.library_boards.specs.Calls.{HasComeBack, HasWorked, IsFaultTold};
-ghost use Rattle.library_boards.specs.Calls.{IsNoWorkerStatus, IsOpenStatus, IsPut, TellsProgress};
+ghost use Rattle.library_boards.specs.Calls.{IsNoWorkerStatus, IsOpenStatus, IsPut};
+ghost use Rattle.library_boards.specs.Calls.{TellsMemberProgress};
 ghost use Rattle.library_boards.specs.Calls.{WasReadTold, front_of, status_of_fault};
 ghost use Rattle.library_boards.specs.Calls.{status_of_stay};
 ghost use Rattle.library_boards.specs.Grains.{IsGrainAsked};
-ghost use Rattle.library_boards.specs.Members.{GoesOn, IsMember, IsOpenedFor, IsReaderAt};
+ghost use Rattle.library_boards.specs.Members.{MemberGoesOn, IsMember, IsOpenedFor, IsReaderAt};
 ghost use Rattle.library_boards.specs.Members.{IsWorkerAt, NoneIsKnown, StepsAreLeft};
 ghost use Rattle.library_boards.specs.Members.{shared_at};
 ghost use Rattle.library_boards.specs.declared.status.TheConstants.{CONFLICT, DONE, FAILED};
@@ -156,7 +157,7 @@ pub fn back(member: &mut Member) -> u32
 /// How far the steps are finished.
 pub fn progress(member: &mut Member) -> ProgressTold
     requires { IsMember member.old }
-    ensures { TellsProgress result member.old member.new }
+    ensures { TellsMemberProgress result member.old member.new }
 {
     let found = member.progress();
     ProgressTold {
@@ -191,7 +192,7 @@ pub fn memory(member: &mut Member, alloc: Global, cells: &mut [u32]) -> u32
     ensures left { result ≡ UNFINISHED → StepsAreLeft member.old member.new }
     ensures ends { (result ≡ DONE) ⊎ ((result ≡ UNFINISHED) ⊎ (result ≡ MEMORY)) }
     ensures kept { result ≢ DONE → cells.new ≡ cells.old }
-    ensures goes_on { GoesOn member.old member.new }
+    ensures goes_on { MemberGoesOn member.old member.new }
 {
     match member.memory(alloc) {
         Ok(Some(found)) => {
@@ -221,7 +222,7 @@ pub fn fault(member: &mut Member, alloc: Global, told: &mut FaultTold) -> u32
     ensures none { result ≡ UNFINISHED → NoneIsKnown member.old member.new }
     ensures ends { (result ≡ CONFLICT) ⊎ ((result ≡ UNFINISHED) ⊎ (result ≡ MEMORY)) }
     ensures kept { result ≢ CONFLICT → told.new ≡ told.old }
-    ensures goes_on { GoesOn member.old member.new }
+    ensures goes_on { MemberGoesOn member.old member.new }
 {
     match member.fault(alloc) {
         Ok(Some(fault)) => {

@@ -50,7 +50,7 @@ fn program_job(alloc: Global, text: &[u8]) -> Result<Job, OpenFault>
 {
     match compile(alloc, text) {
         Ok((_, compiled)) => {
-            let (job, _) = compiled.into_parts();
+            let (job, _, _) = compiled.into_parts();
             Ok(job)
         }
         Err(refusal) => Err(OpenFault::Program(refusal)),

@@ -24,10 +24,12 @@ impl Member {
     ghost use Rattle.pram_board.specs.Seats.{HasSeen, KnowsConflict, Progressed, WasRead};
     ghost use Rattle.library_boards.specs.Grains.{IsGrainAsked};
     ghost use Rattle.library_boards.specs.Jobs.{IsNoJob};
-    ghost use Rattle.library_boards.specs.Members.{GoesOn, IsBack, IsKnownFault, IsLastMemory};
-    ghost use Rattle.library_boards.specs.Members.{IsMember, IsOpenedFor, IsReaderAt, IsWork};
+    ghost use Rattle.library_boards.specs.Members.{MemberGoesOn, IsBack, IsKnownFault};
+    ghost use Rattle.library_boards.specs.Members.{IsLastMemory};
+    ghost use Rattle.library_boards.specs.Members.{IsMember, IsOpenedFor, IsReaderAt};
+    ghost use Rattle.library_boards.specs.Members.{IsMembersWork};
     ghost use Rattle.library_boards.specs.Members.{IsWorkerAt, NoneIsKnown, StepsAreLeft};
-    ghost use Rattle.library_boards.specs.Members.{shared_at, task_at};
+    ghost use Rattle.library_boards.specs.Members.{shared_at, member_task};
 
     /// A reader at a new board for the job of a text, and so many workers. A leaf stands for so
     /// many processors; at 0 the board chooses.
@@ -85,7 +87,7 @@ impl Member {
     /// greatest number, and says how that ended; nothing where there is no worker.
     pub fn work(&mut self, limit: u64) -> Option<Stay>
         requires { IsMember self.old }
-        ensures { IsWork self.old limit self.new result }
+        ensures { IsMembersWork self.old limit self.new result }
     {
         match &mut self.worker {
             None => None,
@@ -114,11 +116,12 @@ impl Member {
     /// How far the steps are finished. It is no step below those that the member has seen.
     pub fn progress(&mut self) -> Progress
         requires { IsMember self.old }
-        ensures progressed { Progressed (task_at self.old) self.old.seat self.new.seat result }
-        ensures knows { HasSeen (task_at self.old).layout self.new.seat.record_of result.step }
-        ensures conflict { IfSome result.conflict (λ step. KnowsConflict (task_at self.old).layout
+        ensures progressed { Progressed (member_task self.old) self.old.seat self.new.seat result }
+        ensures knows { HasSeen (member_task self.old).layout self.new.seat.record_of result.step }
+        ensures conflict { IfSome result.conflict
+            (λ step. KnowsConflict (member_task self.old).layout
             self.new.seat.record_of) }
-        ensures goes_on { GoesOn self.old self.new }
+        ensures goes_on { MemberGoesOn self.old self.new }
     {
         self.shared.board.progress(&mut self.seat)
     }
@@ -127,8 +130,8 @@ impl Member {
     pub fn read(&mut self, cell: u32) -> Reading
         requires member { IsMember self.old }
         requires cell { cell < (shared_at self.old).cells }
-        ensures read { WasRead (task_at self.old) self.old.seat self.new.seat cell result }
-        ensures goes_on { GoesOn self.old self.new }
+        ensures read { WasRead (member_task self.old) self.old.seat self.new.seat cell result }
+        ensures goes_on { MemberGoesOn self.old self.new }
     {
         self.shared.board.read(&mut self.seat, cell)
     }
@@ -139,7 +142,7 @@ impl Member {
         ensures cells { IfOk result (λ found. IfSome found
             (λ cells. IsLastMemory self.old self.new cells.items)) }
         ensures left { IfOk result (λ found. IfNone found (StepsAreLeft self.old self.new)) }
-        ensures goes_on { GoesOn self.old self.new }
+        ensures goes_on { MemberGoesOn self.old self.new }
     {
         if self.progress().step != self.shared.steps {
             return Ok(None);
@@ -152,7 +155,7 @@ impl Member {
         requires { IsMember self.old }
         ensures fault { IfOk result (λ found. IfSome found (IsKnownFault self.old self.new)) }
         ensures none { IfOk result (λ found. IfNone found (NoneIsKnown self.old self.new)) }
-        ensures goes_on { GoesOn self.old self.new }
+        ensures goes_on { MemberGoesOn self.old self.new }
     {
         if self.progress().conflict.is_none() {
             return Ok(None);

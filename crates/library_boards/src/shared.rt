@@ -2,7 +2,7 @@
 ghost use Rattle.std.specs.Prelude.{◌≡◌, ◌≤◌, IfOk};
 ghost use Rattle.pram_board.specs.Seats.{IsOpened};
 ghost use Rattle.pram_words.specs.declared.layout.Form.TheVariants.{Wide};
-ghost use Rattle.library_boards.specs.Grains.{IsGrainAsked, grain_of};
+ghost use Rattle.library_boards.specs.Grains.{IsGrainAsked, grain_or_default};
 
 use pram_board::{Board, Seat};
 use pram_job::Job;
@@ -30,7 +30,7 @@ pub(crate) fn new_board(
     requires some { 1 ≤ workers }
     requires most { workers ≤ 64 }
     requires grain { IsGrainAsked grain }
-    ensures { IfOk result (IsOpened job.now (Wide (grain_of grain job.now.procs)) workers) }
+    ensures { IfOk result (IsOpened job.now (Wide (grain_or_default grain job.now.procs)) workers) }
 {
     if grain == 0 {
         Board::open_wide(alloc, job, workers)

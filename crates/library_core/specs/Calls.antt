@@ -2,18 +2,18 @@
 use Rattle.std.specs.Prelude.{◌≡◌, ◌≢◌, ◌⊎◌, ◌<◌, ℕ, List, length}
 use Rattle.refusals.specs.declared.refusal.TheConstants.{REFUSED, UNFINISHED, FAILED}
 use Rattle.library_core.specs.Answers.{IsFilled, front_of}
-use Rattle.library_core.specs.Faults.{line_told, status_of, subject_of}
+use Rattle.library_core.specs.Faults.{line_told, status_of_call_fault, subject_of}
 use Rattle.library_core.specs.declared.answer.Answer.{Answer}
 use Rattle.library_core.specs.declared.answer.TheConstants.{ANSWER_SIZE, NOTHING}
 use Rattle.library_core.specs.declared.fault.CallFault.{CallFault}
 
 -- the statuses of a call that was done: done, a conflict, or unfinished
-abbrev pub IsEnding : ℕ → Type 0
-IsEnding status = (status < REFUSED) ⊎ (status ≡ UNFINISHED)
+abbrev pub IsEndingStatus : ℕ → Type 0
+IsEndingStatus status = (status < REFUSED) ⊎ (status ≡ UNFINISHED)
 
 -- Some items are given with this status. They stand at the front of the buffer, as many as it has
 -- room for, and behind them it is as it was; the answer tells how many they are.
-pub record Shows {A : Type 0} (Gives : List A → ℕ → Type 0) (buffer buffer' : List A)
+pub record ShowsItems {A : Type 0} (Gives : List A → ℕ → Type 0) (buffer buffer' : List A)
     (answer answer' : Answer) (status : ℕ) : Type 0 where
   pub items : List A
   pub gives : Gives items status
@@ -26,7 +26,7 @@ pub record Refuses (Why : CallFault → Type 0) (answer answer' : Answer) (statu
     : Type 0 where
   pub fault : CallFault
   pub why : Why fault
-  pub is : status ≡ status_of fault
+  pub is : status ≡ status_of_call_fault fault
   pub sized : answer.size ≡ ANSWER_SIZE
   pub told : IsFilled (subject_of fault) 0 (line_told fault) answer answer'
 
@@ -44,6 +44,6 @@ RefusesOrNot Why answer answer' status =
 -- not, the buffer is as it was, and the answer tells why.
 pub record IsCall {A : Type 0} (Gives : List A → ℕ → Type 0) (Why : CallFault → Type 0)
     (buffer buffer' : List A) (answer answer' : Answer) (status : ℕ) : Type 0 where
-  pub done : IsEnding status → Shows Gives buffer buffer' answer answer' status
-  pub kept : ¬ IsEnding status → buffer' ≡ buffer
-  pub refused : ¬ IsEnding status → RefusesOrNot Why answer answer' status
+  pub done : IsEndingStatus status → ShowsItems Gives buffer buffer' answer answer' status
+  pub kept : ¬ IsEndingStatus status → buffer' ≡ buffer
+  pub refused : ¬ IsEndingStatus status → RefusesOrNot Why answer answer' status

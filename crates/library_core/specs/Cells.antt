@@ -12,12 +12,12 @@ use Rattle.library_core.specs.declared.fault.CallFault.{CallFault}
 use Rattle.library_core.specs.declared.fault.CallFault.TheVariants as call
 
 -- the cells of an answer, which a conflict has not
-abbrev pub cells_of : RunAnswer → List ℕ
-cells_of (Final cells) = cells
-cells_of _ = []
+abbrev pub cells_in_answer : RunAnswer → List ℕ
+cells_in_answer (Final cells) = cells
+cells_in_answer _ = []
 
 -- The text means a job, and this is its answer.
-pub record IsAnswerOf (text : List ℕ) (answer : RunAnswer) : Type 0 where
+pub record IsTextsAnswer (text : List ℕ) (answer : RunAnswer) : Type 0 where
   pub job : JobData
   pub means : Means text job
   pub answers : IsAnswer job answer
@@ -25,11 +25,11 @@ pub record IsAnswerOf (text : List ℕ) (answer : RunAnswer) : Type 0 where
 -- These are the cells of the answer of a text, and its status.
 pub record AreCells (text cells : List ℕ) (status : ℕ) : Type 0 where
   pub answer : RunAnswer
-  pub answers : IsAnswerOf text answer
-  pub are : cells ≡ cells_of answer
+  pub answers : IsTextsAnswer text answer
+  pub are : cells ≡ cells_in_answer answer
   pub is : status ≡ status_of answer
 
 -- the text means no job, or is too long, or memory ran out
-abbrev pub IsNoJob : (text : List ℕ) → CallFault → Type 0
-IsNoJob text (call.Request fault) = ⊥
-IsNoJob text (call.Command fault) = IsUndone checking text [] fault
+abbrev pub MeansNoJob : (text : List ℕ) → CallFault → Type 0
+MeansNoJob text (call.Request fault) = ⊥
+MeansNoJob text (call.Command fault) = IsUndone checking text [] fault

@@ -13,9 +13,9 @@ use Rattle.library_core.specs.declared.answer.TheConstants.{SIZE, STEP, TEXT}
 use Rattle.library_core.specs.declared.fault.CallFault.{CallFault}
 use Rattle.library_core.specs.declared.fault.CallFault.TheVariants.{Request, Command}
 
-abbrev pub status_of : CallFault → ℕ
-status_of (Request fault) = FAILED
-status_of (Command fault) = fault_status fault
+abbrev pub status_of_call_fault : CallFault → ℕ
+status_of_call_fault (Request fault) = FAILED
+status_of_call_fault (Command fault) = fault_status fault
 
 -- what was refused
 abbrev pub command_subject : CommandFault → ℕ

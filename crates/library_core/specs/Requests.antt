@@ -2,8 +2,8 @@
 use Rattle.std.specs.Prelude.{◌≡◌, ◌==◌, ◌||◌, ℕ, Bool, List, Option, Some, None, if◌then◌else◌}
 use Rattle.std.specs.Prelude.{nat_lt, ⊤}
 use Rattle.std.specs.List.{list_all}
-use Rattle.command_data.specs.declared.line.Line.{Line}
-use Rattle.command_data.specs.declared.line.Line.TheVariants as line
+use Rattle.command_data.specs.declared.line.AskAlone.{AskAlone}
+use Rattle.command_data.specs.declared.line.AskAlone.TheVariants as ask
 use Rattle.pram_commands.specs.Costs.{costing}
 use Rattle.pram_commands.specs.Did.{Command}
 use Rattle.pram_commands.specs.Plain.{checking, plainly}
@@ -41,17 +41,17 @@ command_asked Cost request = costing
 command_asked Steps request = stepping (is_set request.rows_alone) (window_of request)
 command_asked Replay request = replaying (is_set request.rows_alone) request.workers
 
--- the line that a call stands for, but its files
-abbrev pub IsLineOf : Call → Request → Line → Type 0
-IsLineOf Check request (line.Check file) = ⊤
-IsLineOf Compile request (line.Compile file) = ⊤
-IsLineOf Plain request (line.Plain file why) = why ≡ is_set request.why
-IsLineOf Cost request (line.Cost file) = ⊤
-IsLineOf Steps request (line.Steps file from to alone) =
+-- what a call asks, as a line of the program's would
+abbrev pub IsAskOf : Call → Request → AskAlone → Type 0
+IsAskOf Check request ask.Check = ⊤
+IsAskOf Compile request ask.Compile = ⊤
+IsAskOf Plain request (ask.Plain why) = why ≡ is_set request.why
+IsAskOf Cost request ask.Cost = ⊤
+IsAskOf Steps request (ask.Steps from to alone) =
     (from ≡ from_of request) × (to ≡ to_of request) × (alone ≡ is_set request.rows_alone)
-IsLineOf Replay request (line.Replay file workers plan alone) =
+IsAskOf Replay request (ask.Replay workers alone) =
     (workers.count ≡ request.workers) × (alone ≡ is_set request.rows_alone)
-IsLineOf _ _ _ = ⊥
+IsAskOf _ _ _ = ⊥
 
 -- ---- what is wrong
 

@@ -4,7 +4,6 @@ use Rattle.pram_job.specs.Job.{JobData}
 use Rattle.pram_step.specs.declared.answer.RunAnswer.{RunAnswer}
 use Rattle.pram_streams.specs.declared.transfer.TheConstants.{MOST}
 use Rattle.stop_plan.specs.Plan.{PlanData}
-use Rattle.stop_plan.specs.Records.{FirstFault, SpellsPlan, records_of}
 use Rattle.refusals.specs.declared.fault.CommandFault.{CommandFault}
 use Rattle.refusals.specs.declared.fault.CommandFault.TheVariants.{Text, Program, Plan}
 use Rattle.refusals.specs.declared.fault.CommandFault.TheVariants.{OutsideStep, JobTooLarge}
@@ -12,7 +11,7 @@ use Rattle.refusals.specs.declared.fault.CommandFault.TheVariants.{PlanTooLarge,
 use Rattle.refusals.specs.declared.fault.CommandFault.TheVariants.{JobDevice, PlanDevice, OutDevice}
 use Rattle.refusals.specs.declared.fault.CommandFault.TheVariants.{OutsideCell, OutsidePlace}
 use Rattle.pram_commands.specs.Did.{Command, ends_with}
-use Rattle.pram_commands.specs.Inputs.{IsBad, missing_step}
+use Rattle.pram_commands.specs.Inputs.{IsBad}
 use Rattle.pram_commands.specs.Names.{Means}
 use Rattle.library_core.specs.Calls.{IsCall}
 use Rattle.library_core.specs.declared.answer.Answer.{Answer}
@@ -27,31 +26,31 @@ pub record PrintsAll (command : Command) (text plan bytes : List ℕ) (status : 
   pub rows : PlanData
   pub answer : Option RunAnswer
   pub means : Means text job
-  pub spells : IfSome command.workers (λ workers. SpellsPlan workers (records_of plan) rows)
-  pub first : missing_step job command.first ≡ None
+  pub spells : IfSome command.workers (λ workers. command.IsPlan plan rows)
+  pub has : command.Has job
   pub comes : command.Comes text job rows bytes answer
   pub is : status ≡ ends_with answer
 
--- The text means a job, the command follows a plan, and this holds of the plan's workers.
-abbrev pub AfterText : Option ℕ → (text : List ℕ) → (ℕ → Type 0) → Type 0
+-- The text means a job, the command follows a plan, and this holds.
+abbrev pub AfterText : Option ℕ → (text : List ℕ) → Type 0 → Type 0
 AfterText None text Holds = ⊥
-AfterText (Some workers) text Holds = ((job : JobData) × Means text job) × Holds workers
+AfterText (Some workers) text Holds = ((job : JobData) × Means text job) × Holds
 
--- The text means a job, which lacks the first step that is to be shown.
-abbrev pub LacksStep : ℕ → (text : List ℕ) → ℕ → Type 0
-LacksStep first text step =
-    (job : JobData) × Means text job × (missing_step job first ≡ Some step)
+-- The text means a job, and this fault says what it lacks.
+abbrev pub MeansLacking : Command → (text : List ℕ) → CommandFault → Type 0
+MeansLacking command text fault =
+    (job : JobData) × Means text job × command.Lacks text job fault
 
--- So the command is not done on this text and this plan; memory may run out on any.
+-- The command is not done on this text and this plan, by this fault; memory may run out on any.
 abbrev pub IsUndone : Command → (text plan : List ℕ) → CommandFault → Type 0
 IsUndone command text plan (Text line kind) = IsBad text (Text line kind)
 IsUndone command text plan (Program refusal) = IsBad text (Program refusal)
 IsUndone command text plan (Plan row kind) =
-    AfterText command.workers text (λ workers. FirstFault workers (records_of plan) row kind)
-IsUndone command text plan (OutsideStep step) = LacksStep command.first text step
+    AfterText command.workers text (command.HasPlanFault plan row kind)
+IsUndone command text plan (OutsideStep step) = MeansLacking command text (OutsideStep step)
 IsUndone command text plan JobTooLarge = MOST < length text
 IsUndone command text plan PlanTooLarge =
-    AfterText command.workers text (λ workers. MOST < length plan)
+    AfterText command.workers text (MOST < length plan)
 IsUndone command text plan Memory = ⊤
 IsUndone command text plan _ = ⊥
 
@@ -66,8 +65,8 @@ in_memory fault = fault
 
 -- ---- a call of a command, where this is wrong with its request
 
-abbrev pub Gives : Command → Option RequestFault → (text plan : List ℕ) → List ℕ → ℕ → Type 0
-Gives command wrong text plan bytes status =
+abbrev pub GivesBytes : Command → Option RequestFault → (text plan : List ℕ) → List ℕ → ℕ → Type 0
+GivesBytes command wrong text plan bytes status =
     (wrong ≡ None) × PrintsAll command text plan bytes status
 
 abbrev pub IsWhy : Command → Option RequestFault → (text plan : List ℕ) → CallFault → Type 0
@@ -76,7 +75,7 @@ IsWhy command wrong text plan (call.Command fault) =
     (wrong ≡ None) × IsUndone command text plan fault
 
 -- What the call does: it shows what the command prints on this text and plan, or says why not.
-abbrev pub Serves : Command → Option RequestFault → (text plan : List ℕ)
+abbrev pub ServesRequest : Command → Option RequestFault → (text plan : List ℕ)
     → (out out' : List ℕ) → (answer answer' : Answer) → ℕ → Type 0
-Serves command wrong text plan = IsCall (Gives command wrong text plan)
+ServesRequest command wrong text plan = IsCall (GivesBytes command wrong text plan)
     (IsWhy command wrong text plan)

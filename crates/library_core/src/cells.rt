@@ -1,7 +1,7 @@
 //! The final memory, in numbers.
 ghost use Rattle.std.specs.Prelude.{[], IfErr, IfOk};
 ghost use Rattle.library_core.specs.Calls.{IsCall};
-ghost use Rattle.library_core.specs.Cells.{AreCells, IsAnswerOf, IsNoJob};
+ghost use Rattle.library_core.specs.Cells.{AreCells, IsTextsAnswer, MeansNoJob};
 ghost use Rattle.library_core.specs.Serving.{IsUndone};
 ghost use Rattle.pram_commands.specs.Plain.{checking};
 
@@ -17,7 +17,7 @@ use std::alloc::Global;
 /// Puts the cells after the last step of a text's job to the front of the buffer, as many as there
 /// is room for, and gives the status. A conflict has none. The time is that of running the job.
 pub fn tell_cells(alloc: Global, text: &[u8], cells: &mut [u32], answer: &mut Answer) -> u32
-    ensures { IsCall (AreCells text.now) (IsNoJob text.now) cells.old cells.new answer.old
+    ensures { IsCall (AreCells text.now) (MeansNoJob text.now) cells.old cells.new answer.old
         answer.new result }
 {
     match answer_of(alloc, text) {
@@ -29,7 +29,7 @@ pub fn tell_cells(alloc: Global, text: &[u8], cells: &mut [u32], answer: &mut An
 }
 
 fn answer_of(alloc: Global, text: &[u8]) -> Result<RunAnswer, CommandFault>
-    ensures answer { IfOk result (IsAnswerOf text.now) }
+    ensures answer { IfOk result (IsTextsAnswer text.now) }
     ensures undone { IfErr result (IsUndone checking text.now []) }
 {
     match take_answer(alloc, &mut FromRead::new(text)) {

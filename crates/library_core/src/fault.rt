@@ -1,8 +1,8 @@
 //! Why a call was not done.
 ghost use Rattle.std.specs.Prelude.{◌≡◌, ◌<◌};
-ghost use Rattle.library_core.specs.Calls.{IsEnding};
+ghost use Rattle.library_core.specs.Calls.{IsEndingStatus};
 ghost use Rattle.library_core.specs.Faults.{command_line, command_subject, line_told, program_line};
-ghost use Rattle.library_core.specs.Faults.{status_of, subject_of};
+ghost use Rattle.library_core.specs.Faults.{status_of_call_fault, subject_of};
 ghost use Rattle.refusals.specs.Faults.{fault_status};
 
 use crate::answer::{OUT_OF_MEMORY, PLAN, PROGRAM, REQUEST, SIZE, STEP, TEXT};
@@ -23,8 +23,8 @@ pub enum CallFault {
 impl CallFault {
     /// The status of a call with this fault.
     pub fn status(self) -> u8
-        ensures status { result ≡ status_of self }
-        ensures ending { ¬ IsEnding result }
+        ensures status { result ≡ status_of_call_fault self }
+        ensures ending { ¬ IsEndingStatus result }
     {
         match self {
             CallFault::Request(_) => FAILED,
@@ -80,7 +80,7 @@ pub(crate) fn kind_of(alloc: Global, fault: CommandFault) -> Result<String, Allo
 
 fn command_status(fault: CommandFault) -> u8
     ensures status { result ≡ fault_status fault }
-    ensures ending { ¬ IsEnding result }
+    ensures ending { ¬ IsEndingStatus result }
 {
     match fault {
         CommandFault::Text { .. } | CommandFault::Program(_) | CommandFault::Plan { .. } => REFUSED,

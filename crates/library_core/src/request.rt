@@ -1,11 +1,10 @@
 //! What a call is asked beside its text.
 ghost use Rattle.std.specs.Prelude.{◌≡◌, None};
-ghost use Rattle.command_data.specs.Line.{StartsNoThread};
-ghost use Rattle.library_core.specs.Requests.{IsLineOf, are_zero, from_of, is_bad_count, to_of};
+ghost use Rattle.library_core.specs.Requests.{IsAskOf, are_zero, from_of, is_bad_count, to_of};
 ghost use Rattle.library_core.specs.Requests.{wrong_field, wrong_flag, wrong_in, wrong_replay};
 ghost use Rattle.library_core.specs.Requests.{wrong_steps};
 
-use command_data::{Line, Workers};
+use command_data::{AskAlone, Workers};
 
 /// What a call is asked beside its text, as C sees it. The size is `REQUEST_SIZE`, and what is
 /// reserved is 0. What a call does not use is not looked at. A flag is 0 or 1: with `why` what
@@ -134,33 +133,28 @@ fn last_step(request: &Request) -> u32
     }
 }
 
-/// The line that a call stands for, of files without a name.
-pub(crate) fn line_of(call: Call, request: &Request) -> Line<'static>
+/// What a call asks, as a line of the program's would.
+pub(crate) fn ask_of(call: Call, request: &Request) -> AskAlone
     requires { wrong_in call request.now ≡ None }
-    ensures alone { StartsNoThread result }
-    ensures line { IsLineOf call request.now result }
+    ensures { IsAskOf call request.now result }
 {
     let alone = request.rows_alone == 1;
     match call {
-        Call::Check => Line::Check { file: "" },
-        Call::Compile => Line::Compile { file: "" },
-        Call::Plain => Line::Plain {
-            file: "",
+        Call::Check => AskAlone::Check,
+        Call::Compile => AskAlone::Compile,
+        Call::Plain => AskAlone::Plain {
             why: request.why == 1,
         },
-        Call::Cost => Line::Cost { file: "" },
-        Call::Steps => Line::Steps {
-            file: "",
+        Call::Cost => AskAlone::Cost,
+        Call::Steps => AskAlone::Steps {
             from: first_step(request),
             to: last_step(request),
             alone,
         },
-        Call::Replay => Line::Replay {
-            file: "",
+        Call::Replay => AskAlone::Replay {
             workers: Workers {
                 count: request.workers,
             },
-            plan: None,
             alone,
         },
     }

@@ -1,11 +1,10 @@
 //! A command over texts in memory.
 ghost use Rattle.std.specs.Prelude.{◌≡◌, IfErr, IfOk};
-ghost use Rattle.command_data.specs.Line.{StartsNoThread};
-ghost use Rattle.pram_commands.specs.Line.{command_of};
+ghost use Rattle.pram_commands.specs.Line.{command_alone};
 ghost use Rattle.library_core.specs.Serving.{IsUndone, PrintsAll, in_memory};
 
 use crate::output::Output;
-use command_data::Line;
+use command_data::AskAlone;
 use pram_commands::{Sources, do_alone};
 use pram_streams::FromRead;
 use refusals::CommandFault;
@@ -18,24 +17,23 @@ pub(crate) struct Served {
     pub status: u8,
 }
 
-/// Does what a line asks that starts no thread, on a text and a plan in place of its files.
+/// Does what is asked, on a text and a plan in place of files.
 pub(crate) fn serve(
     alloc: Global,
-    line: &Line<'_>,
+    ask: AskAlone,
     text: &[u8],
     plan: &[u8],
 ) -> Result<Served, CommandFault>
-    requires { StartsNoThread line.now }
-    ensures done { IfOk result (λ served. PrintsAll (command_of line.now) text.now plan.now
+    ensures done { IfOk result (λ served. PrintsAll (command_alone ask) text.now plan.now
         served.bytes.items served.status) }
-    ensures undone { IfErr result (IsUndone (command_of line.now) text.now plan.now) }
+    ensures undone { IfErr result (IsUndone (command_alone ask) text.now plan.now) }
 {
     let mut sources = Sources {
         job: FromRead::new(text),
         plan: FromRead::new(plan),
     };
     let mut output = Output::new(alloc);
-    match do_alone(alloc, line, &mut sources, &mut output) {
+    match do_alone(alloc, ask, &mut sources, &mut output) {
         Ok(status) => Ok(Served {
             bytes: output.into_bytes(),
             status,
@@ -45,7 +43,7 @@ pub(crate) fn serve(
 }
 
 /// A fault where sources and output lie in memory: a device fails where there is no memory for more
-/// alone, and the lines of calls name no cells.
+/// alone, and calls name no cells.
 pub(crate) fn in_memory(fault: CommandFault) -> CommandFault
     ensures { result ≡ in_memory fault }
 {

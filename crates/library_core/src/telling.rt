@@ -1,8 +1,8 @@
 //! How a call ends: items at the front of a buffer, or why there are none.
 ghost use Rattle.std.specs.Prelude.{◌≡◌, ◌⊎◌};
 ghost use Rattle.library_core.specs.Answers.{IsFilled, front_of};
-ghost use Rattle.library_core.specs.Calls.{IsCall, IsEnding, RefusesOrNot};
-ghost use Rattle.library_core.specs.Faults.{line_told, status_of, subject_of};
+ghost use Rattle.library_core.specs.Calls.{IsCall, IsEndingStatus, RefusesOrNot};
+ghost use Rattle.library_core.specs.Faults.{line_told, status_of_call_fault, subject_of};
 ghost use Rattle.library_core.specs.Telling.{AreThese, IsCommandOrMemory, IsNever, IsRequest};
 
 use crate::answer::{ANSWER_SIZE, Answer, NOTHING, Told, fill};
@@ -13,7 +13,7 @@ use std::alloc::{AllocError, Global};
 
 /// Ends a call that was done with these items, and gives its status.
 pub fn show<T: Copy>(items: &[T], status: u8, buffer: &mut [T], answer: &mut Answer) -> u32
-    requires { IsEnding status }
+    requires { IsEndingStatus status }
     ensures { IsCall (AreThese items.now status) IsNever buffer.old buffer.new answer.old answer.new
         result }
 {
@@ -34,7 +34,7 @@ pub fn show<T: Copy>(items: &[T], status: u8, buffer: &mut [T], answer: &mut Ans
 
 /// Ends a call whose request is wrong, and gives its status.
 pub fn refuse_request(fault: RequestFault, answer: &mut Answer) -> u32
-    ensures ending { ¬ IsEnding result }
+    ensures ending { ¬ IsEndingStatus result }
     ensures refused { RefusesOrNot (IsRequest fault) answer.old answer.new result }
 {
     if answer.size != ANSWER_SIZE {
@@ -46,7 +46,7 @@ pub fn refuse_request(fault: RequestFault, answer: &mut Answer) -> u32
 /// Ends a call of what was not done, and gives its status. Where there is no memory to tell why,
 /// that is told.
 pub fn refuse(alloc: Global, fault: CommandFault, answer: &mut Answer) -> u32
-    ensures ending { ¬ IsEnding result }
+    ensures ending { ¬ IsEndingStatus result }
     ensures refused { RefusesOrNot (IsCommandOrMemory fault) answer.old answer.new result }
 {
     if answer.size != ANSWER_SIZE {
@@ -59,8 +59,8 @@ pub fn refuse(alloc: Global, fault: CommandFault, answer: &mut Answer) -> u32
 }
 
 fn tell(fault: CallFault, kind: &[u8], answer: &mut Answer) -> u32
-    ensures status { result ≡ status_of fault }
-    ensures ending { ¬ IsEnding result }
+    ensures status { result ≡ status_of_call_fault fault }
+    ensures ending { ¬ IsEndingStatus result }
     ensures told { IsFilled (subject_of fault) 0 (line_told fault) answer.old answer.new }
 {
     let told = Told {

@@ -1,44 +1,273 @@
 //! Words of boards, worked out by hand.
-ghost use Rattle.std.specs.Prelude.{◌≡◌, IfOk};
+ghost use Rattle.std.specs.Prelude.{◌≡◌, ◌≤◌};
+ghost use Rattle.pram_words.specs.Words.{has_claims};
 
+use crate::table::expect;
 use pram_job::{Job, Rule};
 use pram_text::read_job;
 use pram_words::{
-    Form, Kind, Layout, Word, first_leaf, goes_right, height, kind_of, leaves, left, parent,
-    payload, phase, right, stamp, stamped, step_of,
+    Form, Kind, Layout, first_leaf, goes_right, height, kind_of, leaves, left, parent, payload,
+    phase, right, stamp, stamped, step_of,
 };
-use std::process::Abort;
+use std::alloc::{AllocError, Global};
 use std::test::Fail;
 
-// A job of so many cells and processors, of four steps, under a rule.
-fn job<R: AllocGlobal + Abort>(rt: &R, rule: Rule, cells: u32, procs: u32) -> Result<Job, Fail>
-    ensures rule { IfOk result (λ job. job.rule ≡ rule) }
-    ensures cells { IfOk result (λ job. job.cells ≡ cells) }
-    ensures procs { IfOk result (λ job. job.procs ≡ procs) }
+// The layout of a job's board for so many workers: compact, or wide with blocks of one processor,
+// of four, or of 64.
+fn layout_of(job: &Job, form: &str, workers: u32) -> Layout
+    requires some { 1 ≤ workers }
+    requires most { workers ≤ 64 }
+    ensures cells { result.cells ≡ job.now.cells }
+    ensures procs { result.procs ≡ job.now.procs }
+    ensures claims { result.claims ≡ has_claims job.now.rule }
 {
-    let name = match rule {
-        Rule::Common => "common",
-        Rule::Priority => "priority",
-        Rule::Crew => "crew",
-    };
-    let text = format!(in rt.alloc();
-        "pram 2\ncells {cells}\nprocs {procs}\nsteps 4\nrule {name}\ninit 0 7\ncode\nhalt\n"
-    )?;
-    let job = read_job(rt.alloc(), text.as_bytes())?;
-    assert!(rt; job.rule() == rule && job.cells() == cells && job.procs() == procs);
-    Ok(job)
+    match form {
+        "ones" => Layout::with_blocks(job, workers, 1),
+        "fours" => Layout::with_blocks(job, workers, 4),
+        "wide" => Layout::wide(job, workers),
+        _ => Layout::new(job, workers),
+    }
 }
 
-// Checks what was found at a node, a place, a worker or a word of this number.
-fn at<R: Abort>(rt: &R, number: u32, found: u64, wanted: u64)
-    ensures { found ≡ wanted }
+// What is said of a question that has no answer.
+const NONE: u64 = u64::MAX;
+
+// The first word of a place.
+fn place(job: &Job, layout: &Layout, place: u32) -> u64
+    requires cells { layout.now.cells ≡ job.now.cells }
+    requires procs { layout.now.procs ≡ job.now.procs }
 {
-    assert_eq!(rt; found, wanted, "at {number}");
+    let places = u64::from(job.cells()) + 5 * u64::from(job.procs());
+    if u64::from(place) < places {
+        u64::from(layout.place_word(place))
+    } else {
+        NONE
+    }
 }
 
-// Checks which word has this number.
-fn is_word<R: Abort>(rt: &R, number: u32, found: Word, wanted: Word) {
-    assert_eq!(rt; found, wanted, "word {number}");
+// The claim word of a cell.
+fn claim(job: &Job, layout: &Layout, cell: u32) -> u64
+    requires cells { layout.now.cells ≡ job.now.cells }
+    requires claims { layout.now.claims ≡ has_claims job.now.rule }
+{
+    if cell >= job.cells() {
+        return NONE;
+    }
+    match job.rule() {
+        Rule::Common => NONE,
+        Rule::Priority | Rule::Crew => u64::from(layout.claim_word(cell)),
+    }
+}
+
+// The word of a node.
+fn node(layout: &Layout, node: u32) -> u64 {
+    if 1 <= node && u64::from(node) < 2 * u64::from(layout.leaves()) {
+        u64::from(layout.node_word(node))
+    } else {
+        NONE
+    }
+}
+
+// The word of a part of a processor's request.
+fn request(layout: &Layout, processor: u32, part: u32) -> u64 {
+    if processor < layout.procs() && part < 3 {
+        u64::from(layout.request_word(processor, part))
+    } else {
+        NONE
+    }
+}
+
+// The word of a worker's position.
+fn position(layout: &Layout, worker: u32) -> u64 {
+    if worker < layout.workers() {
+        u64::from(layout.position_word(worker))
+    } else {
+        NONE
+    }
+}
+
+// Whether a worker goes to the right at a node.
+fn turn(layout: &Layout, worker: u32, node: u32) -> u64 {
+    if node < 1 || layout.leaves() <= node {
+        NONE
+    } else if layout.goes_right(worker, node) {
+        1
+    } else {
+        0
+    }
+}
+
+// What a word starts with.
+fn start(job: &Job, layout: &Layout, number: u32) -> u64 {
+    if number < layout.length() {
+        layout.start_word(job, number)
+    } else {
+        NONE
+    }
+}
+
+// A size of a layout.
+fn size(layout: &Layout, name: &str) -> u32 {
+    match name {
+        "leaves" => layout.leaves(),
+        "length" => layout.length(),
+        "workers" => layout.workers(),
+        "conflict" => layout.conflict_word(),
+        "wide" => match layout.form() {
+            Form::Compact => 0,
+            Form::Wide(grain) => grain,
+        },
+        _ => layout.grain(),
+    }
+}
+
+// A question: its name, and up to two numbers.
+#[derive(Clone, Copy)]
+struct Question<'a> {
+    name: &'a str,
+    number: u32,
+    value: u64,
+}
+
+// The answer to a question, if it is a number.
+fn number(job: &Job, layout: &Layout, question: Question<'_>) -> u64
+    requires cells { layout.now.cells ≡ job.now.cells }
+    requires procs { layout.now.procs ≡ job.now.procs }
+    requires claims { layout.now.claims ≡ has_claims job.now.rule }
+{
+    let (number, value) = (question.number, question.value);
+    let part = u32::try_from(value).unwrap_or(0);
+    match question.name {
+        "place" => place(job, layout, number),
+        "claim" => claim(job, layout, number),
+        "node" => node(layout, number),
+        "request" => request(layout, number, part),
+        "position" => position(layout, number),
+        "leaf" => u64::from(layout.first_leaf(number)),
+        "right" => turn(layout, number, part),
+        "start" => start(job, layout, number),
+        "admits" => if layout.admits(job, number, value) {
+            1
+        } else {
+            0
+        },
+        name => u64::from(size(layout, name)),
+    }
+}
+
+fn question_of(text: &str) -> Question<'_> {
+    let (name, numbers) = text.split_once(' ').unwrap_or((text, ""));
+    let (number, value) = numbers.split_once(' ').unwrap_or((numbers, ""));
+    Question {
+        name,
+        number: number.parse().unwrap_or(0),
+        value: value.parse().unwrap_or(0),
+    }
+}
+
+// The answer to a question.
+fn answer(alloc: Global, job: &Job, layout: &Layout, text: &str) -> Result<String, AllocError>
+    requires cells { layout.now.cells ≡ job.now.cells }
+    requires procs { layout.now.procs ≡ job.now.procs }
+    requires claims { layout.now.claims ≡ has_claims job.now.rule }
+{
+    let question = question_of(text);
+    if question.name == "word" && question.number < layout.length() {
+        format!(in alloc; "{:?}", layout.word(question.number))
+    } else {
+        format!(in alloc; "{}", number(job, layout, question))
+    }
+}
+
+// The answers to questions.
+fn answers(alloc: Global, job: &Job, layout: &Layout, text: &str) -> Result<String, AllocError>
+    requires cells { layout.now.cells ≡ job.now.cells }
+    requires procs { layout.now.procs ≡ job.now.procs }
+    requires claims { layout.now.claims ≡ has_claims job.now.rule }
+{
+    let mut told = String::new(alloc);
+    for question in text.split(", ") {
+        if !told.is_empty() {
+            told.push_str(" ")?;
+        }
+        told.push_str(answer(alloc, job, layout, question)?.as_str())?;
+    }
+    Ok(told)
+}
+
+/// What is answered to `FORM WORKERS; QUESTIONS` of the board of the job of a text.
+pub fn words(alloc: Global, given: &str, text: &str) -> Result<String, Fail> {
+    let job = read_job(alloc, text.as_bytes())?;
+    let (board, questions) = given.split_once("; ").unwrap_or((given, ""));
+    let (form, workers) = board.split_once(' ').unwrap_or((board, ""));
+    let workers = workers.parse().unwrap_or(0);
+    if workers < 1 || 64 < workers {
+        return Ok(String::new(alloc));
+    }
+    let layout = layout_of(&job, form, workers);
+    Ok(answers(alloc, &job, &layout, questions)?)
+}
+
+const WORDS: &str = "\
+-- the words of boards: of nodes, requests, positions, places and claims, by their numbers, and what
+-- a word is by its number
+$ board: pram 2~cells 3~procs 3~steps 4~rule common~init 0 7~code~
+compact 2; leaves, length, wide, workers, conflict, node 7, request 0 0, request 2 2 : halt~ \
+    -> 4 55 0 2 0 7 8 16
+compact 2; position 0, position 1, place 0, place 1, place 2, place 3, place 14 : halt~ \
+    -> 17 18 19 21 23 25 47
+compact 2; place 15, place 17, word 54 : halt~ -> 49 53 Stored(17, 1)
+ones 2; wide, leaves, length, conflict, node 1, node 3, node 4, node 5, node 7 : halt~ \
+    -> 1 4 118 0 8 24 48 64 96
+ones 2; request 0 0, request 2 2, position 0, position 1, place 0, place 2 : halt~ \
+    -> 49 83 32 40 112 116
+ones 2; place 3, place 6, place 14, place 15, place 17 : halt~ -> 54 60 92 52 84
+ones 2; word 1, word 47, word 61, word 62, word 96, word 97, word 117 : halt~ \
+    -> Spare(1) Spare(47) Stored(6, 1) Spare(62) Node(7) Spare(97) Stored(2, 1)
+-- what words start with, and whether they may hold a value: phases, and stamps of step 4
+compact 2; start 0, start 17, start 18, start 19, start 20, start 54 : halt~ -> 0 4 5 7 7 0
+compact 2; admits 1 12, admits 1 13, admits 8 17179869199, admits 8 17179869200 : halt~ -> 1 0 1 0
+compact 2; admits 49 17179869186, admits 49 17179869187, admits 55 0 : halt~ -> 1 0 0
+-- ten processors in blocks of four: the third block has two, and a fourth leaf has none
+$ board: pram 2~cells 3~procs 10~steps 4~rule common~init 0 7~code~
+fours 2; leaves, length, grain, node 1, node 3, node 4, node 5, node 6, node 7 : halt~ \
+    -> 4 310 4 8 24 48 112 176 240
+fours 2; word 8, word 24, word 48, word 112, word 176, word 240 : halt~ \
+    -> Node(1) Node(3) Node(4) Node(5) Node(6) Node(7)
+fours 2; request 0 0, request 3 0, request 4 0, request 9 0 : halt~ -> 49 97 113 193
+fours 2; word 49, word 97, word 113, word 193 : halt~ \
+    -> Asked(0, 0) Asked(3, 0) Asked(4, 0) Asked(9, 0)
+fours 2; word 64, word 96, word 128, word 209, word 241, word 303 : halt~ \
+    -> Spare(64) Spare(96) Spare(128) Spare(209) Spare(241) Spare(303)
+fours 2; place 0, place 3, place 42, place 43, place 52 : halt~ -> 304 54 204 52 196
+fours 2; word 305, word 55, word 205, word 53, word 197 : halt~ \
+    -> Stored(0, 1) Stored(3, 1) Stored(42, 1) Stored(43, 1) Stored(52, 1)
+-- blocks of 64, or of all; claims; and the largest boards
+$ board: pram 2~cells 1~procs 31~steps 4~rule common~code~
+wide 4; wide, leaves : halt~ -> 32 1
+$ board: pram 2~cells 1~procs 1024~steps 4~rule common~code~
+wide 64; leaves : halt~ -> 16
+fours 8; leaves : halt~ -> 256
+$ board: pram 2~cells 3~procs 3~steps 4~rule crew~code~
+compact 2; claim 0, claim 2, length : halt~ -> 55 57 58
+ones 2; claim 0, claim 2, length : halt~ -> 118 120 121
+$ board: pram 2~cells 65536~procs 1024~steps 4~rule common~code~
+compact 64; length : halt~ -> 146496
+ones 64; length : halt~ -> 156160
+$ board: pram 2~cells 65536~procs 1024~steps 4~rule priority~code~
+compact 64; length : halt~ -> 212032
+ones 64; length : halt~ -> 221696
+-- workers of a wide board start far apart, and turn by their numbers
+$ board: pram 2~cells 1~procs 8~steps 4~rule common~code~
+ones 4; leaf 0, leaf 1, leaf 2, leaf 3, leaves, right 1 1, right 1 3, right 1 6 : halt~ \
+    -> 8 12 11 15 8 1 0 0
+ones 1; leaf 0 : halt~ -> 8
+compact 4; leaf 3 : halt~ -> 11
+";
+
+#[test]
+fn words_of_boards(rt: HostRuntime) -> Result<(), Fail> {
+    expect(&rt, rt.alloc(), WORDS)
 }
 
 #[test]
@@ -62,180 +291,4 @@ fn tree_of_leaves(rt: HostRuntime) {
     assert!(rt; (left(5), right(5), parent(11)) == (10, 11, 5));
     assert!(rt; (height(1024), first_leaf(4, 6)) == (10, 6));
     assert!(rt; (goes_right(4, 2, 1), goes_right(4, 2, 3)) == (true, false));
-}
-
-#[test]
-fn layout_of_three_cells(rt: HostRuntime) -> Result<(), Fail> {
-    let job = job(&rt, Rule::Common, 3, 3)?;
-    let layout = Layout::new(&job, 2);
-    assert!(rt; (layout.leaves(), layout.workers()) == (4, 2));
-    assert!(rt; (layout.conflict_word(), layout.node_word(7)) == (0, 7));
-    let requests = (layout.request_word(0, 0), layout.request_word(2, 2));
-    let positions = (layout.position_word(0), layout.position_word(1));
-    assert!(rt; (requests, positions) == ((8, 16), (17, 18)));
-    let words = [19, 21, 23, 25, 47, 49, 53];
-    for (place, word) in [0, 1, 2, 3, 14, 15, 17].into_iter().zip(words) {
-        at(&rt, place, u64::from(layout.place_word(place)), word);
-    }
-    assert!(rt; layout.length() == 55);
-    assert!(rt; layout.word(54) == Word::Stored(17, 1));
-    Ok(())
-}
-
-#[test]
-fn wide_layout_of_three_cells(rt: HostRuntime) -> Result<(), Fail> {
-    let job = job(&rt, Rule::Common, 3, 3)?;
-    let layout = Layout::with_blocks(&job, 2, 1);
-    assert!(rt; (layout.form(), layout.leaves()) == (Form::Wide(1), 4));
-    assert!(rt; layout.conflict_word() == 0);
-    for (node, word) in [(1, 8), (3, 24), (4, 48), (5, 64), (7, 96)] {
-        at(&rt, node, u64::from(layout.node_word(node)), word);
-    }
-    let requests = (layout.request_word(0, 0), layout.request_word(2, 2));
-    let positions = (layout.position_word(0), layout.position_word(1));
-    assert!(rt; (requests, positions) == ((49, 83), (32, 40)));
-    for (place, word) in [
-        (0, 112),
-        (2, 116),
-        (3, 54),
-        (6, 60),
-        (14, 92),
-        (15, 52),
-        (17, 84),
-    ] {
-        at(&rt, place, u64::from(layout.place_word(place)), word);
-    }
-    assert!(rt; layout.length() == 118);
-    for (number, word) in [
-        (1, Word::Spare(1)),
-        (47, Word::Spare(47)),
-        (61, Word::Stored(6, 1)),
-        (62, Word::Spare(62)),
-        (96, Word::Node(7)),
-        (97, Word::Spare(97)),
-        (117, Word::Stored(2, 1)),
-    ] {
-        is_word(&rt, number, layout.word(number), word);
-    }
-    Ok(())
-}
-
-// Ten processors in blocks of four: the third block has two, and a fourth leaf has none.
-#[test]
-fn blocks_of_four(rt: HostRuntime) -> Result<(), Fail> {
-    let job = job(&rt, Rule::Common, 3, 10)?;
-    let layout = Layout::with_blocks(&job, 2, 4);
-    assert!(rt; (layout.grain(), layout.leaves()) == (4, 4));
-    for (node, word) in [(1, 8), (3, 24), (4, 48), (5, 112), (6, 176), (7, 240)] {
-        at(
-            &rt,
-            node,
-            u64::from(layout.node_word(node)),
-            u64::from(word),
-        );
-        is_word(&rt, word, layout.word(word), Word::Node(node));
-    }
-    for (processor, word) in [(0, 49), (3, 97), (4, 113), (9, 193)] {
-        let request = layout.request_word(processor, 0);
-        at(&rt, processor, u64::from(request), u64::from(word));
-        is_word(&rt, word, layout.word(word), Word::Asked(processor, 0));
-    }
-    for number in [64, 96, 128, 209, 241, 303] {
-        assert!(rt; number < layout.length());
-        is_word(&rt, number, layout.word(number), Word::Spare(number));
-    }
-    for (place, word) in [(0, 304), (3, 54), (42, 204), (43, 52), (52, 196)] {
-        at(
-            &rt,
-            place,
-            u64::from(layout.place_word(place)),
-            u64::from(word),
-        );
-        is_word(&rt, word, layout.word(word + 1), Word::Stored(place, 1));
-    }
-    assert!(rt; layout.length() == 310);
-    Ok(())
-}
-
-#[test]
-fn blocks_of_64_or_of_all(rt: HostRuntime) -> Result<(), Fail> {
-    let few = job(&rt, Rule::Common, 1, 31)?;
-    let few = Layout::wide(&few, 4);
-    assert!(rt; (few.form(), few.leaves()) == (Form::Wide(32), 1));
-    let many = job(&rt, Rule::Common, 1, 1024)?;
-    let wide = Layout::wide(&many, 64);
-    let fours = Layout::with_blocks(&many, 8, 4);
-    assert!(rt; (wide.leaves(), fours.leaves()) == (16, 256));
-    Ok(())
-}
-
-#[test]
-fn layouts_with_claims(rt: HostRuntime) -> Result<(), Fail> {
-    let job = job(&rt, Rule::Crew, 3, 3)?;
-    let compact = Layout::new(&job, 2);
-    assert!(rt; (compact.claim_word(0), compact.claim_word(2)) == (55, 57));
-    assert!(rt; compact.length() == 58);
-    let wide = Layout::with_blocks(&job, 2, 1);
-    assert!(rt; (wide.claim_word(0), wide.claim_word(2)) == (118, 120));
-    assert!(rt; wide.length() == 121);
-    Ok(())
-}
-
-#[test]
-fn largest_layouts(rt: HostRuntime) -> Result<(), Fail> {
-    for (rule, compact, wide) in [
-        (Rule::Common, 146496, 156160),
-        (Rule::Priority, 212032, 221696),
-    ] {
-        let job = job(&rt, rule, 65536, 1024)?;
-        assert!(rt; Layout::new(&job, 64).length() == compact);
-        assert!(rt; Layout::with_blocks(&job, 64, 1).length() == wide);
-    }
-    Ok(())
-}
-
-#[test]
-fn workers_of_a_wide_board_start_far_apart(rt: HostRuntime) -> Result<(), Fail> {
-    let job = job(&rt, Rule::Common, 1, 8)?;
-    let layout = Layout::with_blocks(&job, 4, 1);
-    for (worker, leaf) in [(0, 8), (1, 12), (2, 11), (3, 15)] {
-        at(&rt, worker, u64::from(layout.first_leaf(worker)), leaf);
-    }
-    assert!(rt; layout.leaves() == 8);
-    for (node, right) in [(1, true), (3, false), (6, false)] {
-        at(
-            &rt,
-            node,
-            u64::from(layout.goes_right(1, node)),
-            u64::from(right),
-        );
-    }
-    let alone = Layout::with_blocks(&job, 1, 1);
-    let compact = Layout::new(&job, 4);
-    assert!(rt; (alone.first_leaf(0), compact.first_leaf(3)) == (8, 11));
-    Ok(())
-}
-
-#[test]
-fn layout_of_a_job(rt: HostRuntime) -> Result<(), Fail> {
-    let job = job(&rt, Rule::Common, 3, 3)?;
-    let layout = Layout::new(&job, 2);
-    assert!(rt; layout.length() == 55);
-    for (word, value) in [(0, 0), (17, 4), (18, 5), (19, 7), (20, 7), (54, 0)] {
-        assert!(rt; word < layout.length());
-        at(&rt, word, layout.start_word(&job, word), value);
-    }
-    for (word, value, admitted) in [
-        (1, 12, true),
-        (1, 13, false),
-        (8, stamped(4, 15), true),
-        (8, stamped(4, 16), false),
-        (49, stamped(4, 2), true),
-        (49, stamped(4, 3), false),
-        (55, 0, false),
-    ] {
-        let found = layout.admits(&job, word, value);
-        at(&rt, word, u64::from(found), u64::from(admitted));
-    }
-    Ok(())
 }

@@ -3,6 +3,6 @@ pub mod Playing
 mod Fitting
 mod Loads
 mod Counting
-mod Lasts
+mod Noting
 pub mod ReadCells
 mod Telling

@@ -22,7 +22,7 @@ use Rattle.lawful_walk.proofs.Sounding.{was_read}
 use Rattle.lawful_walk.proofs.Staying.{loads_keep}
 use Rattle.pram_world.specs.Worlds.{WorldData}
 use Rattle.page_core.specs.declared.reads.ReadRow.{ReadRow}
-use Rattle.page_core.specs.Answers.{AreLawful, AreRead, loaded, read_in, read_on, row_of}
+use Rattle.page_core.specs.Answers.{AreLawful, AreRead, loaded, read_in, read_through, row_of_read}
 
 -- ---- a script of loads
 
@@ -73,10 +73,10 @@ looked_load x found k (ends r) e = absurd (cc)
 -- what comes of the script stays after a load
 read_behind : (words : List ℕ) (s : Script Reading) (k found : ℕ) →
     Loads s → looks_for s ≡ read.Load k → found ≡ slice_index words k →
-    read_on words (rest_after s found) ≡ read_on words s
+    read_through words (rest_after s found) ≡ read_through words s
 read_behind words (asks (Load j) next) k found l e is =
     let same : k ≡ j = cc in
-    ap (λ v. read_on words (next v)) (is ∙ ap (slice_index words) same)
+    ap (λ v. read_through words (next v)) (is ∙ ap (slice_index words) same)
 read_behind words (asks (Store j v) next) k found l e is = absurd l.0
 read_behind words (asks (Max j v) next) k found l e is = absurd l.0
 read_behind words (asks (Swap j old new) next) k found l e is = absurd l.0
@@ -89,13 +89,13 @@ same_cells job y is = ap (λ (z : LayoutData). z.cells) is
 pub reads_on : (y : LayoutData) (words : List ℕ) (x now : Looking) (k found : ℕ) →
     looks_for (look_of y x) ≡ read.Load k →
     found ≡ slice_index words k → now ≡ looked x found (look_of y x) →
-    (now.cell ≡ x.cell) × (read_on words (look_of y now) ≡ read_on words (look_of y x))
+    (now.cell ≡ x.cell) × (read_through words (look_of y now) ≡ read_through words (look_of y x))
 reads_on y words x now k found e is told =
     let s = look_of y x in
     let next : now ≡ record { cell = x.cell; heard = found ∷ x.heard } =
     told ∙ looked_load x found k s e in (
       ap (λ (z : Looking). z.cell) next,
-      ap (λ (z : Looking). read_on words (look_of y z)) next ∙ read_behind words s k found
+      ap (λ (z : Looking). read_through words (look_of y z)) next ∙ read_behind words s k found
           (loads_rest (reader_script y x.cell) x.heard (reader_loads y x.cell)) e is,
     )
 
@@ -114,7 +114,7 @@ load_all : (job : JobData) (y : LayoutData) (words : List ℕ) (before : Record)
     (script : Script Reading) (s : Script Reading) (r : Record) (answers : List ℕ) →
     Stands job y words → Loads s → rest script answers ≡ s →
     r ≡ afters before (heard_in script answers) → Backed job y r words →
-    Loaded job y words before script (read_on words s) (loaded words r s)
+    Loaded job y words before script (read_through words s) (loaded words r s)
 load_all job y words before script (ends reading) r answers stands l at is backed =
     record { answers = answers; over = at; is = is; backed = backed }
 load_all job y words before script (asks (Load k) next) r answers stands l at is backed =
@@ -138,7 +138,7 @@ load_all job y words before script (asks (Over e) next) r answers stands l at is
 lawful_over : (job : JobData) (y : LayoutData) (words : List ℕ) (before : Record)
     (c : ℕ) (reading : Reading) (rest_after : Record) → Stands job y words →
     c < y.cells → Loaded job y words before (reader_script y c) reading rest_after →
-    IsLawfulRead job y before rest_after c (row_of reading).step (row_of reading).value
+    IsLawfulRead job y before rest_after c (row_of_read reading).step (row_of_read reading).value
 lawful_over job y words before c (At step value) rest_after stands cell l =
     subst (λ z. IsLawfulRead job y before z c step value) (sym l.is)
     (was_read job y before c step value l.answers cell l.over (record {
@@ -153,7 +153,7 @@ lawful_in : (s : WorldData) (made : Record) (c : ℕ) →
     IsLawfulRead s.job s.layout made (loaded s.words made (reader_script s.layout c)) c
     (read_in s c).step (read_in s c).value
 lawful_in s made c stands backed cell =
-    lawful_over s.job s.layout s.words made c (read_on s.words (reader_script s.layout c))
+    lawful_over s.job s.layout s.words made c (read_through s.words (reader_script s.layout c))
     (loaded s.words made (reader_script s.layout c)) stands cell
     (load_all s.job s.layout s.words made (reader_script s.layout c)
     (reader_script s.layout c) made [] stands (reader_loads s.layout c) refl refl backed)

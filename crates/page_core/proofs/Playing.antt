@@ -2,7 +2,6 @@
 use Rattle.std.proofs.Common.{arith, ◌≡◌, ◌⊎◌, ℕ, zero, suc, ◌+◌, ◌-◌, ◌<◌, ◌≤◌, List}
 use Rattle.std.proofs.Common.{[], ◌∷◌, ◌++◌, length, map, take, slice_get, slice_set}
 use Rattle.std.proofs.Common.{get_or, Some, refl, sym, ap, subst, ◌∙◌, inl, inr}
-use Rattle.std.proofs.Math.Seq.{take-length}
 use Rattle.std.proofs.lemmas.Bool.{cases_lt}
 use Rattle.std.proofs.lemmas.List.{length-set}
 use Rattle.std.proofs.lemmas.Option.{slice_get_within}
@@ -14,13 +13,13 @@ use Rattle.pram_words.specs.Words.{LayoutData}
 use Rattle.lawful_walk.specs.Board.{Stands}
 use Rattle.lawful_walk.specs.Moments.{Backed}
 use Rattle.pram_world.specs.Laws.{IsLawfulRun}
-use Rattle.pram_world.specs.Runs.{Act, event, twin, load, Run, begun, acted, TwinFits, TwinsFit}
+use Rattle.pram_world.specs.Runs.{Act, event, twin, load, Run, run_begun, acted, TwinFits, TwinsFit}
 use Rattle.pram_world.proofs.Counting.{same_board}
 use Rattle.pram_world.proofs.Interleaving.{every_interleaving}
 use Rattle.pram_world.proofs.Keeping.{one_processor}
 use Rattle.page_core.specs.declared.text.Refusal.TheVariants.{Memory}
 use Rattle.page_core.specs.Texts.{IsRefused}
-use Rattle.pram_world.specs.Worlds.{WorldData, start}
+use Rattle.pram_world.specs.Worlds.{WorldData, start_compact}
 use Rattle.pram_world.specs.declared.event.Effect.{Effect}
 use Rattle.page_core.specs.declared.board.Event.{Event}
 use Rattle.page_core.specs.declared.board.Hindrance.{Hindrance}
@@ -33,10 +32,10 @@ use Rattle.page_core.specs.declared.finding.Finding.TheVariants.{Done}
 use Rattle.page_core.specs.declared.reads.ReadRow.{ReadRow}
 use Rattle.page_core.specs.Answers.{AreLawful, AreRead, AreReadsFound}
 use Rattle.page_core.specs.Events.{AreKnown, BoardAfter, IsBoardAfter, IsHindered}
-use Rattle.page_core.specs.Events.{IsHinderedFrom, IsKnown, IsMade, IsNotMade, IsRunFrom}
-use Rattle.page_core.specs.Events.{act_of, effect_by, moved, run_from, run_of}
+use Rattle.page_core.specs.Events.{IsHinderedFrom, IsKnown, IsEventMade, IsRunFrom}
+use Rattle.page_core.specs.Events.{act_of_event, effect_by, moved, run_from, run_of}
 use Rattle.page_core.specs.Scenes.{AreShown, IsBoardTold, IsNoted, IsScene, IsWatched}
-use Rattle.page_core.specs.Scenes.{count_shown, event_row, row_with}
+use Rattle.page_core.specs.Scenes.{count_shown, event_row, row_after_event}
 use Rattle.page_core.proofs.Buffers.{nat_cases, set_other, set_same}
 use Rattle.page_core.proofs.Loads.{lawful_rows, same_cells}
 
@@ -72,47 +71,41 @@ acted_world r (twin w) = refl
 acted_world r (load k) = refl
 
 run_next : (r : Run) (es : List Event) (e : Event) →
-    run_from r (es ++ e ∷ []) ≡ acted (run_from r es) (act_of e)
+    run_from r (es ++ e ∷ []) ≡ acted (run_from r es) (act_of_event e)
 run_next r [] e = refl
-run_next r (f ∷ es) e = run_next (acted r (act_of f)) es e
+run_next r (f ∷ es) e = run_next (acted r (act_of_event f)) es e
 
 known_next : (r : Run) (es : List Event) (e : Event) → AreKnown r es →
     IsKnown (run_from r es).world e → AreKnown r (es ++ e ∷ [])
 known_next r [] e k new = (new, tt)
-known_next r (f ∷ es) e k new = (k.0, known_next (acted r (act_of f)) es e k.1 new)
-
-pub run_first : (r : Run) (events : List Event) (s : WorldData) →
-    r.world ≡ s → IsRunFrom r (take 0 events) s
-run_first r events s is = record { known = tt; world = sym is }
+known_next r (f ∷ es) e k new = (k.0, known_next (acted r (act_of_event f)) es e k.1 new)
 
 pub run_more : (r : Run) (events : List Event) (n : ℕ) (e : Event) (s now : WorldData)
     (effect : Effect) → slice_get events n ≡ Some e → IsRunFrom r (take n events) s →
-    IsMade s e now effect → IsRunFrom r (take (n + 1) events) now
+    IsEventMade s e now effect → IsRunFrom r (take (n + 1) events) now
 run_more r events n e s now effect at before made =
     let front = take n events in
     subst (λ es. IsRunFrom r es now) (sym (take_next events n e at)) (record {
       known = known_next r front e before.known (subst (λ w. IsKnown w e) before.world made.known);
-      world = made.world ∙ ap (λ w. moved w (act_of e)) before.world ∙ sym (ap
-          (λ (x : Run). x.world) (run_next r front e) ∙ acted_world (run_from r front) (act_of e));
+      world = made.world ∙ ap (λ w. moved w (act_of_event e)) before.world ∙ sym (ap
+          (λ (x : Run). x.world) (run_next r front e)
+          ∙ acted_world (run_from r front) (act_of_event e));
     })
-
-pub run_all : (r : Run) (events : List Event) (s : WorldData) →
-    IsRunFrom r (take (length events) events) s → IsRunFrom r events s
-run_all r events s run = subst (λ es. IsRunFrom r es s) (take-length events) run
 
 -- a row that is written
 row_made : (s now : WorldData) (e : Event) (effect : Effect) (row : EventRow) (bodies : ℕ) →
-    bodies ≡ length s.bodies → IsMade s e now effect →
-    row ≡ row_with now e bodies effect → row ≡ event_row s e
+    bodies ≡ length s.bodies → IsEventMade s e now effect →
+    row ≡ row_after_event now e bodies effect → row ≡ event_row s e
 row_made s now e effect row bodies count made is =
-    is ∙ ap (λ w. row_with w e bodies effect) made.world
-    ∙ ap (λ f. row_with (moved s (act_of e)) e bodies f) made.effect_is
-    ∙ ap (λ b. row_with (moved s (act_of e)) e b (effect_by s (act_of e))) count
+    is ∙ ap (λ w. row_after_event w e bodies effect) made.world
+    ∙ ap (λ f. row_after_event (moved s (act_of_event e)) e bodies f) made.effect_is
+    ∙ ap (λ b. row_after_event (moved s (act_of_event e)) e b (effect_by s (act_of_event e))) count
 
 pub shown_more : (r : Run) (events : List Event) (from n : ℕ) (rows : List EventRow)
     (e : Event) (s now : WorldData) (effect : Effect) (row : EventRow) (bodies : ℕ) →
     slice_get events n ≡ Some e → IsRunFrom r (take n events) s →
-    IsMade s e now effect → bodies ≡ length s.bodies → row ≡ row_with now e bodies effect →
+    IsEventMade s e now effect → bodies ≡ length s.bodies →
+    row ≡ row_after_event now e bodies effect →
     from ≤ n → n - from < length rows → ShownTo n r events from rows →
     ShownTo (n + 1) r events from (slice_set rows (n - from) row)
 shown_more r events from n rows e
@@ -145,11 +138,11 @@ shown_kept r events from n rows out before i f below within item =
 -- by what became of its row
 pub shown_next : (r : Run) (events : List Event) (from n : ℕ) (rows new : List EventRow)
     (e : Event) (s now : WorldData) (effect : Effect) (bodies : ℕ) → slice_get events n ≡ Some e →
-    IsRunFrom r (take n events) s → IsMade s e now effect → bodies ≡ length s.bodies →
-    IsNoted (row_with now e bodies effect) from n rows new → ShownTo n r events from rows →
+    IsRunFrom r (take n events) s → IsEventMade s e now effect → bodies ≡ length s.bodies →
+    IsNoted (row_after_event now e bodies effect) from n rows new → ShownTo n r events from rows →
     ShownTo (n + 1) r events from new
 shown_next r events from n rows new e s now effect bodies at run made count noted before =
-    let row = row_with now e bodies effect in
+    let row = row_after_event now e bodies effect in
     elim (cases_lt n from) [
       | inl early ↦
           subst (ShownTo (n + 1) r events from) (sym (noted.outside (λ low room. omega arith)))
@@ -171,26 +164,12 @@ shown_all r events from n rows over shown i e within item =
     let below : from + i < length events = slice_get_within events (from + i) e item in
     shown i e (omega arith) within item
 
-pub hindered_at : (r : Run) (events : List Event) (n : ℕ) (e : Event) (s : WorldData)
-    (h : Hindrance) → slice_get events n ≡ Some e → IsRunFrom r (take n events) s →
-    IsNotMade s n e h → IsHinderedFrom r events h
-hindered_at r events n e s (Refused refusal) at run h = h
-hindered_at r events n e s BadWorkers at run h = h
-hindered_at r events n e s (BadEvent m) at run h =
-    subst (λ k. IsHinderedFrom r events (BadEvent k)) (sym h.0)
-    (record {
-      at = e;
-      is = at;
-      known = run.known;
-      unknown = λ k. h.1 (subst (λ w. IsKnown w e) (sym run.world) k);
-    })
-
 -- ---- the law of runs holds of what is played
 
 -- an event that is known is a twin of one of the workers, if it is a twin
 act_fits : (workers kind body bodies : ℕ) →
     ((kind < 3) × (body < bodies)) ⊎ ((kind ≡ 3) × (body < workers)) →
-    TwinFits workers (act_of (record { kind = kind; body = body }))
+    TwinFits workers (act_of_event (record { kind = kind; body = body }))
 act_fits workers zero body bodies known = tt
 act_fits workers (suc zero) body bodies known = tt
 act_fits workers (suc (suc zero)) body bodies known = tt
@@ -205,28 +184,28 @@ board_stays r (twin w) = refl
 board_stays r (load k) = refl
 
 twins_fit : (workers : ℕ) (r : Run) (events : List Event) → r.world.layout.workers ≡ workers →
-    AreKnown r events → TwinsFit workers (map act_of events)
+    AreKnown r events → TwinsFit workers (map act_of_event events)
 twins_fit workers r [] is known = tt
 twins_fit workers r (e ∷ es) is known =
-    let stays : (acted r (act_of e)).world.layout.workers ≡ workers =
-    ap (λ (y : LayoutData). y.workers) (board_stays r (act_of e)) ∙ is in (
-      subst (λ n. TwinFits n (act_of e)) is
+    let stays : (acted r (act_of_event e)).world.layout.workers ≡ workers =
+    ap (λ (y : LayoutData). y.workers) (board_stays r (act_of_event e)) ∙ is in (
+      subst (λ n. TwinFits n (act_of_event e)) is
           (act_fits r.world.layout.workers e.kind e.body (length r.world.bodies) known.0),
-      twins_fit workers (acted r (act_of e)) es stays known.1,
+      twins_fit workers (acted r (act_of_event e)) es stays known.1,
     )
 
 played_lawfully : (text : List ℕ) (job : JobData) (workers : ℕ) (events : List Event) →
-    Spells text job → 1 ≤ workers → workers ≤ 64 → AreKnown (begun job Compact workers) events →
+    Spells text job → 1 ≤ workers → workers ≤ 64 → AreKnown (run_begun job Compact workers) events →
     IsLawfulRun job Compact workers (run_of job workers events)
 played_lawfully text job workers events spells some most known =
-    every_interleaving job Compact workers (map act_of events) (spells_lawful text job spells)
-    one_processor some most (twins_fit workers (begun job Compact workers) events refl known)
+    every_interleaving job Compact workers (map act_of_event events) (spells_lawful text job spells)
+    one_processor some most (twins_fit workers (run_begun job Compact workers) events refl known)
 
 -- ---- the board of a text
 
 board_run : (text : List ℕ) (workers : ℕ) (events : List Event) (job : JobData) (now : WorldData) →
     Spells text job → 1 ≤ workers → workers ≤ 64 →
-    IsRunFrom (begun job Compact workers) events now → BoardAfter workers events now job
+    IsRunFrom (run_begun job Compact workers) events now → BoardAfter workers events now job
 board_run text workers events job now spells some most run =
     let law = played_lawfully text job workers events spells some most run.known in
     record {
@@ -238,40 +217,23 @@ board_run text workers events job now spells some most run =
     }
 
 pub board_first : (text : List ℕ) (workers : ℕ) (job : JobData) (s : WorldData) → Spells text job →
-    1 ≤ workers → workers ≤ 64 → s ≡ start job workers → IsBoardAfter text workers [] s
+    1 ≤ workers → workers ≤ 64 → s ≡ start_compact job workers → IsBoardAfter text workers [] s
 board_first text workers job s spells some most is = (
   job,
   spells,
   board_run text workers [] job s spells some most (record { known = tt; world = is }),
 )
 
-pub board_text : (text : List ℕ) (workers : ℕ) (events : List Event) (s now : WorldData) →
-    IsBoardAfter text workers [] s → ((r : Run) → r.world ≡ s → IsRunFrom r events now) →
-    IsBoardAfter text workers events now
-board_text text workers events s now board run = (
-  board.0,
-  board.1,
-  board_run text workers events board.0 now board.1 board.2.some board.2.most
-      (run (begun board.0 Compact workers) (sym board.2.run.world)),
-)
-
 pub hindered_text : (text : List ℕ) (workers : ℕ) (events : List Event)
     (s : WorldData) (h : Hindrance) → IsBoardAfter text workers [] s →
     ((r : Run) → r.world ≡ s → IsHinderedFrom r events h) → IsHindered text workers events h
 hindered_text text workers events s (Refused refusal) board found =
-    subst (IsRefused text) (sym (found (begun board.0 Compact workers) (sym board.2.run.world))) tt
+    subst (IsRefused text) (sym (found (run_begun board.0 Compact workers) (sym board.2.run.world)))
+    tt
 hindered_text text workers events s BadWorkers board found =
-    absurd (found (begun board.0 Compact workers) (sym board.2.run.world))
+    absurd (found (run_begun board.0 Compact workers) (sym board.2.run.world))
 hindered_text text workers events s (BadEvent n) board found =
-    (board.0, board.1, found (begun board.0 Compact workers) (sym board.2.run.world))
-
--- what hinders without any event hinders with events, unless an event does
-pub hindered_first : (text : List ℕ) (workers : ℕ) (events : List Event) (h : Hindrance) →
-    IsHindered text workers [] h → IsHindered text workers events h
-hindered_first text workers events (Refused refusal) h = h
-hindered_first text workers events BadWorkers h = h
-hindered_first text workers events (BadEvent n) h =
-    let none : slice_get {X = Event} [] n ≡ Some h.2.at = h.2.is in absurd (cc)
+    (board.0, board.1, found (run_begun board.0 Compact workers) (sym board.2.run.world))
 
 pub memory_out : (text : List ℕ) (workers : ℕ) (events : List Event) (h : Hindrance) →
     h ≡ Refused Memory → IsHindered text workers events h
@@ -283,7 +245,7 @@ pub watched_text : (text : List ℕ) (workers : ℕ) (events : List Event) (from
     ((r : Run) → r.world ≡ s → AreShown r events from rows) →
     IsWatched text workers events from rows now
 watched_text text workers events from rows s now board run shown =
-    let r = begun board.0 Compact workers in
+    let r = run_begun board.0 Compact workers in
     let at : r.world ≡ s = sym board.2.run.world in (
       board.0,
       board.1,

@@ -2,15 +2,13 @@
 use Rattle.std.proofs.Common.{ℕ, List}
 use Rattle.pram_world.specs.Worlds.{WorldData}
 use Rattle.page_core.specs.declared.board.Event.{Event}
-use Rattle.page_core.specs.declared.board.Hindrance.{Hindrance}
-use Rattle.page_core.specs.declared.board.Hindrance.TheVariants as hindrance
 use Rattle.page_core.specs.declared.finding.Finding.{Finding}
 use Rattle.page_core.specs.declared.finding.Finding.TheVariants.{Done, Conflict, Unfinished}
 use Rattle.page_core.specs.declared.finding.Finding.TheVariants.{NoRoom, NoStep, TooFar}
 use Rattle.page_core.specs.declared.finding.Finding.TheVariants.{BadWorkers, BadEvent, Refused}
 use Rattle.page_core.specs.declared.reads.ReadRow.{ReadRow}
-use Rattle.page_core.specs.Answers.{AreReadsFound, AreReadsTold, finding_of}
-use Rattle.page_core.specs.Events.{IsBoardAfter, IsHindered}
+use Rattle.page_core.specs.Answers.{AreReadsFound, AreReadsTold}
+use Rattle.page_core.specs.Events.{IsBoardAfter}
 use Rattle.page_core.proofs.Playing.{reads_text}
 
 pub reads_found : (text : List ℕ) (workers : ℕ) (events : List Event) (s : WorldData)
@@ -26,10 +24,3 @@ reads_found text workers events s old rows TooFar board told = absurd told
 reads_found text workers events s old rows BadWorkers board told = absurd told
 reads_found text workers events s old rows (BadEvent number) board told = absurd told
 reads_found text workers events s old rows (Refused refusal) board told = absurd told
-
-pub no_reads : (text : List ℕ) (workers : ℕ) (events : List Event) (old rows : List ReadRow)
-    (h : Hindrance) → IsHindered text workers events h →
-    AreReadsFound text workers events old rows (finding_of h)
-no_reads text workers events old rows (hindrance.Refused refusal) h = h
-no_reads text workers events old rows hindrance.BadWorkers h = h
-no_reads text workers events old rows (hindrance.BadEvent number) h = h

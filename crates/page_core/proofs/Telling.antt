@@ -1,11 +1,13 @@
 -- Rows and bytes that are told one after the other, and the cells of the arrays before them.
 use Rattle.std.proofs.Common.{◌≡◌, ℕ, zero, suc, ◌+◌, ◌<◌, List, [], ◌∷◌, ◌++◌, length, map, take}
-use Rattle.std.proofs.Common.{get_or, slice_get, Some, refl, sym, ap, ◌∙◌, arith}
+use Rattle.std.proofs.Common.{get_or, slice_get, Some, refl, sym, ap, subst, ◌∙◌, arith}
 use Rattle.std.proofs.Common.{append_assoc}
 use Rattle.std.specs.List.{flat_map, range_with_len}
 use Rattle.std.proofs.lemmas.List.{flat_map_more, map_more, take_more}
+use Rattle.std.proofs.lemmas.List.FromFn.{get_or-map-range_with_len, length-map-range_with_len}
 use Rattle.std.proofs.lemmas.List.FromFn.{map-range_with_len_more}
 use Rattle.std.proofs.lemmas.List.Sums.{sum_by-cons}
+use Rattle.std.proofs.lemmas.Option.{slice_get-get_or}
 use Rattle.pardo_text.specs.Lawful.{AreArrays}
 use Rattle.pardo_text.specs.Program.{ArrayData, shared_cells}
 
@@ -29,6 +31,15 @@ numbered_more f k y old now new is so_far one =
     ∙ append_assoc old (map f (range_with_len 0 k)) (y ∷ [])
     ∙ ap (λ z. old ++ (map f (range_with_len 0 k) ++ z ∷ [])) is
     ∙ ap (λ l. old ++ l) (sym (map-range_with_len_more f 0 k k here))
+
+-- all of them
+pub numbered_all : {Y : Type 0} (f : ℕ → Y) (n i : ℕ) (rows : List Y) →
+    rows ≡ [] ++ map f (range_with_len 0 n) → i < n → slice_get rows i ≡ Some (f i)
+numbered_all {Y = Y} f n i rows is low =
+    let all = length-map-range_with_len f 0 n in
+    subst (λ (xs : List Y). slice_get xs i ≡ Some (f i)) (sym is)
+    (slice_get-get_or (map f (range_with_len 0 n)) i (f i) (omega arith)
+    ∙ ap Some (get_or-map-range_with_len f 0 n i i (f i) low (omega arith)))
 
 -- the bytes of one more
 pub bytes_more : {X : Type 0} (f : X → List ℕ) (xs : List X) (k : ℕ) (x : X)

@@ -9,7 +9,7 @@ use Rattle.walkx.specs.Records.{Record, after}
 use Rattle.walkx.specs.Scripts.{Script, asks, ends}
 use Rattle.pram_job.specs.Job.{JobData}
 use Rattle.lawful_walk.specs.Walks.{IsLawfulRead}
-use Rattle.pram_world.specs.Outcomes.{IsOutcome}
+use Rattle.pram_world.specs.Outcomes.{IsWorldOutcome}
 use Rattle.pram_world.specs.Worlds.{WorldData}
 use Rattle.page_core.specs.declared.board.Event.{Event}
 use Rattle.page_core.specs.declared.board.Hindrance.{Hindrance}
@@ -45,29 +45,31 @@ OfWorld text workers events holds =
 abbrev pub IsOutcomeFound : List ℕ → ℕ → List Event → List ℕ → List ℕ → Finding → Type 0
 IsOutcomeFound text workers events old cells (Done step count) =
     OfWorld text workers events
-    (λ world. (step ≡ world.job.steps) × IsOutcome world (answer.Final (take count cells)))
+    (λ world. (step ≡ world.job.steps) × IsWorldOutcome world (answer.Final (take count cells)))
 IsOutcomeFound text workers events old cells (Conflict fault count) =
-    OfWorld text workers events (λ world. (count ≡ 0) × IsOutcome world (answer.Conflict fault))
+    OfWorld text workers events
+    (λ world. (count ≡ 0) × IsWorldOutcome world (answer.Conflict fault))
 IsOutcomeFound text workers events old cells (Unfinished step) =
-    OfWorld text workers events (λ world. IsOutcome world (answer.Unfinished step))
+    OfWorld text workers events (λ world. IsWorldOutcome world (answer.Unfinished step))
 IsOutcomeFound text workers events old cells (NoRoom needed) =
-    OfWorld text workers events (λ world. (found : List ℕ) × IsOutcome world (answer.Final found)
+    OfWorld text workers events
+    (λ world. (found : List ℕ) × IsWorldOutcome world (answer.Final found)
     × (needed ≡ length found) × (length old < needed))
 IsOutcomeFound text workers events old cells finding = IsNoBoard text workers events finding
 
 -- ---- what readers get
 
 -- what comes of a script whose operations are all answered by these words
-abbrev pub read_on : List ℕ → Script Reading → Reading
-read_on words (asks op next) = read_on words (next (operations.answer words op))
-read_on words (ends reading) = reading
+abbrev pub read_through : List ℕ → Script Reading → Reading
+read_through words (asks op next) = read_through words (next (operations.answer words op))
+read_through words (ends reading) = reading
 
-abbrev pub row_of : Reading → ReadRow
-row_of (At step value) = record { step = step; value = value }
+abbrev pub row_of_read : Reading → ReadRow
+row_of_read (At step value) = record { step = step; value = value }
 
 -- what the reader of a cell gets
 abbrev pub read_in : WorldData → ℕ → ReadRow
-read_in world cell = row_of (read_on world.words (reader_script world.layout cell))
+read_in world cell = row_of_read (read_through world.words (reader_script world.layout cell))
 
 abbrev pub AreRead : WorldData → List ReadRow → Type 0
 AreRead world rows =

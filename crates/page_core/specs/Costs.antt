@@ -5,7 +5,7 @@ use Rattle.pram_cost.specs.declared.meeting.Meeting.{Meeting}
 use Rattle.pram_cost.specs.declared.pram.Pram.{Pram}
 use Rattle.pram_cost.specs.declared.pram.Pram.TheVariants.{Erew}
 use Rattle.pram_cost.specs.Costs.{IsCost}
-use Rattle.pram_cost.specs.Models.{IsNeeded, strength}
+use Rattle.pram_cost.specs.Models.{IsWeakestModel, strength}
 use Rattle.pram_job.specs.Job.{JobData}
 use Rattle.page_core.specs.declared.codes.TheConstants.{DONE}
 use Rattle.page_core.specs.declared.cost.CostTold.{CostTold}
@@ -39,8 +39,8 @@ cost_row cost pram = record {
 }
 
 -- the cost of no step of no processor
-abbrev pub nothing : Cost
-nothing = record {
+abbrev pub cost_of_nothing : Cost
+cost_of_nothing = record {
   steps = 0;
   procs = 0;
   work = record { executed = 0; most = 0; reading = 0; writing = 0 };
@@ -49,12 +49,12 @@ nothing = record {
 }
 
 abbrev pub no_cost : Refusal → CostTold
-no_cost refusal = record (cost_row nothing Erew) { status = refused_as refusal }
+no_cost refusal = record (cost_row cost_of_nothing Erew) { status = refused_as refusal }
 
 -- what the run of a job costs, with the model that it needs
 abbrev pub IsCostOfRun : JobData → CostTold → Type 0
 IsCostOfRun job told =
-    (cost : Cost) × IsCost job cost × (pram : Pram) × IsNeeded job cost.steps pram
+    (cost : Cost) × IsCost job cost × (pram : Pram) × IsWeakestModel job cost.steps pram
     × (told ≡ cost_row cost pram)
 
 -- what the run of the text's job costs, or why there is none

@@ -6,7 +6,7 @@ use Rattle.pram_words.specs.declared.layout.Form.TheVariants.{Compact}
 use Rattle.pram_world.specs.declared.event.Effect.{Effect}
 use Rattle.pram_world.specs.declared.event.Event.TheVariants.{Go, Stop, Back}
 use Rattle.pram_world.specs.Laws.{IsLawfulRun}
-use Rattle.pram_world.specs.Runs.{Act, Run, begun, acted, all_acted}
+use Rattle.pram_world.specs.Runs.{Act, Run, run_begun, acted, all_acted}
 use Rattle.pram_world.specs.Runs as runs
 use Rattle.pram_world.specs.Worlds.{WorldData, happens, twinned, nothing, shown}
 use Rattle.page_core.specs.declared.board.Event.{Event}
@@ -18,8 +18,8 @@ use Rattle.page_core.specs.Texts.{OfJob, IsRefused}
 
 -- what an event is: 0 an atomic step of the body of this number, 1 its loss, 2 its return, 3 one
 -- body more, a twin of this worker
-abbrev pub act_of : Event → Act
-act_of event =
+abbrev pub act_of_event : Event → Act
+act_of_event event =
     if event.kind == 0 then runs.event (Go event.body)
     else (if event.kind == 1 then runs.event (Stop event.body)
     else (if event.kind == 2 then runs.event (Back event.body)
@@ -45,11 +45,12 @@ effect_by world (runs.twin worker) = nothing
 effect_by world (runs.load word) = nothing
 
 -- the event is known, and made
-pub record IsMade (before : WorldData) (event : Event) (now : WorldData) (effect : Effect) : Type 0
+pub record IsEventMade (before : WorldData) (event : Event) (now : WorldData) (effect : Effect)
+    : Type 0
   where
     pub known : IsKnown before event
-    pub world : now ≡ moved before (act_of event)
-    pub effect_is : effect ≡ effect_by before (act_of event)
+    pub world : now ≡ moved before (act_of_event event)
+    pub effect_is : effect ≡ effect_by before (act_of_event event)
 
 -- it is not known, or the call is out of memory
 abbrev pub IsNotMade : WorldData → ℕ → Event → Hindrance → Type 0
@@ -60,12 +61,13 @@ IsNotMade world number event (BadEvent named) = (named ≡ number) × (IsKnown w
 -- ---- one event after the other, from a run
 
 abbrev pub run_from : Run → List Event → Run
-run_from run events = all_acted run (map act_of events)
+run_from run events = all_acted run (map act_of_event events)
 
 -- all events are known when they come
 abbrev pub AreKnown : Run → List Event → Type 0
 AreKnown run [] = Unit {0}
-AreKnown run (event ∷ events) = IsKnown run.world event × AreKnown (acted run (act_of event)) events
+AreKnown run (event ∷ events) = IsKnown run.world event
+    × AreKnown (acted run (act_of_event event)) events
 
 -- and lead to this world
 pub record IsRunFrom (run : Run) (events : List Event) (now : WorldData) : Type 0 where
@@ -88,7 +90,7 @@ IsHinderedFrom run events (BadEvent number) = IsUnknown run events number
 
 -- the run of these events on the board of a job, for so many workers
 abbrev pub run_of : JobData → ℕ → List Event → Run
-run_of job workers events = run_from (begun job Compact workers) events
+run_of job workers events = run_from (run_begun job Compact workers) events
 
 -- Of the job that the text spells, for so many workers, after these events. It is a world of the
 -- law of runs: the words are lawful and show the machine, and bear out the record of all steps.
@@ -96,7 +98,7 @@ pub record BoardAfter (workers : ℕ) (events : List Event) (world : WorldData) 
     : Type 0 where
   pub some : 1 ≤ workers
   pub most : workers ≤ WORKERS_MOST
-  pub run : IsRunFrom (begun job Compact workers) events world
+  pub run : IsRunFrom (run_begun job Compact workers) events world
   pub job_stays : world.job ≡ job
   pub lawful : IsLawfulRun job Compact workers (run_of job workers events)
 
@@ -108,4 +110,4 @@ abbrev pub IsHindered : List ℕ → ℕ → List Event → Hindrance → Type 0
 IsHindered text workers events (Refused refusal) = IsRefused text refusal
 IsHindered text workers events BadWorkers = (workers < 1) ⊎ (WORKERS_MOST < workers)
 IsHindered text workers events (BadEvent number) =
-    OfJob text (λ job. IsUnknown (begun job Compact workers) events number)
+    OfJob text (λ job. IsUnknown (run_begun job Compact workers) events number)

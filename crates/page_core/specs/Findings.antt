@@ -7,7 +7,6 @@ use Rattle.page_core.specs.declared.finding.Finding.TheVariants.{Done, Conflict,
 use Rattle.page_core.specs.declared.finding.Finding.TheVariants.{NoStep, TooFar, BadWorkers}
 use Rattle.page_core.specs.declared.finding.Finding.TheVariants.{BadEvent, Refused}
 use Rattle.page_core.specs.declared.finding.Told.{Told}
-use Rattle.page_core.specs.declared.text.Refusal.TheVariants.{Memory}
 use Rattle.page_core.specs.Texts.{coded, refused_as}
 
 -- a code and a count alone
@@ -46,7 +45,7 @@ IsToldOf holds told = (finding : Finding) × holds finding × (told ≡ told_of 
 
 -- ---- buffers
 
--- so many elements of the buffer are written
+-- how many elements of the buffer are written
 abbrev pub count_written : Finding → ℕ
 count_written (Done step count) = count
 count_written (Conflict fault count) = count
@@ -59,8 +58,3 @@ told_written told =
 -- what lies after the first so many elements is as it was
 abbrev pub IsKeptBehind : {X : Type 0} → ℕ → List X → List X → Type 0
 IsKeptBehind count old new = drop count new ≡ drop count old
-
--- after what is told nothing is written; out of memory the buffer may be written
-abbrev pub IsKeptAsFound : {X : Type 0} → List X → List X → Finding → Type 0
-IsKeptAsFound old new (Refused Memory) = Unit {0}
-IsKeptAsFound old new finding = IsKeptBehind (count_written finding) old new

@@ -23,8 +23,8 @@ use Rattle.pardo_job.specs.declared.fault.JobKind.TheVariants.{TooLong, Endless}
 use Rattle.pardo_job.specs.declared.fault.JobKind.TheVariants as job_kind
 use Rattle.pardo_job.specs.declared.fault.Refusal.TheVariants.{Text, Job}
 use Rattle.pardo_job.specs.Compiled.{IsCompiled}
-use Rattle.pardo_job.specs.Layouts.{cells_of, layout_of, row}
-use Rattle.pardo_job.specs.Refusals.{IsRefusal}
+use Rattle.pardo_job.specs.Layouts.{cells_of_array, program_layout, row}
+use Rattle.pardo_job.specs.Refusals.{IsProgramRefusal}
 use Rattle.pardo_answers.specs.Language.{is_program}
 use Rattle.page_core.specs.declared.codes.TheConstants.{DONE, NO_JOB, MEMORY, TEXT_TOO_LONG}
 use Rattle.page_core.specs.declared.codes.TheConstants.{NO_ROOM, OTHER_LANGUAGE, TEXT_MOST}
@@ -42,7 +42,7 @@ use Rattle.page_core.specs.Texts.{coded}
 abbrev pub IsNoProgram : List ℕ → NoProgram → Type 0
 IsNoProgram text OtherLanguage = is_program text ≡ false
 IsNoProgram text TextTooLong = TEXT_MOST < length text
-IsNoProgram text (Refused refusal) = IsRefusal text refusal
+IsNoProgram text (Refused refusal) = IsProgramRefusal text refusal
 IsNoProgram text Memory = Unit {0}
 
 -- out of memory is no fault
@@ -109,8 +109,9 @@ AreWritten bytes rows new_bytes new_rows told =
     × (take (length bytes) new_bytes ≡ bytes) × (take (length rows) new_rows ≡ rows)
 
 -- one of the buffers is too small
-abbrev pub HaveNoRoom : {X : Type 0} → List ℕ → List X → List ℕ → List X → ProgramTold → Type 0
-HaveNoRoom bytes rows old_bytes old_rows told =
+abbrev pub HaveNoRoomForProgram : {X : Type 0} → List ℕ → List X → List ℕ → List X → ProgramTold →
+    Type 0
+HaveNoRoomForProgram bytes rows old_bytes old_rows told =
     (told ≡ sizes_told NO_ROOM (length bytes) (length rows))
     × ((length old_bytes < length bytes) ⊎ (length old_rows < length rows))
 
@@ -118,7 +119,7 @@ abbrev pub ArePut : {X : Type 0} → List ℕ → List X → List ℕ → List X
     ProgramTold → Type 0
 ArePut bytes rows old_bytes old_rows new_bytes new_rows told =
     AreWritten bytes rows new_bytes new_rows told
-    ⊎ HaveNoRoom bytes rows old_bytes old_rows told
+    ⊎ HaveNoRoomForProgram bytes rows old_bytes old_rows told
 
 -- bytes and rows of which this holds are told, or why there are none
 abbrev pub AreToldOf : {X : Type 0} → (NoProgram → Type 0) → (List ℕ → List X → Type 0) →
@@ -132,7 +133,7 @@ AreToldOf {X} none holds old_bytes old_rows new_bytes new_rows told =
 
 -- the job that the compiler makes of the text's program, by a text that spells it, and the lines
 -- that its instructions came from
-pub record IsJobOf (text spelled numbers : List ℕ) : Type 0 where
+pub record IsCompiledJobOf (text spelled numbers : List ℕ) : Type 0 where
   pub program : ProgramData
   pub job : JobData
   pub reads : program_of text ≡ Ok program
@@ -156,7 +157,7 @@ cells_row cells name kind =
     record { base = cells.base; len = cells.len; name = name; kind = kind }
 
 abbrev pub shared_row : ArrayData → CellsRow
-shared_row array = cells_row (cells_of array) (length array.name)
+shared_row array = cells_row (cells_of_array array) (length array.name)
     (if array.is_scalar then SCALAR else ARRAY)
 
 -- how many rows of a cell for each processor there are
@@ -176,7 +177,7 @@ own_kind program which = if nat_lt which (length program.privates) then PRIVATE
 
 abbrev pub own_row : ProgramData → ℕ → CellsRow
 own_row program which =
-    cells_row (row (layout_of program) which) (length (own_name program.privates which))
+    cells_row (row (program_layout program) which) (length (own_name program.privates which))
     (own_kind program which)
 
 -- the shared arrays, the private variables, the variables of loops, the masks

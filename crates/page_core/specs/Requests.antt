@@ -1,9 +1,9 @@
 -- What is told of the requests of a step.
 use Rattle.std.specs.Prelude.{◌≡◌, ◌⊎◌, ℕ, ◌+◌, ◌-◌, ◌*◌, ◌<◌, ◌≤◌, ◌==◌, nat_lt, if◌then◌else◌}
 use Rattle.std.specs.Prelude.{List, length, slice_get, slice_index, Option, Some, None}
-use Rattle.pram_job.specs.declared.instr.Instr.{Instr}
 use Rattle.pram_job.specs.Job.{JobData}
-use Rattle.pram_machine.specs.Instructions.{cell_read, operand_held, request_in}
+use Rattle.pram_cost.specs.Accesses.{cell_read_by}
+use Rattle.pram_machine.specs.Instructions.{request_in}
 use Rattle.pram_machine.specs.Machine.{State, counter}
 use Rattle.pram_step.specs.Runs.{AgreesAfter, IsReached, IsFirstConflict, state_after}
 use Rattle.page_core.specs.declared.finding.Finding.{Finding}
@@ -17,18 +17,10 @@ use Rattle.page_core.specs.Texts.{OfJob}
 
 -- 0 where a counter is an instruction's index, 1 where the processor has halted, 2 where an address
 -- was out of range
-abbrev pub status_of : JobData → ℕ → ℕ
-status_of job counter =
+abbrev pub processor_status : JobData → ℕ → ℕ
+processor_status job counter =
     if nat_lt counter (length job.code) then 0
     else (if counter == length job.code then 1 else 2)
-
--- the cell that processor i reads in a state
-abbrev pub cell_by : JobData → State → ℕ → Option Instr → Option ℕ
-cell_by job state i None = None
-cell_by job state i (Some instr) = cell_read job instr (operand_held job state i instr 0)
-
-abbrev pub cell_in : JobData → State → ℕ → Option ℕ
-cell_in job state i = cell_by job state i (slice_get job.code (counter job state i))
 
 -- a cell plus 1, or 0 for none, and what it holds
 abbrev pub cell_part : Option ℕ → ℕ
@@ -40,21 +32,21 @@ held_part state None = 0
 held_part state (Some cell) = slice_index state cell
 
 -- what a data write goes to: nothing, a cell, or a register of processor i; its number; the value
-abbrev pub target_of : JobData → ℕ → Option (ℕ × ℕ) → Target
-target_of job i None = record { kind = 0; number = 0; value = 0 }
-target_of job i (Some put) =
+abbrev pub target_of_put : JobData → ℕ → Option (ℕ × ℕ) → Target
+target_of_put job i None = record { kind = 0; number = 0; value = 0 }
+target_of_put job i (Some put) =
     if nat_lt put.0 job.cells then record { kind = 1; number = put.0; value = put.1 }
     else record { kind = 2; number = put.0 - job.cells - 4 * i; value = put.1 }
 
 -- the request of processor i in a state
 abbrev pub row_in : JobData → State → ℕ → RequestRow
 row_in job state i =
-    let target = target_of job i (request_in job state i).put in
+    let target = target_of_put job i (request_in job state i).put in
     record {
       counter = counter job state i;
-      status = status_of job (counter job state i);
-      reads = cell_part (cell_in job state i);
-      held = held_part state (cell_in job state i);
+      status = processor_status job (counter job state i);
+      reads = cell_part (cell_read_by job state i);
+      held = held_part state (cell_read_by job state i);
       target = target.kind;
       number = target.number;
       value = target.value;
@@ -62,8 +54,9 @@ row_in job state i =
     }
 
 -- the front of the buffer holds the requests of all processors
-abbrev pub AreRows : JobData → State → List RequestRow → Type 0
-AreRows job state rows = (i : ℕ) → i < job.procs → slice_get rows i ≡ Some (row_in job state i)
+abbrev pub AreRequestRows : JobData → State → List RequestRow → Type 0
+AreRequestRows job state rows = (i : ℕ) → i < job.procs →
+    slice_get rows i ≡ Some (row_in job state i)
 
 -- ---- the step after t steps: it agrees, or is the first conflict, and the rows are told; or an
 -- earlier one is, and none are
@@ -72,17 +65,17 @@ AreRows job state rows = (i : ℕ) → i < job.procs → slice_get rows i ≡ So
 abbrev pub AreRequestsAfter : JobData → ℕ → List RequestRow → Finding → Type 0
 AreRequestsAfter job t rows (Done step count) =
     (step ≡ t) × (t < job.steps) × (count ≡ job.procs) × IsReached job t × AgreesAfter job t
-    × AreRows job (state_after job t) rows
+    × AreRequestRows job (state_after job t) rows
 AreRequestsAfter job t rows (Conflict fault count) =
     IsFirstConflict job fault × (fault.step ≡ t + 1) × (count ≡ job.procs)
-    × AreRows job (state_after job t) rows
-AreRequestsAfter job t rows (Refused refusal) = refusal ≡ Memory
+    × AreRequestRows job (state_after job t) rows
 AreRequestsAfter job t rows _ = ⊥
 
 -- of a job that reaches that state: they are told, or there is no room for them, or no step more
 abbrev pub AreRequestsTold : JobData → ℕ → List RequestRow → List RequestRow → Finding → Type 0
 AreRequestsTold job t old rows (NoRoom needed) = (needed ≡ job.procs) × (length old < needed)
 AreRequestsTold job t old rows NoStep = job.steps ≤ t
+AreRequestsTold job t old rows (Refused refusal) = refusal ≡ Memory
 AreRequestsTold job t old rows finding = AreRequestsAfter job t rows finding
 
 abbrev pub AreRequestsFound

@@ -21,7 +21,7 @@ use Rattle.pram_words.specs.Stamps as stamps
 use Rattle.lawful_walk.specs.Board.{held, root, conflict, finished}
 use Rattle.pram_world.specs.declared.event.Effect.{Effect}
 use Rattle.pram_words.specs.declared.layout.Form.TheVariants.{Compact}
-use Rattle.pram_world.specs.Runs.{Run, begun}
+use Rattle.pram_world.specs.Runs.{Run, run_begun}
 use Rattle.pram_world.specs.Standings.{standing_of}
 use Rattle.pram_world.specs.Worlds.{Body, WorldData}
 use Rattle.pram_world.specs.declared.event.Standing.{Standing}
@@ -37,7 +37,7 @@ use Rattle.page_core.specs.declared.board.Hindrance.{Hindrance}
 use Rattle.page_core.specs.declared.board.Hindrance.TheVariants.{Refused, BadWorkers, BadEvent}
 use Rattle.page_core.specs.declared.codes.TheConstants.{DONE, NO_ROOM, BAD_WORKERS, BAD_EVENT}
 use Rattle.page_core.specs.Texts.{OfJob, coded, refused_as}
-use Rattle.page_core.specs.Events.{BoardAfter, IsHindered, act_of, moved, effect_by}
+use Rattle.page_core.specs.Events.{BoardAfter, IsHindered, act_of_event, moved, effect_by}
 use Rattle.page_core.specs.Events.{run_from}
 
 -- ---- words
@@ -61,14 +61,14 @@ which_of (Stored place which) = place
 which_of (Claim cell) = cell
 which_of (Spare number) = number
 
-abbrev pub part_of : Word → ℕ
-part_of Conflict = 0
-part_of (Node node) = 0
-part_of (Asked i j) = j
-part_of (Position worker) = 0
-part_of (Stored place which) = which
-part_of (Claim cell) = 0
-part_of (Spare number) = 0
+abbrev pub part_of_word : Word → ℕ
+part_of_word Conflict = 0
+part_of_word (Node node) = 0
+part_of_word (Asked i j) = j
+part_of_word (Position worker) = 0
+part_of_word (Stored place which) = which
+part_of_word (Claim cell) = 0
+part_of_word (Spare number) = 0
 
 -- the number of the older of the two words of a place
 abbrev pub older_at : LayoutData → List ℕ → ℕ → ℕ
@@ -94,7 +94,7 @@ word_in layout words number = record {
   value = slice_index words number;
   form = form_of (word_at layout number);
   which = which_of (word_at layout number);
-  part = part_of (word_at layout number);
+  part = part_of_word (word_at layout number);
   newer = newer_of layout words (word_at layout number);
   stamp = stamp_of (slice_index words number);
   payload = payload_of (slice_index words number);
@@ -168,16 +168,16 @@ kind_of_step (Some (Max word value)) = 3
 kind_of_step (Some (Swap word old new)) = 4
 kind_of_step (Some (Over ended)) = 0
 
-abbrev pub word_of_step : Option Op → ℕ
-word_of_step None = 0
-word_of_step (Some (Load word)) = word
-word_of_step (Some (Store word value)) = word
-word_of_step (Some (Max word value)) = word
-word_of_step (Some (Swap word old new)) = word
-word_of_step (Some (Over ended)) = 0
+abbrev pub word_touched : Option Op → ℕ
+word_touched None = 0
+word_touched (Some (Load word)) = word
+word_touched (Some (Store word value)) = word
+word_touched (Some (Max word value)) = word
+word_touched (Some (Swap word old new)) = word
+word_touched (Some (Over ended)) = 0
 
 abbrev pub step_word : Option Op → StepWord
-step_word op = record { kind = kind_of_step op; word = word_of_step op }
+step_word op = record { kind = kind_of_step op; word = word_touched op }
 
 -- what the word of a step is, and whether it was the older word of its place; where none was made
 -- the form is 7
@@ -188,20 +188,20 @@ step_meaning layout words step before =
     else record {
       form = form_of (word_at layout step.word);
       which = which_of (word_at layout step.word);
-      part = part_of (word_at layout step.word);
+      part = part_of_word (word_at layout step.word);
       older = older_before layout words before (word_at layout step.word);
     }
 
 -- of an event that led to this world with this effect, the bodies before it being so many: a twin
 -- is the next body
-abbrev pub row_with : WorldData → Event → ℕ → Effect → EventRow
-row_with world event bodies effect =
+abbrev pub row_after_event : WorldData → Event → ℕ → Effect → EventRow
+row_after_event world event bodies effect =
     let meaning =
     step_meaning world.layout world.words (step_word effect.op) effect.before in record {
       before = effect.before;
       after = effect.after;
       kind = kind_of_step effect.op;
-      word = word_of_step effect.op;
+      word = word_touched effect.op;
       form = meaning.form;
       which = meaning.which;
       part = meaning.part;
@@ -212,8 +212,9 @@ row_with world event bodies effect =
     }
 
 abbrev pub event_row : WorldData → Event → EventRow
-event_row world event = row_with (moved world (act_of event)) event (length world.bodies)
-    (effect_by world (act_of event))
+event_row world event = row_after_event (moved world (act_of_event event)) event
+    (length world.bodies)
+    (effect_by world (act_of_event event))
 
 -- the row of the event of this number is put where there is room for it
 pub record IsNoted (row : EventRow) (from number : ℕ) (old new : List EventRow) : Type 0 where
@@ -226,7 +227,7 @@ AreShown run events from rows =
     (at : ℕ) (event : Event) → at < length rows → slice_get events (from + at) ≡ Some event
     → slice_get rows at ≡ Some (event_row (run_from run (take (from + at) events)).world event)
 
--- so many rows are written
+-- how many rows are written
 abbrev pub count_shown : ℕ → ℕ → ℕ → ℕ
 count_shown events from rows = min rows (events - from)
 
@@ -268,7 +269,7 @@ abbrev pub IsWatched
     : List ℕ → ℕ → List Event → ℕ → List EventRow → WorldData → Type 0
 IsWatched text workers events from rows world =
     OfJob text (λ job. BoardAfter workers events world job
-    × AreShown (begun job Compact workers) events from rows)
+    × AreShown (run_begun job Compact workers) events from rows)
 
 -- the front of the buffers holds the words and the bodies
 abbrev pub AreWords : WorldData → List WordRow → Type 0
@@ -297,12 +298,12 @@ abbrev pub IsScene
     : List ℕ → ℕ → List Event → ℕ → List EventRow → List WordRow → List BodyRow → Scene → Type 0
 IsScene text workers events from rows words bodies told =
     OfJob text (λ job. (world : WorldData) × BoardAfter workers events world job
-    × AreShown (begun job Compact workers) events from rows
+    × AreShown (run_begun job Compact workers) events from rows
     × IsBoardTold world (count_shown (length events) from (length rows)) words bodies told)
     ⊎ ((hindrance : Hindrance) × IsHindered text workers events hindrance
     × (told ≡ hindered_as hindrance))
 
--- so many words and bodies are written, as is told
+-- how many words and bodies are written, as is told
 abbrev pub words_told : Scene → ℕ
 words_told told = if told.status.code == DONE then told.words else 0
 

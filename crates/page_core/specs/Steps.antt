@@ -4,20 +4,20 @@ use Rattle.std.specs.Prelude.{count_by, find, is_some, None}
 use Rattle.std.specs.List.{range_with_len}
 use Rattle.pram_job.specs.Job.{JobData}
 use Rattle.pram_machine.specs.Machine.{State, counter, halted}
+use Rattle.pram_step.specs.Running.{is_running}
 use Rattle.pram_step.specs.Runs.{IsReached, IsFirstConflict, state_after}
-use Rattle.pram_cost.specs.Accesses.{is_running, read_by, write_by}
+use Rattle.pram_cost.specs.Accesses.{cell_read_by, write_by}
 use Rattle.pram_cost.specs.Costs.{at_work}
 use Rattle.page_core.specs.declared.finding.Finding.{Finding}
-use Rattle.page_core.specs.declared.finding.Finding.TheVariants.{Done, Conflict, Refused}
+use Rattle.page_core.specs.declared.finding.Finding.TheVariants.{Done, Conflict}
 use Rattle.page_core.specs.declared.steps.StepRow.{StepRow}
-use Rattle.page_core.specs.declared.text.Refusal.TheVariants.{Memory}
 use Rattle.page_core.specs.Moments.{IsNotReached}
 use Rattle.page_core.specs.Texts.{OfJob}
 
 -- how many processors read a cell in the step after a state, and how many write one
 abbrev pub count_reading : JobData → State → ℕ
 count_reading job state =
-    count_by (λ i. is_some (read_by job state i)) (range_with_len 0 job.procs)
+    count_by (λ i. is_some (cell_read_by job state i)) (range_with_len 0 job.procs)
 
 abbrev pub count_writing : JobData → State → ℕ
 count_writing job state =
@@ -44,6 +44,11 @@ abbrev pub AreSteps : JobData → ℕ → ℕ → List StepRow → Type 0
 AreSteps job t count rows =
     (k : ℕ) → k < count → slice_get rows k ≡ Some (step_row job (state_after job (t + k)))
 
+-- these are the rows of the steps from one on, up to t steps
+abbrev pub AreStepsTo : JobData → ℕ → ℕ → List StepRow → Type 0
+AreStepsTo job from t rows =
+    (t ≡ from + length rows) × AreSteps job from (length rows) rows
+
 -- of a job that reaches the state after t steps: all steps up to the last one, or as many as there
 -- is room for; or those up to the first conflict
 abbrev pub AreStepsAfter : JobData → ℕ → List StepRow → List StepRow → Finding → Type 0
@@ -53,7 +58,6 @@ AreStepsAfter job t old rows (Done step count) =
 AreStepsAfter job t old rows (Conflict fault count) =
     IsFirstConflict job fault × (fault.step ≤ job.steps) × (fault.step ≡ t + count)
     × AreSteps job t count rows
-AreStepsAfter job t old rows (Refused refusal) = refusal ≡ Memory
 AreStepsAfter job t old rows _ = ⊥
 
 -- what the steps after t steps do, or the state after t steps is not reached

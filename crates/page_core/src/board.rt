@@ -1,7 +1,7 @@
 //! A board after events.
 ghost use Rattle.std.specs.Prelude.{◌≡◌, ◌↔◌, [], IfErr, IfOk, IsTrue, OnOk};
-ghost use Rattle.page_core.specs.Events.{IsBoardAfter, IsHindered, IsKnown, IsMade, IsNotMade};
-ghost use Rattle.page_core.specs.Events.{act_of, effect_by, moved};
+ghost use Rattle.page_core.specs.Events.{IsBoardAfter, IsHindered, IsKnown, IsEventMade, IsNotMade};
+ghost use Rattle.page_core.specs.Events.{act_of_event, effect_by, moved};
 
 use crate::codes::WORKERS_MOST;
 use crate::text::{Refusal, take_job};
@@ -55,7 +55,7 @@ pub(crate) fn open(alloc: Global, text: &[u8], workers: u32) -> Result<World, Hi
 
 /// Makes the event of this number.
 pub(crate) fn make(world: &mut World, number: usize, event: Event) -> Result<Effect, Hindrance>
-    ensures made { IfOk result (λ effect. IsMade world.old event world.new effect) }
+    ensures made { IfOk result (λ effect. IsEventMade world.old event world.new effect) }
     ensures hindered { IfErr result (λ hindrance. IsNotMade world.old number event hindrance) }
 {
     if !is_known(world, event) {
@@ -70,8 +70,8 @@ pub(crate) fn make(world: &mut World, number: usize, event: Event) -> Result<Eff
 // What an event that is known does.
 fn happen(world: &mut World, event: Event) -> Result<Effect, AllocError>
     requires { IsKnown world.old event }
-    ensures world { OnOk result (world.new ≡ moved world.old (act_of event)) }
-    ensures effect { IfOk result (λ effect. effect ≡ effect_by world.old (act_of event)) }
+    ensures world { OnOk result (world.new ≡ moved world.old (act_of_event event)) }
+    ensures effect { IfOk result (λ effect. effect ≡ effect_by world.old (act_of_event event)) }
 {
     let body = event.body as usize;
     match event.kind {

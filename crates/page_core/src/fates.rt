@@ -56,8 +56,8 @@ const NONE_LOST: LostRow = LostRow {
     processor: 0,
 };
 
-/// What became of the processors in all steps of a text's job. It makes them up to three times, and
-/// none after one that changes nothing.
+/// What became of the processors in all steps of a text's job. None is made after one that changes
+/// nothing.
 pub fn fates(alloc: Global, text: &[u8]) -> FatesTold
     ensures { AreFatesTold text.now result }
 {

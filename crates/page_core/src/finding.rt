@@ -28,7 +28,7 @@ pub enum Finding {
     Done { step: u32, count: u64 },
     /// A step is against the rule. So many elements of the buffer are told.
     Conflict { fault: Fault, count: u64 },
-    /// So many steps are finished, and the last one is not.
+    /// Only this many steps are finished; the job has more.
     Unfinished { step: u32 },
     /// The buffer needs so many elements.
     NoRoom { needed: u64 },

@@ -111,7 +111,7 @@ fn push_own_rows(rows: &mut Vec<CellsRow>, program: &Program) -> Result<(), Allo
     Ok(())
 }
 
-#[tactic(auto, unfolding(pardo_job::specs::Layouts::layout_of))]
+#[tactic(auto, unfolding(pardo_job::specs::Layouts::program_layout))]
 fn own_row(program: &Program, shared: usize, which: usize) -> CellsRow
     requires lawful { IsProgram program.now }
     requires shared { shared ≡ shared_cells program.now.arrays }

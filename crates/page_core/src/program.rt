@@ -6,7 +6,7 @@ ghost use Rattle.pardo_text.specs.Lawful.{IsProgram};
 ghost use Rattle.pardo_text.specs.Reading.{program_of};
 ghost use Rattle.pardo_job.specs.Compiled.{IsCompiled};
 ghost use Rattle.page_core.specs.Findings.{IsKeptBehind};
-ghost use Rattle.page_core.specs.Programs.{AreLinesOf, ArePut, IsJobOf, IsNoProgram};
+ghost use Rattle.page_core.specs.Programs.{AreLinesOf, ArePut, IsCompiledJobOf, IsNoProgram};
 ghost use Rattle.page_core.specs.Programs.{bytes_told, fault_told, job_kind_code, line_row};
 ghost use Rattle.page_core.specs.Programs.{no_program_told, rows_told, sizes_told, text_kind_code};
 ghost use Rattle.page_core.specs.Programs.{why_told};
@@ -66,7 +66,7 @@ pub struct Made {
 /// The job of the program that a text spells, as a text.
 pub fn compiled(alloc: Global, text: &[u8]) -> Result<Made, NoProgram>
     ensures made { IfOk result
-        (λ made. IsJobOf text.now (string_bytes made.text) made.numbers.items) }
+        (λ made. IsCompiledJobOf text.now (string_bytes made.text) made.numbers.items) }
     ensures none { IfErr result (IsNoProgram text.now) }
 {
     programs_are_lawful();
@@ -101,7 +101,7 @@ fn spelled(alloc: Global, program: &Program, compiled: Compiled) -> Result<Made,
     ensures numbers { IfOk result (λ made. made.numbers.items ≡ compiled.numbers) }
 {
     printed_is_read_back();
-    let (job, numbers) = compiled.into_parts();
+    let (job, numbers, _) = compiled.into_parts();
     let text = spell(alloc, &job)?;
     Ok(Made { text, numbers })
 }

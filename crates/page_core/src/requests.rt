@@ -1,20 +1,19 @@
 //! What the processors ask for in a step.
-ghost use Rattle.std.specs.Prelude.{◌≡◌, ℕ, ◌<◌, ◌≤◌, IfSome, length};
-ghost use Rattle.pram_machine.specs.Machine.{IsDataPlace, counter as counter_of, place_count};
-ghost use Rattle.pram_machine.specs.Machine.{register as register_of};
+ghost use Rattle.std.specs.Prelude.{◌≡◌, ℕ, ◌<◌, ◌≤◌, IfOk, IfSome, OnErr, length};
+ghost use Rattle.pram_machine.specs.Machine.{IsDataPlace, place_count};
 ghost use Rattle.pram_step.specs.Runs.{IsStateAfter};
-ghost use Rattle.page_core.specs.Findings.{IsKeptAsFound, IsKeptBehind};
-ghost use Rattle.page_core.specs.Requests.{AreRequestsAfter, AreRequestsTold, AreRows};
-ghost use Rattle.page_core.specs.Requests.{cell_in, cell_part, held_part, row_in, status_of};
-ghost use Rattle.page_core.specs.Requests.{target_of};
+ghost use Rattle.page_core.specs.Findings.{IsKeptBehind, count_written};
+ghost use Rattle.page_core.specs.Requests.{AreRequestsAfter, AreRequestsTold, AreRequestRows};
+ghost use Rattle.page_core.specs.Requests.{cell_part, held_part, row_in, processor_status};
+ghost use Rattle.page_core.specs.Requests.{target_of_put};
 
 use crate::finding::Finding;
 use crate::moment::Reached;
 use crate::text::Refusal;
+use pram_cost::read_of;
 use pram_job::Job;
-use pram_machine::{Sources, cell_read, sources_of};
 use pram_step::{State, counter, laws, make_step, request_after};
-use std::alloc::Global;
+use std::alloc::{AllocError, Global};
 
 /// What a processor asks for. `status` is 0 where `counter` is the number of its instruction, 1 if
 /// it has halted, 2 if an address was out of range. `reads` is the cell that it reads plus 1, or 0,
@@ -46,7 +45,7 @@ pub struct Target {
 /// against the rule.
 pub fn requests(alloc: Global, reached: Reached, rows: &mut [RequestRow]) -> Finding
     ensures requests { AreRequestsTold reached.job reached.step rows.old rows.new result }
-    ensures behind { IsKeptAsFound rows.old rows.new result }
+    ensures behind { IsKeptBehind (count_written result) rows.old rows.new }
 {
     if reached.step == reached.job.steps() {
         return Finding::NoStep;
@@ -57,40 +56,50 @@ pub fn requests(alloc: Global, reached: Reached, rows: &mut [RequestRow]) -> Fin
             needed: u64::from(procs),
         };
     }
-    tell_requests(alloc, reached, rows)
+    match tell_requests(alloc, reached, rows) {
+        Ok(finding) => finding,
+        Err(_) => Finding::Refused(Refusal::Memory),
+    }
 }
 
 // The requests in this state, and whether they agree.
-fn tell_requests(alloc: Global, reached: Reached, rows: &mut [RequestRow]) -> Finding
+fn tell_requests(
+    alloc: Global,
+    reached: Reached,
+    rows: &mut [RequestRow],
+) -> Result<Finding, AllocError>
     requires within { reached.step < reached.job.steps }
     requires room { reached.job.procs ≤ length rows.old }
-    ensures requests { AreRequestsAfter reached.job reached.step rows.new result }
-    ensures behind { IsKeptBehind reached.job.procs rows.old rows.new }
+    ensures requests { IfOk result (AreRequestsAfter reached.job reached.step rows.new) }
+    ensures behind { IfOk result (λ f. IsKeptBehind (count_written f) rows.old rows.new) }
+    ensures unwritten { OnErr result (rows.new ≡ rows.old) }
 {
     let Reached {
         job,
         step,
         mut state,
     } = reached;
-    let count = u64::from(job.procs());
-    write_rows(&job, &state, rows);
-    match make_step(alloc, &job, &mut state, step) {
-        Ok(None) => Finding::Done { step, count },
-        Ok(Some(fault)) => Finding::Conflict { fault, count },
-        Err(_) => Finding::Refused(Refusal::Memory),
+    let asked = all_rows(alloc, &job, &state)?;
+    let conflict = make_step(alloc, &job, &mut state, step)?;
+    rows[..asked.len()].copy_from_slice(asked.as_slice());
+    let count = asked.len() as u64;
+    match conflict {
+        None => Ok(Finding::Done { step, count }),
+        Some(fault) => Ok(Finding::Conflict { fault, count }),
     }
 }
 
-// The request of each processor is written to the front of the rows.
-fn write_rows(job: &Job, state: &State, rows: &mut [RequestRow])
-    requires reached { (t : ℕ) × IsStateAfter job.now t state.now }
-    requires room { job.now.procs ≤ length rows.old }
-    ensures rows { AreRows job.now state.now rows.new }
-    ensures behind { IsKeptBehind job.now.procs rows.old rows.new }
+// The request of each processor.
+fn all_rows(alloc: Global, job: &Job, state: &State) -> Result<Vec<RequestRow>, AllocError>
+    requires { (t : ℕ) × IsStateAfter job.now t state.now }
+    ensures rows { IfOk result (λ rows. AreRequestRows job.now state.now rows.items) }
+    ensures each { IfOk result (λ rows. length rows.items ≡ job.now.procs) }
 {
+    let mut rows = Vec::with_capacity(alloc, job.procs() as usize)?;
     for processor in 0..job.procs() {
-        rows[processor as usize] = row(job, state, processor);
+        rows.push(row(job, state, processor))?;
     }
+    Ok(rows)
 }
 
 fn row(job: &Job, state: &State, processor: u32) -> RequestRow
@@ -102,7 +111,7 @@ fn row(job: &Job, state: &State, processor: u32) -> RequestRow
     laws::states_have_all_places();
     let counter = counter(job, state, processor);
     let request = request_after(job, state, processor);
-    let reads = cell(job, state, processor, counter);
+    let reads = read_of(job, state, processor);
     let target = aim(job, processor, request.put);
     RequestRow {
         counter,
@@ -118,7 +127,7 @@ fn row(job: &Job, state: &State, processor: u32) -> RequestRow
 
 // Whether a counter is the number of an instruction, or why the processor has stopped.
 fn status(job: &Job, counter: u32) -> u32
-    ensures { result ≡ status_of job.now counter }
+    ensures { result ≡ processor_status job.now counter }
 {
     let instructions = job.code().len();
     if (counter as usize) < instructions {
@@ -128,32 +137,6 @@ fn status(job: &Job, counter: u32) -> u32
     } else {
         2
     }
-}
-
-// The cell that a processor reads.
-fn cell(job: &Job, state: &State, processor: u32, counter: u32) -> Option<u32>
-    requires processor { processor < job.now.procs }
-    requires places { length state.now ≡ place_count job.now }
-    requires counter { counter ≡ counter_of job.now state.now processor }
-    ensures value { result ≡ cell_in job.now state.now processor }
-    ensures within { IfSome result (λ c. c < job.now.cells) }
-{
-    let instr = *job.code().get(counter as usize)?;
-    match sources_of(instr) {
-        Sources::None => cell_read(job, instr, 0),
-        Sources::One(a) | Sources::Two(a, _) => {
-            cell_read(job, instr, register(job, state, processor, a))
-        }
-    }
-}
-
-fn register(job: &Job, state: &State, processor: u32, r: u8) -> u32
-    requires processor { processor < job.now.procs }
-    requires places { length state.now ≡ place_count job.now }
-    requires register { r < 4 }
-    ensures { result ≡ register_of job.now state.now processor r }
-{
-    state.get(job.register_place(processor, r))
 }
 
 // The cell plus 1, or 0 for none.
@@ -185,7 +168,7 @@ fn held(job: &Job, state: &State, cell: Option<u32>) -> u32
 fn aim(job: &Job, processor: u32, put: Option<(u32, u32)>) -> Target
     requires processor { processor < job.now.procs }
     requires place { IfSome put (λ w. IsDataPlace job.now processor w.0) }
-    ensures { result ≡ target_of job.now processor put }
+    ensures { result ≡ target_of_put job.now processor put }
 {
     job.limits_hold();
     let cells = job.cells();

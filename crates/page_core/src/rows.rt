@@ -1,8 +1,8 @@
 //! What an event did.
 ghost use Rattle.std.specs.Prelude.{◌≡◌};
 ghost use Rattle.pram_words.specs.Words.{IsWord};
-ghost use Rattle.page_core.specs.Scenes.{kind_of_step, older_before, row_with, step_meaning};
-ghost use Rattle.page_core.specs.Scenes.{word_of_step};
+ghost use Rattle.page_core.specs.Scenes.{kind_of_step, older_before, row_after_event, step_meaning};
+ghost use Rattle.page_core.specs.Scenes.{word_touched};
 
 use crate::board::Event;
 use crate::bodies::{BodyRow, body_row};
@@ -32,7 +32,7 @@ pub struct EventRow {
 
 /// What an event did that led to this world, the bodies before it being so many.
 pub(crate) fn event_row(world: &World, event: Event, bodies: u32, effect: Effect) -> EventRow
-    ensures { result ≡ row_with world.now event bodies effect }
+    ensures { result ≡ row_after_event world.now event bodies effect }
 {
     let body = if event.kind < 3 { event.body } else { bodies };
     let step = step_of_effect(effect.op);
@@ -70,7 +70,7 @@ pub struct StepMeaning {
 
 fn step_of_effect(op: Option<Op>) -> StepWord
     ensures kind { result.kind ≡ kind_of_step op }
-    ensures word { result.word ≡ word_of_step op }
+    ensures word { result.word ≡ word_touched op }
 {
     let (kind, word) = match op {
         Some(Op::Load(word)) => (1, word),

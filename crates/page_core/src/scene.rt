@@ -5,7 +5,7 @@ ghost use Rattle.page_core.specs.Events.{IsBoardAfter, IsHindered, IsHinderedFro
 ghost use Rattle.page_core.specs.Findings.{IsKeptBehind};
 ghost use Rattle.page_core.specs.Scenes.{AreShown, IsBoardTold, IsNoted, IsWatched};
 ghost use Rattle.page_core.specs.Scenes.{bodies_told, count_shown, glance_of, hindered_as};
-ghost use Rattle.page_core.specs.Scenes.{row_with, words_told};
+ghost use Rattle.page_core.specs.Scenes.{row_after_event, words_told};
 
 use crate::board::{Event, Hindrance, make, open};
 use crate::bodies::{BodyRow, write_bodies};
@@ -202,7 +202,8 @@ struct Made {
 
 // What an event did is put into its row, if there is one.
 fn note(world: &World, made: Made, from: usize, rows: &mut [EventRow])
-    ensures { IsNoted (row_with world.now made.event made.bodies made.effect) from made.number
+    ensures { IsNoted (row_after_event world.now made.event made.bodies made.effect) from
+        made.number
         rows.old rows.new }
 {
     if from <= made.number && made.number - from < rows.len() {

@@ -2,7 +2,7 @@
 ghost use Rattle.std.specs.Prelude.{◌≡◌, ◌<◌, ◌≤◌, length};
 ghost use Rattle.pram_words.specs.Words.{IsWord, length_of};
 ghost use Rattle.page_core.specs.Findings.{IsKeptBehind};
-ghost use Rattle.page_core.specs.Scenes.{AreWords, form_of, newer_of, part_of, which_of};
+ghost use Rattle.page_core.specs.Scenes.{AreWords, form_of, newer_of, part_of_word, which_of};
 ghost use Rattle.page_core.specs.Scenes.{word_in};
 
 use pram_words::{Word, older, payload, stamp, words_keep_apart};
@@ -70,7 +70,7 @@ fn word_row(world: &World, k: u32) -> WordRow
 pub(crate) fn meaning_of(word: Word) -> Meaning
     ensures form { result.form ≡ form_of word }
     ensures which { result.which ≡ which_of word }
-    ensures part { result.part ≡ part_of word }
+    ensures part { result.part ≡ part_of_word word }
 {
     let (form, which, part) = match word {
         Word::Conflict => (0, 0, 0),

@@ -1,9 +1,6 @@
 //! What is told of programs of `pardo`.
-use crate::plain::{SWAP, numbers};
-use page_core::codes::{
-    ARRAY, DONE, LOOP, MASK, NO_JOB, NO_ROOM, OTHER_LANGUAGE, PRIVATE, SCALAR, TEXT_MOST,
-    TEXT_TOO_LONG,
-};
+use crate::plain::{DONE, NO_JOB, NO_ROOM, SWAP, TEXT_TOO_LONG, are, is, numbers};
+use page_core::codes::{ARRAY, LOOP, MASK, OTHER_LANGUAGE, PRIVATE, SCALAR, TEXT_MOST};
 use page_core::names::take_names;
 use page_core::program::{
     LineRow, NoProgram, ProgramTold, compiled, lines_of, put, put_rows, tell_none,
@@ -15,14 +12,14 @@ use std::test::Fail;
 const PROGRAM: &[u8] = b"pardo 1\nrule crew\nprocs i < 3\nshared s = 7\nshared A[2]\n\
     private own\ncode\nfor k = 1 to 1\n  if i < 2\n    A[i] := i\n  end\nend\n";
 
-fn sizes(told: ProgramTold) -> (u32, u64, u64) {
-    (told.status.code, told.bytes, told.rows)
+fn sizes(told: ProgramTold) -> [u64; 3] {
+    [u64::from(told.status.code), told.bytes, told.rows]
 }
 
 // Why nothing is told: the code, the fault and its line.
-fn why<T: Drop>(found: Result<T, NoProgram>) -> (u32, u32, u64) {
+fn why<T: Drop>(found: Result<T, NoProgram>) -> [u64; 3] {
     match found {
-        Ok(_) => (DONE, 0, 0),
+        Ok(_) => [DONE, 0, 0],
         Err(why) => numbers(tell_none(why).status),
     }
 }
@@ -34,20 +31,30 @@ fn a_job_of_a_program_is_told(rt: HostRuntime) {
     };
     let (text, lines) = (made.text.as_bytes(), made.numbers.as_slice());
     let judged = judge(rt.alloc(), text);
-    assert!(rt; (judged.status.code, judged.rule, judged.cells, judged.procs) == (DONE, 2, 12, 3));
+    is(&rt, &numbers(judged.status), &[DONE, 0, 0]);
+    are(&rt, &[judged.rule, judged.cells, judged.procs], &[2, 12, 3]);
     assert!(rt; judged.instructions as usize == lines.len());
-    assert!(rt; lines.get(..2) == Some(&[0, 8][..]));
-    assert!(rt; lines.last() == Some(&12));
+    assert!(rt; lines.starts_with(&[0, 8]) && lines.ends_with(&[12]));
 }
 
 #[test]
 fn bytes_and_rows_are_put_where_there_is_room(rt: HostRuntime) {
     let (mut bytes, mut rows) = ([b'-'; 4], [99; 3]);
-    assert!(rt; sizes(put(b"ab", &[5, 6, 7], &mut bytes, &mut rows)) == (DONE, 2, 3));
-    assert!(rt; (&bytes, rows) == (b"ab--", [5, 6, 7]));
+    is(
+        &rt,
+        &sizes(put(b"ab", &[5, 6, 7], &mut bytes, &mut rows)),
+        &[DONE, 2, 3],
+    );
+    assert!(rt; bytes == *b"ab--");
+    is(&rt, &rows, &[5, 6, 7]);
     // Without room it is told how much is needed.
-    assert!(rt; sizes(put(b"c", &[1, 2, 3, 4], &mut bytes, &mut rows)) == (NO_ROOM, 1, 4));
-    assert!(rt; (&bytes, rows) == (b"ab--", [5, 6, 7]));
+    is(
+        &rt,
+        &sizes(put(b"c", &[1, 2, 3, 4], &mut bytes, &mut rows)),
+        &[NO_ROOM, 1, 4],
+    );
+    assert!(rt; bytes == *b"ab--");
+    is(&rt, &rows, &[5, 6, 7]);
 }
 
 #[test]
@@ -56,15 +63,19 @@ fn lines_of_code_are_told(rt: HostRuntime) {
         panic!(rt; "the program is refused");
     };
     assert!(rt; lines.len() == 5);
-    let wanted = [(8, 0), (9, 0), (10, 1), (11, 0), (12, 0)];
-    for (line, (number, depth)) in lines.iter().zip(wanted) {
-        assert!(rt; (line.number, line.depth) == (number, depth));
+    let wanted: [[u64; 2]; 5] = [[8, 0], [9, 0], [10, 1], [11, 0], [12, 0]];
+    for (line, wanted) in lines.iter().zip(wanted) {
+        is(&rt, &[line.number, u64::from(line.depth)], &wanted);
     }
     let mut few = [LineRow {
         number: 0,
         depth: 0,
     }; 4];
-    assert!(rt; sizes(put_rows(lines.as_slice(), &mut few)) == (NO_ROOM, 0, 5));
+    is(
+        &rt,
+        &sizes(put_rows(lines.as_slice(), &mut few)),
+        &[NO_ROOM, 0, 5],
+    );
 }
 
 #[test]
@@ -75,22 +86,31 @@ fn names_of_cells_are_told(rt: HostRuntime) {
     assert!(rt; named.names.as_slice() == &b"sAown"[..]);
     assert!(rt; named.rows.len() == 5);
     let wanted = [
-        (0, 1, 1, SCALAR),
-        (1, 2, 1, ARRAY),
-        (3, 3, 3, PRIVATE),
-        (6, 3, 0, LOOP),
-        (9, 3, 0, MASK),
+        [0, 1, 1, SCALAR],
+        [1, 2, 1, ARRAY],
+        [3, 3, 3, PRIVATE],
+        [6, 3, 0, LOOP],
+        [9, 3, 0, MASK],
     ];
-    for (row, (base, len, name, kind)) in named.rows.iter().zip(wanted) {
-        assert!(rt; (row.base, row.len, row.name, row.kind) == (base, len, name, kind));
+    for (row, wanted) in named.rows.iter().zip(wanted) {
+        is(&rt, &[row.base, row.len, row.name, row.kind], &wanted);
     }
 }
 
 #[test]
 fn what_is_no_program_is_refused(rt: HostRuntime) -> Result<(), Fail> {
-    assert!(rt; why(compiled(rt.alloc(), SWAP)) == (OTHER_LANGUAGE, 0, 0));
-    assert!(rt; why(lines_of(rt.alloc(), b"pardo 1\nrule x\n")) == (NO_JOB, 3, 2));
+    let other = u64::from(OTHER_LANGUAGE);
+    is(&rt, &why(compiled(rt.alloc(), SWAP)), &[other, 0, 0]);
+    is(
+        &rt,
+        &why(lines_of(rt.alloc(), b"pardo 1\nrule x\n")),
+        &[NO_JOB, 3, 2],
+    );
     let long = vec![in rt.alloc(); b' '; TEXT_MOST + 1]?;
-    assert!(rt; why(take_names(rt.alloc(), &long)) == (TEXT_TOO_LONG, 0, 0));
+    is(
+        &rt,
+        &why(take_names(rt.alloc(), &long)),
+        &[TEXT_TOO_LONG, 0, 0],
+    );
     Ok(())
 }

@@ -14,8 +14,8 @@ use Rattle.pardo_text.specs.declared.statement.Line.{Line}
 use Rattle.pardo_text.specs.Lawful.{IsLine, IsProgram, bounds_of}
 use Rattle.pardo_text.specs.Program.{ProgramData}
 use Rattle.pardo_job.specs.Compiled.{IsCompiled}
-use Rattle.pardo_job.specs.Layouts.{cell_count, layout_of}
-use Rattle.pardo_job.specs.Lines.{code_from, code_of, job_of, length_of, line_code, place_of}
+use Rattle.pardo_job.specs.Layouts.{cell_count, program_layout}
+use Rattle.pardo_job.specs.Lines.{code_from, code_of, job_of, length_of_line, line_code, place_of}
 use Rattle.pardo_job.specs.Operations.{is_shallow}
 use Rattle.pardo_job.specs.Refusals.{is_level}
 use Rattle.pardo_job.proofs.Fitting.{Fit, IsLaid, fit_both}
@@ -27,9 +27,9 @@ use Rattle.job_text.specs.Laws.{JumpsLand, LandsWithin}
 -- ---- places
 
 all_lines : (program : ProgramData) → place_of program (length program.lines)
-    ≡ 1 + sum_by (length_of program) program.lines
+    ≡ 1 + sum_by (length_of_line program) program.lines
 unfolding place_of
-all_lines program = ap (λ (l : List Line). 1 + sum_by (length_of program) l)
+all_lines program = ap (λ (l : List Line). 1 + sum_by (length_of_line program) l)
     (take_all (length program.lines) program.lines (omega arith))
 
 -- no line begins past the last instruction
@@ -41,46 +41,46 @@ places_within program j =
     take_all (length program.lines) program.lines (omega arith) in
     omega (
       arith,
-      sum_by-take-le (length_of program) program.lines j,
-      ap (λ (l : List Line). sum_by (length_of program) l) all,
+      sum_by-take-le (length_of_line program) program.lines j,
+      ap (λ (l : List Line). sum_by (length_of_line program) l) all,
     )
 
 -- ---- code whose jumps go at most to the last instruction
 
 from_lands : (program : ProgramData) (cells len : ℕ) (lines : List Line) (at : ℕ) →
-    IsLaid cells (layout_of program) → AreWithin (place_of program) len →
+    IsLaid cells (program_layout program) → AreWithin (place_of program) len →
     All (IsLine (bounds_of program)) program.lines →
     ((k : ℕ) (line : Line) → slice_get lines k ≡ Some line → IsFine program line) →
-    at + sum_by (length_of program) lines ≤ len → Fit cells len (code_from program at lines)
-unfolding length_of
+    at + sum_by (length_of_line program) lines ≤ len → Fit cells len (code_from program at lines)
+unfolding length_of_line
 from_lands program cells len [] at is_laid within all fine le = (tt, tt)
 from_lands program cells len (line ∷ lines) at is_laid within all fine le =
     let one : List Instr = line_code program (place_of program) at line.depth line.statement in
-    let same : length one ≡ length_of program line =
+    let same : length one ≡ length_of_line program line =
     line_length program (place_of program) (λ j. 0) at 0 line.depth line.statement in
     let first = fine 0 line refl in
-    let sum : sum_by (length_of program) (line ∷ lines)
-    ≡ length_of program line + sum_by (length_of program) lines =
-    sum_by-cons (length_of program) line lines in
+    let sum : sum_by (length_of_line program) (line ∷ lines)
+    ≡ length_of_line program line + sum_by (length_of_line program) lines =
+    sum_by-cons (length_of_line program) line lines in
     let quiet : is_shallow one ≡ true =
     line_shallow program (place_of program) (λ j. 0) at 0 line.depth line.statement
     ∙ first.level in
-    fit_both cells len one (code_from program (at + length_of program line) lines)
+    fit_both cells len one (code_from program (at + length_of_line program line) lines)
     (line_fits program cells len (place_of program) at line.depth line.statement is_laid within
     all first.lawful.0 first.lawful.1 quiet (omega (arith, same, sum, le)))
-    (from_lands program cells len lines (at + length_of program line) is_laid within all
+    (from_lands program cells len lines (at + length_of_line program line) is_laid within all
     (λ k other e. fine (suc k) other e) (omega (arith, sum, le)))
 
 code_lands : (program : ProgramData) → IsProgram program →
     ((k : ℕ) (line : Line) → slice_get program.lines k ≡ Some line →
     is_level program line ≡ true) →
-    Fit (cell_count (layout_of program)) (place_of program (length program.lines))
+    Fit (cell_count (program_layout program)) (place_of program (length program.lines))
     (code_of program)
 unfolding code_of
 code_lands program is level =
     let r3 : 3 < 4 = omega arith in (
       r3,
-      from_lands program (cell_count (layout_of program))
+      from_lands program (cell_count (program_layout program))
           (place_of program (length program.lines)) program.lines 1 (laid program is)
           (places_within program) is.lines
           (λ k line e. record {
@@ -123,7 +123,7 @@ jumps_land program job line_of is compiled =
     let lands : All (λ (instr : Instr). LandsWithin (len + 1) (row_of instr).1)
     (code_of program) =
     All-from_recursion (λ (instr : Instr). LandsWithin (len + 1) (row_of instr).1)
-    (code_of program) (all_land (cell_count (layout_of program)) len (code_of program)
+    (code_of program) (all_land (cell_count (program_layout program)) len (code_of program)
     (code_lands program is compiled.level)) in
     subst (λ (c : List Instr).
     All (λ (instr : Instr). LandsWithin (length c) (row_of instr).1) c) (sym code)

@@ -16,17 +16,18 @@ use Rattle.pram_step.proofs.LawCounters.{stopped_processor}
 use Rattle.pram_step.proofs.LawAnswer.{conflict_ends, one_conflict}
 use Rattle.pardo_text.specs.Lawful.{AreArrays}
 use Rattle.pardo_text.specs.Program.{ArrayData, ProgramData, shared_cells}
-use Rattle.pardo_job.specs.Conflicts.{Dispute}
-use Rattle.pardo_job.specs.Layouts.{cell_count, layout_of}
+use Rattle.pram_step.specs.declared.answer.Dispute.{Dispute}
+use Rattle.pardo_job.specs.Layouts.{cell_count, program_layout}
 use Rattle.pardo_job.specs.Leaving.{GoneIn, Leaves}
 use Rattle.pardo_job.specs.Lines.{job_of}
 use Rattle.pardo_job.specs.Meaning.{after}
-use Rattle.pardo_job.specs.Printed.{array_line, conflict_text, end_text, gone_line, values_of}
-use Rattle.pardo_job.specs.Runs.{IsConflict, IsEnd, line_number}
-use Rattle.pardo_answers.specs.declared.ended.Lines.{Lines}
-use Rattle.pardo_answers.specs.Ends.{EndsIn, gone_in}
+use Rattle.pardo_job.specs.Printed.{array_values_line, conflict_text, end_text, gone_line}
+use Rattle.pardo_job.specs.Printed.{values_text}
+use Rattle.pardo_job.specs.Runs.{IsProgramConflict, IsProgramEnd, line_number}
+use Rattle.pardo_job.specs.declared.ended.Lines.{Lines}
+use Rattle.pardo_job.specs.Ends.{EndsIn, gone_in}
 use Rattle.pardo_answers.specs.Laws.{PrintedAnswersAreThePrograms, IsCarrying}
-use Rattle.pardo_answers.specs.Named.{dispute_of}
+use Rattle.pram_step.specs.Runs.{dispute_of}
 
 -- ---- texts that agree where they are told
 
@@ -40,13 +41,13 @@ flat_map-range_same f g a (suc n) same =
 -- arrays by cells that hold the same
 arrays_same : (cells other : ℕ → ℕ) (arrays : List ArrayData) (base : ℕ) → AreArrays arrays base →
     ((cell : ℕ) → cell < base + shared_cells arrays → cells cell ≡ other cell) →
-    flat_map (array_line cells) arrays ≡ flat_map (array_line other) arrays
+    flat_map (array_values_line cells) arrays ≡ flat_map (array_values_line other) arrays
 arrays_same cells other [] base are same = refl
 arrays_same cells other (array ∷ arrays) base are same =
     let whole : shared_cells (array ∷ arrays) ≡ length array.start + shared_cells arrays =
     sum_by-cons (λ (x : ArrayData). length x.start) array arrays in
     let base_is = are.0 in
-    let values : values_of cells array ≡ values_of other array =
+    let values : values_text cells array ≡ values_text other array =
     flat_map-range_same (λ cell. codes " " ++ decimal (cells cell))
     (λ cell. codes " " ++ decimal (other cell)) array.base (length array.start)
     (λ k least most. ap (λ (v : ℕ). codes " " ++ decimal v)
@@ -93,16 +94,17 @@ module _ (job : JobData) (line_of : ℕ → ℕ) (is_job : IsJob job) (i : ℕ)
 
 -- ---- both ends
 
-shared_is : (program : ProgramData) → (layout_of program).shared ≡ shared_cells program.arrays
-unfolding layout_of
+shared_is : (program : ProgramData) → (program_layout program).shared ≡ shared_cells program.arrays
+unfolding program_layout
 shared_is program = refl
 
 -- the job has the shared cells
 shared_fits : (program : ProgramData) (job : JobData) → job ≡ job_of program job.steps →
-    (layout_of program).shared ≤ job.cells
+    (program_layout program).shared ≤ job.cells
 unfolding job_of
 shared_fits program job made =
-    let cells : job.cells ≡ cell_count (layout_of program) = ap (λ (j : JobData). j.cells) made in
+    let cells : job.cells ≡ cell_count (program_layout program) =
+    ap (λ (j : JobData). j.cells) made in
     omega (arith, cells)
 
 procs_are : (program : ProgramData) (job : JobData) → job ≡ job_of program job.steps →
@@ -114,7 +116,7 @@ module _ (program : ProgramData) (job : JobData) (line_of : ℕ → ℕ) (lines 
     (c : IsCarrying program job line_of) (ends : EndsIn job line_of lines) (n : ℕ) where
   -- the text of the end
   end_same : (cells : List ℕ) (state : State) → IsStateAfter job job.steps state →
-      cells ≡ take job.cells state → IsEnd program n →
+      cells ≡ take job.cells state → IsProgramEnd program n →
       end_text program job.steps (slice_index cells) (gone_in lines.gone.items)
       ≡ end_text program job.steps (after program n).cells (after program n).gone
   end_same cells state is_after are is_end =
@@ -141,7 +143,7 @@ module _ (program : ProgramData) (job : JobData) (line_of : ℕ → ℕ) (lines 
 
   -- and that of a conflict
   conflict_same : (fault : Fault) (dispute : Dispute) → IsFault job fault →
-      IsConflict program n dispute →
+      IsProgramConflict program n dispute →
       conflict_text program lines.disputed (dispute_of fault)
       ≡ conflict_text program (line_number program (after program n)) dispute
   conflict_same fault dispute is conflict =

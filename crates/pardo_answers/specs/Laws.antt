@@ -8,9 +8,9 @@ use Rattle.pardo_text.specs.Program.{ProgramData}
 use Rattle.pardo_job.specs.Carries.{Carries}
 use Rattle.pardo_job.specs.Lines.{job_of}
 use Rattle.pardo_job.specs.Printed.{IsConflictText, IsEndText}
-use Rattle.pardo_answers.specs.declared.ended.Lines.{Lines}
-use Rattle.pardo_answers.specs.Ends.{EndsIn}
-use Rattle.pardo_answers.specs.Named.{named}
+use Rattle.pardo_job.specs.declared.ended.Lines.{Lines}
+use Rattle.pardo_job.specs.Ends.{EndsIn}
+use Rattle.pardo_answers.specs.Named.{named_answer}
 
 -- the text is the answer of the program, whose job makes so many steps
 abbrev pub IsAnswerText : ProgramData → ℕ → List ℕ → Type 0
@@ -27,4 +27,4 @@ abbrev pub PrintedAnswersAreThePrograms : Type 0
 PrintedAnswersAreThePrograms =
     (program : ProgramData) (job : JobData) (line_of : ℕ → ℕ) (answer : RunAnswer) (lines : Lines) →
     IsCarrying program job line_of → IsAnswer job answer → EndsIn job line_of lines →
-    IsAnswerText program job.steps (named program job.steps lines answer)
+    IsAnswerText program job.steps (named_answer program job.steps lines answer)

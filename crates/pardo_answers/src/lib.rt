@@ -2,13 +2,11 @@
 //! and lines of its text.
 #![tactic(auto)]
 
-mod ended;
 mod language;
 pub mod laws;
 mod print;
 mod text;
 
-pub use ended::{Ended, Lines, plain_end};
 pub use language::is_program;
 pub use print::{Names, print_named, push_conflict};
 pub use text::push_cell;

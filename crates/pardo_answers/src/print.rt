@@ -5,14 +5,15 @@ ghost use Rattle.std.specs.Io.KnownBytes.{Appends};
 ghost use Rattle.std.specs.List.{flat_map, range_with_len};
 ghost use Rattle.pram_streams.specs.Transfer.{AppendsBeginning};
 ghost use Rattle.pardo_job.specs.Printed.{conflict_text, end_text, gone_line};
-ghost use Rattle.pardo_answers.specs.Ends.{gone_in};
-ghost use Rattle.pardo_answers.specs.Named.{dispute_of, named};
+ghost use Rattle.pardo_job.specs.Ends.{gone_in};
+ghost use Rattle.pram_step.specs.Runs.{dispute_of};
+ghost use Rattle.pardo_answers.specs.Named.{named_answer};
 
-use crate::ended::Lines;
-use crate::text::{push_arrays, push_cell, push_labelled};
+use crate::text::{push_arrays, push_cell};
+use pardo_job::Lines;
 use pardo_text::Program;
 use pram_step::{Fault, RunAnswer};
-use pram_streams::{PrintFault, Sink, put};
+use pram_streams::{PrintFault, Sink, push_labelled, put};
 use std::alloc::{AllocError, Global};
 
 /// What the answer of a program's job is told by: the program, how many steps the job makes, and
@@ -36,9 +37,9 @@ pub fn print_named<W: Sink>(
 ) -> Result<(), PrintFault>
     requires { W.has_failed sink.old ≡ false }
     ensures ok { OnOk result (Appends (W.taken sink.old) (W.taken sink.new)
-        (named names.now.program.now names.now.steps names.now.lines.now answer.now)) }
+        (named_answer names.now.program.now names.now.steps names.now.lines.now answer.now)) }
     ensures beginning { AppendsBeginning (W.taken sink.old) (W.taken sink.new)
-        (named names.now.program.now names.now.steps names.now.lines.now answer.now) }
+        (named_answer names.now.program.now names.now.steps names.now.lines.now answer.now) }
     ensures memory { IsErrOf result PrintFault.Memory → sink.new ≡ sink.old }
     ensures failed { IsTrue (W.has_failed sink.new) ↔ IsErrOf result PrintFault.Device }
 {
@@ -49,7 +50,7 @@ pub fn print_named<W: Sink>(
 
 fn named_text(alloc: Global, names: &Names<'_>, answer: &RunAnswer) -> Result<Vec<u8>, AllocError>
     ensures { IfOk result (λ text. text.items
-        ≡ named names.now.program.now names.now.steps names.now.lines.now answer.now) }
+        ≡ named_answer names.now.program.now names.now.steps names.now.lines.now answer.now) }
 {
     let mut text = Vec::new(alloc);
     match answer {

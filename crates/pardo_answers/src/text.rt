@@ -1,20 +1,12 @@
 //! Names and numbers as text.
-ghost use Rattle.std.specs.Prelude.{◌≡◌, ◌≤◌, ◌++◌, decimal, slice_index, OnOk};
+ghost use Rattle.std.specs.Prelude.{◌≡◌, ◌≤◌, ◌++◌, slice_index, OnOk};
 ghost use Rattle.std.specs.List.{flat_map};
-ghost use Rattle.pardo_job.specs.Printed.{array_line, cell_text, has_cell, place_text, values_of};
+ghost use Rattle.pardo_job.specs.Printed.{array_values_line, cell_text, has_cell, place_text};
+ghost use Rattle.pardo_job.specs.Printed.{values_text};
 
-use itoa::Buffer;
 use pardo_text::Array;
+use pram_streams::push_labelled;
 use std::alloc::AllocError;
-
-/// A number after a label.
-pub(crate) fn push_labelled(text: &mut Vec<u8>, label: &[u8], number: u64) -> Result<(), AllocError>
-    ensures { OnOk result (text.new.items ≡ text.old.items ++ label.now ++ decimal number) }
-{
-    let mut buffer = Buffer::new();
-    text.extend_from_slice(label)?;
-    text.extend_from_slice(buffer.format(number).as_bytes())
-}
 
 /// The lines of shared arrays, of which these are the cells. Past the cells there are zeros.
 pub(crate) fn push_arrays(
@@ -23,7 +15,7 @@ pub(crate) fn push_arrays(
     cells: &[u32],
 ) -> Result<(), AllocError>
     ensures { OnOk result (text.new.items ≡ text.old.items
-        ++ flat_map (array_line (slice_index cells.now)) arrays.now) }
+        ++ flat_map (array_values_line (slice_index cells.now)) arrays.now) }
 {
     for array in arrays {
         push_array(text, array, cells)?;
@@ -33,7 +25,7 @@ pub(crate) fn push_arrays(
 
 fn push_array(text: &mut Vec<u8>, array: &Array, cells: &[u32]) -> Result<(), AllocError>
     ensures { OnOk result (text.new.items ≡ text.old.items
-        ++ array_line (slice_index cells.now) array.now) }
+        ++ array_values_line (slice_index cells.now) array.now) }
 {
     text.extend_from_slice(array.name())?;
     text.extend_from_slice(b" =")?;
@@ -44,7 +36,7 @@ fn push_array(text: &mut Vec<u8>, array: &Array, cells: &[u32]) -> Result<(), Al
 
 fn push_values(text: &mut Vec<u8>, array: &Array, cells: &[u32]) -> Result<(), AllocError>
     ensures { OnOk result (text.new.items ≡ text.old.items
-        ++ values_of (slice_index cells.now) array.now) }
+        ++ values_text (slice_index cells.now) array.now) }
 {
     for offset in 0..array.start().len() {
         let cell = array.base().saturating_add(offset);

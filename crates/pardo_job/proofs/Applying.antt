@@ -13,7 +13,7 @@ use Rattle.pardo_text.specs.declared.operation.Op.{Op}
 use Rattle.pardo_text.specs.declared.operation.Op.TheVariants.{Add, Sub, Mul, Div, Rem, Shl, Shr}
 use Rattle.pardo_text.specs.declared.operation.Op.TheVariants.{BitAnd, BitOr, BitXor, Eq, Ne}
 use Rattle.pardo_text.specs.declared.operation.Op.TheVariants.{Lt, Le, Gt, Ge, And, Or, Min, Max}
-use Rattle.pardo_text.specs.Operations.{bit, value_of, is_division}
+use Rattle.pardo_text.specs.Operations.{bit, operation_value, is_division}
 use Rattle.pardo_job.specs.Operations.{native, choice, operation_code}
 use Rattle.pardo_job.specs.Operations.{taken_by, is_shallow, negation}
 use Rattle.pardo_job.specs.Straight.{Registers, operand_in, Computes}
@@ -113,7 +113,7 @@ pub record Operands (at i a b : ℕ) (held : Registers) (first second : Operand)
 native_of : (op : Op) (memory : ℕ → ℕ) (i at a b : ℕ) (held : Registers) (first second : Operand) →
     IsNative op → Operands at i a b held first second →
     is_shallow (native at op first second) ≡ true →
-    Computes memory i held at (native at op first second) (value_of op a b)
+    Computes memory i held at (native at op first second) (operation_value op a b)
 native_of op memory i at a b held first second is c shallow =
     computes_native memory i at a b first second held op is
     (first_apart at first second c.second_at) (second_apart at first second c.first_at)
@@ -121,12 +121,12 @@ native_of op memory i at a b held first second is c shallow =
 
 negated_of : (op : Op) (memory : ℕ → ℕ) (i at a b result : ℕ) (held : Registers)
     (first second : Operand) →
-    IsNative op → Operands at i a b held first second → bit (value_of op a b == 0) ≡ result →
+    IsNative op → Operands at i a b held first second → bit (operation_value op a b == 0) ≡ result →
     is_shallow (native at op first second ++ negation at) ≡ true →
     Computes memory i held at (native at op first second ++ negation at) result
 negated_of op memory i at a b result held first second is c e shallow =
     subst (λ v. Computes memory i held at (native at op first second ++ negation at) v) e
-    (computes_negation memory i held at (value_of op a b) (native at op first second) c.below
+    (computes_negation memory i held at (operation_value op a b) (native at op first second) c.below
     (native_of op memory i at a b held first second is c
     (shallow_front (native at op first second) (negation at) shallow)))
 
@@ -135,13 +135,14 @@ abbrev pub ComputesOperation : Op → Bool → (ℕ → ℕ) → ℕ → ℕ →
     Type 0
 ComputesOperation op are_truths memory i at a b held first second =
     is_shallow (operation_code at op are_truths first second) ≡ true →
-    Computes memory i held at (operation_code at op are_truths first second) (value_of op a b)
+    Computes memory i held at (operation_code at op are_truths first second)
+    (operation_value op a b)
 
 and_of : (are_truths : Bool) (memory : ℕ → ℕ) (i at a b : ℕ) (held : Registers)
     (first second : Operand) →
     Operands at i a b held first second → (are_truths ≡ true → IsTruth a × IsTruth b) →
     ComputesOperation And are_truths memory i at a b held first second
-unfolding operation_code value_of
+unfolding operation_code operation_value
 and_of true memory i at a b held first second c truths shallow =
     subst (λ v. Computes memory i held at (native at BitAnd first second) v)
     (truths_and a b (truths refl).0 (truths refl).1)
@@ -154,7 +155,7 @@ or_of : (are_truths : Bool) (memory : ℕ → ℕ) (i at a b : ℕ) (held : Regi
     (first second : Operand) →
     Operands at i a b held first second → (are_truths ≡ true → IsTruth a × IsTruth b) →
     ComputesOperation Or are_truths memory i at a b held first second
-unfolding operation_code value_of
+unfolding operation_code operation_value
 or_of true memory i at a b held first second c truths shallow =
     let none : native at BitOr first second ++ [] ≡ native at BitOr first second =
     append-nil (native at BitOr first second) in
@@ -176,7 +177,7 @@ or_of false memory i at a b held first second c truths shallow =
 choice_of : (op : Op) (memory : ℕ → ℕ) (i at a b : ℕ) (held : Registers) (first second : Operand) →
     IsChoice op → Operands at i a b held first second →
     is_shallow (choice at op first second) ≡ true →
-    Computes memory i held at (choice at op first second) (value_of op a b)
+    Computes memory i held at (choice at op first second) (operation_value op a b)
 choice_of op memory i at a b held first second is c shallow =
     computes_choice op memory i at a b held first second is c.below c.own c.first_at c.second_at
     c.first_fits c.second_fits c.first_is c.second_is shallow
@@ -185,7 +186,7 @@ pub computes_operation : (op : Op) (are_truths : Bool) (memory : ℕ → ℕ) (i
     (held : Registers) (first second : Operand) → is_division op ≡ false →
     Operands at i a b held first second → (are_truths ≡ true → IsTruth a × IsTruth b) →
     ComputesOperation op are_truths memory i at a b held first second
-unfolding operation_code value_of is_division
+unfolding operation_code operation_value is_division
 computes_operation Add t memory i at a b held first second plain c truths shallow =
     native_of Add memory i at a b held first second tt c shallow
 computes_operation Sub t memory i at a b held first second plain c truths shallow =

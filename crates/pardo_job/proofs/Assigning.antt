@@ -8,16 +8,16 @@ use Rattle.pram_job.specs.declared.instr.Operand.TheVariants.{Register}
 use Rattle.pardo_text.specs.declared.operation.Op.{Op}
 use Rattle.pardo_text.specs.declared.operation.Op.TheVariants as op
 use Rattle.pardo_text.specs.Expression.{Tree, number, own, loop, private, place, apply}
-use Rattle.pardo_text.specs.Operations.{bit, value_of}
+use Rattle.pardo_text.specs.Operations.{bit, operation_value}
 use Rattle.pardo_text.specs.Program.{ProgramData}
-use Rattle.pardo_job.specs.Layouts.{LayoutData}
-use Rattle.pardo_job.specs.Lawful.{IsLawful}
+use Rattle.pardo_job.specs.Layouts.{ProgramLayoutData}
+use Rattle.pardo_job.specs.Lawful.{IsLawfulTree}
 use Rattle.pardo_job.specs.Lines.{none_code, while_code}
 use Rattle.pardo_job.specs.Meaning.{Source, value, has_none}
-use Rattle.pardo_job.specs.Operations.{native, is_shallow, taken_by, register_of}
+use Rattle.pardo_job.specs.Operations.{native, is_shallow, taken_by, register_or_spare}
 use Rattle.pardo_job.specs.Sees.{Sees}
 use Rattle.pardo_job.specs.Straight.{Registers, put, operand_in, after_all, IsKept, Computes}
-use Rattle.pardo_job.specs.Values.{value_code, operand_of, takes}
+use Rattle.pardo_job.specs.Values.{value_code, value_operand, takes}
 use Rattle.pardo_job.proofs.Straight.{after_front, put_same, put_other}
 use Rattle.pardo_job.proofs.Shallow.{shallow_front, shallow_back}
 use Rattle.pardo_job.proofs.Operating.{computes_native}
@@ -29,20 +29,21 @@ use Rattle.pardo_job.proofs.Evaluating.{operand_taken}
 
 -- ---- two expressions, one after the other
 
-abbrev pub both_code : LayoutData → Tree → Tree → List Instr
+abbrev pub both_code : ProgramLayoutData → Tree → Tree → List Instr
 both_code layout first second = value_code layout 0 first ++ value_code layout (takes first) second
 
 -- both values are at hand, and the own number
-pub record HasBoth (memory : ℕ → ℕ) (i : ℕ) (held : Registers) (layout : LayoutData)
+pub record HasBoth (memory : ℕ → ℕ) (i : ℕ) (held : Registers) (layout : ProgramLayoutData)
     (first second : Tree) (a b : ℕ) : Type 0 where
   pub now : Registers
   pub runs : after_all memory i (both_code layout first second) held ≡ Some now
-  pub first_is : operand_in now (operand_of 0 first) ≡ a
-  pub second_is : operand_in now (operand_of (takes first) second) ≡ b
+  pub first_is : operand_in now (value_operand 0 first) ≡ a
+  pub second_is : operand_in now (value_operand (takes first) second) ≡ b
   pub keeps : now 3 ≡ held 3
 
 -- none where one of the two has no value
-abbrev pub BothTo : (ℕ → ℕ) → ℕ → Registers → LayoutData → Tree → Tree → Option ℕ → Option ℕ →
+abbrev pub BothTo : (ℕ → ℕ) → ℕ → Registers → ProgramLayoutData → Tree → Tree → Option ℕ →
+    Option ℕ →
     Type 0
 BothTo memory i held layout first second None b =
     after_all memory i (both_code layout first second) held ≡ None
@@ -53,7 +54,7 @@ BothTo memory i held layout first second (Some a) (Some b) =
 
 first_stays : (tree : Tree) (held now : Registers) →
     ((which : ℕ) → IsKept (takes tree) which → now which ≡ held which) →
-    operand_in now (operand_of 0 tree) ≡ operand_in held (operand_of 0 tree)
+    operand_in now (value_operand 0 tree) ≡ operand_in held (value_operand 0 tree)
 first_stays (number k) held now keeps = refl
 first_stays own held now keeps = keeps 3 (inr refl)
 first_stays (loop nest) held now keeps = keeps 0 (inl (omega arith))
@@ -61,7 +62,8 @@ first_stays (private x) held now keeps = keeps 0 (inl (omega arith))
 first_stays (place array index) held now keeps = keeps 0 (inl (omega arith))
 first_stays (apply op first second) held now keeps = keeps 0 (inl (omega arith))
 
-both_from : (memory : ℕ → ℕ) (i : ℕ) (held : Registers) (layout : LayoutData) (first second : Tree)
+both_from : (memory : ℕ → ℕ) (i : ℕ) (held : Registers) (layout : ProgramLayoutData)
+    (first second : Tree)
     (a b : Option ℕ) → held 3 ≡ i → EvaluatesTo memory i held layout 0 first a →
     ((now : Registers) → now 3 ≡ i → EvaluatesTo memory i now layout (takes first) second b) →
     BothTo memory i held layout first second a b
@@ -84,9 +86,10 @@ both_from memory i held layout first second (Some a) (Some b) own_i c d =
     }
 
 -- The code of two expressions leaves both values: that of an assignment up to its store is such.
-pub both_evaluate : (program : ProgramData) (layout : LayoutData) (source : Source) (memory : ℕ → ℕ)
+pub both_evaluate : (program : ProgramData) (layout : ProgramLayoutData) (source : Source)
+    (memory : ℕ → ℕ)
     (i : ℕ) → Sees program layout source memory i → (first second : Tree) (held : Registers) →
-    held 3 ≡ i → IsLawful layout first → IsLawful layout second →
+    held 3 ≡ i → IsLawfulTree layout first → IsLawfulTree layout second →
     is_shallow (both_code layout first second) ≡ true →
     BothTo memory i held layout first second (value program source i first)
     (value program source i second)
@@ -109,8 +112,9 @@ pub record HasIn (memory : ℕ → ℕ) (i : ℕ) (held : Registers) (code : Lis
   pub gives : now register ≡ v
   pub keeps : now 3 ≡ held 3
 
-ready : (memory : ℕ → ℕ) (i v register : ℕ) (layout : LayoutData) (tree : Tree) (held : Registers) →
-    operand_of 0 tree ≡ Register register → Evaluated memory i held layout 0 tree v →
+ready : (memory : ℕ → ℕ) (i v register : ℕ) (layout : ProgramLayoutData) (tree : Tree)
+    (held : Registers) →
+    value_operand 0 tree ≡ Register register → Evaluated memory i held layout 0 tree v →
     HasIn memory i held (value_code layout 0 tree ++ []) register v
 ready memory i v register layout tree held is c = record {
   now = c.now;
@@ -120,10 +124,10 @@ ready memory i v register layout tree held is c = record {
 }
 
 -- The code of a `while` leaves the value of its condition in the register that is tested.
-pub while_evaluates : (memory : ℕ → ℕ) (i v : ℕ) (layout : LayoutData) (tree : Tree)
+pub while_evaluates : (memory : ℕ → ℕ) (i v : ℕ) (layout : ProgramLayoutData) (tree : Tree)
     (held : Registers) →
     Evaluated memory i held layout 0 tree v →
-    HasIn memory i held (while_code layout tree) (register_of 0 (operand_of 0 tree)) v
+    HasIn memory i held (while_code layout tree) (register_or_spare 0 (value_operand 0 tree)) v
 unfolding while_code
 while_evaluates memory i v layout (number k) held c = record {
   now = put 0 k held;
@@ -146,15 +150,16 @@ while_evaluates memory i v layout (apply op first second) held c =
 abbrev order_of : Bool → Op
 order_of up = if up then op.Gt else op.Lt
 
-no_turn : (up : Bool) (a b : ℕ) → value_of (order_of up) a b ≡ bit (has_none up a b)
-unfolding value_of
+no_turn : (up : Bool) (a b : ℕ) → operation_value (order_of up) a b ≡ bit (has_none up a b)
+unfolding operation_value
 no_turn true a b = refl
 no_turn false a b = refl
 
 compares : (memory : ℕ → ℕ) (i a b : ℕ) (up : Bool) (first second : Operand) (held : Registers) →
     IsAt 0 first → IsAt (0 + taken_by first) second → operand_in held first ≡ a →
     operand_in held second ≡ b → is_shallow (native 0 (order_of up) first second) ≡ true →
-    Computes memory i held 0 (native 0 (order_of up) first second) (value_of (order_of up) a b)
+    Computes memory i held 0 (native 0 (order_of up) first second)
+    (operation_value (order_of up) a b)
 compares memory i a b true first second held p q e f shallow =
     computes_native memory i 0 a b first second held op.Gt tt (first_apart 0 first second q)
     (second_apart 0 first second p) e f shallow
@@ -162,7 +167,7 @@ compares memory i a b false first second held p q e f shallow =
     computes_native memory i 0 a b first second held op.Lt tt (first_apart 0 first second q)
     (second_apart 0 first second p) e f shallow
 
-pub none_evaluates : (memory : ℕ → ℕ) (i a b : ℕ) (layout : LayoutData) (up : Bool)
+pub none_evaluates : (memory : ℕ → ℕ) (i a b : ℕ) (layout : ProgramLayoutData) (up : Bool)
     (first last : Tree) (held : Registers) →
     HasBoth memory i held layout first last a b → is_shallow (none_code layout up first last) ≡
     true →
@@ -171,8 +176,8 @@ unfolding none_code
 none_evaluates memory i a b layout up first last held c shallow =
     let front : List Instr = value_code layout 0 first in
     let middle : List Instr = value_code layout (takes first) last in
-    let x : Operand = operand_of 0 first in
-    let y : Operand = operand_of (takes first) last in
+    let x : Operand = value_operand 0 first in
+    let y : Operand = value_operand (takes first) last in
     let back : List Instr = native 0 (order_of up) x y in
     let rest : is_shallow (middle ++ back) ≡ true = shallow_back front (middle ++ back) shallow in
     let taken : 0 + taken_by x ≡ takes first =
@@ -180,7 +185,7 @@ none_evaluates memory i a b layout up first last held c shallow =
     let second_at : IsAt (takes first) y =
     operand_at (takes first) last (λ one. value_below layout (takes first) last one
     (shallow_front middle back rest)) in
-    let d : Computes memory i c.now 0 back (value_of (order_of up) a b) =
+    let d : Computes memory i c.now 0 back (operation_value (order_of up) a b) =
     compares memory i a b up x y c.now (operand_at 0 first (λ one. omega arith))
     (subst (λ n. IsAt n y) (sym taken) second_at) c.first_is c.second_is
     (shallow_back middle back rest) in

@@ -11,13 +11,14 @@ use Rattle.pardo_text.specs.declared.operation.Op.TheVariants.{Add, Sub, Mul, Di
 use Rattle.pardo_text.specs.declared.operation.Op.TheVariants.{BitAnd, BitOr, BitXor, Eq, Ne}
 use Rattle.pardo_text.specs.declared.operation.Op.TheVariants.{Lt, Le, Gt, Ge, And, Or, Min, Max}
 use Rattle.pardo_text.specs.Expression.{Tree, number, own, loop, private, place, apply}
-use Rattle.pardo_job.specs.Layouts.{LayoutData, private_cells, loop_cells, array_cells}
+use Rattle.pardo_job.specs.Layouts.{ProgramLayoutData, private_cells, loop_cells, array_cells}
 use Rattle.pardo_job.specs.Operations.{native, in_order, is_turned, choice, conjunction}
 use Rattle.pardo_job.specs.Operations.{operation_code}
 use Rattle.pardo_job.specs.Operations.{taken_by, is_shallow, negation, register_code}
-use Rattle.pardo_job.specs.Operations.{register_of, instruction_of, zero_test, tested_in, copy_code}
+use Rattle.pardo_job.specs.Operations.{register_or_spare, instruction_of, zero_test, tested_in}
+use Rattle.pardo_job.specs.Operations.{copy_code}
 use Rattle.pardo_job.specs.Operations.{first_chosen, second_chosen}
-use Rattle.pardo_job.specs.Values.{value_code, takes, operand_of, is_truth, own_load}
+use Rattle.pardo_job.specs.Values.{value_code, takes, value_operand, is_truth, own_load}
 use Rattle.pardo_job.proofs.Shallow.{shallow_front, shallow_back, shallow_target}
 use Rattle.pardo_job.proofs.Shallow.{instruction_target}
 use Rattle.pardo_job.proofs.Choices.{test_shallow}
@@ -26,8 +27,8 @@ in_order_below : (at : ℕ) (op : Op) (first second : Operand) →
     is_shallow (in_order at op first second) ≡ true → at < 3
 in_order_below at op first second shallow =
     let spare : ℕ = at + taken_by second in
-    let one : Instr = instruction_of op at (register_of spare first) second in
-    subst (λ t. t < 3) (instruction_target op at (register_of spare first) second)
+    let one : Instr = instruction_of op at (register_or_spare spare first) second in
+    subst (λ t. t < 3) (instruction_target op at (register_or_spare spare first) second)
     (shallow_target one [] (shallow_back (register_code spare first) (one ∷ []) shallow))
 
 either_below : (at : ℕ) (op : Op) (first second : Operand) (turned : Bool) →
@@ -61,8 +62,8 @@ conjunction_below : (at : ℕ) (first second : Operand) →
     is_shallow (conjunction at first second) ≡ true → at < 3
 unfolding conjunction
 conjunction_below at first second shallow =
-    let t : ℕ = tested_in (at + taken_by second) (register_of (at + taken_by second) first) in
-    let u : ℕ = tested_in (at + 1) (register_of (at + 1) second) in
+    let t : ℕ = tested_in (at + taken_by second) (register_or_spare (at + taken_by second) first) in
+    let u : ℕ = tested_in (at + 1) (register_or_spare (at + 1) second) in
     let back : List Instr = instr.Or at t (Register u) ∷ negation at in
     shallow_target (instr.Or at t (Register u)) (negation at)
     (shallow_back (zero_test (at + 1) second) back
@@ -101,7 +102,7 @@ operation_below Min at t first second shallow = choice_below at Min first second
 operation_below Max at t first second shallow = choice_below at Max first second shallow
 
 -- the register of an expression that takes one
-pub value_below : (layout : LayoutData) (at : ℕ) (tree : Tree) → takes tree ≡ 1 →
+pub value_below : (layout : ProgramLayoutData) (at : ℕ) (tree : Tree) → takes tree ≡ 1 →
     is_shallow (value_code layout at tree) ≡ true → at < 3
 value_below layout at (number k) takes shallow = absurd (omega arith)
 value_below layout at own takes shallow = absurd (omega arith)
@@ -110,13 +111,13 @@ value_below layout at (loop nest) takes shallow =
 value_below layout at (private x) takes shallow =
     shallow_target (own_load at (private_cells layout x)) [] shallow
 value_below layout at (place array index) takes shallow =
-    let load : Instr = instr.Ld at (Named (array_cells layout array) (operand_of at index)) in
+    let load : Instr = instr.Ld at (Named (array_cells layout array) (value_operand at index)) in
     shallow_target load [] (shallow_back (value_code layout at index) (load ∷ []) shallow)
 value_below layout at (apply op first second) takes_one shallow =
     let up : ℕ = at + takes first in
     let last : List Instr = operation_code at op (is_truth first && is_truth second)
-    (operand_of at first) (operand_of up second) in
-    operation_below op at (is_truth first && is_truth second) (operand_of at first)
-    (operand_of up second)
+    (value_operand at first) (value_operand up second) in
+    operation_below op at (is_truth first && is_truth second) (value_operand at first)
+    (value_operand up second)
     (shallow_back (value_code layout up second) last
     (shallow_back (value_code layout at first) (value_code layout up second ++ last) shallow))

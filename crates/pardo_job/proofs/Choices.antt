@@ -10,7 +10,7 @@ use Rattle.pram_job.specs.declared.instr.Operand.{Operand}
 use Rattle.pram_job.specs.declared.instr.Operand.TheVariants.{Register, Number}
 use Rattle.pardo_text.specs.declared.operation.Op.{Op}
 use Rattle.pardo_text.specs.declared.operation.Op.TheVariants.{Min, Max}
-use Rattle.pardo_text.specs.Operations.{value_of}
+use Rattle.pardo_text.specs.Operations.{operation_value}
 use Rattle.pardo_job.specs.Operations.{chosen_of, choice, copy_code, taken_by, is_shallow}
 use Rattle.pardo_job.specs.Operations.{negation, is_max}
 use Rattle.pardo_job.specs.Straight.{Registers, put, operand_in, after_one, Computes}
@@ -38,16 +38,16 @@ IsChoice _ = ⊥
 choice_value : (op : Op) (memory : ℕ → ℕ) (i at a b : ℕ) (second : Operand) (held : Registers) →
     IsChoice op → IsNext at second → at < 3 → at + 1 + taken_by second < 3 → a < 2 ^ 32 →
     b < 2 ^ 32 → held at ≡ a → operand_in held second ≡ b →
-    Computes memory i held at (chosen_of at op second) (value_of op a b)
-unfolding value_of
+    Computes memory i held at (chosen_of at op second) (operation_value op a b)
+unfolding operation_value
 choice_value Min memory i at a b second held is next lt less la lb ha hb =
     least_chosen memory i at a b second held next lt less la lb ha hb
 choice_value Max memory i at a b second held is next lt less la lb ha hb =
     greatest_chosen memory i at a b second held next lt less la lb ha hb
 choice_value _ memory i at a b second held is next lt less la lb ha hb = absurd is
 
-choice_turned : (op : Op) (a b : ℕ) → IsChoice op → value_of op b a ≡ value_of op a b
-unfolding value_of
+choice_turned : (op : Op) (a b : ℕ) → IsChoice op → operation_value op b a ≡ operation_value op a b
+unfolding operation_value
 choice_turned Min a b is = omega arith
 choice_turned Max a b is = omega arith
 choice_turned _ a b is = absurd is
@@ -85,13 +85,14 @@ choice_ready : (op : Op) (memory : ℕ → ℕ) (i at a b register : ℕ) (secon
     held register ≡ a → operand_in held second ≡ b →
     is_shallow (copy_code at (Register register) ++ chosen_of at op second) ≡ true →
     Computes memory i held at (copy_code at (Register register) ++ chosen_of at op second)
-    (value_of op a b)
+    (operation_value op a b)
 choice_ready op memory i at a b register second held is same lt next la lb ha hb shallow =
     let none : copy_code at (Register register) ≡ [] =
     ap (λ t. if t then [] else instr.Pid at ∷ []) (lt-ltb register 3 lt) in
     let less : at + 1 + taken_by second < 3 =
     test_shallow at op (copy_code at (Register register)) second shallow in
-    subst (λ code. Computes memory i held at (code ++ chosen_of at op second) (value_of op a b))
+    subst (λ code. Computes memory i held at (code ++ chosen_of at op second)
+    (operation_value op a b))
     (sym none)
     (choice_value op memory i at a b second held is next (omega arith) less la lb
     (ap held (sym same) ∙ ha) hb)
@@ -103,14 +104,17 @@ choice_copied : (op : Op) (memory : ℕ → ℕ) (i at a b : ℕ) (first second 
     Some (put at a held) →
     IsNext at second → IsOther at second → a < 2 ^ 32 → b < 2 ^ 32 → operand_in held second ≡ b →
     is_shallow (copy_code at first ++ chosen_of at op second) ≡ true →
-    Computes memory i held at (copy_code at first ++ chosen_of at op second) (value_of op a b)
+    Computes memory i held at (copy_code at first ++ chosen_of at op second)
+    (operation_value op a b)
 choice_copied op memory i at a b first second one held is copy leads next other la lb hb shallow =
     let less : at + 1 + taken_by second < 3 =
     test_shallow at op (copy_code at first) second shallow in
     let lt : at < 3 = omega arith in
-    subst (λ code. Computes memory i held at (code ++ chosen_of at op second) (value_of op a b))
+    subst (λ code. Computes memory i held at (code ++ chosen_of at op second)
+    (operation_value op a b))
     (sym copy)
-    (computes_after memory i at at a (value_of op a b) (one ∷ []) (chosen_of at op second) held
+    (computes_after memory i at at a (operation_value op a b) (one ∷ []) (chosen_of at op second)
+    held
     (omega arith) lt
     (ap (λ o. elim o [ None ↦ None | Some now ↦ Some now ]) leads)
     (choice_value op memory i at a b second (put at a held) is next lt less la lb
@@ -123,7 +127,7 @@ copied_own : (op : Op) (memory : ℕ → ℕ) (i at a b register : ℕ) (second 
     a < 2 ^ 32 → b < 2 ^ 32 → held register ≡ a → operand_in held second ≡ b →
     is_shallow (copy_code at (Register register) ++ chosen_of at op second) ≡ true →
     Computes memory i held at (copy_code at (Register register) ++ chosen_of at op second)
-    (value_of op a b)
+    (operation_value op a b)
 copied_own op memory i at a b register second held is own own_i next other la lb ha hb shallow =
     let same : i ≡ a = sym own_i ∙ ap held (sym own) ∙ ha in
     choice_copied op memory i at a b (Register register) second (instr.Pid at) held is
@@ -136,7 +140,7 @@ copied_number : (op : Op) (memory : ℕ → ℕ) (i at a b number : ℕ) (second
     a < 2 ^ 32 → b < 2 ^ 32 → number ≡ a → operand_in held second ≡ b →
     is_shallow (copy_code at (Number number) ++ chosen_of at op second) ≡ true →
     Computes memory i held at (copy_code at (Number number) ++ chosen_of at op second)
-    (value_of op a b)
+    (operation_value op a b)
 copied_number op memory i at a b number second held is next other la lb ha hb shallow =
     choice_copied op memory i at a b (Number number) second (instr.Set at number) held is refl
     (ap (λ v. Some (put at v held)) ha) next other la lb hb shallow
@@ -146,17 +150,17 @@ abbrev pub ComputesChoice : Op → (ℕ → ℕ) → ℕ → ℕ → ℕ → ℕ
 ComputesChoice op memory i at a b held first second =
     operand_in held first ≡ a → operand_in held second ≡ b →
     is_shallow (choice at op first second) ≡ true →
-    Computes memory i held at (choice at op first second) (value_of op a b)
+    Computes memory i held at (choice at op first second) (operation_value op a b)
 
 -- by the code that it is
 by_code : (op : Op) (memory : ℕ → ℕ) (i at a b : ℕ) (held : Registers) (first second : Operand)
     (code : List Instr) →
     choice at op first second ≡ code →
-    (is_shallow code ≡ true → Computes memory i held at code (value_of op a b)) →
+    (is_shallow code ≡ true → Computes memory i held at code (operation_value op a b)) →
     is_shallow (choice at op first second) ≡ true →
-    Computes memory i held at (choice at op first second) (value_of op a b)
+    Computes memory i held at (choice at op first second) (operation_value op a b)
 by_code op memory i at a b held first second code e c shallow =
-    subst (λ code. Computes memory i held at code (value_of op a b)) (sym e)
+    subst (λ code. Computes memory i held at code (operation_value op a b)) (sym e)
     (c (ap is_shallow (sym e) ∙ shallow))
 
 next_from : (at : ℕ) (second : Operand) → IsAt (at + 1) second → IsNext at second
@@ -203,9 +207,10 @@ second_ready op memory i at a b register held first is none next same lt la lb h
 none_ready : (op : Op) (memory : ℕ → ℕ) (i at a b : ℕ) (held : Registers) (first second : Operand) →
     taken_by first ≡ 0 → taken_by second ≡ 0 →
     (is_shallow (copy_code at first ++ chosen_of at op second) ≡ true →
-    Computes memory i held at (copy_code at first ++ chosen_of at op second) (value_of op a b)) →
+    Computes memory i held at (copy_code at first ++ chosen_of at op second)
+    (operation_value op a b)) →
     is_shallow (choice at op first second) ≡ true →
-    Computes memory i held at (choice at op first second) (value_of op a b)
+    Computes memory i held at (choice at op first second) (operation_value op a b)
 none_ready op memory i at a b held first second e f c =
     by_code op memory i at a b held first second (copy_code at first ++ chosen_of at op second)
     (choice_kept at op first second (neither first second f e)) c

@@ -7,14 +7,14 @@ use Rattle.pram_job.specs.declared.instr.Instr.{Instr}
 use Rattle.pram_job.specs.declared.instr.Operand.TheVariants.{Register, Number}
 use Rattle.pardo_text.specs.declared.operation.Op.TheVariants as op
 use Rattle.pardo_text.specs.Expression.{Tree, number, own, loop, private, place, apply}
-use Rattle.pardo_text.specs.Operations.{bit, value_of}
-use Rattle.pardo_job.specs.Layouts.{LayoutData}
+use Rattle.pardo_text.specs.Operations.{bit, operation_value}
+use Rattle.pardo_job.specs.Layouts.{ProgramLayoutData}
 use Rattle.pardo_job.specs.Leaves.{Decides, DecidesTo, ConditionsDecide}
 use Rattle.pardo_job.specs.Lines.{condition_code}
 use Rattle.pardo_job.specs.Meaning.{value}
 use Rattle.pardo_job.specs.Operations.{native, is_shallow}
 use Rattle.pardo_job.specs.Straight.{Registers, operand_in, after_all, Computes}
-use Rattle.pardo_job.specs.Values.{value_code, operand_of, is_truth}
+use Rattle.pardo_job.specs.Values.{value_code, value_operand, is_truth}
 use Rattle.pardo_job.proofs.Straight.{after_front, after_append}
 use Rattle.pardo_job.proofs.Shallow.{shallow_front, shallow_back}
 use Rattle.pardo_job.proofs.Operating.{IsApart, computes_native}
@@ -33,7 +33,7 @@ truth_of_value v (inl none) = none ∙ sym (ap (λ x. bit (not (x == 0))) none)
 truth_of_value v (inr one) = one ∙ sym (ap (λ x. bit (not (x == 0))) one)
 
 -- an expression that is a truth is computed
-truth_operand : (tree : Tree) → is_truth tree ≡ true → operand_of 0 tree ≡ Register 0
+truth_operand : (tree : Tree) → is_truth tree ≡ true → value_operand 0 tree ≡ Register 0
 truth_operand (number k) e = absurd (let wrong : false ≡ true = e in cc)
 truth_operand own e = absurd (let wrong : false ≡ true = e in cc)
 truth_operand (loop nest) e = refl
@@ -42,9 +42,10 @@ truth_operand (place array index) e = refl
 truth_operand (apply op first second) e = refl
 
 abbrev twice : Tree → List Instr
-twice tree = native 0 op.Eq (operand_of 0 tree) (Number 0) ++ native 0 op.Eq (Register 0) (Number 0)
+twice tree = native 0 op.Eq (value_operand 0 tree) (Number 0)
+    ++ native 0 op.Eq (Register 0) (Number 0)
 
-zero_apart : (tree : Tree) → IsApart 0 (Number 0) (operand_of 0 tree)
+zero_apart : (tree : Tree) → IsApart 0 (Number 0) (value_operand 0 tree)
 zero_apart (number k) = tt
 zero_apart own = inr refl
 zero_apart (loop nest) = inl refl
@@ -52,7 +53,7 @@ zero_apart (private x) = inl refl
 zero_apart (place array index) = inl refl
 zero_apart (apply op first second) = inl refl
 
-tree_apart : (tree : Tree) → IsApart 0 (operand_of 0 tree) (Number 0)
+tree_apart : (tree : Tree) → IsApart 0 (value_operand 0 tree) (Number 0)
 tree_apart (number k) = tt
 tree_apart own = tt
 tree_apart (loop nest) = tt
@@ -60,32 +61,35 @@ tree_apart (private x) = tt
 tree_apart (place array index) = tt
 tree_apart (apply op first second) = tt
 
-equals_zero : (v : ℕ) → value_of op.Eq v 0 ≡ bit (v == 0)
-unfolding value_of
+equals_zero : (v : ℕ) → operation_value op.Eq v 0 ≡ bit (v == 0)
+unfolding operation_value
 equals_zero v = refl
 
 tested_twice : (memory : ℕ → ℕ) (i v : ℕ) (tree : Tree) (held : Registers) →
-    operand_in held (operand_of 0 tree) ≡ v → is_shallow (twice tree) ≡ true →
+    operand_in held (value_operand 0 tree) ≡ v → is_shallow (twice tree) ≡ true →
     Decides memory i held (twice tree) v
 tested_twice memory i v tree held e shallow =
-    let front : List Instr = native 0 op.Eq (operand_of 0 tree) (Number 0) in
+    let front : List Instr = native 0 op.Eq (value_operand 0 tree) (Number 0) in
     let back : List Instr = native 0 op.Eq (Register 0) (Number 0) in
-    let c : Computes memory i held 0 front (value_of op.Eq v 0) =
-    computes_native memory i 0 v 0 (operand_of 0 tree) (Number 0) held op.Eq tt (tree_apart tree)
+    let c : Computes memory i held 0 front (operation_value op.Eq v 0) =
+    computes_native memory i 0 v 0 (value_operand 0 tree) (Number 0) held op.Eq tt (tree_apart tree)
     (zero_apart tree) e refl (shallow_front front back shallow) in
-    let d : Computes memory i c.now 0 back (value_of op.Eq (value_of op.Eq v 0) 0) =
-    computes_native memory i 0 (value_of op.Eq v 0) 0 (Register 0) (Number 0) c.now op.Eq tt tt
+    let d : Computes memory i c.now 0 back (operation_value op.Eq (operation_value op.Eq v 0) 0) =
+    computes_native memory i 0 (operation_value op.Eq v 0) 0 (Register 0) (Number 0) c.now op.Eq tt
+    tt
     (inl refl) c.gives refl (shallow_back front back shallow) in
     record {
       now = d.now;
       runs = after_front memory i front back held c.now c.runs ∙ d.runs;
-      gives = d.gives ∙ equals_zero (value_of op.Eq v 0) ∙ ap (λ x. bit (x == 0)) (equals_zero v) ∙
+      gives = d.gives ∙ equals_zero (operation_value op.Eq v 0)
+          ∙ ap (λ x. bit (x == 0)) (equals_zero v) ∙
           bit_of_value v;
       keeps = d.keeps 3 (inr refl) ∙ c.keeps 3 (inr refl);
     }
 
 -- the code after the value, by whether that is a truth
-decides_after : (memory : ℕ → ℕ) (i v : ℕ) (layout : LayoutData) (tree : Tree) (held : Registers)
+decides_after : (memory : ℕ → ℕ) (i v : ℕ) (layout : ProgramLayoutData) (tree : Tree)
+    (held : Registers)
     (t : Bool) →
     is_truth tree ≡ t → Evaluated memory i held layout 0 tree v →
     is_shallow (value_code layout 0 tree ++ (if t then [] else twice tree)) ≡ true →
@@ -108,7 +112,8 @@ decides_after memory i v layout tree held false is c shallow =
       keeps = d.keeps ∙ c.keeps 3 (inr refl);
     }
 
-condition_from : (memory : ℕ → ℕ) (i : ℕ) (layout : LayoutData) (tree : Tree) (held : Registers)
+condition_from : (memory : ℕ → ℕ) (i : ℕ) (layout : ProgramLayoutData) (tree : Tree)
+    (held : Registers)
     (v : Option ℕ) →
     EvaluatesTo memory i held layout 0 tree v → is_shallow (condition_code layout tree) ≡ true →
     DecidesTo memory i held (condition_code layout tree) v
@@ -119,7 +124,8 @@ condition_from memory i layout tree held None e shallow =
 condition_from memory i layout tree held (Some v) c shallow =
     decides_after memory i v layout tree held (is_truth tree) refl c shallow
 
-condition_front : (layout : LayoutData) (tree : Tree) → is_shallow (condition_code layout tree) ≡
+condition_front : (layout : ProgramLayoutData) (tree : Tree) →
+    is_shallow (condition_code layout tree) ≡
     true →
     is_shallow (value_code layout 0 tree) ≡ true
 unfolding condition_code

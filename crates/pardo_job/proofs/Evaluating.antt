@@ -13,17 +13,17 @@ use Rattle.pram_job.specs.declared.instr.Operand.TheVariants.{Register}
 use Rattle.pram_job.specs.declared.instr.Place.TheVariants.{Named}
 use Rattle.pardo_text.specs.declared.operation.Op.{Op}
 use Rattle.pardo_text.specs.Expression.{Tree, number, own, loop, private, place, apply}
-use Rattle.pardo_text.specs.Operations.{value_of, is_division}
+use Rattle.pardo_text.specs.Operations.{operation_value, is_division}
 use Rattle.pardo_text.specs.Program.{ProgramData}
-use Rattle.pardo_job.specs.Layouts.{LayoutData, private_cells, loop_cells, array_cells}
-use Rattle.pardo_job.specs.Lawful.{IsLawful}
+use Rattle.pardo_job.specs.Layouts.{ProgramLayoutData, private_cells, loop_cells, array_cells}
+use Rattle.pardo_job.specs.Lawful.{IsLawfulTree}
 use Rattle.pardo_job.specs.Leaves.{LeavesTo, ExpressionsAreEvaluated}
-use Rattle.pardo_job.specs.Meaning.{Source, value, cell_of}
+use Rattle.pardo_job.specs.Meaning.{Source, value, array_cell}
 use Rattle.pardo_job.specs.Operations.{operation_code, is_shallow, taken_by}
 use Rattle.pardo_job.specs.Sees.{Sees}
 use Rattle.pardo_job.specs.Straight.{Registers, put, operand_in, after_one, after_all, IsKept}
 use Rattle.pardo_job.specs.Straight.{Computes}
-use Rattle.pardo_job.specs.Values.{value_code, takes, operand_of, is_truth, own_load}
+use Rattle.pardo_job.specs.Values.{value_code, takes, value_operand, is_truth, own_load}
 use Rattle.pardo_job.proofs.Straight.{put_same, put_other, after_append, after_front}
 use Rattle.pardo_job.proofs.Shallow.{shallow_front, shallow_back}
 use Rattle.pardo_job.proofs.Choosing.{not_kept}
@@ -35,16 +35,17 @@ use Rattle.pardo_job.proofs.Fits.{value_fits}
 
 -- ---- what is shown
 
-pub record Evaluated (memory : ℕ → ℕ) (i : ℕ) (held : Registers) (layout : LayoutData) (at : ℕ)
+pub record Evaluated (memory : ℕ → ℕ) (i : ℕ) (held : Registers) (layout : ProgramLayoutData)
+    (at : ℕ)
     (tree : Tree) (v : ℕ) : Type 0 where
   pub now : Registers
   pub runs : after_all memory i (value_code layout at tree) held ≡ Some now
-  pub gives : operand_in now (operand_of at tree) ≡ v
+  pub gives : operand_in now (value_operand at tree) ≡ v
   pub keeps : (which : ℕ) → IsKept at which → now which ≡ held which
   pub fits : v < 2 ^ 32
   pub truth : is_truth tree ≡ true → IsTruth v
 
-abbrev pub EvaluatesTo : (ℕ → ℕ) → ℕ → Registers → LayoutData → ℕ → Tree → Option ℕ → Type 0
+abbrev pub EvaluatesTo : (ℕ → ℕ) → ℕ → Registers → ProgramLayoutData → ℕ → Tree → Option ℕ → Type 0
 EvaluatesTo memory i held layout at tree None =
     after_all memory i (value_code layout at tree) held ≡ None
 EvaluatesTo memory i held layout at tree (Some v) = Evaluated memory i held layout at tree v
@@ -93,19 +94,20 @@ own_loaded memory i at v held cells lt e less m =
 
 -- ---- places
 
-place_found : (program : ProgramData) (layout : LayoutData) (source : Source) (memory : ℕ → ℕ)
+place_found : (program : ProgramData) (layout : ProgramLayoutData) (source : Source)
+    (memory : ℕ → ℕ)
     (i at array k : ℕ) (index : Tree) (held : Registers) → Sees program layout source memory i →
     array < length layout.arrays → at < 3 → Evaluated memory i held layout at index k →
-    (cell : Option ℕ) → cell_of program array k ≡ cell →
+    (cell : Option ℕ) → array_cell program array k ≡ cell →
     EvaluatesTo memory i held layout at (place array index) (option_map source.cells cell)
 place_found program layout source memory i at array k index held sees is lt c None e =
-    let load : Instr = instr.Ld at (Named (array_cells layout array) (operand_of at index)) in
+    let load : Instr = instr.Ld at (Named (array_cells layout array) (value_operand at index)) in
     after_front memory i (value_code layout at index) (load ∷ []) held c.now c.runs
     ∙ ap (option_and_then (after_all memory i []))
-    (load_outside memory i at k c.now (array_cells layout array) (operand_of at index) c.gives
+    (load_outside memory i at k c.now (array_cells layout array) (value_operand at index) c.gives
     (sees.outside array k is e))
 place_found program layout source memory i at array k index held sees is lt c (Some cell) e =
-    let load : Instr = instr.Ld at (Named (array_cells layout array) (operand_of at index)) in
+    let load : Instr = instr.Ld at (Named (array_cells layout array) (value_operand at index)) in
     let cells : Array = array_cells layout array in
     let w : (k < cells.len) × (cells.base + k ≡ cell) × (memory cell ≡ source.cells cell) =
     sees.within array k cell e in
@@ -114,30 +116,32 @@ place_found program layout source memory i at array k index held sees is lt c (S
       now = put at v c.now;
       runs = after_front memory i (value_code layout at index) (load ∷ []) held c.now c.runs
           ∙ ap (option_and_then (after_all memory i []))
-          (load_within memory i at k c.now cells (operand_of at index) c.gives w.0);
+          (load_within memory i at k c.now cells (value_operand at index) c.gives w.0);
       gives = put_same at v c.now ∙ ap memory w.1 ∙ w.2;
       keeps = λ which kept. kept_put at v c.now lt which kept ∙ c.keeps which kept;
       fits = subst (λ x. x < 2 ^ 32) w.2 (sees.fits cell);
       truth = λ no. no_truth no;
     }
 
-place_evaluates : (program : ProgramData) (layout : LayoutData) (source : Source) (memory : ℕ → ℕ)
+place_evaluates : (program : ProgramData) (layout : ProgramLayoutData) (source : Source)
+    (memory : ℕ → ℕ)
     (i at array : ℕ) (index : Tree) (held : Registers) → Sees program layout source memory i →
     array < length layout.arrays → at < 3 → (k : Option ℕ) →
     EvaluatesTo memory i held layout at index k →
     EvaluatesTo memory i held layout at (place array index)
-    (option_and_then (λ k. option_map source.cells (cell_of program array k)) k)
+    (option_and_then (λ k. option_map source.cells (array_cell program array k)) k)
 place_evaluates program layout source memory i at array index held sees is lt None e =
     none_after memory i (value_code layout at index)
-    (instr.Ld at (Named (array_cells layout array) (operand_of at index)) ∷ []) held e
+    (instr.Ld at (Named (array_cells layout array) (value_operand at index)) ∷ []) held e
 place_evaluates program layout source memory i at array index held sees is lt (Some k) c =
     place_found program layout source memory i at array k index held sees is lt c
-    (cell_of program array k) refl
+    (array_cell program array k) refl
 
 -- ---- operations
 
 -- where an operand is
-pub operand_at : (at : ℕ) (tree : Tree) → (takes tree ≡ 1 → at < 3) → IsAt at (operand_of at tree)
+pub operand_at : (at : ℕ) (tree : Tree) → (takes tree ≡ 1 → at < 3) →
+    IsAt at (value_operand at tree)
 operand_at at (number k) below = tt
 operand_at at own below = inr refl
 operand_at at (loop nest) below = inl (refl, below refl)
@@ -146,7 +150,7 @@ operand_at at (place array index) below = inl (refl, below refl)
 operand_at at (apply op first second) below = inl (refl, below refl)
 
 pub operand_taken : (at : ℕ) (tree : Tree) → (takes tree ≡ 1 → at < 3) →
-    taken_by (operand_of at tree) ≡ takes tree
+    taken_by (value_operand at tree) ≡ takes tree
 operand_taken at (number k) below = refl
 operand_taken at own below = refl
 operand_taken at (loop nest) below = taken_one at (below refl)
@@ -157,7 +161,7 @@ operand_taken at (apply op first second) below = taken_one at (below refl)
 -- an operand stays while the next one is evaluated
 operand_stays : (at : ℕ) (tree : Tree) (held now : Registers) →
     ((which : ℕ) → IsKept (at + takes tree) which → now which ≡ held which) →
-    operand_in now (operand_of at tree) ≡ operand_in held (operand_of at tree)
+    operand_in now (value_operand at tree) ≡ operand_in held (value_operand at tree)
 operand_stays at (number k) held now keeps = refl
 operand_stays at own held now keeps = keeps 3 (inr refl)
 operand_stays at (loop nest) held now keeps = keeps at (inl (omega arith))
@@ -174,19 +178,20 @@ both_truths true true e = (refl, refl)
 both_truths true false e = no_truth e
 both_truths false t e = no_truth e
 
-apply_evaluates : (memory : ℕ → ℕ) (i at : ℕ) (op : Op) (first second : Tree) (layout : LayoutData)
+apply_evaluates : (memory : ℕ → ℕ) (i at : ℕ) (op : Op) (first second : Tree)
+    (layout : ProgramLayoutData)
     (held : Registers) (a b : ℕ) → is_division op ≡ false → held 3 ≡ i →
     is_shallow (value_code layout at (apply op first second)) ≡ true →
     (c : Evaluated memory i held layout at first a) →
     Evaluated memory i c.now layout (at + takes first) second b →
-    Evaluated memory i held layout at (apply op first second) (value_of op a b)
+    Evaluated memory i held layout at (apply op first second) (operation_value op a b)
 apply_evaluates memory i at op first second layout held a b plain own_i shallow c d =
     let up : ℕ = at + takes first in
     let t : Bool = is_truth first && is_truth second in
     let front : List Instr = value_code layout at first in
     let middle : List Instr = value_code layout up second in
-    let x : Operand = operand_of at first in
-    let y : Operand = operand_of up second in
+    let x : Operand = value_operand at first in
+    let y : Operand = value_operand up second in
     let back : List Instr = operation_code at op t x y in
     let rest : is_shallow (middle ++ back) ≡ true = shallow_back front (middle ++ back) shallow in
     let last : is_shallow back ≡ true = shallow_back middle back rest in
@@ -209,7 +214,7 @@ apply_evaluates memory i at op first second layout held a b plain own_i shallow 
       first_is = operand_stays at first c.now d.now d.keeps ∙ c.gives;
       second_is = d.gives;
     } in
-    let e : Computes memory i d.now at back (value_of op a b) =
+    let e : Computes memory i d.now at back (operation_value op a b) =
     computes_operation op t memory i at a b d.now x y plain operands truths last in
     record {
       now = e.now;
@@ -223,20 +228,21 @@ apply_evaluates memory i at op first second layout held a b plain own_i shallow 
       truth = λ is. truth_value op t a b is truths;
     }
 
-apply_values : (memory : ℕ → ℕ) (i at : ℕ) (op : Op) (first second : Tree) (layout : LayoutData)
+apply_values : (memory : ℕ → ℕ) (i at : ℕ) (op : Op) (first second : Tree)
+    (layout : ProgramLayoutData)
     (held : Registers) → is_division op ≡ false → held 3 ≡ i →
     is_shallow (value_code layout at (apply op first second)) ≡ true →
     (a b : Option ℕ) → EvaluatesTo memory i held layout at first a →
     ((now : Registers) → now 3 ≡ i → EvaluatesTo memory i now layout (at + takes first) second b) →
     EvaluatesTo memory i held layout at (apply op first second)
-    (option_and_then (λ x. option_map (value_of op x) b) a)
+    (option_and_then (λ x. option_map (operation_value op x) b) a)
 apply_values memory i at op first second layout held plain own_i shallow None b c d =
     none_after memory i (value_code layout at first) (value_code layout (at + takes first) second
-    ++ operation_code at op (is_truth first && is_truth second) (operand_of at first)
-    (operand_of (at + takes first) second)) held c
+    ++ operation_code at op (is_truth first && is_truth second) (value_operand at first)
+    (value_operand (at + takes first) second)) held c
 apply_values memory i at op first second layout held plain own_i shallow (Some a) None c d =
     let back : List Instr = operation_code at op (is_truth first && is_truth second)
-    (operand_of at first) (operand_of (at + takes first) second) in
+    (value_operand at first) (value_operand (at + takes first) second) in
     let middle : List Instr = value_code layout (at + takes first) second in
     after_front memory i (value_code layout at first) (middle ++ back) held c.now c.runs
     ∙ none_after memory i middle back c.now (d c.now (c.keeps 3 (inr refl) ∙ own_i))
@@ -246,9 +252,10 @@ apply_values memory i at op first second layout held plain own_i shallow (Some a
 
 -- ---- expressions
 
-leaf_loaded : (memory : ℕ → ℕ) (i at v : ℕ) (held : Registers) (layout : LayoutData) (tree : Tree)
+leaf_loaded : (memory : ℕ → ℕ) (i at v : ℕ) (held : Registers) (layout : ProgramLayoutData)
+    (tree : Tree)
     (cells : Array) →
-    value_code layout at tree ≡ own_load at cells ∷ [] → operand_of at tree ≡ Register at →
+    value_code layout at tree ≡ own_load at cells ∷ [] → value_operand at tree ≡ Register at →
     is_truth tree ≡ false → at < 3 → held 3 ≡ i → i < cells.len → memory (cells.base + i) ≡ v →
     v < 2 ^ 32 → Evaluated memory i held layout at tree v
 leaf_loaded memory i at v held layout tree cells code is plain lt own_i less m fits = record {
@@ -261,9 +268,10 @@ leaf_loaded memory i at v held layout tree cells code is plain lt own_i less m f
   truth = λ yes. no_truth (sym plain ∙ yes);
 }
 
-pub evaluates : (program : ProgramData) (layout : LayoutData) (source : Source) (memory : ℕ → ℕ)
+pub evaluates : (program : ProgramData) (layout : ProgramLayoutData) (source : Source)
+    (memory : ℕ → ℕ)
     (i : ℕ) → Sees program layout source memory i → (tree : Tree) (at : ℕ) (held : Registers) →
-    held 3 ≡ i → IsLawful layout tree → is_shallow (value_code layout at tree) ≡ true →
+    held 3 ≡ i → IsLawfulTree layout tree → is_shallow (value_code layout at tree) ≡ true →
     EvaluatesTo memory i held layout at tree (value program source i tree)
 evaluates program layout source memory i sees (number k) at held own_i is shallow = record {
   now = held;
@@ -299,11 +307,11 @@ evaluates program layout source memory i sees (place array index) at held own_i 
     (value_below layout at (place array index) refl shallow) (value program source i index)
     (evaluates program layout source memory i sees index at held own_i is.1
     (shallow_front (value_code layout at index)
-    (instr.Ld at (Named (array_cells layout array) (operand_of at index)) ∷ []) shallow))
+    (instr.Ld at (Named (array_cells layout array) (value_operand at index)) ∷ []) shallow))
 evaluates program layout source memory i sees (apply op first second) at held own_i is shallow =
     let middle : List Instr = value_code layout (at + takes first) second in
     let back : List Instr = operation_code at op (is_truth first && is_truth second)
-    (operand_of at first) (operand_of (at + takes first) second) in
+    (value_operand at first) (value_operand (at + takes first) second) in
     apply_values memory i at op first second layout held is.0 own_i shallow
     (value program source i first) (value program source i second)
     (evaluates program layout source memory i sees first at held own_i is.1.0
@@ -313,7 +321,7 @@ evaluates program layout source memory i sees (apply op first second) at held ow
     (shallow_front middle back (shallow_back (value_code layout at first) (middle ++ back)
     shallow)))
 
-left : (memory : ℕ → ℕ) (i at : ℕ) (held : Registers) (layout : LayoutData) (tree : Tree)
+left : (memory : ℕ → ℕ) (i at : ℕ) (held : Registers) (layout : ProgramLayoutData) (tree : Tree)
     (v : Option ℕ) →
     EvaluatesTo memory i held layout at tree v → LeavesTo memory i held layout at tree v
 left memory i at held layout tree None e = e

@@ -9,7 +9,7 @@ use Rattle.pardo_text.specs.declared.operation.Op.{Op}
 use Rattle.pardo_text.specs.declared.operation.Op.TheVariants.{Add, Sub, Mul, Div, Rem, Shl, Shr}
 use Rattle.pardo_text.specs.declared.operation.Op.TheVariants.{BitAnd, BitOr, BitXor, Eq, Ne}
 use Rattle.pardo_text.specs.declared.operation.Op.TheVariants.{Lt, Le, Gt, Ge, And, Or, Min, Max}
-use Rattle.pardo_text.specs.Operations.{bit, value_of, is_division}
+use Rattle.pardo_text.specs.Operations.{bit, operation_value, is_division}
 
 bit_fits : (x : Bool) → bit x < 2 ^ 32
 bit_fits true = omega arith
@@ -26,8 +26,8 @@ quotient_fits : (a b : ℕ) → a < 2 ^ 32 → a / 2 ^ b < 2 ^ 32
 quotient_fits a b lt = let le : a / 2 ^ b ≤ a = div-le_self a (2 ^ b) in omega arith
 
 pub value_fits : (op : Op) (a b : ℕ) → is_division op ≡ false → a < 2 ^ 32 → b < 2 ^ 32 →
-    value_of op a b < 2 ^ 32
-unfolding value_of is_division
+    operation_value op a b < 2 ^ 32
+unfolding operation_value is_division
 value_fits Add a b plain la lb = remainder_fits (a + b)
 value_fits Sub a b plain la lb = remainder_fits (a + (2 ^ 32 - b))
 value_fits Mul a b plain la lb = remainder_fits (a * b)

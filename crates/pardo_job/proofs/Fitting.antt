@@ -15,16 +15,17 @@ use Rattle.pardo_text.specs.declared.operation.Op.TheVariants.{Add, Sub, Mul, Di
 use Rattle.pardo_text.specs.declared.operation.Op.TheVariants.{BitAnd, BitOr, BitXor, Eq, Ne}
 use Rattle.pardo_text.specs.declared.operation.Op.TheVariants.{Lt, Le, Gt, Ge, And, Or, Min, Max}
 use Rattle.pardo_text.specs.Expression.{Tree, number, own, loop, private, place, apply}
-use Rattle.pardo_job.specs.Layouts.{LayoutData, array_cells, loop_cells, mask_cells, private_cells}
+use Rattle.pardo_job.specs.Layouts.{ProgramLayoutData, array_cells, loop_cells, mask_cells}
+use Rattle.pardo_job.specs.Layouts.{private_cells}
 use Rattle.pardo_job.specs.Layouts.{row}
-use Rattle.pardo_job.specs.Lawful.{IsLawful}
+use Rattle.pardo_job.specs.Lawful.{IsLawfulTree}
 use Rattle.pardo_job.specs.Operations.{chosen_of, choice, conjunction, copy_code, first_chosen}
 use Rattle.pardo_job.specs.Operations.{second_chosen}
 use Rattle.pardo_job.specs.Operations.{in_order, instruction_of, is_max, is_shallow, is_turned}
 use Rattle.pardo_job.specs.Operations.{native, negation}
-use Rattle.pardo_job.specs.Operations.{operation_code, register_code, register_of, taken_by}
+use Rattle.pardo_job.specs.Operations.{operation_code, register_code, register_or_spare, taken_by}
 use Rattle.pardo_job.specs.Operations.{tested_in, zero_test}
-use Rattle.pardo_job.specs.Values.{is_truth, operand_of, own_load, own_place, takes, value_code}
+use Rattle.pardo_job.specs.Values.{is_truth, value_operand, own_load, own_place, takes, value_code}
 use Rattle.pardo_job.proofs.Below.{operation_below, value_below}
 use Rattle.pardo_job.proofs.Choices.{test_shallow}
 use Rattle.pardo_job.proofs.Shallow.{shallow_back, shallow_front, shallow_target}
@@ -51,7 +52,7 @@ register_fits cells len spare (Number k) is shallow =
     ((fits, is), tt)
 
 pub register_below : (spare : ℕ) (operand : Operand) → IsOperand operand →
-    is_shallow (register_code spare operand) ≡ true → register_of spare operand < 4
+    is_shallow (register_code spare operand) ≡ true → register_or_spare spare operand < 4
 register_below spare (Register r) is shallow = is
 register_below spare (Number k) is shallow =
     let lt : spare < 3 = shallow_target (instr.Set spare k) [] shallow in omega arith
@@ -86,11 +87,11 @@ in_order_fits : (cells len at : ℕ) (op : Op) (first second : Operand) → at <
 in_order_fits cells len at op first second lt f s shallow =
     let spare : ℕ = at + taken_by second in
     let front : List Instr = register_code spare first in
-    let one : Instr = instruction_of op at (register_of spare first) second in
+    let one : Instr = instruction_of op at (register_or_spare spare first) second in
     let quiet : is_shallow front ≡ true = shallow_front front (one ∷ []) shallow in
     let low : at < 4 = omega arith in
     fit_both cells len front (one ∷ []) (register_fits cells len spare first f quiet) (
-      instruction_fits cells len op at (register_of spare first) second low
+      instruction_fits cells len op at (register_or_spare spare first) second low
           (register_below spare first f quiet) s,
       tt,
     )
@@ -125,16 +126,16 @@ tested_below spare register false s r = r
 
 -- the target of a test is one for values
 zero_low : (spare : ℕ) (operand : Operand) → is_shallow (zero_test spare operand) ≡ true →
-    tested_in spare (register_of spare operand) < 3
+    tested_in spare (register_or_spare spare operand) < 3
 zero_low spare operand shallow =
-    let r : ℕ = register_of spare operand in
+    let r : ℕ = register_or_spare spare operand in
     shallow_target (instr.Eq (tested_in spare r) r (Number 0)) []
     (shallow_back (register_code spare operand) _ shallow)
 
 zero_fits : (cells len spare : ℕ) (operand : Operand) → IsOperand operand →
     is_shallow (zero_test spare operand) ≡ true → Fit cells len (zero_test spare operand)
 zero_fits cells len spare operand is shallow =
-    let r : ℕ = register_of spare operand in
+    let r : ℕ = register_or_spare spare operand in
     let front : List Instr = register_code spare operand in
     let one : Instr = instr.Eq (tested_in spare r) r (Number 0) in
     let quiet : is_shallow front ≡ true = shallow_front front (one ∷ []) shallow in
@@ -150,8 +151,8 @@ conjunction_fits : (cells len at : ℕ) (first second : Operand) → at < 3 → 
 unfolding conjunction
 conjunction_fits cells len at first second lt f s shallow =
     let spare : ℕ = at + taken_by second in
-    let t : ℕ = tested_in spare (register_of spare first) in
-    let u : ℕ = tested_in (at + 1) (register_of (at + 1) second) in
+    let t : ℕ = tested_in spare (register_or_spare spare first) in
+    let u : ℕ = tested_in (at + 1) (register_or_spare (at + 1) second) in
     let front : List Instr = zero_test spare first in
     let middle : List Instr = zero_test (at + 1) second in
     let back : List Instr = instr.Or at t (Register u) ∷ negation at in
@@ -292,7 +293,7 @@ operation_fits cells len op at truths a b f s shallow =
 -- ---- expressions
 
 -- the arrays and the rows of a layout lie among so many cells
-pub record IsLaid (cells : ℕ) (layout : LayoutData) : Type 0 where
+pub record IsLaid (cells : ℕ) (layout : ProgramLayoutData) : Type 0 where
   pub arrays : (array : ℕ) → array < length layout.arrays → IsArray cells (array_cells layout array)
   pub rows : (which : ℕ) → which < layout.privates + layout.loops + layout.choices →
       IsArray cells (row layout which)
@@ -305,24 +306,25 @@ pub load_fits : (cells len at : ℕ) (array : Array) → at < 3 → IsArray cell
 load_fits cells len at array lt is = let low : at < 4 = omega arith in
     ((low, own_fits cells array is), tt)
 
-pub private_fits : (cells : ℕ) (layout : LayoutData) (x : ℕ) → IsLaid cells layout →
+pub private_fits : (cells : ℕ) (layout : ProgramLayoutData) (x : ℕ) → IsLaid cells layout →
     x < layout.privates →
     IsArray cells (private_cells layout x)
 private_fits cells layout x laid lt = laid.rows x (omega arith)
 
-pub loop_fits : (cells : ℕ) (layout : LayoutData) (nest : ℕ) → IsLaid cells layout →
+pub loop_fits : (cells : ℕ) (layout : ProgramLayoutData) (nest : ℕ) → IsLaid cells layout →
     nest < layout.loops →
     IsArray cells (loop_cells layout nest)
 loop_fits cells layout nest laid lt = laid.rows (layout.privates + nest) (omega arith)
 
-pub mask_fits : (cells : ℕ) (layout : LayoutData) (depth : ℕ) → IsLaid cells layout → 0 < depth →
+pub mask_fits : (cells : ℕ) (layout : ProgramLayoutData) (depth : ℕ) → IsLaid cells layout →
+    0 < depth →
     depth ≤ layout.choices →
     IsArray cells (mask_cells layout depth)
 mask_fits cells layout depth laid lt le =
     laid.rows (layout.privates + layout.loops + (depth - 1)) (omega arith)
 
-pub operand_fits : (layout : LayoutData) (at : ℕ) (tree : Tree) → IsLawful layout tree →
-    is_shallow (value_code layout at tree) ≡ true → IsOperand (operand_of at tree)
+pub operand_fits : (layout : ProgramLayoutData) (at : ℕ) (tree : Tree) → IsLawfulTree layout tree →
+    is_shallow (value_code layout at tree) ≡ true → IsOperand (value_operand at tree)
 operand_fits layout at (number k) lawful shallow = lawful
 operand_fits layout at own lawful shallow = let lt : 3 < 4 = omega arith in lt
 operand_fits layout at (loop nest) lawful shallow = let lt : at < 3 =
@@ -335,8 +337,8 @@ operand_fits layout at (apply op first second) lawful shallow = let lt : at < 3 
     value_below layout at (apply op first second) refl shallow in let low : at < 4 = omega arith in
     low
 
-pub value_fits : (cells len : ℕ) (layout : LayoutData) (at : ℕ) (tree : Tree) →
-    IsLaid cells layout → IsLawful layout tree →
+pub value_fits : (cells len : ℕ) (layout : ProgramLayoutData) (at : ℕ) (tree : Tree) →
+    IsLaid cells layout → IsLawfulTree layout tree →
     is_shallow (value_code layout at tree) ≡ true → Fit cells len (value_code layout at tree)
 value_fits cells len layout at (number k) laid lawful shallow = tt
 value_fits cells len layout at own laid lawful shallow = tt
@@ -348,7 +350,7 @@ value_fits cells len layout at (private x) laid lawful shallow =
     (private_fits cells layout x laid lawful)
 value_fits cells len layout at (place array index) laid lawful shallow =
     let front : List Instr = value_code layout at index in
-    let load : Instr = instr.Ld at (Named (array_cells layout array) (operand_of at index)) in
+    let load : Instr = instr.Ld at (Named (array_cells layout array) (value_operand at index)) in
     let quiet : is_shallow front ≡ true = shallow_front front (load ∷ []) shallow in
     let lt : at < 3 = value_below layout at (place array index) refl shallow in
     let low : at < 4 = omega arith in
@@ -359,7 +361,7 @@ value_fits cells len layout at (apply op first second) laid lawful shallow =
     let front : List Instr = value_code layout at first in
     let middle : List Instr = value_code layout up second in
     let back : List Instr = operation_code at op (is_truth first && is_truth second)
-    (operand_of at first) (operand_of up second) in
+    (value_operand at first) (value_operand up second) in
     let after : is_shallow (middle ++ back) ≡ true = shallow_back front (middle ++ back) shallow in
     let quiet : is_shallow front ≡ true = shallow_front front (middle ++ back) shallow in
     let quiet_too : is_shallow middle ≡ true = shallow_front middle back after in
@@ -367,7 +369,7 @@ value_fits cells len layout at (apply op first second) laid lawful shallow =
     (value_fits cells len layout at first laid lawful.1.0 quiet)
     (fit_both cells len middle back
     (value_fits cells len layout up second laid lawful.1.1 quiet_too)
-    (operation_fits cells len op at (is_truth first && is_truth second) (operand_of at first)
-    (operand_of up second)
+    (operation_fits cells len op at (is_truth first && is_truth second) (value_operand at first)
+    (value_operand up second)
     (operand_fits layout at first lawful.1.0 quiet)
     (operand_fits layout up second lawful.1.1 quiet_too) (shallow_back middle back after)))

@@ -19,17 +19,18 @@ use Rattle.pardo_text.specs.Expression.{Tree, number, own, loop, private, place,
 use Rattle.pardo_text.specs.Program.{ProgramData}
 use Rattle.pardo_job.specs.declared.fault.JobKind.{JobKind}
 use Rattle.pardo_job.specs.declared.fault.JobKind.TheVariants.{TooDeep, TooLong, Endless, Memory}
-use Rattle.pardo_job.specs.Inner.Emitting.{IsFaultOf}
+use Rattle.pardo_job.specs.Inner.Emitting.{IsCodeFault}
 use Rattle.pardo_job.specs.Inner.Pieces.{IsLineFault, PutsLine, bounds_code, choice_code, under}
-use Rattle.pardo_job.specs.Layouts.{LayoutData, layout_of, array_cells, loop_cells, mask_cells}
+use Rattle.pardo_job.specs.Layouts.{ProgramLayoutData, program_layout, array_cells, loop_cells}
+use Rattle.pardo_job.specs.Layouts.{mask_cells}
 use Rattle.pardo_job.specs.Layouts.{private_cells}
 use Rattle.pardo_job.specs.Lines.{assignment_code, choosing, condition_code, first_code, idle}
 use Rattle.pardo_job.specs.Lines.{line_code, masked, none_code, own_store, while_code}
 use Rattle.pardo_job.specs.Operations.{chosen_of, conjunction, choice, copy_code, first_chosen}
 use Rattle.pardo_job.specs.Operations.{in_order, instruction_of, is_shallow, is_turned, native}
-use Rattle.pardo_job.specs.Operations.{operation_code, register_code, register_of}
+use Rattle.pardo_job.specs.Operations.{operation_code, register_code, register_or_spare}
 use Rattle.pardo_job.specs.Operations.{second_chosen, taken_by, zero_test}
-use Rattle.pardo_job.specs.Values.{is_truth, operand_of, own_load, own_place, takes}
+use Rattle.pardo_job.specs.Values.{is_truth, value_operand, own_load, own_place, takes}
 use Rattle.pardo_job.specs.Values.{value_code}
 use Rattle.pardo_job.proofs.Emitting.{fault_back, shallow_both}
 use Rattle.pardo_job.proofs.LineGoals.{IsSaid}
@@ -41,7 +42,7 @@ use Rattle.pardo_job.proofs.Shallow.{instruction_target}
 in_order_some : (at : ℕ) (one : Op) (a b : Operand) → 1 ≤ length (in_order at one a b)
 in_order_some at one a b =
     let spare : ℕ = at + taken_by b in
-    let last : List Instr = instruction_of one at (register_of spare a) b ∷ [] in
+    let last : List Instr = instruction_of one at (register_or_spare spare a) b ∷ [] in
     omega (arith, length-append (register_code spare a) last)
 
 either_some : (at : ℕ) (one : Op) (a b : Operand) (turned : Bool) →
@@ -103,7 +104,7 @@ operation_some at op.Gt truths a b = native_some at op.Gt a b
 
 -- ---- the code of an expression is at least half as long as its nodes
 
-nodes_few : (layout : LayoutData) (at : ℕ) (tree : Tree) →
+nodes_few : (layout : ProgramLayoutData) (at : ℕ) (tree : Tree) →
     length (postfix tree) ≤ 2 * length (value_code layout at tree) + 1
 nodes_few layout at (number k) = omega arith
 nodes_few layout at own = omega arith
@@ -118,26 +119,26 @@ nodes_few layout at (place array index) =
     )
 nodes_few layout at (apply one first second) =
     let code : List Instr = operation_code at one (is_truth first && is_truth second)
-    (operand_of at first) (operand_of (at + takes first) second) in
+    (value_operand at first) (value_operand (at + takes first) second) in
     omega (
       arith,
       nodes_few layout at first,
       nodes_few layout (at + takes first) second,
-      operation_some at one (is_truth first && is_truth second) (operand_of at first)
-          (operand_of (at + takes first) second),
+      operation_some at one (is_truth first && is_truth second) (value_operand at first)
+          (value_operand (at + takes first) second),
       length-append {A = Node} (postfix first),
       length-append {A = Node} (postfix second),
       length-append (value_code layout at first) (value_code layout (at + takes first) second ++ code),
       length-append (value_code layout (at + takes first) second) code,
     )
 
-pub long_code : (layout : LayoutData) (at : ℕ) (tree : Tree) (nodes : List Node) →
+pub long_code : (layout : ProgramLayoutData) (at : ℕ) (tree : Tree) (nodes : List Node) →
     nodes ≡ postfix tree → 2 * MAX_CODE + 1 < length nodes →
     MAX_CODE < length (value_code layout at tree)
 long_code layout at tree nodes e many =
     omega (arith, nodes_few layout at tree, ap (λ (l : List Node). length l) e)
 
-pub long_bounds : (layout : LayoutData) (first second : Tree) (nodes others : List Node)
+pub long_bounds : (layout : ProgramLayoutData) (first second : Tree) (nodes others : List Node)
     (count : ℕ) → nodes ≡ postfix first → others ≡ postfix second →
     count ≤ length nodes + length others → 2 * MAX_CODE + 2 < count →
     MAX_CODE < length (bounds_code layout first second)
@@ -152,14 +153,14 @@ long_bounds layout first second nodes others count e f few many =
     )
 
 -- the second expression begins where the first one has left registers free
-pub both_deep : (layout : LayoutData) (first second : Tree) (at : ℕ) (k : JobKind) →
+pub both_deep : (layout : ProgramLayoutData) (first second : Tree) (at : ℕ) (k : JobKind) →
     at ≡ takes first → is_shallow (value_code layout 0 first) ≡ true →
-    IsFaultOf (value_code layout at second) k → IsFaultOf (bounds_code layout first second) k
+    IsCodeFault (value_code layout at second) k → IsCodeFault (bounds_code layout first second) k
 both_deep layout first second at k e s fault =
     fault_back (value_code layout 0 first) (value_code layout (takes first) second) k s
-    (subst (λ (n : ℕ). IsFaultOf (value_code layout n second) k) e fault)
+    (subst (λ (n : ℕ). IsCodeFault (value_code layout n second) k) e fault)
 
-pub both_shallow : (layout : LayoutData) (first second : Tree) (at : ℕ) → at ≡ takes first →
+pub both_shallow : (layout : ProgramLayoutData) (first second : Tree) (at : ℕ) → at ≡ takes first →
     is_shallow (value_code layout 0 first) ≡ true →
     is_shallow (value_code layout at second) ≡ true →
     is_shallow (bounds_code layout first second) ≡ true
@@ -216,7 +217,7 @@ register_shallow a (Number k) = spare_shallow false a
 
 in_order_shallow : (one : Op) (a b : Operand) → is_shallow (in_order 0 one a b) ≡ true
 in_order_shallow one a b =
-    let register : ℕ = register_of (0 + taken_by b) a in
+    let register : ℕ = register_or_spare (0 + taken_by b) a in
     shallow_both (register_code (0 + taken_by b) a) (instruction_of one 0 register b ∷ [])
     ∙ ap (λ t. t && is_shallow (instruction_of one 0 register b ∷ [])) (register_shallow a b)
     ∙ ap (λ n. nat_lt n 3 && true) (instruction_target one 0 register b)
@@ -242,7 +243,7 @@ truth_shallow false a =
 
 -- ---- masks
 
-masked_either : (layout : LayoutData) (at depth : ℕ) (body : List Instr) (b : Bool) →
+masked_either : (layout : ProgramLayoutData) (at depth : ℕ) (body : List Instr) (b : Bool) →
     IsPart (if b then body else under layout at depth body) body
 masked_either layout at depth body true = record { same = refl; few = omega arith }
 masked_either layout at depth body false =
@@ -253,12 +254,12 @@ masked_either layout at depth body false =
       few = under_long layout at depth body;
     }
 
-masked_part : (layout : LayoutData) (at depth : ℕ) (body : List Instr) →
+masked_part : (layout : ProgramLayoutData) (at depth : ℕ) (body : List Instr) →
     IsPart (masked layout at depth body) body
 unfolding masked
 masked_part layout at depth body = masked_either layout at depth body (depth == 0)
 
-choice_either : (layout : LayoutData) (at depth : ℕ) (body : List Instr) (b : Bool) →
+choice_either : (layout : ProgramLayoutData) (at depth : ℕ) (body : List Instr) (b : Bool) →
     is_shallow (if b then body else own_load 0
     (mask_cells layout depth) ∷ Jz 0 (at + 3 + length body)
     ∷ (body ++ Jmp (at + 4 + 2 * length body) ∷ idle (at + 3 + length body) (length body + 1)))
@@ -270,7 +271,7 @@ choice_either layout at depth body false =
     ∙ ap (λ b. is_shallow body && b) (idle_shallow (at + 3 + n) (n + 1))
     ∙ and_true (is_shallow body)
 
-choosing_part : (layout : LayoutData) (at depth : ℕ) (body : List Instr) →
+choosing_part : (layout : ProgramLayoutData) (at depth : ℕ) (body : List Instr) →
     IsPart (choosing layout at depth body) body
 unfolding choosing
 choosing_part layout at depth body =
@@ -286,26 +287,26 @@ choosing_part layout at depth body =
 
 pub private_part : (program : ProgramData) (places : ℕ → ℕ) (at depth x : ℕ) (tree : Tree) →
     IsPart (line_code program places at depth (Assign (Private x) tree))
-    (value_code (layout_of program) 0 tree)
+    (value_code (program_layout program) 0 tree)
 unfolding line_code assignment_code
 private_part program places at depth x tree =
-    let layout : LayoutData = layout_of program in
+    let layout : ProgramLayoutData = program_layout program in
     let code : List Instr = assignment_code layout (Private x) tree in
     part_then (masked layout at depth code) (value_code layout 0 tree) code
     (masked_part layout at depth code)
     (front_part (value_code layout 0 tree)
-    (St (own_place (private_cells layout x)) (operand_of 0 tree) ∷ []) refl)
+    (St (own_place (private_cells layout x)) (value_operand 0 tree) ∷ []) refl)
 
 pub array_part : (program : ProgramData) (places : ℕ → ℕ) (at depth array : ℕ)
     (index tree : Tree) →
     IsPart (line_code program places at depth (Assign (Shared array index) tree))
-    (bounds_code (layout_of program) tree index)
+    (bounds_code (program_layout program) tree index)
 unfolding line_code assignment_code
 array_part program places at depth array index tree =
-    let layout : LayoutData = layout_of program in
+    let layout : ProgramLayoutData = program_layout program in
     let code : List Instr = assignment_code layout (Shared array index) tree in
     let store : List Instr = St (Named (array_cells layout array)
-    (operand_of (takes tree) index)) (operand_of 0 tree) ∷ [] in
+    (value_operand (takes tree) index)) (value_operand 0 tree) ∷ [] in
     part_then (masked layout at depth code) (bounds_code layout tree index) code
     (masked_part layout at depth code)
     (as_part code (bounds_code layout tree index ++ store) (bounds_code layout tree index)
@@ -313,35 +314,36 @@ array_part program places at depth array index tree =
     (front_part (bounds_code layout tree index) store refl))
 
 pub if_part : (program : ProgramData) (places : ℕ → ℕ) (at depth : ℕ) (tree : Tree) →
-    IsPart (line_code program places at depth (If tree)) (value_code (layout_of program) 0 tree)
+    IsPart (line_code program places at depth (If tree))
+    (value_code (program_layout program) 0 tree)
 unfolding line_code condition_code
 if_part program places at depth tree =
-    let layout : LayoutData = layout_of program in
+    let layout : ProgramLayoutData = program_layout program in
     let code : List Instr = condition_code layout tree in
     part_then (choosing layout at depth code) (value_code layout 0 tree) code
     (choosing_part layout at depth code)
-    (front_part (value_code layout 0 tree) _ (truth_shallow (is_truth tree) (operand_of 0 tree)))
+    (front_part (value_code layout 0 tree) _ (truth_shallow (is_truth tree) (value_operand 0 tree)))
 
 pub while_part : (program : ProgramData) (places : ℕ → ℕ) (at depth : ℕ) (tree : Tree)
     (end : ℕ) →
     IsPart (line_code program places at depth (While tree end))
-    (value_code (layout_of program) 0 tree)
+    (value_code (program_layout program) 0 tree)
 unfolding line_code while_code
 while_part program places at depth tree end =
-    let layout : LayoutData = layout_of program in
+    let layout : ProgramLayoutData = program_layout program in
     let code : List Instr = while_code layout tree in
     part_then (line_code program places at depth (While tree end)) (value_code layout 0 tree) code
-    (front_part code (Jz (register_of 0 (operand_of 0 tree)) (places (end + 1)) ∷ []) refl)
-    (front_part (value_code layout 0 tree) (register_code 0 (operand_of 0 tree))
-    (register_shallow (operand_of 0 tree) (Number 0)))
+    (front_part code (Jz (register_or_spare 0 (value_operand 0 tree)) (places (end + 1)) ∷ []) refl)
+    (front_part (value_code layout 0 tree) (register_code 0 (value_operand 0 tree))
+    (register_shallow (value_operand 0 tree) (Number 0)))
 
 pub for_part : (program : ProgramData) (places : ℕ → ℕ) (at depth nest : ℕ) (first last : Tree)
     (up : Bool) (end : ℕ) →
     IsPart (line_code program places at depth (For nest first last up end))
-    (bounds_code (layout_of program) first last)
+    (bounds_code (program_layout program) first last)
 unfolding line_code first_code
 for_part program places at depth nest first last up end =
-    let layout : LayoutData = layout_of program in
+    let layout : ProgramLayoutData = program_layout program in
     let test : List Instr = none_code layout up first last in
     let start : List Instr = first_code layout nest first in
     let rest : List Instr = Jz 0 (at + length test + 2) ∷ Jmp (places (end + 1)) ∷ start in
@@ -349,11 +351,11 @@ for_part program places at depth nest first last up end =
     let one : Bool = is_shallow (value_code layout 0 first) in
     let other : Bool = is_shallow (value_code layout (takes first) last) in
     let in_test : IsPart test bounds = as_part test _ bounds (none_parts layout up first last)
-    (front_part bounds _ (native_shallow (if up then op.Gt else op.Lt) (operand_of 0 first)
-    (operand_of (takes first) last))) in
+    (front_part bounds _ (native_shallow (if up then op.Gt else op.Lt) (value_operand 0 first)
+    (value_operand (takes first) last))) in
     let in_start : IsPart start (value_code layout 0 first) =
     front_part (value_code layout 0 first)
-    (St (own_place (loop_cells layout nest)) (operand_of 0 first) ∷ []) refl in
+    (St (own_place (loop_cells layout nest)) (value_operand 0 first) ∷ []) refl in
     let both : is_shallow bounds ≡ (one && other) =
     shallow_both (value_code layout 0 first) (value_code layout (takes first) last) in
     record {
@@ -379,17 +381,17 @@ judged_same (Ok x) line part p e = tt
 judged_same (Err k) line part p e = fault_same line part k p e
 
 -- a fault of the expressions of a line is one of the line
-pub judged_as : (r : Result (Unit {0}) JobKind) (program : ProgramData) (layout : LayoutData)
+pub judged_as : (r : Result (Unit {0}) JobKind) (program : ProgramData) (layout : ProgramLayoutData)
     (places : ℕ → ℕ) (at depth : ℕ) (statement said : Statement)
-    (part : LayoutData → List Instr) → IsSaid program layout statement said →
-    IsPart (line_code program places at depth said) (part (layout_of program)) →
+    (part : ProgramLayoutData → List Instr) → IsSaid program layout statement said →
+    IsPart (line_code program places at depth said) (part (program_layout program)) →
     IfErr r (IsLineFault (part layout)) →
     IfErr r (IsLineFault (line_code program places at depth statement))
 judged_as r program layout places at depth statement said part s p e =
     subst (λ (t : Statement). IfErr r (IsLineFault (line_code program places at depth t)))
     (sym s.is)
-    (judged_same r (line_code program places at depth said) (part (layout_of program)) p
-    (subst (λ (l : LayoutData). IfErr r (IsLineFault (part l))) s.layout_is e))
+    (judged_same r (line_code program places at depth said) (part (program_layout program)) p
+    (subst (λ (l : ProgramLayoutData). IfErr r (IsLineFault (part l))) s.layout_is e))
 
 -- a line that was judged puts nothing
 pub judged_puts : (old : List Instr) (r : Result (Unit {0}) JobKind) (k : JobKind)

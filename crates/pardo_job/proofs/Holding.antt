@@ -6,11 +6,11 @@ use Rattle.pram_job.specs.declared.instr.Place.TheVariants.{Named}
 use Rattle.pardo_text.specs.declared.expression.Node.TheVariants.{Place, Apply}
 use Rattle.pardo_text.specs.Expression.{with_node}
 use Rattle.pardo_job.specs.declared.fault.JobKind.{JobKind}
-use Rattle.pardo_job.specs.Inner.Emitting.{Puts, IsFaultOf}
+use Rattle.pardo_job.specs.Inner.Emitting.{PutsCode, IsCodeFault}
 use Rattle.pardo_job.proofs.Emitting.{puts_none}
 use Rattle.pardo_job.specs.declared.fault.JobKind.TheVariants.{Memory}
 use Rattle.pardo_job.specs.Inner.Nodes.{TakesOne, IsReady, node_code}
-use Rattle.pardo_job.specs.Layouts.{LayoutData, array_cells}
+use Rattle.pardo_job.specs.Layouts.{ProgramLayoutData, array_cells}
 use Rattle.std.proofs.Common.{◌≡◌, ℕ, ◌+◌, ◌<◌, ◌≤◌, true, ◌&&◌, List, [], ◌∷◌, ◌++◌, length, drop}
 use Rattle.std.proofs.Common.{refl, ap, sym, ◌∙◌, append_assoc, arith}
 use Rattle.std.proofs.Common.{if◌then◌else◌, Bool, false}
@@ -27,11 +27,11 @@ use Rattle.pardo_job.specs.declared.held.Held.{Held}
 use Rattle.pardo_job.specs.declared.held.Stack.{Stack}
 use Rattle.pardo_job.specs.Operations.{taken_by, gives_truth, chosen_of, is_shallow, native}
 use Rattle.pardo_job.specs.Operations.{in_order, negation, conjunction, choice, operation_code}
-use Rattle.pardo_job.specs.Operations.{register_code, register_of, instruction_of, zero_test}
+use Rattle.pardo_job.specs.Operations.{register_code, register_or_spare, instruction_of, zero_test}
 use Rattle.pardo_job.specs.Operations.{tested_in, copy_code, first_chosen, second_chosen, is_max}
 use Rattle.pardo_job.specs.Operations.{is_turned}
-use Rattle.pardo_job.specs.Values.{operand_of, takes}
-use Rattle.pardo_job.specs.Inner.Nodes.{free_after, held_of, all_held, Holds}
+use Rattle.pardo_job.specs.Values.{value_operand, takes}
+use Rattle.pardo_job.specs.Inner.Nodes.{free_after, held_of, all_held, HoldsValues}
 use Rattle.pardo_job.proofs.Loads.{taken_at}
 use Rattle.pardo_job.proofs.Shallow.{shallow_target, shallow_rest, shallow_front, shallow_back}
 use Rattle.pardo_job.proofs.Shallow.{instruction_target}
@@ -49,7 +49,7 @@ last_same {A} (a ∷ xs) (b ∷ ys) x y e =
     let same : xs ≡ ys = rest.0 in
     (cc, rest.1)
 
-pub taken_of : (at : ℕ) (tree : Tree) → at + takes tree ≤ 3 → taken_by (operand_of at tree) ≡
+pub taken_of : (at : ℕ) (tree : Tree) → at + takes tree ≤ 3 → taken_by (value_operand at tree) ≡
     takes tree
 taken_of at (number k) few = refl
 taken_of at own few = refl
@@ -59,9 +59,9 @@ taken_of at (place array index) few = taken_at at (omega arith)
 taken_of at (apply one first second) few = taken_at at (omega arith)
 
 pub held_more : (s t : Stack) (before : List Held) (base : ℕ) (tree : Tree) (trees : List Tree) →
-    Holds s before base trees →
+    HoldsValues s before base trees →
     t.values.items ≡ s.values.items ++ held_of (free_after base trees) tree ∷ [] →
-    t.taken ≡ s.taken + takes tree → Holds t before base (tree ∷ trees)
+    t.taken ≡ s.taken + takes tree → HoldsValues t before base (tree ∷ trees)
 held_more s t before base tree trees h e f = record {
   values = e ∙ ap (λ l. l ++ held_of (free_after base trees) tree ∷ []) h.values
       ∙ append_assoc before (all_held base trees) (held_of (free_after base trees) tree ∷ []);
@@ -70,12 +70,13 @@ held_more s t before base tree trees h e f = record {
 
 pub record Less (t : Stack) (x : Held) (before : List Held) (base : ℕ) (tree : Tree)
     (trees : List Tree) : Type 0 where
-  pub holds : Holds t before base trees
+  pub holds : HoldsValues t before base trees
   pub is : x ≡ held_of (free_after base trees) tree
 
 pub held_less : (s t : Stack) (x : Held) (before : List Held) (base : ℕ) (tree : Tree)
     (trees : List Tree) →
-    s.taken ≤ 3 → Holds s before base (tree ∷ trees) → s.values.items ≡ t.values.items ++ x ∷ [] →
+    s.taken ≤ 3 → HoldsValues s before base (tree ∷ trees) →
+    s.values.items ≡ t.values.items ++ x ∷ [] →
     s.taken ≡ t.taken + taken_by x.operand → Less t x before base tree trees
 held_less s t x before base tree trees few h e f =
     let at : ℕ = free_after base trees in
@@ -93,7 +94,7 @@ held_less s t x before base tree trees few h e f =
 room_in_order : (at : ℕ) (one : Op) (a b : Operand) → is_shallow (in_order at one a b) ≡ true →
     at < 3
 room_in_order at one a b s =
-    let r : ℕ = register_of (at + taken_by b) a in
+    let r : ℕ = register_or_spare (at + taken_by b) a in
     let last = shallow_target (instruction_of one at r b) []
     (shallow_back (register_code (at + taken_by b) a) _ s) in
     omega (arith, last, instruction_target one at r b)
@@ -124,8 +125,8 @@ pub loaded : {A : Type 0} (s t : Stack) (old new : List Instr) (r : Result A Job
     (trees : List Tree) →
     held_of (free_after base trees) tree ≡
     record { operand = Register (free_after base trees); is_truth = false } →
-    takes tree ≡ 1 → row ≡ cells → index ≡ there → Holds s before base trees →
-    Puts old new r (Ld s.taken (Named row index) ∷ []) →
+    takes tree ≡ 1 → row ≡ cells → index ≡ there → HoldsValues s before base trees →
+    PutsCode old new r (Ld s.taken (Named row index) ∷ []) →
     OnOk r (t.values.items ≡ s.values.items ++
     record { operand = Register s.taken; is_truth = false } ∷ []) →
     OnOk r (t.taken ≡ s.taken + 1) →
@@ -136,7 +137,7 @@ loaded s t old new r row cells index there tree before base trees is one e f h p
     let same : Ld s.taken (Named row index) ≡ Ld at (Named cells there) =
     ap (λ n. Ld n (Named row index)) h.taken ∙ ap (λ (a : Array). Ld at (Named a index)) e ∙
     ap (λ (o : Operand). Ld at (Named cells o)) f in record {
-      put = subst (λ (i : Instr). Puts old new r (i ∷ [])) same put;
+      put = subst (λ (i : Instr). PutsCode old new r (i ∷ [])) same put;
       held = on_two r _ _ _ values taken (λ v n.
           held_more s t before base tree trees h
           (v ∙ ap (λ (k : ℕ). s.values.items ++ held_at k ∷ []) h.taken ∙
@@ -145,14 +146,15 @@ loaded s t old new r row cells index there tree before base trees is one e f h p
     }
 
 pub place_taken : {A : Type 0} (s p t : Stack) (old new : List Instr) (r : Result A JobKind)
-    (layout : LayoutData) (array : ℕ) (row : Array) (x : Held) (before : List Held) (base : ℕ)
+    (layout : ProgramLayoutData) (array : ℕ) (row : Array) (x : Held) (before : List Held)
+    (base : ℕ)
     (trees : List Tree) →
     s.taken ≤ 3 → row ≡ array_cells layout array → s.values.items ≡ p.values.items ++ x ∷ [] →
     s.taken ≡ p.taken + taken_by x.operand →
-    Puts old new r (Ld p.taken (Named row x.operand) ∷ []) →
+    PutsCode old new r (Ld p.taken (Named row x.operand) ∷ []) →
     OnOk r (t.values.items ≡ p.values.items ++
     record { operand = Register p.taken; is_truth = false } ∷ []) →
-    OnOk r (t.taken ≡ p.taken + 1) → Holds s before base trees →
+    OnOk r (t.taken ≡ p.taken + 1) → HoldsValues s before base trees →
     IsReady layout trees (Place array) →
     TakesOne old new t r (node_code layout base trees (Place array)) before base
     (with_node trees (Place array))
@@ -162,7 +164,7 @@ place_taken s p t old new r layout array row x before base (tree ∷ trees) few 
     h ready =
     let less = held_less s p x before base tree trees few h v n in
     loaded p t old new r row (array_cells layout array) x.operand
-    (operand_of (free_after base trees) tree) (place array tree) before base trees
+    (value_operand (free_after base trees) tree) (place array tree) before base trees
     refl refl e (ap (λ (y : Held). y.operand) less.is) less.holds put values taken
 
 room_choice : (at : ℕ) (one : Op) (a b : Operand) →
@@ -184,8 +186,8 @@ room_operation at op.Ge truths a b s = room_negation at (native at op.Lt a b) s
 room_operation at op.And true a b s = room_native at op.BitAnd a b s
 room_operation at op.And false a b s =
     shallow_target (instr.Eq at at (Number 0)) []
-    (shallow_rest (instr.Or at (tested_in (at + taken_by b) (register_of (at + taken_by b) a))
-    (Register (tested_in (at + 1) (register_of (at + 1) b)))) (negation at)
+    (shallow_rest (instr.Or at (tested_in (at + taken_by b) (register_or_spare (at + taken_by b) a))
+    (Register (tested_in (at + 1) (register_or_spare (at + 1) b)))) (negation at)
     (shallow_back (zero_test (at + 1) b) _ (shallow_back (zero_test (at + taken_by b) a) _ s)))
 room_operation at op.Or true a b s =
     room_native at op.BitOr a b (shallow_front (native at op.BitOr a b) [] s)
@@ -213,7 +215,7 @@ room_operation at op.Gt truths a b s = room_native at op.Gt a b s
 -- two operands less
 record Two (q : Stack) (y x : Held) (before : List Held) (base : ℕ) (first second : Tree)
     (trees : List Tree) : Type 0 where
-  pub holds : Holds q before base trees
+  pub holds : HoldsValues q before base trees
   pub lower : y ≡ held_of (free_after base trees) first
   pub upper : x ≡ held_of (free_after base trees + takes first) second
 
@@ -229,7 +231,7 @@ pub record Popped (s q : Stack) (y x : Held) : Type 0 where
 
 two_less : (s q : Stack) (y x : Held) (before : List Held) (base : ℕ) (first second : Tree)
     (trees : List Tree) →
-    Popped s q y x → Holds s before base (second ∷ first ∷ trees) →
+    Popped s q y x → HoldsValues s before base (second ∷ first ∷ trees) →
     Two q y x before base first second trees
 two_less s q y x before base first second trees p h =
     let one = held_less s p.between x before base second (first ∷ trees) p.few h p.values p.taken in
@@ -252,7 +254,7 @@ made at one y x = record {
       gives_truth one (y.is_truth && x.is_truth);
 }
 
-same_code : (layout : LayoutData) (q : Stack) (y x : Held) (before : List Held) (base : ℕ)
+same_code : (layout : ProgramLayoutData) (q : Stack) (y x : Held) (before : List Held) (base : ℕ)
     (one : Op) (first second : Tree) (trees : List Tree) →
     Two q y x before base first second trees →
     joined_code q.taken one y x ≡ node_code layout base (second ∷ first ∷ trees) (Apply one)
@@ -264,9 +266,9 @@ same_code layout q y x before base one first second trees two =
 
 -- an operation whose code is at fault, or after which memory ran out
 pub apply_fails : {A : Type 0} (s q t : Stack) (old new : List Instr) (kind : JobKind)
-    (layout : LayoutData) (one : Op)
+    (layout : ProgramLayoutData) (one : Op)
     (y x : Held) (before : List Held) (base : ℕ) (trees : List Tree) → Popped s q y x →
-    IsFaultOf (joined_code q.taken one y x) kind → Holds s before base trees →
+    IsCodeFault (joined_code q.taken one y x) kind → HoldsValues s before base trees →
     IsReady layout trees (Apply one) →
     TakesOne {A = A} old new t (Err kind) (node_code layout base trees (Apply one)) before base
     (with_node trees (Apply one))
@@ -277,7 +279,7 @@ apply_fails s q t old new kind layout one y x before base (second ∷ first ∷ 
       put = record {
         all = tt;
         shallow = tt;
-        fault = subst (λ (l : List Instr). IsFaultOf l kind)
+        fault = subst (λ (l : List Instr). IsCodeFault l kind)
             (same_code layout q y x before base one first second trees
             (two_less s q y x before base first second trees p h)) f;
       };
@@ -285,15 +287,15 @@ apply_fails s q t old new kind layout one y x before base (second ∷ first ∷ 
     }
 
 pub apply_taken : {A B : Type 0} (s q t : Stack) (old new : List Instr) (u : B) (v : A)
-    (layout : LayoutData) (one : Op)
+    (layout : ProgramLayoutData) (one : Op)
     (y x : Held) (before : List Held) (base : ℕ) (trees : List Tree) → Popped s q y x →
     q.taken ≤ 3 →
-    Puts old new (Ok u) (joined_code q.taken one y x) →
+    PutsCode old new (Ok u) (joined_code q.taken one y x) →
     t.values.items ≡ q.values.items ++
     record { operand = Register q.taken; is_truth = gives_truth one (y.is_truth && x.is_truth) } ∷
     [] →
     t.taken ≡ q.taken + taken_by (Register q.taken) →
-    Holds s before base trees → IsReady layout trees (Apply one) →
+    HoldsValues s before base trees → IsReady layout trees (Apply one) →
     TakesOne old new t (Ok v) (node_code layout base trees (Apply one)) before base
     (with_node trees (Apply one))
 apply_taken s q t old new u v layout one y x before base [] p few put values taken h ready =
@@ -329,7 +331,7 @@ out_of_memory t old new code kind before base trees e = record {
     all = tt;
     shallow = tt;
     fault =
-        subst (λ (k : JobKind). IsFaultOf code k) (sym e) tt;
+        subst (λ (k : JobKind). IsCodeFault code k) (sym e) tt;
   };
   held = tt;
 }
@@ -338,15 +340,15 @@ pub pushed : {A : Type 0} (s t : Stack) (old : List Instr) (v : A) (tree : Tree)
     (before : List Held) (base : ℕ) (trees : List Tree) →
     t.values.items ≡ s.values.items ++ held_of (free_after base trees) tree ∷ [] → t.taken ≡
     s.taken + takes tree →
-    Holds s before base trees → TakesOne old old t (Ok v) [] before base (tree ∷ trees)
+    HoldsValues s before base trees → TakesOne old old t (Ok v) [] before base (tree ∷ trees)
 pushed s t old v tree before base trees e f h =
     record { put = puts_none old v; held = held_more s t before base tree trees h e f }
 
 pub apply_fails_as : (s q t : Stack) (old new : List Instr) (r : Result (Unit {0}) JobKind)
-    (kind : JobKind) (layout : LayoutData) (one : Op)
+    (kind : JobKind) (layout : ProgramLayoutData) (one : Op)
     (y x : Held) (before : List Held) (base : ℕ) (trees : List Tree) → r ≡ Err kind →
     Popped s q y x →
-    IsFaultOf (joined_code q.taken one y x) kind → Holds s before base trees →
+    IsCodeFault (joined_code q.taken one y x) kind → HoldsValues s before base trees →
     IsReady layout trees (Apply one) →
     TakesOne old new t r (node_code layout base trees (Apply one)) before base
     (with_node trees (Apply one))

@@ -5,7 +5,7 @@ use Rattle.std.specs.List.{flat_map}
 use Rattle.std.proofs.lemmas.List.{take_all}
 use Rattle.pardo_text.specs.Lawful.{IsProgram}
 use Rattle.pardo_text.specs.Program.{ProgramData}
-use Rattle.pardo_job.specs.Layouts.{cell_count, given_values, layout_of, start_values}
+use Rattle.pardo_job.specs.Layouts.{cell_count, given_values, program_layout, start_values}
 use Rattle.pardo_job.proofs.JobFits.{given_fits}
 
 -- those of all things, where the loop is past the last of them
@@ -16,7 +16,7 @@ values_all {X = X} f xs k front now le e =
 
 -- the values that are given, and 0 for each other cell
 pub start_is : (program : ProgramData) (now new : List ℕ) (n : ℕ) → IsProgram program →
-    now ≡ given_values program → n ≡ cell_count (layout_of program) →
+    now ≡ given_values program → n ≡ cell_count (program_layout program) →
     new ≡ take n now ++ replicate (n - length now) 0 → new ≡ start_values program
 unfolding start_values
 start_is program now new n is e f g =

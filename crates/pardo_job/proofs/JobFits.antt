@@ -17,8 +17,9 @@ use Rattle.pram_job.specs.Job.{IsInstr, IsJob}
 use Rattle.pardo_text.specs.declared.statement.Line.{Line}
 use Rattle.pardo_text.specs.Lawful.{AreArrays, IsLine, IsPrivate, IsProgram, bounds_of}
 use Rattle.pardo_text.specs.Program.{ArrayData, PrivateData, ProgramData, shared_cells}
-use Rattle.pardo_job.specs.Layouts.{cell_count, cells_of, given_values, layout_of, start_values}
-use Rattle.pardo_job.specs.Lines.{code_from, code_of, job_of, length_of, line_code, place_of}
+use Rattle.pardo_job.specs.Layouts.{cell_count, cells_of_array, given_values, program_layout}
+use Rattle.pardo_job.specs.Layouts.{start_values}
+use Rattle.pardo_job.specs.Lines.{code_from, code_of, job_of, length_of_line, line_code, place_of}
 use Rattle.pardo_job.specs.Operations.{is_shallow}
 use Rattle.pardo_job.specs.Refusals.{is_level}
 use Rattle.pardo_job.proofs.Fitting.{Fit, IsLaid, fit_both}
@@ -28,9 +29,9 @@ use Rattle.pardo_job.proofs.Shapes.{line_length, line_shallow}
 -- ---- cells
 
 array_within : (cells : ℕ) (arrays : List ArrayData) (base a : ℕ) → AreArrays arrays base →
-    a < length (map cells_of arrays) →
+    a < length (map cells_of_array arrays) →
     base + shared_cells arrays ≤ cells →
-    IsArray cells (elim (slice_get (map cells_of arrays) a)
+    IsArray cells (elim (slice_get (map cells_of_array arrays) a)
     [ None ↦ record { base = 0; len = 0 } | Some found ↦ found ])
 array_within cells [] base a are lt le = absurd (omega arith)
 array_within cells (array ∷ arrays) base zero are lt le =
@@ -51,10 +52,11 @@ row_within which rows procs lt =
     let le : which + 1 ≤ rows = omega arith in omega (arith, mul-le-mul_left procs le)
 
 pub laid : (program : ProgramData) → IsProgram program →
-    IsLaid (cell_count (layout_of program)) (layout_of program)
-unfolding layout_of
+    IsLaid (cell_count (program_layout program)) (program_layout program)
+unfolding program_layout
 laid program is = record {
-  arrays = λ a lt. array_within (cell_count (layout_of program)) program.arrays 0 a is.arrays lt
+  arrays = λ a lt. array_within (cell_count (program_layout program)) program.arrays 0 a is.arrays
+      lt
       (omega arith);
   rows = λ which lt.
       let rows : ℕ = length program.privates + program.loops + program.choices in
@@ -93,8 +95,8 @@ given_length program is =
 
 -- there is a cell for each of them
 pub given_fits : (program : ProgramData) → IsProgram program →
-    length (given_values program) ≤ cell_count (layout_of program)
-unfolding layout_of
+    length (given_values program) ≤ cell_count (program_layout program)
+unfolding program_layout
 given_fits program is =
     let more : length program.privates *
     program.procs ≤ (length program.privates + program.loops + program.choices) * program.procs =
@@ -106,8 +108,9 @@ given_fits program is =
     ) in
     omega (arith, given_length program is, more)
 
-cells_fit : (program : ProgramData) → IsProgram program → cell_count (layout_of program) ≤ 65536
-unfolding layout_of
+cells_fit : (program : ProgramData) → IsProgram program →
+    cell_count (program_layout program) ≤ 65536
+unfolding program_layout
 cells_fit program is = omega (arith, is.cells)
 
 abbrev Is32 : ℕ → Type 0
@@ -130,7 +133,7 @@ privates_32 procs (x ∷ xs) all =
 start_32 : (program : ProgramData) → IsProgram program → All Is32 (start_values program)
 unfolding start_values
 start_32 program is =
-    let zeros : ℕ = cell_count (layout_of program) - length (given_values program) in
+    let zeros : ℕ = cell_count (program_layout program) - length (given_values program) in
     let z : 0 < 2 ^ 32 = omega arith in
     All-append Is32 (given_values program) (replicate zeros 0)
     (All-append Is32 (flat_map (λ (x : ArrayData). x.start) program.arrays)
@@ -141,10 +144,10 @@ start_32 program is =
     (All-replicate Is32 zeros 0 z)
 
 pub start_length : (program : ProgramData) → IsProgram program → length (start_values program) ≡
-    cell_count (layout_of program)
+    cell_count (program_layout program)
 unfolding start_values
 start_length program is =
-    let cells : ℕ = cell_count (layout_of program) in
+    let cells : ℕ = cell_count (program_layout program) in
     let given : List ℕ = given_values program in
     let le : length given ≤ cells = given_fits program is in
     let zeros : List ℕ = replicate (cells - length given) 0 in
@@ -156,21 +159,21 @@ start_length program is =
 -- ---- code
 
 from_length : (program : ProgramData) (lines : List Line) (at : ℕ) →
-    length (code_from program at lines) ≡ sum_by (length_of program) lines + 1
-unfolding length_of
+    length (code_from program at lines) ≡ sum_by (length_of_line program) lines + 1
+unfolding length_of_line
 from_length program [] at = refl
 from_length program (line ∷ lines) at =
     let one : List Instr = line_code program (place_of program) at line.depth line.statement in
-    let rest : List Instr = code_from program (at + length_of program line) lines in
-    let same : length one ≡ length_of program line =
+    let rest : List Instr = code_from program (at + length_of_line program line) lines in
+    let same : length one ≡ length_of_line program line =
     line_length program (place_of program) (λ j. 0) at 0 line.depth line.statement in
     let both : length (one ++ rest) ≡ length one + length rest = length-append one rest in
     omega (
       arith,
       both,
       same,
-      from_length program lines (at + length_of program line),
-      sum_by-cons (length_of program) line lines,
+      from_length program lines (at + length_of_line program line),
+      sum_by-cons (length_of_line program) line lines,
     )
 
 pub code_length : (program : ProgramData) → length (code_of program) ≡
@@ -182,7 +185,7 @@ code_length program =
     omega (
       arith,
       from_length program program.lines 1,
-      ap (λ (l : List Line). sum_by (length_of program) l) all,
+      ap (λ (l : List Line). sum_by (length_of_line program) l) all,
     )
 
 places_within : (program : ProgramData) (j : ℕ) →
@@ -193,8 +196,8 @@ places_within program j =
     take_all (length program.lines) program.lines (omega arith) in
     omega (
       arith,
-      sum_by-take-le (length_of program) program.lines j,
-      ap (λ (l : List Line). sum_by (length_of program) l) all,
+      sum_by-take-le (length_of_line program) program.lines j,
+      ap (λ (l : List Line). sum_by (length_of_line program) l) all,
     )
 
 pub record IsFine (program : ProgramData) (line : Line) : Type 0 where
@@ -202,35 +205,35 @@ pub record IsFine (program : ProgramData) (line : Line) : Type 0 where
   pub level : is_level program line ≡ true
 
 from_fits : (program : ProgramData) (cells len : ℕ) (lines : List Line) (at : ℕ) →
-    IsLaid cells (layout_of program) →
+    IsLaid cells (program_layout program) →
     AreWithin (place_of program) len → All (IsLine (bounds_of program)) program.lines →
     ((k : ℕ) (line : Line) → slice_get lines k ≡ Some line → IsFine program line) →
-    at + sum_by (length_of program) lines ≤ len → Fit cells len (code_from program at lines)
-unfolding length_of
+    at + sum_by (length_of_line program) lines ≤ len → Fit cells len (code_from program at lines)
+unfolding length_of_line
 from_fits program cells len [] at laid within all fine le = (tt, tt)
 from_fits program cells len (line ∷ lines) at laid within all fine le =
     let one : List Instr = line_code program (place_of program) at line.depth line.statement in
-    let same : length one ≡ length_of program line =
+    let same : length one ≡ length_of_line program line =
     line_length program (place_of program) (λ j. 0) at 0 line.depth line.statement in
     let first = fine 0 line refl in
-    let sum : sum_by (length_of program) (line ∷ lines) ≡ length_of program line +
-    sum_by (length_of program) lines = sum_by-cons (length_of program) line lines in
+    let sum : sum_by (length_of_line program) (line ∷ lines) ≡ length_of_line program line +
+    sum_by (length_of_line program) lines = sum_by-cons (length_of_line program) line lines in
     let quiet : is_shallow one ≡ true =
     line_shallow program (place_of program) (λ j. 0) at 0 line.depth line.statement ∙
     first.level in
-    fit_both cells len one (code_from program (at + length_of program line) lines)
+    fit_both cells len one (code_from program (at + length_of_line program line) lines)
     (line_fits program cells len (place_of program) at line.depth line.statement laid within all
     first.lawful.0 first.lawful.1 quiet (omega (arith, same, sum, le)))
-    (from_fits program cells len lines (at + length_of program line) laid within all
+    (from_fits program cells len lines (at + length_of_line program line) laid within all
     (λ k other e. fine (suc k) other e) (omega (arith, sum, le)))
 
 whole_sum : (program : ProgramData) → place_of program (length program.lines) ≡ 1 +
-    sum_by (length_of program) program.lines
+    sum_by (length_of_line program) program.lines
 unfolding place_of
-whole_sum program = ap (λ (l : List Line). 1 + sum_by (length_of program) l)
+whole_sum program = ap (λ (l : List Line). 1 + sum_by (length_of_line program) l)
     (take_all (length program.lines) program.lines (omega arith))
 
-code_fits : (program : ProgramData) (cells : ℕ) → IsLaid cells (layout_of program) →
+code_fits : (program : ProgramData) (cells : ℕ) → IsLaid cells (program_layout program) →
     IsProgram program →
     ((k : ℕ) (line : Line) → slice_get program.lines k ≡ Some line → is_level program line ≡ true) →
     Fit cells (length (code_of program)) (code_of program)
@@ -261,7 +264,7 @@ pub job_is : (program : ProgramData) (steps : ℕ) → IsProgram program → ste
     place_of program (length program.lines) < MAX_CODE → IsJob (job_of program steps)
 unfolding job_of
 job_is program steps is lt level short =
-    let cells : ℕ = cell_count (layout_of program) in
+    let cells : ℕ = cell_count (program_layout program) in
     let len : ℕ = length (code_of program) in
     let total : len ≡ place_of program (length program.lines) + 1 = code_length program in record {
       cells = ((let one : 1 ≤ cells = omega arith in one), cells_fit program is);

@@ -9,7 +9,7 @@ use Rattle.pram_job.specs.declared.instr.Instr.TheVariants as instr
 use Rattle.pram_job.specs.declared.instr.Operand.{Operand}
 use Rattle.pram_job.specs.declared.instr.Operand.TheVariants.{Register, Number}
 use Rattle.pardo_text.specs.Operations.{bit}
-use Rattle.pardo_job.specs.Operations.{register_of, zero_test, tested_in, conjunction}
+use Rattle.pardo_job.specs.Operations.{register_or_spare, zero_test, tested_in, conjunction}
 use Rattle.pardo_job.specs.Operations.{taken_by, is_shallow, negation}
 use Rattle.pardo_job.specs.Straight.{Registers, put, operand_in, after_all, Computes}
 use Rattle.pardo_job.proofs.Straight.{put_same, put_other, after_front, computes_one}
@@ -27,7 +27,7 @@ record Tests (memory : ℕ → ℕ) (i : ℕ) (held : Registers) (target : ℕ) 
   keeps : (which : ℕ) → which ≢ target → now which ≡ held which
 
 abbrev test_target : ℕ → Operand → ℕ
-test_target spare operand = tested_in spare (register_of spare operand)
+test_target spare operand = tested_in spare (register_or_spare spare operand)
 
 tested_below : (spare register : ℕ) → register < 3 → tested_in spare register ≡ register
 tested_below spare register lt = grind arith

@@ -20,19 +20,21 @@ use Rattle.pardo_text.specs.declared.statement.Statement.TheVariants.{While, End
 use Rattle.pardo_text.specs.declared.statement.Target.{Target}
 use Rattle.pardo_text.specs.declared.statement.Target.TheVariants.{Private, Array as Shared}
 use Rattle.pardo_text.specs.Expression.{Tree}
-use Rattle.pardo_text.specs.Lawful.{IsLine, IsStatement, IsTarget, IsTree, bounds_of, masks_of}
+use Rattle.pardo_text.specs.Lawful.{IsLine, IsStatement, IsTarget, IsExpression, bounds_of}
+use Rattle.pardo_text.specs.Lawful.{masks_of}
 use Rattle.pardo_text.specs.declared.statement.Line.{Line}
 use Rattle.pardo_text.specs.Program.{ProgramData}
 use Rattle.pardo_job.specs.Inner.Pieces.{IsLawfulTarget}
-use Rattle.pardo_job.specs.Layouts.{LayoutData, array_cells, cells_of, layout_of, loop_cells}
+use Rattle.pardo_job.specs.Layouts.{ProgramLayoutData, array_cells, cells_of_array, program_layout}
+use Rattle.pardo_job.specs.Layouts.{loop_cells}
 use Rattle.pardo_job.specs.Layouts.{mask_cells, private_cells}
-use Rattle.pardo_job.specs.Lawful.{IsLawful}
+use Rattle.pardo_job.specs.Lawful.{IsLawfulTree}
 use Rattle.pardo_job.specs.Lines.{assignment_code, choosing, condition_code, first_code, idle}
 use Rattle.pardo_job.specs.Lines.{line_code, loop_end, masked}
 use Rattle.pardo_job.specs.Lines.{next_value, none_code, others, own_store, turn_code, while_code}
 use Rattle.pardo_job.specs.Meaning.{statement_at}
-use Rattle.pardo_job.specs.Operations.{is_shallow, native, register_code, register_of}
-use Rattle.pardo_job.specs.Values.{is_truth, operand_of, own_load, own_place, takes, value_code}
+use Rattle.pardo_job.specs.Operations.{is_shallow, native, register_code, register_or_spare}
+use Rattle.pardo_job.specs.Values.{is_truth, value_operand, own_load, own_place, takes, value_code}
 use Rattle.pardo_job.proofs.Fitting.{Fit, IsLaid, fit_both, loop_fits, mask_fits, native_fits}
 use Rattle.pardo_job.proofs.Fitting.{operand_fits}
 use Rattle.pardo_job.proofs.Fitting.{own_fits, private_fits, register_below, register_fits}
@@ -43,15 +45,15 @@ use Rattle.pardo_job.proofs.Trees.{lawful_tree}
 
 -- ---- straight pieces
 
-pub assignment_fits : (cells len : ℕ) (layout : LayoutData) (target : Target) (tree : Tree) →
+pub assignment_fits : (cells len : ℕ) (layout : ProgramLayoutData) (target : Target) (tree : Tree) →
     IsLaid cells layout →
-    IsLawfulTarget layout target → IsLawful layout tree →
+    IsLawfulTarget layout target → IsLawfulTree layout tree →
     is_shallow (assignment_code layout target tree) ≡ true →
     Fit cells len (assignment_code layout target tree)
 unfolding assignment_code
 assignment_fits cells len layout (Private x) tree laid to lawful shallow =
     let front : List Instr = value_code layout 0 tree in
-    let store : Instr = instr.St (own_place (private_cells layout x)) (operand_of 0 tree) in
+    let store : Instr = instr.St (own_place (private_cells layout x)) (value_operand 0 tree) in
     let quiet : is_shallow front ≡ true = shallow_front front (store ∷ []) shallow in
     fit_both cells len front (store ∷ []) (value_fits cells len layout 0 tree laid lawful quiet) (
       (
@@ -63,8 +65,9 @@ assignment_fits cells len layout (Private x) tree laid to lawful shallow =
 assignment_fits cells len layout (Shared array index) tree laid to lawful shallow =
     let front : List Instr = value_code layout 0 tree in
     let middle : List Instr = value_code layout (takes tree) index in
-    let store : Instr = instr.St (Named (array_cells layout array) (operand_of (takes tree) index))
-    (operand_of 0 tree) in
+    let store : Instr = instr.St
+    (Named (array_cells layout array) (value_operand (takes tree) index))
+    (value_operand 0 tree) in
     let quiet : is_shallow front ≡ true = shallow_front front (middle ++ store ∷ []) shallow in
     let after : is_shallow (middle ++ store ∷ []) ≡ true =
     shallow_back front (middle ++ store ∷ []) shallow in
@@ -98,30 +101,31 @@ truth_fits cells len operand false is shallow =
     (native_fits cells len 0 op.Eq (Register 0) (Number 0) zero_low r z
     (shallow_back front back shallow))
 
-pub condition_fits : (cells len : ℕ) (layout : LayoutData) (tree : Tree) → IsLaid cells layout →
-    IsLawful layout tree → is_shallow (condition_code layout tree) ≡ true →
+pub condition_fits : (cells len : ℕ) (layout : ProgramLayoutData) (tree : Tree) →
+    IsLaid cells layout →
+    IsLawfulTree layout tree → is_shallow (condition_code layout tree) ≡ true →
     Fit cells len (condition_code layout tree)
 unfolding condition_code
 condition_fits cells len layout tree laid lawful shallow =
     let front : List Instr = value_code layout 0 tree in
-    let back : List Instr = if is_truth tree then [] else truth_code (operand_of 0 tree) in
+    let back : List Instr = if is_truth tree then [] else truth_code (value_operand 0 tree) in
     let quiet : is_shallow front ≡ true = shallow_front front back shallow in
     fit_both cells len front back (value_fits cells len layout 0 tree laid lawful quiet)
-    (truth_fits cells len (operand_of 0 tree) (is_truth tree)
+    (truth_fits cells len (value_operand 0 tree) (is_truth tree)
     (operand_fits layout 0 tree lawful quiet) (shallow_back front back shallow))
 
 -- the code of a condition, and its register
-pub record FitsWhile (cells len : ℕ) (layout : LayoutData) (tree : Tree) : Type 0 where
+pub record FitsWhile (cells len : ℕ) (layout : ProgramLayoutData) (tree : Tree) : Type 0 where
   pub code : Fit cells len (while_code layout tree)
-  pub register : register_of 0 (operand_of 0 tree) < 4
+  pub register : register_or_spare 0 (value_operand 0 tree) < 4
 
-pub while_fits : (cells len : ℕ) (layout : LayoutData) (tree : Tree) → IsLaid cells layout →
-    IsLawful layout tree → is_shallow (while_code layout tree) ≡ true →
+pub while_fits : (cells len : ℕ) (layout : ProgramLayoutData) (tree : Tree) → IsLaid cells layout →
+    IsLawfulTree layout tree → is_shallow (while_code layout tree) ≡ true →
     FitsWhile cells len layout tree
 unfolding while_code
 while_fits cells len layout tree laid lawful shallow =
     let front : List Instr = value_code layout 0 tree in
-    let o : Operand = operand_of 0 tree in
+    let o : Operand = value_operand 0 tree in
     let back : List Instr = register_code 0 o in
     let quiet : is_shallow front ≡ true = shallow_front front back shallow in
     let quiet_too : is_shallow back ≡ true = shallow_back front back shallow in
@@ -131,17 +135,18 @@ while_fits cells len layout tree laid lawful shallow =
       register = register_below 0 o is quiet_too;
     }
 
-pub none_fits : (cells len : ℕ) (layout : LayoutData) (up : Bool) (first last : Tree) →
+pub none_fits : (cells len : ℕ) (layout : ProgramLayoutData) (up : Bool) (first last : Tree) →
     IsLaid cells layout →
-    IsLawful layout first → IsLawful layout last → is_shallow (none_code layout up first last) ≡
+    IsLawfulTree layout first → IsLawfulTree layout last →
+    is_shallow (none_code layout up first last) ≡
     true →
     Fit cells len (none_code layout up first last)
 unfolding none_code
 none_fits cells len layout up first last laid f l shallow =
     let zero_low : 0 < 3 = omega arith in
     let one : Op = if up then op.Gt else op.Lt in
-    let a : Operand = operand_of 0 first in
-    let b : Operand = operand_of (takes first) last in
+    let a : Operand = value_operand 0 first in
+    let b : Operand = value_operand (takes first) last in
     let front : List Instr = value_code layout 0 first in
     let middle : List Instr = value_code layout (takes first) last in
     let back : List Instr = native 0 one a b in
@@ -155,14 +160,14 @@ none_fits cells len layout up first last laid f l shallow =
     (operand_fits layout (takes first) last l quiet_too)
     (shallow_back middle back after)))
 
-pub first_fits : (cells len : ℕ) (layout : LayoutData) (nest : ℕ) (first : Tree) →
+pub first_fits : (cells len : ℕ) (layout : ProgramLayoutData) (nest : ℕ) (first : Tree) →
     IsLaid cells layout → nest < layout.loops →
-    IsLawful layout first → is_shallow (first_code layout nest first) ≡ true →
+    IsLawfulTree layout first → is_shallow (first_code layout nest first) ≡ true →
     Fit cells len (first_code layout nest first)
 unfolding first_code
 first_fits cells len layout nest first laid lt lawful shallow =
     let front : List Instr = value_code layout 0 first in
-    let store : Instr = instr.St (own_place (loop_cells layout nest)) (operand_of 0 first) in
+    let store : Instr = instr.St (own_place (loop_cells layout nest)) (value_operand 0 first) in
     let quiet : is_shallow front ≡ true = shallow_front front (store ∷ []) shallow in
     fit_both cells len front (store ∷ []) (value_fits cells len layout 0 first laid lawful quiet) (
       (
@@ -172,9 +177,9 @@ first_fits cells len layout nest first laid lt lawful shallow =
       tt,
     )
 
-pub turn_fits : (cells len : ℕ) (layout : LayoutData) (nest : ℕ) (last : Tree) →
+pub turn_fits : (cells len : ℕ) (layout : ProgramLayoutData) (nest : ℕ) (last : Tree) →
     IsLaid cells layout → nest < layout.loops →
-    IsLawful layout last → is_shallow (turn_code layout nest last) ≡ true →
+    IsLawfulTree layout last → is_shallow (turn_code layout nest last) ≡ true →
     Fit cells len (turn_code layout nest last)
 unfolding turn_code
 turn_fits cells len layout nest last laid lt lawful shallow =
@@ -182,7 +187,7 @@ turn_fits cells len layout nest last laid lt lawful shallow =
     let r1 : 1 < 4 = omega arith in
     let load : Instr = own_load 0 (loop_cells layout nest) in
     let front : List Instr = value_code layout 1 last in
-    let sub : Instr = instr.Sub 1 0 (operand_of 1 last) in
+    let sub : Instr = instr.Sub 1 0 (value_operand 1 last) in
     let after : is_shallow (front ++ sub ∷ []) ≡ true =
     shallow_rest load (front ++ sub ∷ []) shallow in
     let quiet : is_shallow front ≡ true = shallow_front front (sub ∷ []) after in (
@@ -193,7 +198,7 @@ turn_fits cells len layout nest last laid lt lawful shallow =
 
 -- ---- lines
 
-store_fits : (cells len : ℕ) (layout : LayoutData) (which : ℕ) →
+store_fits : (cells len : ℕ) (layout : ProgramLayoutData) (which : ℕ) →
     IsArray cells (mask_cells layout which) → Fit cells len (own_store (mask_cells layout which) ∷ [])
 store_fits cells len layout which is = let r0 : 0 < 4 = omega arith in
     ((own_fits cells (mask_cells layout which) is, r0), tt)
@@ -205,7 +210,7 @@ idle_fits cells len at (suc n) le =
 
 -- ---- bodies of shallow lines
 
-masked_body_either : (layout : LayoutData) (at depth : ℕ) (body : List Instr) (b : Bool) →
+masked_body_either : (layout : ProgramLayoutData) (at depth : ℕ) (body : List Instr) (b : Bool) →
     is_shallow (if b then body else own_load 0 (mask_cells layout depth) ∷ instr.Jz 0 (at + 3) ∷
     instr.Jmp (at + 4 + length body)
     ∷ (idle (at + 3) (length body) ++ instr.Jmp (at + 4 + 2 * length body) ∷ body)) ≡ true →
@@ -221,14 +226,14 @@ masked_body_either layout at depth body false shallow =
     (shallow_rest (instr.Jmp (at + 4 + n)) three (shallow_rest (instr.Jz 0 (at + 3)) two
     (shallow_rest (own_load 0 (mask_cells layout depth)) one shallow))))
 
-pub masked_body : (layout : LayoutData) (at depth : ℕ) (body : List Instr) →
+pub masked_body : (layout : ProgramLayoutData) (at depth : ℕ) (body : List Instr) →
     is_shallow (masked layout at depth body) ≡ true →
     is_shallow body ≡ true
 unfolding masked
 masked_body layout at depth body shallow =
     masked_body_either layout at depth body (depth == 0) shallow
 
-choosing_body_either : (layout : LayoutData) (at depth : ℕ) (body : List Instr) (b : Bool) →
+choosing_body_either : (layout : ProgramLayoutData) (at depth : ℕ) (body : List Instr) (b : Bool) →
     is_shallow (if b then body else own_load 0 (mask_cells layout depth) ∷
     instr.Jz 0 (at + 3 + length body)
     ∷ (body ++ instr.Jmp (at + 4 + 2 * length body) ∷
@@ -241,7 +246,7 @@ choosing_body_either layout at depth body false shallow =
     shallow_front body last (shallow_rest (instr.Jz 0 (at + 3 + n)) (body ++ last)
     (shallow_rest (own_load 0 (mask_cells layout depth)) one shallow))
 
-pub choosing_body : (layout : LayoutData) (at depth : ℕ) (body : List Instr) →
+pub choosing_body : (layout : ProgramLayoutData) (at depth : ℕ) (body : List Instr) →
     is_shallow (choosing layout at depth body) ≡ true →
     is_shallow body ≡ true
 unfolding choosing
@@ -253,7 +258,7 @@ choosing_body layout at depth body shallow = choosing_body_either layout at dept
     (own_store (mask_cells layout (depth + 1)) ∷ []) shallow)
 
 -- the code of an assignment
-masked_either : (cells len : ℕ) (layout : LayoutData) (at depth : ℕ) (body : List Instr)
+masked_either : (cells len : ℕ) (layout : ProgramLayoutData) (at depth : ℕ) (body : List Instr)
     (b : Bool) → IsLaid cells layout →
     (b ≡ false → 0 < depth) → depth ≤ layout.choices → Fit cells len body →
     at + length (if b then body else own_load 0 (mask_cells layout depth) ∷ instr.Jz 0 (at + 3) ∷
@@ -293,7 +298,7 @@ pub not_zero : (n : ℕ) → (n == 0) ≡ false → 0 < n
 not_zero zero e = absurd (let no : true ≡ false = e in cc)
 not_zero (suc n) e = omega arith
 
-masked_fits : (cells len : ℕ) (layout : LayoutData) (at depth : ℕ) (body : List Instr) →
+masked_fits : (cells len : ℕ) (layout : ProgramLayoutData) (at depth : ℕ) (body : List Instr) →
     IsLaid cells layout →
     depth ≤ layout.choices → Fit cells len body → at + length (masked layout at depth body) ≤ len →
     Fit cells len (masked layout at depth body)
@@ -301,7 +306,7 @@ unfolding masked
 masked_fits cells len layout at depth body laid le fits room =
     masked_either cells len layout at depth body (depth == 0) laid (not_zero depth) le fits room
 
-choice_either : (cells len : ℕ) (layout : LayoutData) (at depth : ℕ) (body : List Instr)
+choice_either : (cells len : ℕ) (layout : ProgramLayoutData) (at depth : ℕ) (body : List Instr)
     (b : Bool) → IsLaid cells layout →
     (b ≡ false → 0 < depth) → depth ≤ layout.choices → Fit cells len body →
     at + length (if b then body else own_load 0 (mask_cells layout depth) ∷
@@ -336,7 +341,7 @@ choice_either cells len layout at depth body false laid some le fits room =
       ),
     )
 
-choosing_fits : (cells len : ℕ) (layout : LayoutData) (at depth : ℕ) (body : List Instr) →
+choosing_fits : (cells len : ℕ) (layout : ProgramLayoutData) (at depth : ℕ) (body : List Instr) →
     IsLaid cells layout →
     depth + 1 ≤ layout.choices → Fit cells len body → at +
     length (choosing layout at depth body) ≤ len →
@@ -355,7 +360,8 @@ choosing_fits cells len layout at depth body laid le fits room =
     (store_fits cells len layout (depth + 1)
     (mask_fits cells layout (depth + 1) laid (omega arith) le))
 
-others_either : (cells len : ℕ) (layout : LayoutData) (depth : ℕ) (b : Bool) → IsLaid cells layout →
+others_either : (cells len : ℕ) (layout : ProgramLayoutData) (depth : ℕ) (b : Bool) →
+    IsLaid cells layout →
     (b ≡ false → 0 < depth) → depth ≤ layout.choices →
     Fit cells len (if b then instr.Eq 0 0 (Number 0) ∷
     [] else own_load 1 (mask_cells layout depth) ∷ instr.Lt 0 0 (Register 1) ∷ [])
@@ -371,7 +377,8 @@ others_either cells len layout depth false laid some le =
       ((r0, r0, r1), tt),
     )
 
-others_fits : (cells len : ℕ) (layout : LayoutData) (depth : ℕ) → IsLaid cells layout → depth +
+others_fits : (cells len : ℕ) (layout : ProgramLayoutData) (depth : ℕ) → IsLaid cells layout →
+    depth +
     1 ≤ layout.choices →
     Fit cells len (others layout depth)
 unfolding others
@@ -398,11 +405,11 @@ abbrev pub AreWithin : (ℕ → ℕ) → ℕ → Type 0
 AreWithin places len = (j : ℕ) → places j ≤ len
 
 -- what the end of a loop needs of its first line
-abbrev pub IsFirstLine : LayoutData → Statement → Type 0
-IsFirstLine layout (For nest first last up end) = (nest < layout.loops) × IsLawful layout last
+abbrev pub IsFirstLine : ProgramLayoutData → Statement → Type 0
+IsFirstLine layout (For nest first last up end) = (nest < layout.loops) × IsLawfulTree layout last
 IsFirstLine layout _ = Unit {0}
 
-end_fits : (cells len : ℕ) (layout : LayoutData) (places : ℕ → ℕ) (begin : ℕ)
+end_fits : (cells len : ℕ) (layout : ProgramLayoutData) (places : ℕ → ℕ) (begin : ℕ)
     (statement : Statement) → IsLaid cells layout →
     AreWithin places len → IsFirstLine layout statement →
     is_shallow (loop_end layout places begin statement) ≡ true →
@@ -435,25 +442,25 @@ end_fits cells len layout places begin (EndFor start) laid within is shallow = t
 -- ---- the code of a line of a program
 
 lawful_target : (program : ProgramData) (target : Target) → IsTarget (bounds_of program) target →
-    IsLawfulTarget (layout_of program) target
-unfolding layout_of
+    IsLawfulTarget (program_layout program) target
+unfolding program_layout
 lawful_target program (Private x) is = is
 lawful_target program (Shared array index) is = (
-  subst (λ n. array < n) (sym (length-map program.arrays cells_of)) is.0,
+  subst (λ n. array < n) (sym (length-map program.arrays cells_of_array)) is.0,
   lawful_tree program index is.1,
 )
 
-loops_same : (program : ProgramData) → (layout_of program).loops ≡ program.loops
-unfolding layout_of
+loops_same : (program : ProgramData) → (program_layout program).loops ≡ program.loops
+unfolding program_layout
 loops_same program = refl
 
-choices_same : (program : ProgramData) → (layout_of program).choices ≡ program.choices
-unfolding layout_of
+choices_same : (program : ProgramData) → (program_layout program).choices ≡ program.choices
+unfolding program_layout
 choices_same program = refl
 
 -- the first line of a loop
 first_line : (program : ProgramData) (statement : Statement) →
-    IsStatement (bounds_of program) statement → IsFirstLine (layout_of program) statement
+    IsStatement (bounds_of program) statement → IsFirstLine (program_layout program) statement
 first_line program (For nest first last up end) is =
     (subst (λ n. nest < n) (sym (loops_same program)) is.0, lawful_tree program last is.2.0)
 first_line program (Assign target tree) is = tt
@@ -484,7 +491,7 @@ statement_is program begin all = cases (slice_get program.lines begin) refl
 
 pub line_fits : (program : ProgramData) (cells len : ℕ) (places : ℕ → ℕ) (at depth : ℕ)
     (statement : Statement) →
-    IsLaid cells (layout_of program) → AreWithin places len →
+    IsLaid cells (program_layout program) → AreWithin places len →
     All (IsLine (bounds_of program)) program.lines →
     IsStatement (bounds_of program) statement → depth + masks_of statement ≤ program.choices →
     is_shallow (line_code program places at depth statement) ≡ true →
@@ -493,24 +500,25 @@ pub line_fits : (program : ProgramData) (cells len : ℕ) (places : ℕ → ℕ)
 unfolding line_code
 line_fits program cells len places at depth (Assign target tree) laid within all is le shallow room
     =
-    let layout : LayoutData = layout_of program in
+    let layout : ProgramLayoutData = program_layout program in
     let body : List Instr = assignment_code layout target tree in
     masked_fits cells len layout at depth body laid (omega (arith, choices_same program, le))
     (assignment_fits cells len layout target tree laid (lawful_target program target is.0)
     (lawful_tree program tree is.1) (masked_body layout at depth body shallow)) room
 line_fits program cells len places at depth (If tree) laid within all is le shallow room =
-    let layout : LayoutData = layout_of program in
+    let layout : ProgramLayoutData = program_layout program in
     let body : List Instr = condition_code layout tree in
     choosing_fits cells len layout at depth body laid (omega (arith, choices_same program, le))
     (condition_fits cells len layout tree laid (lawful_tree program tree is)
     (choosing_body layout at depth body shallow)) room
 line_fits program cells len places at depth Else laid within all is le shallow room =
-    others_fits cells len (layout_of program) depth laid (omega (arith, choices_same program, le))
+    others_fits cells len (program_layout program) depth laid
+    (omega (arith, choices_same program, le))
 line_fits program cells len places at depth EndIf laid within all is le shallow room = tt
 line_fits program cells len places at depth (While tree end) laid within all is le shallow room =
-    let layout : LayoutData = layout_of program in
+    let layout : ProgramLayoutData = program_layout program in
     let test : List Instr = while_code layout tree in
-    let jump : Instr = instr.Jz (register_of 0 (operand_of 0 tree)) (places (end + 1)) in
+    let jump : Instr = instr.Jz (register_or_spare 0 (value_operand 0 tree)) (places (end + 1)) in
     let both = while_fits cells len layout tree laid (lawful_tree program tree is.0.0)
     (shallow_front test (jump ∷ []) shallow) in
     fit_both cells len test (jump ∷ []) both.code ((both.register, within (end + 1)), tt)
@@ -518,7 +526,7 @@ line_fits program cells len places at depth (EndWhile begin) laid within all is 
     (within begin, tt)
 line_fits program cells len places at depth (For nest first last up end) laid within all is le
     shallow room =
-    let layout : LayoutData = layout_of program in
+    let layout : ProgramLayoutData = program_layout program in
     let r0 : 0 < 4 = omega arith in
     let lt : nest < layout.loops = subst (λ n. nest < n) (sym (loops_same program)) is.0 in
     let test : List Instr = none_code layout up first last in
@@ -542,27 +550,31 @@ line_fits program cells len places at depth (For nest first last up end) laid wi
       ),
     )
 line_fits program cells len places at depth (EndFor begin) laid within all is le shallow room =
-    end_fits cells len (layout_of program) places begin (statement_at program begin) laid within
+    end_fits cells len (program_layout program) places begin (statement_at program begin) laid
+    within
     (first_line program (statement_at program begin) (statement_is program begin all)) shallow
 
 -- ---- what lines need of the layout
 
-pub tree_in : (program : ProgramData) (layout : LayoutData) (tree : Tree) → layout ≡
-    layout_of program →
-    IsTree (bounds_of program) tree → IsLawful layout tree
+pub tree_in : (program : ProgramData) (layout : ProgramLayoutData) (tree : Tree) → layout ≡
+    program_layout program →
+    IsExpression (bounds_of program) tree → IsLawfulTree layout tree
 tree_in program layout tree e is =
-    subst (λ (l : LayoutData). IsLawful l tree) (sym e) (lawful_tree program tree is)
+    subst (λ (l : ProgramLayoutData). IsLawfulTree l tree) (sym e) (lawful_tree program tree is)
 
-pub target_in : (program : ProgramData) (layout : LayoutData) (target : Target) → layout ≡
-    layout_of program →
+pub target_in : (program : ProgramData) (layout : ProgramLayoutData) (target : Target) → layout ≡
+    program_layout program →
     IsTarget (bounds_of program) target → IsLawfulTarget layout target
 target_in program layout target e is =
-    subst (λ (l : LayoutData). IsLawfulTarget l target) (sym e) (lawful_target program target is)
+    subst (λ (l : ProgramLayoutData). IsLawfulTarget l target) (sym e)
+    (lawful_target program target is)
 
-pub loops_in : (program : ProgramData) (layout : LayoutData) → layout ≡ layout_of program →
+pub loops_in : (program : ProgramData) (layout : ProgramLayoutData) →
+    layout ≡ program_layout program →
     layout.loops ≡ program.loops
-loops_in program layout e = ap (λ (l : LayoutData). l.loops) e ∙ loops_same program
+loops_in program layout e = ap (λ (l : ProgramLayoutData). l.loops) e ∙ loops_same program
 
-pub choices_in : (program : ProgramData) (layout : LayoutData) → layout ≡ layout_of program →
+pub choices_in : (program : ProgramData) (layout : ProgramLayoutData) →
+    layout ≡ program_layout program →
     layout.choices ≡ program.choices
-choices_in program layout e = ap (λ (l : LayoutData). l.choices) e ∙ choices_same program
+choices_in program layout e = ap (λ (l : ProgramLayoutData). l.choices) e ∙ choices_same program

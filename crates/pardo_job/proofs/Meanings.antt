@@ -11,11 +11,12 @@ use Rattle.pardo_text.specs.declared.statement.Statement.TheVariants.{Assign, If
 use Rattle.pardo_text.specs.declared.statement.Statement.TheVariants.{While, EndWhile, For, EndFor}
 use Rattle.pardo_text.specs.declared.statement.Target.TheVariants.{Private, Array}
 use Rattle.pardo_text.specs.Expression.{Tree, number, own, loop, private, place, apply}
-use Rattle.pardo_text.specs.Operations.{value_of}
+use Rattle.pardo_text.specs.Operations.{operation_value}
 use Rattle.pardo_text.specs.Program.{ProgramData}
 use Rattle.pardo_job.specs.Conflicts.{asked}
 use Rattle.pardo_job.specs.Laws.{LoopsAreCommon, OutsideIsUnchanged, GoneForGood}
-use Rattle.pardo_job.specs.Meaning.{Source, value, cell_of, is_active, asked_in, write_of, losing}
+use Rattle.pardo_job.specs.Meaning.{Source, value, array_cell, is_active, asked_in, write_of}
+use Rattle.pardo_job.specs.Meaning.{losing}
 use Rattle.pardo_job.specs.Meaning.{next}
 use Rattle.pardo_job.specs.Meaning.{after_statement, on_to, loop_ended, statement_at, has_none}
 use Rattle.pardo_job.specs.Meaning.{common_value}
@@ -28,12 +29,13 @@ loops_are_common program source own i j is = absurd is
 loops_are_common program source (loop nest) i j is = refl
 loops_are_common program source (private x) i j is = absurd is
 loops_are_common program source (place array index) i j is =
-    ap (option_and_then (λ k. option_map source.cells (cell_of program array k)))
+    ap (option_and_then (λ k. option_map source.cells (array_cell program array k)))
     (ap (value program source i) is ∙ sym (ap (value program source j) is))
 loops_are_common program source (apply op first second) i j is =
-    ap (λ v. option_and_then (λ a. option_map (value_of op a) v) (value program source i first))
+    ap (λ v. option_and_then (λ a. option_map (operation_value op a) v)
+    (value program source i first))
     (loops_are_common program source second i j is.1)
-    ∙ ap (option_and_then (λ a. option_map (value_of op a) (value program source j second)))
+    ∙ ap (option_and_then (λ a. option_map (operation_value op a) (value program source j second)))
     (loops_are_common program source first i j is.0)
 
 -- ---- a processor that is not active

@@ -8,18 +8,18 @@ use Rattle.pram_job.specs.declared.instr.Place.TheVariants.{Named}
 use Rattle.pardo_text.specs.declared.expression.Node.{Node}
 use Rattle.pardo_text.specs.declared.expression.Node.TheVariants.{Place, Apply}
 use Rattle.pardo_text.specs.Expression.{Tree, number, own, loop, private, place, apply, postfix}
-use Rattle.pardo_job.specs.Layouts.{LayoutData, array_cells}
+use Rattle.pardo_job.specs.Layouts.{ProgramLayoutData, array_cells}
 use Rattle.pardo_job.specs.Operations.{operation_code}
-use Rattle.pardo_job.specs.Values.{value_code, operand_of, takes, is_truth}
-use Rattle.pardo_job.specs.Inner.Nodes.{free_after, nodes_code, AreReady}
-use Rattle.pardo_job.specs.Lawful.{IsLawful}
+use Rattle.pardo_job.specs.Values.{value_code, value_operand, takes, is_truth}
+use Rattle.pardo_job.specs.Inner.Nodes.{free_after, nodes_code, AreReadyNodes}
+use Rattle.pardo_job.specs.Lawful.{IsLawfulTree}
 
 -- one expression more takes its registers
 free_one : (base : ℕ) (tree : Tree) (trees : List Tree) →
     free_after base (tree ∷ trees) ≡ free_after base trees + takes tree
 free_one base tree trees = omega (arith, sum_by-cons takes tree trees)
 
-pub code_of_nodes : (layout : LayoutData) (base : ℕ) (tree : Tree) (trees : List Tree)
+pub code_of_nodes : (layout : ProgramLayoutData) (base : ℕ) (tree : Tree) (trees : List Tree)
     (nodes : List Node) →
     nodes_code layout base trees (postfix tree ++ nodes)
     ≡ value_code layout (free_after base trees) tree ++ nodes_code layout base (tree ∷ trees) nodes
@@ -29,7 +29,7 @@ code_of_nodes layout base (loop nest) trees nodes = refl
 code_of_nodes layout base (private x) trees nodes = refl
 code_of_nodes layout base (place array index) trees nodes =
     let at : ℕ = free_after base trees in
-    let load : Instr = Ld at (Named (array_cells layout array) (operand_of at index)) in
+    let load : Instr = Ld at (Named (array_cells layout array) (value_operand at index)) in
     ap (nodes_code layout base trees) (append_assoc (postfix index) (Place array ∷ []) nodes)
     ∙ code_of_nodes layout base index trees (Place array ∷ nodes)
     ∙ sym (append_assoc (value_code layout at index) (load ∷ [])
@@ -40,7 +40,7 @@ code_of_nodes layout base (apply op first second) trees nodes =
     let front : List Instr = value_code layout at first in
     let middle : List Instr = value_code layout up second in
     let back : List Instr = operation_code at op (is_truth first && is_truth second)
-    (operand_of at first) (operand_of up second) in
+    (value_operand at first) (value_operand up second) in
     let rest : List Instr = nodes_code layout base (apply op first second ∷ trees) nodes in
     let is_up : free_after base (first ∷ trees) ≡ up = free_one base first trees in
     ap (nodes_code layout base trees)
@@ -54,7 +54,7 @@ code_of_nodes layout base (apply op first second) trees nodes =
     ∙ sym (append_assoc front (middle ++ back) rest))
 
 -- the whole of an expression
-pub code_of_postfix : (layout : LayoutData) (base : ℕ) (tree : Tree) →
+pub code_of_postfix : (layout : ProgramLayoutData) (base : ℕ) (tree : Tree) →
     nodes_code layout base [] (postfix tree) ≡ value_code layout base tree
 code_of_postfix layout base tree =
     ap (nodes_code layout base []) (sym (append-nil (postfix tree)))
@@ -63,26 +63,27 @@ code_of_postfix layout base tree =
     ∙ ap (λ at. value_code layout at tree) (let e : base + 0 ≡ base = omega arith in e)
 
 -- the nodes of a lawful expression find their operands
-pub nodes_are_ready : (layout : LayoutData) (tree : Tree) (trees : List Tree) (nodes : List Node) →
-    IsLawful layout tree → AreReady layout (tree ∷ trees) nodes →
-    AreReady layout trees (postfix tree ++ nodes)
+pub nodes_are_ready : (layout : ProgramLayoutData) (tree : Tree) (trees : List Tree)
+    (nodes : List Node) →
+    IsLawfulTree layout tree → AreReadyNodes layout (tree ∷ trees) nodes →
+    AreReadyNodes layout trees (postfix tree ++ nodes)
 nodes_are_ready layout (number k) trees nodes is rest = (tt, rest)
 nodes_are_ready layout own trees nodes is rest = (tt, rest)
 nodes_are_ready layout (loop nest) trees nodes is rest = (is, rest)
 nodes_are_ready layout (private x) trees nodes is rest = (is, rest)
 nodes_are_ready layout (place array index) trees nodes is rest =
-    subst (AreReady layout trees) (sym (append_assoc (postfix index) (Place array ∷ []) nodes))
+    subst (AreReadyNodes layout trees) (sym (append_assoc (postfix index) (Place array ∷ []) nodes))
     (nodes_are_ready layout index trees (Place array ∷ nodes) is.1 (is.0, rest))
 nodes_are_ready layout (apply op first second) trees nodes is rest =
-    subst (AreReady layout trees) (sym
+    subst (AreReadyNodes layout trees) (sym
     (append_assoc (postfix first) (postfix second ++ Apply op ∷ []) nodes))
     (nodes_are_ready layout first trees ((postfix second ++ Apply op ∷ []) ++ nodes) is.1.0
-    (subst (AreReady layout (first ∷ trees))
+    (subst (AreReadyNodes layout (first ∷ trees))
     (sym (append_assoc (postfix second) (Apply op ∷ []) nodes))
     (nodes_are_ready layout second (first ∷ trees) (Apply op ∷ nodes) is.1.1 (tt, rest))))
 
-pub all_nodes_ready : (layout : LayoutData) (tree : Tree) → IsLawful layout tree →
-    AreReady layout [] (postfix tree)
+pub all_nodes_ready : (layout : ProgramLayoutData) (tree : Tree) → IsLawfulTree layout tree →
+    AreReadyNodes layout [] (postfix tree)
 all_nodes_ready layout tree is =
-    subst (AreReady layout []) (append-nil (postfix tree))
+    subst (AreReadyNodes layout []) (append-nil (postfix tree))
     (nodes_are_ready layout tree [] [] is refl)

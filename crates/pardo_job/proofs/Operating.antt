@@ -14,7 +14,7 @@ use Rattle.pardo_text.specs.declared.operation.Op.{Op}
 use Rattle.pardo_text.specs.declared.operation.Op.TheVariants.{Add, Sub, Mul, Div, Rem, Shl, Shr}
 use Rattle.pardo_text.specs.declared.operation.Op.TheVariants.{BitAnd, BitOr, BitXor, Eq, Ne}
 use Rattle.pardo_text.specs.declared.operation.Op.TheVariants.{Lt, Le, Gt, Ge, And, Or, Min, Max}
-use Rattle.pardo_text.specs.Operations.{bit, value_of}
+use Rattle.pardo_text.specs.Operations.{bit, operation_value}
 use Rattle.pardo_job.specs.Operations.{native, in_order, is_turned, instruction_of}
 use Rattle.pardo_job.specs.Operations.{taken_by, is_shallow}
 use Rattle.pardo_job.specs.Straight.{Registers, put, operand_in, after_one, after_all, Computes}
@@ -45,8 +45,8 @@ mirrored op = op
 
 one_value : (memory : ℕ → ℕ) (i at first : ℕ) (second : Operand) (held : Registers) (op : Op) →
     IsNative op → after_one memory i (instruction_of op at first second) held
-    ≡ Some (put at (value_of (mirrored op) (held first) (operand_in held second)) held)
-unfolding value_of
+    ≡ Some (put at (operation_value (mirrored op) (held first) (operand_in held second)) held)
+unfolding operation_value
 one_value memory i at first second held Add is = refl
 one_value memory i at first second held Sub is = refl
 one_value memory i at first second held Mul is = refl
@@ -103,17 +103,17 @@ ordered_number : (memory : ℕ → ℕ) (i at number b : ℕ) (second : Operand)
     IsNative op → IsApart at (Number number) second → operand_in held second ≡ b →
     at < 3 → at + taken_by second < 3 →
     Computes memory i held at (in_order at op (Number number) second)
-    (value_of (mirrored op) number b)
+    (operation_value (mirrored op) number b)
 ordered_number memory i at number b second held op is apart e lt less =
     let spare : ℕ = at + taken_by second in
     let held1 : Registers = put spare number held in
     let same : held1 spare ≡ number = put_same spare number held in
     let other : operand_in held1 second ≡ b = operand_kept at number held second lt less apart ∙
     e in
-    let v : ℕ = value_of (mirrored op) (held1 spare) (operand_in held1 second) in
-    let is_v : v ≡ value_of (mirrored op) number b =
-    ap (λ x. value_of (mirrored op) x (operand_in held1 second)) same
-    ∙ ap (value_of (mirrored op) number) other in
+    let v : ℕ = operation_value (mirrored op) (held1 spare) (operand_in held1 second) in
+    let is_v : v ≡ operation_value (mirrored op) number b =
+    ap (λ x. operation_value (mirrored op) x (operand_in held1 second)) same
+    ∙ ap (operation_value (mirrored op) number) other in
     record {
       now = put at v held1;
       runs = ap (option_and_then (after_all memory i []))
@@ -130,7 +130,7 @@ ordered_number memory i at number b second held op is apart e lt less =
 ordered : (memory : ℕ → ℕ) (i at a b : ℕ) (first second : Operand) (held : Registers) (op : Op) →
     IsNative op → IsApart at first second → operand_in held first ≡ a → operand_in held second ≡ b →
     is_shallow (in_order at op first second) ≡ true →
-    Computes memory i held at (in_order at op first second) (value_of (mirrored op) a b)
+    Computes memory i held at (in_order at op first second) (operation_value (mirrored op) a b)
 ordered memory i at a b (Number number) second held op is apart e f shallow =
     let spare : ℕ = at + taken_by second in
     let set : Instr = instr.Set spare number in
@@ -139,21 +139,21 @@ ordered memory i at a b (Number number) second held op is apart e f shallow =
     let at_lt : at < 3 = subst (λ t. t < 3) (instruction_target op at spare second)
     (shallow_target one [] (shallow_rest set (one ∷ []) shallow)) in
     subst (λ x. Computes memory i held at (in_order at op (Number number) second)
-    (value_of (mirrored op) x b)) e
+    (operation_value (mirrored op) x b)) e
     (ordered_number memory i at number b second held op is apart f at_lt spare_lt)
 ordered memory i at a b (Register register) second held op is apart e f shallow =
     let at_lt : at < 3 = subst (λ t. t < 3) (instruction_target op at register second)
     (shallow_target (instruction_of op at register second) [] shallow) in
-    computes_one memory i held at (value_of (mirrored op) a b)
+    computes_one memory i held at (operation_value (mirrored op) a b)
     (instruction_of op at register second) at_lt
     (one_value memory i at register second held op is
-    ∙ ap (λ x. Some (put at (value_of (mirrored op) x (operand_in held second)) held)) e
-    ∙ ap (λ x. Some (put at (value_of (mirrored op) a x) held)) f)
+    ∙ ap (λ x. Some (put at (operation_value (mirrored op) x (operand_in held second)) held)) e
+    ∙ ap (λ x. Some (put at (operation_value (mirrored op) a x) held)) f)
 
 -- an operation that may change its operands' places
 turned_value : (op : Op) (first : Operand) (a b : ℕ) → IsNative op → is_turned op first ≡ true →
-    value_of (mirrored op) b a ≡ value_of op a b
-unfolding value_of
+    operation_value (mirrored op) b a ≡ operation_value op a b
+unfolding operation_value
 turned_value Add first a b is e = ap (λ v. v % 2 ^ 32) (add_comm b a)
 turned_value Sub first a b is e = absurd (let no : false ≡ true = e in cc)
 turned_value Mul first a b is e = ap (λ v. v % 2 ^ 32) (mul_comm b a)
@@ -201,14 +201,14 @@ pub computes_native : (memory : ℕ → ℕ) (i at a b : ℕ) (first second : Op
     (op : Op) → IsNative op → IsApart at first second → IsApart at second first →
     operand_in held first ≡ a → operand_in held second ≡ b →
     is_shallow (native at op first second) ≡ true →
-    Computes memory i held at (native at op first second) (value_of op a b)
+    Computes memory i held at (native at op first second) (operation_value op a b)
 unfolding native
 computes_native memory i at a b first second held op is apart apart_too e f shallow =
     ⊎_elim
     (λ (turned : is_turned op first ≡ true).
     let same : native at op first second ≡ in_order at op second first =
     ap (λ t. if t then in_order at op second first else in_order at op first second) turned in
-    subst (λ code. Computes memory i held at code (value_of op a b)) (sym same)
+    subst (λ code. Computes memory i held at code (operation_value op a b)) (sym same)
     (subst (λ v. Computes memory i held at (in_order at op second first) v)
     (turned_value op first a b is turned)
     (ordered memory i at b a second first held op is apart_too f e
@@ -216,8 +216,8 @@ computes_native memory i at a b first second held op is apart apart_too e f shal
     (λ (straight : is_turned op first ≡ false).
     let same : native at op first second ≡ in_order at op first second =
     ap (λ t. if t then in_order at op second first else in_order at op first second) straight in
-    subst (λ code. Computes memory i held at code (value_of op a b)) (sym same)
-    (subst (λ o. Computes memory i held at (in_order at op first second) (value_of o a b))
+    subst (λ code. Computes memory i held at code (operation_value op a b)) (sym same)
+    (subst (λ o. Computes memory i held at (in_order at op first second) (operation_value o a b))
     (straight_value op first straight)
     (ordered memory i at a b first second held op is apart e f
     (ap is_shallow (sym same) ∙ shallow))))

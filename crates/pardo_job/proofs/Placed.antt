@@ -25,17 +25,18 @@ use Rattle.pardo_text.specs.Program.{ProgramData}
 use Rattle.pardo_job.specs.declared.fault.JobFault.{JobFault}
 use Rattle.pardo_job.specs.declared.fault.JobKind.{JobKind}
 use Rattle.pardo_job.specs.declared.fault.JobKind.TheVariants.{TooDeep, TooLong, Endless, Memory}
-use Rattle.pardo_job.specs.Compiled.{AreLevel, AreNumbers}
+use Rattle.pardo_job.specs.Compiled.{AreLevel, AreLineNumbers}
 use Rattle.pardo_job.specs.Inner.Listings.{AreAllPlaces, ArePlaces, IsFaultAt, IsPlaceAfter}
 use Rattle.pardo_job.specs.Inner.Pieces.{IsLineFault}
-use Rattle.pardo_job.specs.Layouts.{layout_of, loop_cells}
-use Rattle.pardo_job.specs.Lines.{code_from, code_of, first_code, length_of, line_code, loop_end}
+use Rattle.pardo_job.specs.Layouts.{program_layout, loop_cells}
+use Rattle.pardo_job.specs.Lines.{code_from, code_of, first_code, length_of_line, line_code}
+use Rattle.pardo_job.specs.Lines.{loop_end}
 use Rattle.pardo_job.specs.Lines.{next_value, none_code, own_store, place_of}
 use Rattle.pardo_job.specs.Lines.{turn_code, while_code}
 use Rattle.pardo_job.specs.Meaning.{statement_at}
-use Rattle.pardo_job.specs.Operations.{is_shallow, register_of}
-use Rattle.pardo_job.specs.Values.{operand_of}
-use Rattle.pardo_job.specs.Refusals.{IsFault, is_level, is_short, line_numbers, numbers_from}
+use Rattle.pardo_job.specs.Operations.{is_shallow, register_or_spare}
+use Rattle.pardo_job.specs.Values.{value_operand}
+use Rattle.pardo_job.specs.Refusals.{IsProgramFault, is_level, is_short, line_numbers, numbers_from}
 use Rattle.pardo_job.proofs.LineFits.{statement_is}
 use Rattle.pardo_job.proofs.Shapes.{line_length, line_shallow}
 
@@ -60,7 +61,7 @@ pub fault_at : (program : ProgramData) (line : Line) (place : ℕ) (f : ℕ → 
     (kind ≢ Memory → fault.line ≡ line.number) → (kind ≡ Memory → fault.line ≡ 0) →
     IsLineFault (line_code program f at line.depth line.statement) kind →
     IsFaultAt program line place fault.line fault.kind
-unfolding length_of
+unfolding length_of_line
 fault_at program line place f at kind fault e named memory is =
     subst (λ (k : JobKind). IsFaultAt program line place fault.line k) (sym e)
     (cases kind named memory is)
@@ -87,7 +88,7 @@ pub long_at : (program : ProgramData) (line : Line) (place : ℕ) (f : ℕ → �
     is_shallow (line_code program f at line.depth line.statement) ≡ true →
     MAX_CODE ≤ place + length (line_code program f at line.depth line.statement) →
     IsFaultAt program line place fault.line fault.kind
-unfolding length_of
+unfolding length_of_line
 long_at program line place f at fault e named shallow le =
     subst (λ (k : JobKind). IsFaultAt program line place fault.line k) (sym e) (
       named (λ no. cc),
@@ -100,7 +101,7 @@ pub place_after_is : (program : ProgramData) (line : Line) (place after : ℕ) (
     code ≡ line_code program f at line.depth line.statement →
     is_shallow (line_code program f at line.depth line.statement) ≡ true →
     after ≡ place + length code → after < MAX_CODE → IsPlaceAfter program line place after
-unfolding length_of
+unfolding length_of_line
 place_after_is program line place after f at code e shallow is lt = record {
   after_is = omega (
     arith,
@@ -120,7 +121,7 @@ place_start program = refl
 
 pub place_more : (program : ProgramData) (j : ℕ) (line : Line) → slice_get program.lines j ≡
     Some line →
-    place_of program (j + 1) ≡ place_of program j + length_of program line
+    place_of program (j + 1) ≡ place_of program j + length_of_line program line
 unfolding place_of
 place_more program j line e =
     let lt : j < length program.lines = slice_get_within program.lines j line e in
@@ -130,9 +131,9 @@ place_more program j line e =
     take_more program.lines j line lt ∙ ap (λ (x : Line). take j program.lines ++ x ∷ []) is in
     omega (
       arith,
-      ap (λ (l : List Line). sum_by (length_of program) l) more,
-      sum_by-append (length_of program) (take j program.lines) (line ∷ []),
-      sum_by-cons (length_of program) line [],
+      ap (λ (l : List Line). sum_by (length_of_line program) l) more,
+      sum_by-append (length_of_line program) (take j program.lines) (line ∷ []),
+      sum_by-cons (length_of_line program) line [],
     )
 
 pub place_below : (program : ProgramData) (j : ℕ) →
@@ -143,8 +144,8 @@ place_below program j =
     take_all (length program.lines) program.lines (omega arith) in
     omega (
       arith,
-      sum_by-take-le (length_of program) program.lines j,
-      ap (λ (l : List Line). sum_by (length_of program) l) all,
+      sum_by-take-le (length_of_line program) program.lines j,
+      ap (λ (l : List Line). sum_by (length_of_line program) l) all,
     )
 
 both_true : (a b : Bool) → a ≡ true → b ≡ true → IsTrue (a && b)
@@ -177,7 +178,7 @@ pub fault_is : (program : ProgramData) (j : ℕ) (line : Line) (places : List �
     (kind : JobKind) →
     slice_get program.lines j ≡ Some line → ArePlaces program j places →
     IsFaultAt program line (place_of program j) number kind →
-    IsFault program number kind
+    IsProgramFault program number kind
 fault_is program j line places number TooDeep e are f = record {
   j = j;
   line = line;
@@ -252,14 +253,15 @@ pub only_memory : (program : ProgramData) (places : List ℕ) (f : ℕ → ℕ) 
     (kind : JobKind) → AreAllPlaces program places →
     slice_get program.lines j ≡ Some line →
     IsLineFault (line_code program f at line.depth line.statement) kind → kind ≡ Memory
-unfolding length_of
+unfolding length_of_line
 only_memory program places f at j line TooDeep are e fault =
     let level : is_level program line ≡ true = level_all program places are j line e in
     let same : is_shallow (line_code program f at line.depth line.statement) ≡
     is_level program line = line_shallow program f (λ k. 0) at 0 line.depth line.statement in
     absurd (let no : false ≡ true = sym fault ∙ same ∙ level in cc)
 only_memory program places f at j line TooLong are e fault =
-    let same : length (line_code program f at line.depth line.statement) ≡ length_of program line =
+    let same : length (line_code program f at line.depth line.statement)
+    ≡ length_of_line program line =
     line_length program f (λ k. 0) at 0 line.depth line.statement in
     absurd (omega (
       arith,
@@ -277,10 +279,11 @@ only_memory program places f at j line Memory are e fault = refl
 end_same : (program : ProgramData) (f g : ℕ → ℕ) (n begin : ℕ) (statement : Statement) →
     ((j : ℕ) → j < n + 1 → f j ≡ g j) → begin < n →
     (bounds_of program).lines ≡ n → IsStatement (bounds_of program) statement →
-    loop_end (layout_of program) f begin statement ≡ loop_end (layout_of program) g begin statement
+    loop_end (program_layout program) f begin statement
+    ≡ loop_end (program_layout program) g begin statement
 end_same program f g n begin (For nest first last up end) same lt lines is =
-    let test : List Instr = turn_code (layout_of program) nest last in
-    let store : Instr = own_store (loop_cells (layout_of program) nest) in
+    let test : List Instr = turn_code (program_layout program) nest last in
+    let store : Instr = own_store (loop_cells (program_layout program) nest) in
     let one : f (end + 1) ≡ g (end + 1) = same (end + 1) (omega (arith, is.3, lines)) in
     let two : f (begin + 1) ≡ g (begin + 1) = same (begin + 1) (omega arith) in
     ap (λ (k : ℕ). test ++ Jz 1 k ∷ next_value up ∷ store ∷ Jmp (f (begin + 1)) ∷ []) one
@@ -304,14 +307,15 @@ line_same program f g at depth (If tree) same all is = refl
 line_same program f g at depth Else same all is = refl
 line_same program f g at depth EndIf same all is = refl
 line_same program f g at depth (While tree end) same all is =
-    ap (λ (k : ℕ). while_code (layout_of program) tree ++ Jz (register_of 0 (operand_of 0 tree)) k ∷
+    ap (λ (k : ℕ). while_code (program_layout program) tree
+    ++ Jz (register_or_spare 0 (value_operand 0 tree)) k ∷
     []) (same (end + 1) (omega (arith, is.1)))
 line_same program f g at depth (EndWhile begin) same all is =
     ap (λ (k : ℕ). Jmp k ∷ []) (same begin (omega (arith, is)))
 line_same program f g at depth (For nest first last up end) same all is =
-    let test : List Instr = none_code (layout_of program) up first last in
+    let test : List Instr = none_code (program_layout program) up first last in
     ap (λ (k : ℕ). test ++ Jz 0 (at + length test + 2) ∷ Jmp k ∷
-    first_code (layout_of program) nest first) (same (end + 1) (omega (arith, is.3)))
+    first_code (program_layout program) nest first) (same (end + 1) (omega (arith, is.3)))
 line_same program f g at depth (EndFor begin) same all is =
     end_same program f g (length program.lines) begin (statement_at program begin) same is refl
     (statement_is program begin all)
@@ -338,7 +342,7 @@ pub code_more : (program : ProgramData) (places : List ℕ) (j : ℕ) (line : Li
     slice_get program.lines j ≡ Some line → new ≡ code ++
     line_code program (slice_index places) (length code) line.depth line.statement →
     IsCodeSoFar program j code → IsCodeSoFar program (j + 1) new
-unfolding length_of
+unfolding length_of_line
 code_more program places j line code new are all is e f so_far =
     let lt : j < length program.lines = slice_get_within program.lines j line e in
     let one : List Instr = line_code program (place_of program) (place_of program j) line.depth
@@ -350,16 +354,16 @@ code_more program places j line code new are all is e f so_far =
     ∙ ap (λ (k : ℕ). line_code program (place_of program) k line.depth line.statement)
     so_far.long in
     let put : new ≡ code ++ one = f ∙ ap (λ (l : List Instr). code ++ l) same in
-    let long : length one ≡ length_of program line =
+    let long : length one ≡ length_of_line program line =
     line_length program (place_of program) (λ k. 0) (place_of program j) 0 line.depth
     line.statement in
     let there : get_or program.lines j line ≡ line =
     get_or_from_slice_get program.lines j line line e in
     let left : drop j program.lines ≡ line ∷ drop (j + 1) program.lines =
     drop_more program.lines j line lt ∙ ap (λ (x : Line). x ∷ drop (j + 1) program.lines) there in
-    let more : place_of program (j + 1) ≡ place_of program j + length_of program line =
+    let more : place_of program (j + 1) ≡ place_of program j + length_of_line program line =
     place_more program j line e in
-    let rest : List Instr = code_from program (place_of program j + length_of program line)
+    let rest : List Instr = code_from program (place_of program j + length_of_line program line)
     (drop (j + 1) program.lines) in record {
       long = omega (
         arith,
@@ -407,9 +411,9 @@ numbers_more program j last line numbers new e f so_far =
     get_or_from_slice_get program.lines j line line e in
     let left : drop j program.lines ≡ line ∷ drop (j + 1) program.lines =
     drop_more program.lines j line lt ∙ ap (λ (x : Line). x ∷ drop (j + 1) program.lines) there in
-    let more : place_of program (j + 1) ≡ place_of program j + length_of program line =
+    let more : place_of program (j + 1) ≡ place_of program j + length_of_line program line =
     place_more program j line e in
-    let n : ℕ = length_of program line in
+    let n : ℕ = length_of_line program line in
     let front : take (place_of program (j + 1)) numbers ≡ numbers =
     take_all (place_of program (j + 1)) numbers (omega (arith, so_far.count, more)) in
     let gap : place_of program (j + 1) - length numbers ≡ n = omega (arith, so_far.count, more) in
@@ -441,15 +445,16 @@ numbers_all program j last numbers new le e so_far =
     le) ∙ so_far.whole
 
 from_at : (program : ProgramData) (lines : List Line) (last j k : ℕ) (line : Line) →
-    slice_get lines j ≡ Some line → k < length_of program line →
-    get_or (numbers_from program last lines) (sum_by (length_of program) (take j lines) + k) 0 ≡
+    slice_get lines j ≡ Some line → k < length_of_line program line →
+    get_or (numbers_from program last lines) (sum_by (length_of_line program) (take j lines) + k) 0
+    ≡
     line.number
 from_at program [] last j k line e lt = absurd (omega (arith, slice_get_within [] j line e))
 from_at program (first ∷ lines) last zero k line e lt =
     let is : first ≡ line = cc in
-    let n : ℕ = length_of program first in
+    let n : ℕ = length_of_line program first in
     let own : List ℕ = replicate n first.number in
-    let fits : k < n = subst (λ (x : Line). k < length_of program x) (sym is) lt in
+    let fits : k < n = subst (λ (x : Line). k < length_of_line program x) (sym is) lt in
     let long : length own ≡ n = length-replicate {A = ℕ} n first.number in
     let at : 0 + k ≡ k = omega arith in
     ap (λ (i : ℕ). get_or (own ++ numbers_from program first.number lines) i 0) at
@@ -457,25 +462,25 @@ from_at program (first ∷ lines) last zero k line e lt =
     (omega (arith, long, fits))
     ∙ get_or-replicate n k first.number 0 fits ∙ ap (λ (x : Line). x.number) is
 from_at program (first ∷ lines) last (suc j) k line e lt =
-    let n : ℕ = length_of program first in
+    let n : ℕ = length_of_line program first in
     let own : List ℕ = replicate n first.number in
     let long : length own ≡ n = length-replicate {A = ℕ} n first.number in
-    let at : sum_by (length_of program) (first ∷ take j lines) + k ≡ length own +
-    (sum_by (length_of program) (take j lines) + k) =
-    omega (arith, sum_by-cons (length_of program) first (take j lines), long) in
+    let at : sum_by (length_of_line program) (first ∷ take j lines) + k ≡ length own +
+    (sum_by (length_of_line program) (take j lines) + k) =
+    omega (arith, sum_by-cons (length_of_line program) first (take j lines), long) in
     ap (λ (i : ℕ). get_or (own ++ numbers_from program first.number lines) i 0) at
     ∙ get_or-append-add own (numbers_from program first.number lines)
-    (sum_by (length_of program) (take j lines) + k) 0
+    (sum_by (length_of_line program) (take j lines) + k) 0
     ∙ from_at program lines first.number j k line e lt
 
 -- the number of each instruction of a line is the line's
-pub number_in : (program : ProgramData) (line_of : ℕ → ℕ) → AreNumbers program line_of →
+pub number_in : (program : ProgramData) (line_of : ℕ → ℕ) → AreLineNumbers program line_of →
     (j k : ℕ) (line : Line) → slice_get program.lines j ≡ Some line →
-    k < length_of program line → line_of (place_of program j + k) ≡ line.number
+    k < length_of_line program line → line_of (place_of program j + k) ≡ line.number
 unfolding line_numbers place_of
 number_in program line_of numbers j k line e lt =
-    let at : 1 + sum_by (length_of program) (take j program.lines) + k ≡
-    suc (sum_by (length_of program) (take j program.lines) + k) = omega arith in
-    numbers (1 + sum_by (length_of program) (take j program.lines) + k)
+    let at : 1 + sum_by (length_of_line program) (take j program.lines) + k ≡
+    suc (sum_by (length_of_line program) (take j program.lines) + k) = omega arith in
+    numbers (1 + sum_by (length_of_line program) (take j program.lines) + k)
     ∙ ap (λ (i : ℕ). get_or (0 ∷ numbers_from program 0 program.lines) i 0) at
     ∙ from_at program program.lines 0 j k line e lt

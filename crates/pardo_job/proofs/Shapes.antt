@@ -4,20 +4,18 @@ use Rattle.std.proofs.Common.{if◌then◌else◌, nat_lt}
 use Rattle.std.proofs.Common.{List, [], ◌∷◌, ◌++◌, length, map, refl, sym, ap, ◌∙◌}
 use Rattle.std.proofs.lemmas.List.{length-map, map-append}
 use Rattle.pram_job.specs.declared.instr.Instr.{Instr}
-use Rattle.pram_job.specs.declared.instr.Instr.TheVariants.{Set, Pid, Add, Sub, Mul, And, Or, Xor}
-use Rattle.pram_job.specs.declared.instr.Instr.TheVariants.{Lt, Eq, Shl, Shr, Ld, St, Jz, Jmp}
-use Rattle.pram_job.specs.declared.instr.Instr.TheVariants.{Halt}
+use Rattle.pram_job.specs.declared.instr.Instr.TheVariants.{Jz, Jmp}
 use Rattle.pardo_text.specs.declared.statement.Statement.{Statement}
 use Rattle.pardo_text.specs.declared.statement.Statement.TheVariants.{Assign, If, Else, EndIf}
 use Rattle.pardo_text.specs.declared.statement.Statement.TheVariants.{While, EndWhile, For, EndFor}
 use Rattle.pardo_text.specs.Program.{ProgramData}
-use Rattle.pardo_job.specs.Layouts.{LayoutData, layout_of, loop_cells, mask_cells}
+use Rattle.pardo_job.specs.Layouts.{ProgramLayoutData, program_layout, loop_cells, mask_cells}
 use Rattle.pardo_job.specs.Lines.{idle, masked, choosing, loop_end, line_code, next_value}
 use Rattle.pardo_job.specs.Lines.{assignment_code, condition_code, while_code, none_code}
 use Rattle.pardo_job.specs.Lines.{first_code, turn_code, own_store}
 use Rattle.pardo_job.specs.Meaning.{statement_at}
-use Rattle.pardo_job.specs.Operations.{is_shallow, target_of, register_of}
-use Rattle.pardo_job.specs.Values.{own_load, operand_of}
+use Rattle.pardo_job.specs.Operations.{is_shallow, target_of, register_or_spare}
+use Rattle.pardo_job.specs.Values.{own_load, value_operand}
 
 -- an instruction, but for the place that it jumps to
 abbrev pub unplaced : Instr → Instr
@@ -58,7 +56,7 @@ skipping_shape a b body =
     (join (idle (a + 3) n) (idle (b + 3) n) (Jmp (a + 4 + 2 * n) ∷ body)
     (Jmp (b + 4 + 2 * n) ∷ body) (idle_shape (a + 3) (b + 3) n) refl)
 
-masked_shape : (layout : LayoutData) (a b depth : ℕ) (body : List Instr) →
+masked_shape : (layout : ProgramLayoutData) (a b depth : ℕ) (body : List Instr) →
     shape (masked layout a depth body) ≡ shape (masked layout b depth body)
 unfolding masked
 masked_shape layout a b depth body =
@@ -80,7 +78,7 @@ deciding_shape a b body =
     (join body body (Jmp (a + 4 + 2 * n) ∷ x) (Jmp (b + 4 + 2 * n) ∷ y) refl
     (ap (λ (l : List Instr). Jmp 0 ∷ l) (idle_shape (a + 3 + n) (b + 3 + n) (n + 1))))
 
-choosing_shape : (layout : LayoutData) (a b depth : ℕ) (body : List Instr) →
+choosing_shape : (layout : ProgramLayoutData) (a b depth : ℕ) (body : List Instr) →
     shape (choosing layout a depth body) ≡ shape (choosing layout b depth body)
 unfolding choosing
 choosing_shape layout a b depth body =
@@ -92,7 +90,7 @@ choosing_shape layout a b depth body =
     (ap (λ (l : List Instr). load ∷ l) (deciding_shape a b body)))
     refl
 
-end_shape : (layout : LayoutData) (f g : ℕ → ℕ) (begin : ℕ) (statement : Statement) →
+end_shape : (layout : ProgramLayoutData) (f g : ℕ → ℕ) (begin : ℕ) (statement : Statement) →
     shape (loop_end layout f begin statement) ≡ shape (loop_end layout g begin statement)
 end_shape layout f g begin (For nest first last up end) =
     let test : List Instr = turn_code layout nest last in
@@ -112,23 +110,24 @@ pub line_shape : (program : ProgramData) (f g : ℕ → ℕ) (a b depth : ℕ) (
     shape (line_code program f a depth statement) ≡ shape (line_code program g b depth statement)
 unfolding line_code
 line_shape program f g a b depth (Assign target tree) =
-    masked_shape (layout_of program) a b depth (assignment_code (layout_of program) target tree)
+    masked_shape (program_layout program) a b depth
+    (assignment_code (program_layout program) target tree)
 line_shape program f g a b depth (If tree) =
-    choosing_shape (layout_of program) a b depth (condition_code (layout_of program) tree)
+    choosing_shape (program_layout program) a b depth (condition_code (program_layout program) tree)
 line_shape program f g a b depth Else = refl
 line_shape program f g a b depth EndIf = refl
 line_shape program f g a b depth (While tree end) =
-    let test : List Instr = while_code (layout_of program) tree in
-    let r : ℕ = register_of 0 (operand_of 0 tree) in
+    let test : List Instr = while_code (program_layout program) tree in
+    let r : ℕ = register_or_spare 0 (value_operand 0 tree) in
     join test test (Jz r (f (end + 1)) ∷ []) (Jz r (g (end + 1)) ∷ []) refl refl
 line_shape program f g a b depth (EndWhile begin) = refl
 line_shape program f g a b depth (For nest first last up end) =
-    let test : List Instr = none_code (layout_of program) up first last in
-    let start : List Instr = first_code (layout_of program) nest first in
+    let test : List Instr = none_code (program_layout program) up first last in
+    let start : List Instr = first_code (program_layout program) nest first in
     join test test (Jz 0 (a + length test + 2) ∷ Jmp (f (end + 1)) ∷ start)
     (Jz 0 (b + length test + 2) ∷ Jmp (g (end + 1)) ∷ start) refl refl
 line_shape program f g a b depth (EndFor begin) =
-    end_shape (layout_of program) f g begin (statement_at program begin)
+    end_shape (program_layout program) f g begin (statement_at program begin)
 
 -- ---- what follows from it
 
@@ -136,23 +135,9 @@ pub shape_length : (code : List Instr) → length (shape code) ≡ length code
 shape_length code = length-map code unplaced
 
 target_same : (one : Instr) → target_of (unplaced one) ≡ target_of one
-target_same (Set t n) = refl
-target_same (Pid t) = refl
-target_same (Add t x y) = refl
-target_same (Sub t x y) = refl
-target_same (Mul t x y) = refl
-target_same (And t x y) = refl
-target_same (Or t x y) = refl
-target_same (Xor t x y) = refl
-target_same (Lt t x y) = refl
-target_same (Eq t x y) = refl
-target_same (Shl t x y) = refl
-target_same (Shr t x y) = refl
-target_same (Ld t p) = refl
-target_same (St p v) = refl
 target_same (Jz r i) = refl
 target_same (Jmp i) = refl
-target_same Halt = refl
+target_same _ = refl
 
 pub shape_shallow : (code : List Instr) → is_shallow (shape code) ≡ is_shallow code
 shape_shallow [] = refl

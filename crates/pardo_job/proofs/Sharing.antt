@@ -6,7 +6,7 @@ use Rattle.std.proofs.lemmas.List.Sums.{sum_by-append}
 use Rattle.pram_job.specs.declared.instr.Array.{Array}
 use Rattle.pardo_text.specs.Lawful.{AreArrays}
 use Rattle.pardo_text.specs.Program.{ArrayData, shared_cells}
-use Rattle.pardo_job.specs.Layouts.{LayoutData, cells_of}
+use Rattle.pardo_job.specs.Layouts.{ProgramLayoutData, cells_of_array}
 
 pub shared_more : (array : ArrayData) (arrays : List ArrayData) →
     shared_cells (array ∷ arrays) ≡ length array.start + shared_cells arrays
@@ -17,7 +17,7 @@ abbrev pub cells_at : ℕ → ℕ → Array
 cells_at base len = record { base = base; len = len }
 
 pub cells_same : (base len : ℕ) (array : ArrayData) → base ≡ array.base →
-    len ≡ length array.start → cells_at base len ≡ cells_of array
+    len ≡ length array.start → cells_at base len ≡ cells_of_array array
 cells_same base len array e f = ap (λ b. cells_at b len) e ∙ ap (λ n. cells_at array.base n) f
 
 -- what one array more makes of a front of the arrays
@@ -25,7 +25,8 @@ pub record IsPart (arrays : List ArrayData) (base k n : ℕ) (array : ArrayData)
   pub begins : array.base ≡ base + shared_cells (take k arrays)
   pub more : shared_cells (take n arrays) ≡ shared_cells (take k arrays) + length array.start
   pub few : shared_cells (take n arrays) ≤ shared_cells arrays
-  pub cells : map cells_of (take n arrays) ≡ map cells_of (take k arrays) ++ cells_of array ∷ []
+  pub cells : map cells_of_array (take n arrays) ≡ map cells_of_array (take k arrays)
+      ++ cells_of_array array ∷ []
 
 part_suc : (arrays : List ArrayData) (k base : ℕ) (default : ArrayData) → k < length arrays →
     AreArrays arrays base → IsPart arrays base k (suc k) (get_or arrays k default)
@@ -51,7 +52,7 @@ part_suc (array ∷ arrays) (suc k) base default lt are =
         shared_more array arrays,
         shared_more array (take (suc k) arrays),
       );
-      cells = ap (λ (cells : List Array). cells_of array ∷ cells) rest.cells;
+      cells = ap (λ (cells : List Array). cells_of_array array ∷ cells) rest.cells;
     }
 
 -- the array at k begins after the cells of those before it
@@ -62,7 +63,7 @@ part_of arrays k base default lt are =
     subst (λ n. IsPart arrays base k n (get_or arrays k default)) one
     (part_suc arrays k base default lt are)
 
-abbrev pub layout_at : List Array → ℕ → ℕ → ℕ → ℕ → ℕ → LayoutData
+abbrev pub layout_at : List Array → ℕ → ℕ → ℕ → ℕ → ℕ → ProgramLayoutData
 layout_at arrays shared procs privates loops choices = record {
   arrays = arrays;
   shared = shared;

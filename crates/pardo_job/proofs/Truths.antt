@@ -6,7 +6,7 @@ use Rattle.pardo_text.specs.declared.operation.Op.{Op}
 use Rattle.pardo_text.specs.declared.operation.Op.TheVariants.{Add, Sub, Mul, Div, Rem, Shl, Shr}
 use Rattle.pardo_text.specs.declared.operation.Op.TheVariants.{BitAnd, BitOr, BitXor, Eq, Ne}
 use Rattle.pardo_text.specs.declared.operation.Op.TheVariants.{Lt, Le, Gt, Ge, And, Or, Min, Max}
-use Rattle.pardo_text.specs.Operations.{value_of}
+use Rattle.pardo_text.specs.Operations.{operation_value}
 use Rattle.pardo_job.specs.Operations.{gives_truth}
 use Rattle.pardo_job.proofs.Applying.{IsTruth, bit_truth}
 
@@ -26,8 +26,8 @@ no_truth : {A : Type 0} → false ≡ true → A
 no_truth e = absurd (cc)
 
 pub truth_value : (op : Op) (t : Bool) (a b : ℕ) → gives_truth op t ≡ true →
-    (t ≡ true → IsTruth a × IsTruth b) → IsTruth (value_of op a b)
-unfolding gives_truth value_of
+    (t ≡ true → IsTruth a × IsTruth b) → IsTruth (operation_value op a b)
+unfolding gives_truth operation_value
 truth_value Add t a b e both = no_truth e
 truth_value Sub t a b e both = no_truth e
 truth_value Mul t a b e both = no_truth e

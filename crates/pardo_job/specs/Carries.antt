@@ -5,17 +5,18 @@ use Rattle.pram_machine.specs.Machine.{AllStopped}
 use Rattle.pram_machine.specs.Machine.{counter}
 use Rattle.pram_step.specs.Runs.{state_after, IsReached, IsFault}
 use Rattle.pardo_text.specs.Program.{ProgramData}
-use Rattle.pardo_job.specs.Conflicts.{Dispute}
-use Rattle.pardo_job.specs.Layouts.{layout_of}
+use Rattle.pram_step.specs.declared.answer.Dispute.{Dispute}
+use Rattle.pardo_job.specs.Layouts.{program_layout}
 use Rattle.pardo_job.specs.Leaving.{GoneIn}
 use Rattle.pardo_job.specs.Meaning.{Source, after}
-use Rattle.pardo_job.specs.Runs.{IsEnd, IsConflict, line_number}
+use Rattle.pardo_job.specs.Runs.{IsProgramEnd, IsProgramConflict, line_number}
 use Rattle.pardo_job.specs.Runs as source
-use Rattle.pardo_job.specs.Shows.{Shows}
+use Rattle.pardo_job.specs.Shows.{Represents}
 
 -- the job has a state after so many steps, and it shows this state of the program
 abbrev pub ShowsAfter : ProgramData → JobData → Source → ℕ → Type 0
-ShowsAfter program job at_line t = IsReached job t × Shows program job at_line (state_after job t)
+ShowsAfter program job at_line t = IsReached job t
+    × Represents program job at_line (state_after job t)
 
 -- the instruction at which processor i stands before a step came from the line of this number
 abbrev pub ComesFrom : JobData → (ℕ → ℕ) → ℕ → ℕ → ℕ → Type 0
@@ -27,7 +28,7 @@ pub record EndsAs (program : ProgramData) (job : JobData) (line_of : ℕ → ℕ
     Type 0 where
   pub reached : IsReached job job.steps
   pub stopped : AllStopped job (state_after job job.steps)
-  pub cells : (cell : ℕ) → cell < (layout_of program).shared →
+  pub cells : (cell : ℕ) → cell < (program_layout program).shared →
       slice_index (state_after job job.steps) cell ≡ end.cells cell
   pub gone : (i : ℕ) → i < program.procs → GoneIn job line_of job.steps i (end.gone i)
 
@@ -38,11 +39,11 @@ pub record Carries (program : ProgramData) (job : JobData) (line_of : ℕ → �
   pub time : ℕ → ℕ
   pub starts : time 0 ≡ 1
   pub rises : (n : ℕ) → time n ≤ time (n + 1)
-  pub shows : (n : ℕ) → source.IsReached program n →
+  pub shows : (n : ℕ) → source.IsLineReached program n →
       ShowsAfter program job (after program n) (time n)
-  pub ends : (n : ℕ) → IsEnd program n →
+  pub ends : (n : ℕ) → IsProgramEnd program n →
       EndsAs program job line_of (after program n) × (job.steps ≤ time n + 1)
-  pub disputes : (n : ℕ) (dispute : Dispute) → IsConflict program n dispute → (before : ℕ) ×
+  pub disputes : (n : ℕ) (dispute : Dispute) → IsProgramConflict program n dispute → (before : ℕ) ×
       (time (n + 1) ≡ before + 1) × (job.steps ≡ before + 1)
       × IsFault job (record {
         step = before + 1;
@@ -52,4 +53,5 @@ pub record Carries (program : ProgramData) (job : JobData) (line_of : ℕ → �
       })
       × ComesFrom job line_of before dispute.first (line_number program (after program n))
       × ComesFrom job line_of before dispute.second (line_number program (after program n))
-  pub over : (n : ℕ) × (IsEnd program n ⊎ ((dispute : Dispute) × IsConflict program n dispute))
+  pub over : (n : ℕ)
+      × (IsProgramEnd program n ⊎ ((dispute : Dispute) × IsProgramConflict program n dispute))

@@ -6,13 +6,15 @@ use Rattle.pram_machine.specs.Machine.{AllStopped}
 use Rattle.pram_step.specs.Runs.{state_after, IsReached, IsFirstConflict}
 use Rattle.pardo_text.specs.declared.statement.Line.{Line}
 use Rattle.pardo_text.specs.Program.{ProgramData}
+use Rattle.pardo_job.specs.declared.ended.Ended.{Ended}
 use Rattle.pardo_job.specs.Lines.{job_of}
 use Rattle.pardo_job.specs.Refusals.{is_level, line_numbers}
 
--- a job, and for each of its instructions the line of the text that it came from
+-- a job, for each of its instructions the line of the text that it came from, and how it ends
 pub record CompiledData : Type 0 where
   pub job : JobData
   pub numbers : List ℕ
+  pub ended : Ended
 
 -- all processors have stopped after the job's last step, and not before
 pub record Stops (job : JobData) : Type 0 where
@@ -26,8 +28,9 @@ IsWhole job = Stops job ⊎ ((fault : Fault) × IsFirstConflict job fault × (fa
 
 -- each instruction is told by the number of the text's line that it came from, also the first one
 -- and the last
-abbrev pub AreNumbers : ProgramData → (ℕ → ℕ) → Type 0
-AreNumbers program line_of = (index : ℕ) → line_of index ≡ slice_index (line_numbers program) index
+abbrev pub AreLineNumbers : ProgramData → (ℕ → ℕ) → Type 0
+AreLineNumbers program line_of = (index : ℕ) →
+    line_of index ≡ slice_index (line_numbers program) index
 
 -- three registers are enough for each line
 abbrev pub AreLevel : ProgramData → Type 0
@@ -38,5 +41,5 @@ pub record IsCompiled (program : ProgramData) (job : JobData) (line_of : ℕ →
   pub job_is : IsJob job
   pub made : job ≡ job_of program job.steps
   pub level : AreLevel program
-  pub numbers : AreNumbers program line_of
+  pub numbers : AreLineNumbers program line_of
   pub whole : IsWhole job

@@ -1,19 +1,20 @@
 -- The laws of the meaning.
 use Rattle.std.specs.Prelude.{◌≡◌, ◌≢◌, ℕ}
 use Rattle.std.specs.Prelude.{false, slice_get, Some, None}
-use Rattle.pardo_text.specs.declared.program.Rule.{Rule}
-use Rattle.pardo_text.specs.declared.program.Rule.TheVariants.{Priority, Crew}
+use Rattle.pram_job.specs.declared.instr.Rule.{Rule}
+use Rattle.pram_job.specs.declared.instr.Rule.TheVariants.{Priority, Crew}
 use Rattle.pardo_text.specs.declared.statement.Line.{Line}
 use Rattle.pardo_text.specs.Expression.{Tree}
-use Rattle.pardo_text.specs.Lawful.{IsCommon, IsTree, bounds_of}
+use Rattle.pardo_text.specs.Lawful.{IsCommon, IsExpression, bounds_of}
 use Rattle.pardo_text.specs.Program.{ProgramData}
-use Rattle.pardo_job.specs.Conflicts.{Agrees, Dispute, IsDispute, Writes, asked}
-use Rattle.pardo_job.specs.Layouts.{layout_of}
-use Rattle.pardo_job.specs.Lawful.{IsLawful}
+use Rattle.pram_step.specs.declared.answer.Dispute.{Dispute}
+use Rattle.pardo_job.specs.Conflicts.{LineAgrees, IsLineDispute, Assigns, asked}
+use Rattle.pardo_job.specs.Layouts.{program_layout}
+use Rattle.pardo_job.specs.Lawful.{IsLawfulTree}
 use Rattle.pardo_job.specs.Meaning.{Source, is_active, next, value}
-use Rattle.pardo_job.specs.Runs.{IsReached}
+use Rattle.pardo_job.specs.Runs.{IsLineReached}
 
--- the same program by another rule
+-- a program with another rule in place of its own
 abbrev pub by_rule : Rule → ProgramData → ProgramData
 by_rule rule program = record program { rule = rule }
 
@@ -25,22 +26,23 @@ RuleChangesNoState = (program : ProgramData) (rule : Rule) (source : Source) →
 -- What crew accepts every rule accepts.
 abbrev pub CrewIsAccepted : Type 0
 CrewIsAccepted = (program : ProgramData) (rule : Rule) (n : ℕ) →
-    IsReached (by_rule Crew program) n → IsReached (by_rule rule program) n
+    IsLineReached (by_rule Crew program) n → IsLineReached (by_rule rule program) n
 
 -- No order of processors matters: but for rule priority, a cell holds what any of its writers gave
 -- it.
 abbrev pub AnyWriterCounts : Type 0
 AnyWriterCounts = (program : ProgramData) (source : Source) (cell i value : ℕ) →
-    Agrees program source → program.rule ≢ Priority → Writes program source cell i value →
+    LineAgrees program source → program.rule ≢ Priority → Assigns program source cell i value →
     (next program source).cells cell ≡ value
 
 -- a cell that nobody writes keeps its value
 abbrev pub UnwrittenIsKept : Type 0
 UnwrittenIsKept = (program : ProgramData) (source : Source) (cell : ℕ) →
-    ((i value : ℕ) → Writes program source cell i value → ⊥) →
+    ((i value : ℕ) → Assigns program source cell i value → ⊥) →
     (next program source).cells cell ≡ source.cells cell
 
--- A processor that is not active asks for nothing, keeps its variables, and is not lost.
+-- A processor that is not active asks for nothing, keeps its variables, and is gone or there as
+-- before.
 pub record IsUnchanged (program : ProgramData) (source : Source) (i : ℕ) : Type 0 where
   pub asks : asked program source i ≡ None
   pub privates : (x : ℕ) → (next program source).privates x i ≡ source.privates x i
@@ -62,11 +64,11 @@ LoopsAreCommon = (program : ProgramData) (source : Source) (tree : Tree) (i j : 
     value program source i tree ≡ value program source j tree
 
 -- A line has one dispute at most.
-abbrev pub OneDispute : Type 0
-OneDispute = (program : ProgramData) (source : Source) (dispute other : Dispute) →
-    IsDispute program source dispute → IsDispute program source other → dispute ≡ other
+abbrev pub OneLineDispute : Type 0
+OneLineDispute = (program : ProgramData) (source : Source) (dispute other : Dispute) →
+    IsLineDispute program source dispute → IsLineDispute program source other → dispute ≡ other
 
 -- What the reader says of expressions is what their code rests on.
 abbrev pub TreesAreLawful : Type 0
 TreesAreLawful = (program : ProgramData) (tree : Tree) →
-    IsTree (bounds_of program) tree → IsLawful (layout_of program) tree
+    IsExpression (bounds_of program) tree → IsLawfulTree (program_layout program) tree

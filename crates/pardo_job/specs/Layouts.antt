@@ -6,7 +6,7 @@ use Rattle.std.specs.List.{flat_map}
 use Rattle.pram_job.specs.declared.instr.Array.{Array}
 use Rattle.pardo_text.specs.Program.{ProgramData, ArrayData, shared_cells}
 
-pub record LayoutData : Type 0 where
+pub record ProgramLayoutData : Type 0 where
   -- the shared arrays
   pub arrays : List Array
   -- how many cells they have
@@ -21,26 +21,26 @@ pub record LayoutData : Type 0 where
 -- ---- rows
 
 -- the cells of a row: one for each processor
-abbrev pub row : LayoutData → ℕ → Array
+abbrev pub row : ProgramLayoutData → ℕ → Array
 row layout which = record { base = layout.shared + which * layout.procs; len = layout.procs }
 
-abbrev pub private_cells : LayoutData → ℕ → Array
+abbrev pub private_cells : ProgramLayoutData → ℕ → Array
 private_cells layout x = row layout x
 
 -- those of the variable of the loop that stands in so many others
-abbrev pub loop_cells : LayoutData → ℕ → Array
+abbrev pub loop_cells : ProgramLayoutData → ℕ → Array
 loop_cells layout nest = row layout (layout.privates + nest)
 
 -- those of the mask of the lines that so many `if`s are open before, one at least
-abbrev pub mask_cells : LayoutData → ℕ → Array
+abbrev pub mask_cells : ProgramLayoutData → ℕ → Array
 mask_cells layout depth = row layout (layout.privates + layout.loops + (depth - 1))
 
 -- there is a cell at least
-abbrev pub cell_count : LayoutData → ℕ
+abbrev pub cell_count : ProgramLayoutData → ℕ
 cell_count layout =
     max 1 (layout.shared + (layout.privates + layout.loops + layout.choices) * layout.procs)
 
-abbrev pub array_cells : LayoutData → ℕ → Array
+abbrev pub array_cells : ProgramLayoutData → ℕ → Array
 array_cells layout array = elim (slice_get layout.arrays array) [
   | None ↦ record { base = 0; len = 0 }
   | Some cells ↦ cells
@@ -48,12 +48,12 @@ array_cells layout array = elim (slice_get layout.arrays array) [
 
 -- ---- of a program
 
-abbrev pub cells_of : ArrayData → Array
-cells_of array = record { base = array.base; len = length array.start }
+abbrev pub cells_of_array : ArrayData → Array
+cells_of_array array = record { base = array.base; len = length array.start }
 
-unfoldable pub layout_of : ProgramData → LayoutData
-layout_of program = record {
-  arrays = map cells_of program.arrays;
+unfoldable pub program_layout : ProgramData → ProgramLayoutData
+program_layout program = record {
+  arrays = map cells_of_array program.arrays;
   shared = shared_cells program.arrays;
   procs = program.procs;
   privates = length program.privates;
@@ -69,4 +69,4 @@ given_values program = flat_map (λ array. array.start) program.arrays
 -- those of all cells; loops and masks start with 0
 unfoldable pub start_values : ProgramData → List ℕ
 start_values program = given_values program
-    ++ replicate (cell_count (layout_of program) - length (given_values program)) 0
+    ++ replicate (cell_count (program_layout program) - length (given_values program)) 0

@@ -4,33 +4,34 @@ use Rattle.pram_job.specs.declared.instr.Instr.{Instr}
 use Rattle.pardo_text.specs.Expression.{Tree}
 use Rattle.pardo_text.specs.Operations.{bit}
 use Rattle.pardo_text.specs.Program.{ProgramData}
-use Rattle.pardo_job.specs.Layouts.{LayoutData}
-use Rattle.pardo_job.specs.Lawful.{IsLawful}
+use Rattle.pardo_job.specs.Layouts.{ProgramLayoutData}
+use Rattle.pardo_job.specs.Lawful.{IsLawfulTree}
 use Rattle.pardo_job.specs.Lines.{condition_code}
 use Rattle.pardo_job.specs.Meaning.{Source, value}
 use Rattle.pardo_job.specs.Operations.{is_shallow}
 use Rattle.pardo_job.specs.Sees.{Sees}
 use Rattle.pardo_job.specs.Straight.{Registers, operand_in, after_all, IsKept}
-use Rattle.pardo_job.specs.Values.{value_code, operand_of}
+use Rattle.pardo_job.specs.Values.{value_code, value_operand}
 
 -- the value is where it is looked for, and the kept registers hold what they held
-pub record Leaves (memory : ℕ → ℕ) (i : ℕ) (held : Registers) (layout : LayoutData) (at : ℕ)
+pub record LeavesValue (memory : ℕ → ℕ) (i : ℕ) (held : Registers) (layout : ProgramLayoutData)
+    (at : ℕ)
     (tree : Tree) (v : ℕ) : Type 0 where
   pub now : Registers
   pub runs : after_all memory i (value_code layout at tree) held ≡ Some now
-  pub gives : operand_in now (operand_of at tree) ≡ v
+  pub gives : operand_in now (value_operand at tree) ≡ v
   pub keeps : (which : ℕ) → IsKept at which → now which ≡ held which
   pub fits : v < 2 ^ 32
 
-abbrev pub LeavesTo : (ℕ → ℕ) → ℕ → Registers → LayoutData → ℕ → Tree → Option ℕ → Type 0
+abbrev pub LeavesTo : (ℕ → ℕ) → ℕ → Registers → ProgramLayoutData → ℕ → Tree → Option ℕ → Type 0
 LeavesTo memory i held layout at tree None =
     after_all memory i (value_code layout at tree) held ≡ None
-LeavesTo memory i held layout at tree (Some v) = Leaves memory i held layout at tree v
+LeavesTo memory i held layout at tree (Some v) = LeavesValue memory i held layout at tree v
 
 abbrev pub ExpressionsAreEvaluated : Type 0
-ExpressionsAreEvaluated = (program : ProgramData) (layout : LayoutData) (source : Source)
+ExpressionsAreEvaluated = (program : ProgramData) (layout : ProgramLayoutData) (source : Source)
     (memory : ℕ → ℕ) (i at : ℕ) (tree : Tree) (held : Registers) →
-    Sees program layout source memory i → held 3 ≡ i → IsLawful layout tree →
+    Sees program layout source memory i → held 3 ≡ i → IsLawfulTree layout tree →
     is_shallow (value_code layout at tree) ≡ true →
     LeavesTo memory i held layout at tree (value program source i tree)
 
@@ -47,8 +48,8 @@ DecidesTo memory i held code None = after_all memory i code held ≡ None
 DecidesTo memory i held code (Some v) = Decides memory i held code v
 
 abbrev pub ConditionsDecide : Type 0
-ConditionsDecide = (program : ProgramData) (layout : LayoutData) (source : Source)
+ConditionsDecide = (program : ProgramData) (layout : ProgramLayoutData) (source : Source)
     (memory : ℕ → ℕ) (i : ℕ) (tree : Tree) (held : Registers) →
-    Sees program layout source memory i → held 3 ≡ i → IsLawful layout tree →
+    Sees program layout source memory i → held 3 ≡ i → IsLawfulTree layout tree →
     is_shallow (condition_code layout tree) ≡ true →
     DecidesTo memory i held (condition_code layout tree) (value program source i tree)

@@ -12,8 +12,10 @@ pub mod Leaves
 pub mod Shows
 pub mod Leaving
 pub mod Carries
+pub mod Ends
 pub mod Compiled
 pub mod Printed
 pub mod Refusals
+pub mod Drafts
 pub mod Laws
 pub mod Inner

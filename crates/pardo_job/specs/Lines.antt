@@ -9,12 +9,8 @@ use Rattle.pram_job.specs.declared.instr.Instr.TheVariants.{Pid, Add, Sub, Lt, E
 use Rattle.pram_job.specs.declared.instr.Instr.TheVariants.{Halt}
 use Rattle.pram_job.specs.declared.instr.Operand.TheVariants.{Register, Number}
 use Rattle.pram_job.specs.declared.instr.Place.TheVariants.{Named}
-use Rattle.pram_job.specs.declared.instr.Rule.{Rule}
-use Rattle.pram_job.specs.declared.instr.Rule.TheVariants as machine
 use Rattle.pram_job.specs.Job.{JobData, job_data}
 use Rattle.pardo_text.specs.declared.operation.Op.TheVariants as op
-use Rattle.pardo_text.specs.declared.program.Rule.{Rule as SourceRule}
-use Rattle.pardo_text.specs.declared.program.Rule.TheVariants.{Common, Priority, Crew}
 use Rattle.pardo_text.specs.declared.statement.Line.{Line}
 use Rattle.pardo_text.specs.declared.statement.Statement.{Statement}
 use Rattle.pardo_text.specs.declared.statement.Statement.TheVariants.{Assign, If, Else, EndIf}
@@ -23,48 +19,50 @@ use Rattle.pardo_text.specs.declared.statement.Target.{Target}
 use Rattle.pardo_text.specs.declared.statement.Target.TheVariants.{Private, Array as Shared}
 use Rattle.pardo_text.specs.Expression.{Tree}
 use Rattle.pardo_text.specs.Program.{ProgramData}
-use Rattle.pardo_job.specs.Layouts.{LayoutData, layout_of, start_values, cell_count}
+use Rattle.pardo_job.specs.Layouts.{ProgramLayoutData, program_layout, start_values, cell_count}
 use Rattle.pardo_job.specs.Layouts.{private_cells, loop_cells, mask_cells, array_cells}
 use Rattle.pardo_job.specs.Meaning.{statement_at}
-use Rattle.pardo_job.specs.Operations.{native, register_code, register_of}
-use Rattle.pardo_job.specs.Values.{own_place, own_load, operand_of, takes, is_truth, value_code}
+use Rattle.pardo_job.specs.Operations.{native, register_code, register_or_spare}
+use Rattle.pardo_job.specs.Values.{own_place, own_load, value_operand, takes, is_truth, value_code}
 
 -- ---- straight pieces, by the registers from 0 on
 
 -- an assignment: the value, then the index, and last the store
-unfoldable pub assignment_code : LayoutData → Target → Tree → List Instr
+unfoldable pub assignment_code : ProgramLayoutData → Target → Tree → List Instr
 assignment_code layout (Private x) tree = value_code layout 0 tree
-    ++ St (own_place (private_cells layout x)) (operand_of 0 tree) ∷ []
+    ++ St (own_place (private_cells layout x)) (value_operand 0 tree) ∷ []
 assignment_code layout (Shared array index) tree = value_code layout 0 tree
     ++ (value_code layout (takes tree) index
-    ++ St (Named (array_cells layout array) (operand_of (takes tree) index)) (operand_of 0 tree)
+    ++ St (Named (array_cells layout array) (value_operand (takes tree) index))
+    (value_operand 0 tree)
     ∷ [])
 
 -- a condition: register 0 becomes 1 where its value is not 0, and else 0
-unfoldable pub condition_code : LayoutData → Tree → List Instr
+unfoldable pub condition_code : ProgramLayoutData → Tree → List Instr
 condition_code layout tree = value_code layout 0 tree
     ++ (if is_truth tree then []
-    else native 0 op.Eq (operand_of 0 tree) (Number 0) ++ native 0 op.Eq (Register 0) (Number 0))
+    else native 0 op.Eq (value_operand 0 tree) (Number 0) ++ native 0 op.Eq (Register 0) (Number 0))
 
 -- the condition of a `while`, in a register
-unfoldable pub while_code : LayoutData → Tree → List Instr
-while_code layout tree = value_code layout 0 tree ++ register_code 0 (operand_of 0 tree)
+unfoldable pub while_code : ProgramLayoutData → Tree → List Instr
+while_code layout tree = value_code layout 0 tree ++ register_code 0 (value_operand 0 tree)
 
 -- whether a loop has no turn, in register 0
-unfoldable pub none_code : LayoutData → Bool → Tree → Tree → List Instr
+unfoldable pub none_code : ProgramLayoutData → Bool → Tree → Tree → List Instr
 none_code layout up first last = value_code layout 0 first
     ++ (value_code layout (takes first) last
-    ++ native 0 (if up then op.Gt else op.Lt) (operand_of 0 first) (operand_of (takes first) last))
+    ++ native 0 (if up then op.Gt else op.Lt) (value_operand 0 first)
+    (value_operand (takes first) last))
 
 -- the variable of a loop becomes its first value
-unfoldable pub first_code : LayoutData → ℕ → Tree → List Instr
+unfoldable pub first_code : ProgramLayoutData → ℕ → Tree → List Instr
 first_code layout nest first = value_code layout 0 first
-    ++ St (own_place (loop_cells layout nest)) (operand_of 0 first) ∷ []
+    ++ St (own_place (loop_cells layout nest)) (value_operand 0 first) ∷ []
 
 -- register 0 becomes the variable of a loop, and register 1 is 0 in the last turn
-unfoldable pub turn_code : LayoutData → ℕ → Tree → List Instr
+unfoldable pub turn_code : ProgramLayoutData → ℕ → Tree → List Instr
 turn_code layout nest last = own_load 0 (loop_cells layout nest)
-    ∷ (value_code layout 1 last ++ Sub 1 0 (operand_of 1 last) ∷ [])
+    ∷ (value_code layout 1 last ++ Sub 1 0 (value_operand 1 last) ∷ [])
 
 -- ---- lines
 
@@ -72,20 +70,20 @@ turn_code layout nest last = own_load 0 (loop_cells layout nest)
 abbrev pub own_store : Array → Instr
 own_store cells = St (own_place cells) (Register 0)
 
--- so many steps, from this place on, that do nothing
+-- steps that do nothing, as many as the count, from this place on
 abbrev pub idle : ℕ → ℕ → List Instr
 idle at zero = []
 idle at (suc count) = Jmp (at + 1) ∷ idle (at + 1) count
 
 -- What an active processor does; the others are idle as long.
-unfoldable pub masked : LayoutData → ℕ → ℕ → List Instr → List Instr
+unfoldable pub masked : ProgramLayoutData → ℕ → ℕ → List Instr → List Instr
 masked layout at depth body =
     if depth == 0 then body
     else own_load 0 (mask_cells layout depth) ∷ Jz 0 (at + 3) ∷ Jmp (at + 4 + length body)
     ∷ (idle (at + 3) (length body) ++ Jmp (at + 4 + 2 * length body) ∷ body)
 
 -- the mask after an `if`: 0 for those that are not active
-unfoldable pub choosing : LayoutData → ℕ → ℕ → List Instr → List Instr
+unfoldable pub choosing : ProgramLayoutData → ℕ → ℕ → List Instr → List Instr
 choosing layout at depth body =
     (if depth == 0 then body
     else own_load 0 (mask_cells layout depth) ∷ Jz 0 (at + 3 + length body)
@@ -93,7 +91,7 @@ choosing layout at depth body =
     ++ own_store (mask_cells layout (depth + 1)) ∷ []
 
 -- the mask after an `else`
-unfoldable pub others : LayoutData → ℕ → List Instr
+unfoldable pub others : ProgramLayoutData → ℕ → List Instr
 others layout depth = own_load 0 (mask_cells layout (depth + 1))
     ∷ ((if depth == 0 then Eq 0 0 (Number 0) ∷ []
     else own_load 1 (mask_cells layout depth) ∷ Lt 0 0 (Register 1) ∷ [])
@@ -103,7 +101,7 @@ abbrev pub next_value : Bool → Instr
 next_value up = if up then Add 0 0 (Number 1) else Sub 0 0 (Number 1)
 
 -- the end of the loop that begins in the line `begin`
-abbrev pub loop_end : LayoutData → (ℕ → ℕ) → ℕ → Statement → List Instr
+abbrev pub loop_end : ProgramLayoutData → (ℕ → ℕ) → ℕ → Statement → List Instr
 loop_end layout place_of begin (For nest first last up end) = turn_code layout nest last
     ++ (Jz 1 (place_of (end + 1)) ∷ next_value up ∷ own_store (loop_cells layout nest)
     ∷ Jmp (place_of (begin + 1)) ∷ [])
@@ -112,47 +110,42 @@ loop_end layout place_of begin _ = []
 -- The code of a line that stands at this place, where lines have these places.
 unfoldable pub line_code : ProgramData → (ℕ → ℕ) → ℕ → ℕ → Statement → List Instr
 line_code program place_of at depth (Assign target tree) =
-    masked (layout_of program) at depth (assignment_code (layout_of program) target tree)
+    masked (program_layout program) at depth (assignment_code (program_layout program) target tree)
 line_code program place_of at depth (If tree) =
-    choosing (layout_of program) at depth (condition_code (layout_of program) tree)
-line_code program place_of at depth Else = others (layout_of program) depth
+    choosing (program_layout program) at depth (condition_code (program_layout program) tree)
+line_code program place_of at depth Else = others (program_layout program) depth
 line_code program place_of at depth EndIf = []
-line_code program place_of at depth (While tree end) = while_code (layout_of program) tree
-    ++ Jz (register_of 0 (operand_of 0 tree)) (place_of (end + 1)) ∷ []
+line_code program place_of at depth (While tree end) = while_code (program_layout program) tree
+    ++ Jz (register_or_spare 0 (value_operand 0 tree)) (place_of (end + 1)) ∷ []
 line_code program place_of at depth (EndWhile begin) = Jmp (place_of begin) ∷ []
 line_code program place_of at depth (For nest first last up end) =
-    let test = none_code (layout_of program) up first last in
+    let test = none_code (program_layout program) up first last in
     test ++ (Jz 0 (at + length test + 2) ∷ Jmp (place_of (end + 1))
-    ∷ first_code (layout_of program) nest first)
+    ∷ first_code (program_layout program) nest first)
 line_code program place_of at depth (EndFor begin) =
-    loop_end (layout_of program) place_of begin (statement_at program begin)
+    loop_end (program_layout program) place_of begin (statement_at program begin)
 
 -- ---- programs
 
 -- how many instructions a line has, wherever it stands
-unfoldable pub length_of : ProgramData → Line → ℕ
-length_of program line = length (line_code program (λ j. 0) 0 line.depth line.statement)
+unfoldable pub length_of_line : ProgramData → Line → ℕ
+length_of_line program line = length (line_code program (λ j. 0) 0 line.depth line.statement)
 
 -- The place of the line j, and of the end after the last one: the first instruction stands before.
 unfoldable pub place_of : ProgramData → ℕ → ℕ
-place_of program j = 1 + sum_by (length_of program) (take j program.lines)
+place_of program j = 1 + sum_by (length_of_line program) (take j program.lines)
 
 -- the code of these lines, which are those from this place on
 abbrev pub code_from : ProgramData → ℕ → List Line → List Instr
 code_from program at [] = Halt ∷ []
 code_from program at (line ∷ lines) =
     line_code program (place_of program) at line.depth line.statement
-    ++ code_from program (at + length_of program line) lines
+    ++ code_from program (at + length_of_line program line) lines
 
 unfoldable pub code_of : ProgramData → List Instr
 code_of program = Pid 3 ∷ code_from program 1 program.lines
 
-abbrev pub machine_rule : SourceRule → Rule
-machine_rule Common = machine.Common
-machine_rule Priority = machine.Priority
-machine_rule Crew = machine.Crew
-
 -- the job of a program, which ends after so many steps
 unfoldable pub job_of : ProgramData → ℕ → JobData
-job_of program steps = job_data (machine_rule program.rule) (cell_count (layout_of program))
+job_of program steps = job_data program.rule (cell_count (program_layout program))
     program.procs steps (start_values program) (code_of program)

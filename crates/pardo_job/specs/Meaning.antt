@@ -11,7 +11,7 @@ use Rattle.pardo_text.specs.declared.statement.Statement.TheVariants.{Assign, If
 use Rattle.pardo_text.specs.declared.statement.Statement.TheVariants.{While, EndWhile, For, EndFor}
 use Rattle.pardo_text.specs.declared.statement.Target.TheVariants.{Private, Array}
 use Rattle.pardo_text.specs.Expression.{Tree, number, own, loop, private, place, apply}
-use Rattle.pardo_text.specs.Operations.{value_of}
+use Rattle.pardo_text.specs.Operations.{operation_value}
 use Rattle.pardo_text.specs.Program.{ProgramData}
 
 -- ---- states
@@ -28,22 +28,23 @@ pub record Source : Type 0 where
   pub loops : ℕ → ℕ
   -- whether the mask of a line that so many `if`s are open before has a processor
   pub masks : ℕ → ℕ → Bool
-  -- the line of the text in which a processor was gone, if it is
+  -- the line of the text in which a processor was *gone*, if it is: so is called here who named a
+  -- place that there is not, and does nothing from then on
   pub gone : ℕ → Option ℕ
 
 -- the start value of a private variable for processor i
-abbrev pub private_start : ProgramData → ℕ → ℕ → ℕ
-private_start program x i = elim (slice_get program.privates x) [
+abbrev pub private_at_start : ProgramData → ℕ → ℕ → ℕ
+private_at_start program x i = elim (slice_get program.privates x) [
   | None ↦ 0
   | Some variable ↦ slice_index variable.start i
 ]
 
 -- Before the first line all processors are there, and in the mask of no `if`.
-abbrev pub start : ProgramData → Source
-start program = record {
+abbrev pub program_start : ProgramData → Source
+program_start program = record {
   at = 0;
   cells = slice_index (flat_map (λ array. array.start) program.arrays);
-  privates = private_start program;
+  privates = private_at_start program;
   loops = λ nest. 0;
   masks = λ depth i. depth == 0;
   gone = λ i. None;
@@ -56,8 +57,8 @@ is_active source depth i = source.masks depth i && is_none (source.gone i)
 -- ---- values
 
 -- the shared cell of a place of an array, if the array has it
-abbrev pub cell_of : ProgramData → ℕ → ℕ → Option ℕ
-cell_of program array index = elim (slice_get program.arrays array) [
+abbrev pub array_cell : ProgramData → ℕ → ℕ → Option ℕ
+array_cell program array index = elim (slice_get program.arrays array) [
   | None ↦ None
   | Some held ↦ if nat_lt index (length held.start) then Some (held.base + index) else None
 ]
@@ -69,10 +70,10 @@ value program source i own = Some i
 value program source i (loop nest) = Some (source.loops nest)
 value program source i (private x) = Some (source.privates x i)
 value program source i (place array index) =
-    option_and_then (λ k. option_map source.cells (cell_of program array k))
+    option_and_then (λ k. option_map source.cells (array_cell program array k))
     (value program source i index)
 value program source i (apply op first second) =
-    option_and_then (λ a. option_map (value_of op a) (value program source i second))
+    option_and_then (λ a. option_map (operation_value op a) (value program source i second))
     (value program source i first)
 
 -- the value of an expression of which each processor has the same
@@ -85,7 +86,7 @@ common_value program source tree = unwrap_or (value program source 0 tree) 0
 abbrev pub write_of : ProgramData → Source → ℕ → ℕ → Tree → Tree → Option (ℕ × ℕ)
 write_of program source array i index tree =
     option_and_then (λ v. option_map (λ cell. (cell, v))
-    (option_and_then (cell_of program array) (value program source i index)))
+    (option_and_then (array_cell program array) (value program source i index)))
     (value program source i tree)
 
 -- what processor i asks for in a line of this depth: nothing if it is not active
@@ -105,8 +106,8 @@ first_below zero values = None
 first_below (suc n) values = option_or (first_below n values) (values n)
 
 -- each cell takes the value of its least writer
-abbrev pub written : ProgramData → Source → (ℕ → Option (ℕ × ℕ)) → ℕ → ℕ
-written program source asked cell =
+abbrev pub value_written : ProgramData → Source → (ℕ → Option (ℕ × ℕ)) → ℕ → ℕ
+value_written program source asked cell =
     unwrap_or (first_below program.procs (λ i. given_to cell (asked i))) (source.cells cell)
 
 -- ---- what a line does
@@ -135,7 +136,7 @@ private_assigned program text_line depth x tree source = record source {
 -- `A[f] := e`
 abbrev pub shared_assigned : ProgramData → ℕ → ℕ → ℕ → Tree → Tree → Source → Source
 shared_assigned program text_line depth array index tree source = record source {
-  cells = written program source
+  cells = value_written program source
       (asked_in program source depth (Assign (Array array index) tree));
   gone = losing text_line depth (λ i. is_some (write_of program source array i index tree)) source;
 }
@@ -169,7 +170,7 @@ has_none up first last = if up then nat_lt last first else nat_lt first last
 
 -- the next value of the variable of a loop
 abbrev pub next_turn : Bool → ℕ → ℕ
-next_turn up value = if up then value_of op.Add value 1 else value_of op.Sub value 1
+next_turn up value = if up then operation_value op.Add value 1 else operation_value op.Sub value 1
 
 -- The end of the loop that begins in the line `begin`: the last turn is that of its last value.
 abbrev pub loop_ended : ProgramData → ℕ → Statement → Source → Source
@@ -215,5 +216,5 @@ next program source = elim (slice_get program.lines source.at) [
 
 -- the state after n lines
 unfoldable pub after : ProgramData → ℕ → Source
-after program zero = start program
+after program zero = program_start program
 after program (suc n) = next program (after program n)

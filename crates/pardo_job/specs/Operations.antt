@@ -48,9 +48,9 @@ abbrev pub register_code : ℕ → Operand → List Instr
 register_code spare (Register register) = []
 register_code spare (Number number) = instr.Set spare number ∷ []
 
-abbrev pub register_of : ℕ → Operand → ℕ
-register_of spare (Register register) = register
-register_of spare (Number number) = spare
+abbrev pub register_or_spare : ℕ → Operand → ℕ
+register_or_spare spare (Register register) = register
+register_or_spare spare (Number number) = spare
 
 -- ---- one instruction
 
@@ -83,7 +83,7 @@ is_turned _ first = false
 abbrev pub in_order : ℕ → Op → Operand → Operand → List Instr
 in_order at op first second =
     register_code (at + taken_by second) first
-    ++ instruction_of op at (register_of (at + taken_by second) first) second ∷ []
+    ++ instruction_of op at (register_or_spare (at + taken_by second) first) second ∷ []
 
 unfoldable pub native : ℕ → Op → Operand → Operand → List Instr
 native at op first second =
@@ -102,7 +102,8 @@ tested_in spare register = if register == own_register then spare else register
 -- whether an operand is 0
 abbrev pub zero_test : ℕ → Operand → List Instr
 zero_test spare operand = register_code spare operand
-    ++ instr.Eq (tested_in spare (register_of spare operand)) (register_of spare operand) (Number 0)
+    ++ instr.Eq (tested_in spare (register_or_spare spare operand))
+    (register_or_spare spare operand) (Number 0)
     ∷ []
 
 -- whether neither of two operands is 0
@@ -110,8 +111,9 @@ unfoldable pub conjunction : ℕ → Operand → Operand → List Instr
 conjunction at first second =
     zero_test (at + taken_by second) first
     ++ (zero_test (at + 1) second
-    ++ (instr.Or at (tested_in (at + taken_by second) (register_of (at + taken_by second) first))
-    (Register (tested_in (at + 1) (register_of (at + 1) second))) ∷ negation at))
+    ++ (instr.Or at
+    (tested_in (at + taken_by second) (register_or_spare (at + taken_by second) first))
+    (Register (tested_in (at + 1) (register_or_spare (at + 1) second))) ∷ negation at))
 
 -- an operand for which no register was taken comes into this one
 abbrev pub copy_code : ℕ → Operand → List Instr

@@ -3,18 +3,18 @@ use Rattle.std.specs.Prelude.{◌≡◌, ℕ, ◌+◌, ◌-◌, Bool, ◌&&◌, 
 use Rattle.std.specs.Prelude.{List, [], ◌∷◌, ◌++◌, length, codes, decimal, Option, Some, None}
 use Rattle.std.specs.List.{flat_map, range_with_len}
 use Rattle.pardo_text.specs.Program.{ProgramData, ArrayData}
-use Rattle.pardo_job.specs.Conflicts.{Dispute}
+use Rattle.pram_step.specs.declared.answer.Dispute.{Dispute}
 use Rattle.pardo_job.specs.Meaning.{after}
-use Rattle.pardo_job.specs.Runs.{IsEnd, IsConflict, line_number}
+use Rattle.pardo_job.specs.Runs.{IsProgramEnd, IsProgramConflict, line_number}
 
 -- the values of an array, each after a blank, by what the cells hold
-abbrev pub values_of : (ℕ → ℕ) → ArrayData → List ℕ
-values_of cells array = flat_map (λ cell. codes " " ++ decimal (cells cell))
+abbrev pub values_text : (ℕ → ℕ) → ArrayData → List ℕ
+values_text cells array = flat_map (λ cell. codes " " ++ decimal (cells cell))
     (range_with_len array.base (length array.start))
 
 -- `A = 3 4 8 9`
-abbrev pub array_line : (ℕ → ℕ) → ArrayData → List ℕ
-array_line cells array = array.name ++ codes " =" ++ values_of cells array ++ codes "\n"
+abbrev pub array_values_line : (ℕ → ℕ) → ArrayData → List ℕ
+array_values_line cells array = array.name ++ codes " =" ++ values_text cells array ++ codes "\n"
 
 -- `gone processor=7 line=7`
 abbrev pub gone_line : ℕ → Option ℕ → List ℕ
@@ -25,7 +25,7 @@ gone_line i (Some line) =
 -- the arrays, by what the cells hold, and the processors that are gone, by their lines
 abbrev pub end_text : ProgramData → ℕ → (ℕ → ℕ) → (ℕ → Option ℕ) → List ℕ
 end_text program steps cells gone = codes "done steps=" ++ decimal steps ++ codes "\n"
-    ++ flat_map (array_line cells) program.arrays
+    ++ flat_map (array_values_line cells) program.arrays
     ++ flat_map (λ i. gone_line i (gone i)) (range_with_len 0 program.procs)
 
 -- `A[3]`, and of a scalar its name alone
@@ -52,9 +52,9 @@ conflict_text program line dispute = codes "conflict line=" ++ decimal line
 
 -- the text is the answer of the program, whose job makes so many steps
 abbrev pub IsEndText : ProgramData → ℕ → List ℕ → Type 0
-IsEndText program steps text = (n : ℕ) × IsEnd program n
+IsEndText program steps text = (n : ℕ) × IsProgramEnd program n
     × (text ≡ end_text program steps (after program n).cells (after program n).gone)
 
 abbrev pub IsConflictText : ProgramData → List ℕ → Type 0
-IsConflictText program text = (n : ℕ) × (dispute : Dispute) × IsConflict program n dispute
+IsConflictText program text = (n : ℕ) × (dispute : Dispute) × IsProgramConflict program n dispute
     × (text ≡ conflict_text program (line_number program (after program n)) dispute)

@@ -7,13 +7,13 @@ use Rattle.pram_machine.specs.Machine.{State, counter, IsStopped}
 use Rattle.pram_step.specs.Runs.{state_after, IsReached}
 use Rattle.pardo_text.specs.declared.statement.Line.{Line}
 use Rattle.pardo_text.specs.Program.{ProgramData}
-use Rattle.pardo_text.specs.Reading.{program_of, IsRefusal as IsTextRefusal}
+use Rattle.pardo_text.specs.Reading.{program_of, IsReaderRefusal as IsTextRefusal}
 use Rattle.pardo_job.specs.declared.fault.JobKind.{JobKind}
 use Rattle.pardo_job.specs.declared.fault.JobKind.TheVariants.{TooDeep, TooLong, Endless, Memory}
 use Rattle.pardo_job.specs.declared.fault.Refusal.{Refusal}
 use Rattle.pardo_job.specs.declared.fault.Refusal.TheVariants.{Text, Job}
 use Rattle.pardo_job.specs.declared.limits.TheConstants.{MAX_STEPS}
-use Rattle.pardo_job.specs.Lines.{job_of, length_of, line_code, place_of}
+use Rattle.pardo_job.specs.Lines.{job_of, length_of_line, line_code, place_of}
 use Rattle.pardo_job.specs.Operations.{is_shallow}
 
 -- ---- lines
@@ -23,7 +23,7 @@ use Rattle.pardo_job.specs.Operations.{is_shallow}
 abbrev pub numbers_from : ProgramData → ℕ → List Line → List ℕ
 numbers_from program last [] = last ∷ []
 numbers_from program last (line ∷ lines) =
-    replicate (length_of program line) line.number ++ numbers_from program line.number lines
+    replicate (length_of_line program line) line.number ++ numbers_from program line.number lines
 
 -- those of all instructions; the first one, `pid`, came from no line
 unfoldable pub line_numbers : ProgramData → List ℕ
@@ -57,7 +57,7 @@ pub record IsTooGreat (program : ProgramData) (number : ℕ) (level : Bool) : Ty
 -- ---- refusals
 
 -- the first processor that has not stopped stands at this instruction
-pub record IsFirstRunning (job : JobData) (state : State) (index : ℕ) : Type 0 where
+pub record FirstRunningStandsAt (job : JobData) (state : State) (index : ℕ) : Type 0 where
   pub first : ℕ
   pub is_processor : first < job.procs
   pub runs : IsStopped job state first → ⊥
@@ -68,18 +68,19 @@ pub record IsFirstRunning (job : JobData) (state : State) (index : ℕ) : Type 0
 pub record IsEndless (program : ProgramData) (number : ℕ) : Type 0 where
   pub reached : IsReached (job_of program 0) MAX_STEPS
   pub index : ℕ
-  pub runs : IsFirstRunning (job_of program 0) (state_after (job_of program 0) MAX_STEPS) index
+  pub runs : FirstRunningStandsAt (job_of program 0) (state_after (job_of program 0) MAX_STEPS)
+      index
   pub number_is : number ≡ slice_index (line_numbers program) index
 
 -- what is wrong with a program; memory that ran out is no line's
-abbrev pub IsFault : ProgramData → ℕ → JobKind → Type 0
-IsFault program number TooDeep = IsTooGreat program number false
-IsFault program number TooLong = IsTooGreat program number true
-IsFault program number Endless = IsEndless program number
-IsFault program number Memory = number ≡ 0
+abbrev pub IsProgramFault : ProgramData → ℕ → JobKind → Type 0
+IsProgramFault program number TooDeep = IsTooGreat program number false
+IsProgramFault program number TooLong = IsTooGreat program number true
+IsProgramFault program number Endless = IsEndless program number
+IsProgramFault program number Memory = number ≡ 0
 
 -- the text spells no program, or one that is no job
-abbrev pub IsRefusal : List ℕ → Refusal → Type 0
-IsRefusal text (Text fault) = IsTextRefusal text fault
-IsRefusal text (Job fault) = (program : ProgramData) × (program_of text ≡ Ok program)
-    × IsFault program fault.line fault.kind
+abbrev pub IsProgramRefusal : List ℕ → Refusal → Type 0
+IsProgramRefusal text (Text fault) = IsTextRefusal text fault
+IsProgramRefusal text (Job fault) = (program : ProgramData) × (program_of text ≡ Ok program)
+    × IsProgramFault program fault.line fault.kind

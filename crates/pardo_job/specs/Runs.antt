@@ -3,20 +3,21 @@ use Rattle.std.specs.Prelude.{◌≡◌, ℕ, ◌<◌, ◌⊎◌, IsTrue, length
 use Rattle.std.specs.Prelude.{Some, None}
 use Rattle.pardo_text.specs.Program.{ProgramData}
 use Rattle.pardo_job.specs.Meaning.{Source, after}
-use Rattle.pardo_job.specs.Conflicts.{Agrees, Dispute, IsDispute}
+use Rattle.pram_step.specs.declared.answer.Dispute.{Dispute}
+use Rattle.pardo_job.specs.Conflicts.{LineAgrees, IsLineDispute}
 
 -- all processors are gone
 abbrev pub AllGone : ProgramData → Source → Type 0
 AllGone program source = (i : ℕ) → i < program.procs → IsTrue (is_some (source.gone i))
 
 -- there is no next line, or no processor
-abbrev pub IsOver : ProgramData → Source → Type 0
-IsOver program source = (length program.lines ≡ source.at) ⊎ AllGone program source
+abbrev pub IsProgramOver : ProgramData → Source → Type 0
+IsProgramOver program source = (length program.lines ≡ source.at) ⊎ AllGone program source
 
 -- there is a state after n lines: each of the lines before is there, and agrees with the rule
-abbrev pub IsReached : ProgramData → ℕ → Type 0
-IsReached program n = (earlier : ℕ) → earlier < n →
-    (IsOver program (after program earlier) → ⊥) × Agrees program (after program earlier)
+abbrev pub IsLineReached : ProgramData → ℕ → Type 0
+IsLineReached program n = (earlier : ℕ) → earlier < n →
+    (IsProgramOver program (after program earlier) → ⊥) × LineAgrees program (after program earlier)
 
 -- the number in the text of the line that is next
 abbrev pub line_number : ProgramData → Source → ℕ
@@ -26,12 +27,12 @@ line_number program source = elim (slice_get program.lines source.at) [
 ]
 
 -- The program is over after n lines.
-pub record IsEnd (program : ProgramData) (n : ℕ) : Type 0 where
-  pub reached : IsReached program n
-  pub over : IsOver program (after program n)
+pub record IsProgramEnd (program : ProgramData) (n : ℕ) : Type 0 where
+  pub reached : IsLineReached program n
+  pub over : IsProgramOver program (after program n)
 
 -- The line after n lines is the first that is against the rule.
-pub record IsConflict (program : ProgramData) (n : ℕ) (dispute : Dispute) : Type 0 where
-  pub reached : IsReached program n
-  pub goes_on : IsOver program (after program n) → ⊥
-  pub disputed : IsDispute program (after program n) dispute
+pub record IsProgramConflict (program : ProgramData) (n : ℕ) (dispute : Dispute) : Type 0 where
+  pub reached : IsLineReached program n
+  pub goes_on : IsProgramOver program (after program n) → ⊥
+  pub disputed : IsLineDispute program (after program n) dispute

@@ -1,15 +1,17 @@
 -- What straight code does with the registers of one processor, while memory stands still.
-use Rattle.std.specs.Prelude.{◌≡◌, ℕ, ◌+◌, ◌-◌, ◌*◌, ◌/◌, ◌%◌, ◌^◌, ◌<◌, ◌⊎◌, ◌==◌, nat_lt}
-use Rattle.std.specs.Prelude.{if◌then◌else◌, List, [], ◌∷◌, Option, Some, None}
-use Rattle.std.specs.Prelude.{bit_and, bit_or, bit_xor}
+use Rattle.std.specs.Prelude.{◌≡◌, ℕ, ◌+◌, ◌<◌, ◌⊎◌, ◌==◌, nat_lt, if◌then◌else◌}
+use Rattle.std.specs.Prelude.{List, [], ◌∷◌, Option, Some, None}
 use Rattle.std.specs.Option.{option_and_then}
 use Rattle.pram_job.specs.declared.instr.Instr.{Instr}
-use Rattle.pram_job.specs.declared.instr.Instr.TheVariants.{Set, Pid, Add, Sub, Mul, And, Or, Xor}
-use Rattle.pram_job.specs.declared.instr.Instr.TheVariants.{Lt, Eq, Shl, Shr, Ld}
 use Rattle.pram_job.specs.declared.instr.Operand.{Operand}
 use Rattle.pram_job.specs.declared.instr.Operand.TheVariants.{Register, Number}
-use Rattle.pram_job.specs.declared.instr.Place.TheVariants.{Named}
-use Rattle.pardo_text.specs.Operations.{bit}
+use Rattle.pram_job.specs.declared.instr.Operands.{Operands}
+use Rattle.pram_job.specs.declared.instr.Operands.TheVariants.{Bare, Target, TargetNumber}
+use Rattle.pram_job.specs.declared.instr.Operands.TheVariants.{TargetPlace, TargetTwo, PlaceValue}
+use Rattle.pram_job.specs.declared.instr.Operands.TheVariants.{RegisterIndex, Index}
+use Rattle.pram_job.specs.declared.instr.Place.TheVariants.{Cell, Named}
+use Rattle.pram_job.specs.Instructions.{row_of}
+use Rattle.pram_machine.specs.Instructions.{computed}
 
 -- what each register holds
 abbrev pub Registers : Type 0
@@ -23,34 +25,26 @@ abbrev pub operand_in : Registers → Operand → ℕ
 operand_in held (Register register) = held register
 operand_in held (Number number) = number
 
--- the registers after an instruction of processor i; none if it reads a place that there is not
-abbrev pub after_one : (ℕ → ℕ) → ℕ → Instr → Registers → Option Registers
-after_one memory i (Set target number) held = Some (put target number held)
-after_one memory i (Pid target) held = Some (put target i held)
-after_one memory i (Add target a b) held =
-    Some (put target ((held a + operand_in held b) % 2 ^ 32) held)
-after_one memory i (Sub target a b) held =
-    Some (put target ((held a + (2 ^ 32 - operand_in held b)) % 2 ^ 32) held)
-after_one memory i (Mul target a b) held =
-    Some (put target ((held a * operand_in held b) % 2 ^ 32) held)
-after_one memory i (And target a b) held =
-    Some (put target (bit_and (held a) (operand_in held b)) held)
-after_one memory i (Or target a b) held =
-    Some (put target (bit_or (held a) (operand_in held b)) held)
-after_one memory i (Xor target a b) held =
-    Some (put target (bit_xor (held a) (operand_in held b)) held)
-after_one memory i (Lt target a b) held =
-    Some (put target (bit (nat_lt (held a) (operand_in held b))) held)
-after_one memory i (Eq target a b) held =
-    Some (put target (bit (held a == operand_in held b)) held)
-after_one memory i (Shl target a b) held = Some (put target
-    (if nat_lt (operand_in held b) 32 then (held a * 2 ^ operand_in held b) % 2 ^ 32 else 0) held)
-after_one memory i (Shr target a b) held = Some (put target
-    (if nat_lt (operand_in held b) 32 then held a / 2 ^ operand_in held b else 0) held)
-after_one memory i (Ld target (Named array index)) held =
+-- The registers of processor i after an instruction that has these operands, and computes this of
+-- two numbers; none if it reads a place of an array that there is not. Stores and jumps change none.
+abbrev pub registers_after : (ℕ → ℕ) → ℕ → (ℕ → ℕ → ℕ) → Operands → Registers → Option Registers
+registers_after memory i computes Bare held = Some held
+registers_after memory i computes (Target target) held = Some (put target i held)
+registers_after memory i computes (TargetNumber target number) held = Some (put target number held)
+registers_after memory i computes (TargetPlace target (Cell index)) held =
+    Some (put target (memory (operand_in held index)) held)
+registers_after memory i computes (TargetPlace target (Named array index)) held =
     if nat_lt (operand_in held index) array.len
     then Some (put target (memory (array.base + operand_in held index)) held) else None
-after_one memory i _ held = Some held
+registers_after memory i computes (TargetTwo target a b) held =
+    Some (put target (computes (held a) (operand_in held b)) held)
+registers_after memory i computes (PlaceValue place value) held = Some held
+registers_after memory i computes (RegisterIndex register index) held = Some held
+registers_after memory i computes (Index index) held = Some held
+
+abbrev pub after_one : (ℕ → ℕ) → ℕ → Instr → Registers → Option Registers
+after_one memory i instr held =
+    registers_after memory i (computed instr) (row_of instr).1 held
 
 -- the registers after some instructions
 abbrev pub after_all : (ℕ → ℕ) → ℕ → List Instr → Registers → Option Registers

@@ -8,7 +8,7 @@ use Rattle.pram_job.specs.declared.instr.Operand.TheVariants.{Register, Number}
 use Rattle.pram_job.specs.declared.instr.Place.{Place}
 use Rattle.pram_job.specs.declared.instr.Place.TheVariants.{Named}
 use Rattle.pardo_text.specs.Expression.{Tree, number, own, loop, private, place, apply}
-use Rattle.pardo_job.specs.Layouts.{LayoutData, private_cells, loop_cells, array_cells}
+use Rattle.pardo_job.specs.Layouts.{ProgramLayoutData, private_cells, loop_cells, array_cells}
 use Rattle.pardo_job.specs.Operations.{own_register, operation_code, gives_truth}
 
 -- a processor's own cell of a row
@@ -19,10 +19,10 @@ abbrev pub own_load : ℕ → Array → Instr
 own_load at cells = Ld at (own_place cells)
 
 -- where the value of an expression is: it is computed, in `at`, but for numbers and the own one
-abbrev pub operand_of : ℕ → Tree → Operand
-operand_of at (number k) = Number k
-operand_of at own = Register own_register
-operand_of at _ = Register at
+abbrev pub value_operand : ℕ → Tree → Operand
+value_operand at (number k) = Number k
+value_operand at own = Register own_register
+value_operand at _ = Register at
 
 -- how many registers it takes
 abbrev pub takes : Tree → ℕ
@@ -36,14 +36,14 @@ is_truth (apply op first second) = gives_truth op (is_truth first && is_truth se
 is_truth _ = false
 
 -- The code of an expression, by the registers from `at` on.
-abbrev pub value_code : LayoutData → ℕ → Tree → List Instr
+abbrev pub value_code : ProgramLayoutData → ℕ → Tree → List Instr
 value_code layout at (number k) = []
 value_code layout at own = []
 value_code layout at (loop nest) = own_load at (loop_cells layout nest) ∷ []
 value_code layout at (private x) = own_load at (private_cells layout x) ∷ []
 value_code layout at (place array index) = value_code layout at index
-    ++ Ld at (Named (array_cells layout array) (operand_of at index)) ∷ []
+    ++ Ld at (Named (array_cells layout array) (value_operand at index)) ∷ []
 value_code layout at (apply op first second) = value_code layout at first
     ++ (value_code layout (at + takes first) second
     ++ operation_code at op (is_truth first && is_truth second)
-    (operand_of at first) (operand_of (at + takes first) second))
+    (value_operand at first) (value_operand (at + takes first) second))

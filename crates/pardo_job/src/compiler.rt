@@ -1,28 +1,34 @@
 //! The compiler.
 ghost use Rattle.std.specs.Prelude.{◌≡◌, Ok, IfOk, IfErr, slice_index};
 ghost use Rattle.pram_job.specs.Job.{IsJob};
+ghost use Rattle.pram_step.specs.Last.{AreLast};
+ghost use Rattle.pram_step.specs.Runs.{IsFirstConflict};
 ghost use Rattle.pardo_text.specs.Lawful.{IsProgram};
 ghost use Rattle.pardo_text.specs.Reading.{program_of};
 ghost use Rattle.pardo_job.specs.Compiled.{IsCompiled};
-ghost use Rattle.pardo_job.specs.Inner.Endings.{IsFinished, IsLate};
-ghost use Rattle.pardo_job.specs.Layouts.{layout_of, start_values};
-ghost use Rattle.pardo_job.specs.Lines.{machine_rule};
-ghost use Rattle.pardo_job.specs.Refusals.{IsFault, IsRefusal};
+ghost use Rattle.pardo_job.specs.Drafts.{IsDraft, IsComplete};
+ghost use Rattle.pardo_job.specs.Ends.{HasEnded};
+ghost use Rattle.pardo_job.specs.Inner.Endings.{IsFinished, EndsTooLate, IsRest};
+ghost use Rattle.pardo_job.specs.Layouts.{program_layout, start_values};
+ghost use Rattle.pardo_job.specs.Refusals.{IsProgramFault, IsProgramRefusal};
 
+use crate::ended::{Ended, Lines};
 use crate::fault::{JobFault, JobKind, Refusal};
 use crate::layout::Layout;
 use crate::lines::Listing;
-use crate::run::{Ending, ending_of};
-use pardo_text::{Program, Rule, laws, read_program};
+use crate::run::{Rest, Run, disputed_line, gone_lines, line_at, run_of};
+use pardo_text::{Program, laws, read_program};
 use pram_job::Job;
+use pram_step::{Fault, LastRow, Nobody, Observer, RunAnswer};
 use std::alloc::{AllocError, Global};
 use std::marker::Model;
 
-/// The job of a program, and the lines that its instructions came from.
+/// The job of a program, the lines that its instructions came from, and how it ends.
 #[derive(Drop)]
 pub struct Compiled {
     job: Job,
     numbers: Vec<u64>,
+    ended: Ended,
 }
 
 impl Model for Compiled {
@@ -30,7 +36,12 @@ impl Model for Compiled {
 
     ghost Value = { CompiledData };
 
-    ghost view = { λ c. record { job = c.job; numbers = c.numbers.items } };
+    ghost use Rattle.std.specs.Coded.{codes};
+    ghost use Rattle.pardo_job.specs.contracts.ended.Ended as an_end;
+
+    ghost coded = { Prim.hlevel (codes, an_end.the_row.coded) };
+
+    ghost view = { λ c. record { job = c.job; numbers = c.numbers.items; ended = c.ended } };
 }
 
 impl Compiled {
@@ -48,13 +59,25 @@ impl Compiled {
         self.numbers.as_slice()
     }
 
-    /// The job, and the numbers of the lines.
-    pub fn into_parts(self) -> (Job, Vec<u64>)
+    /// How the job ends, and in which lines.
+    pub fn ended(&self) -> &Ended
+        ensures { result.now ≡ self.now.ended }
+    {
+        &self.ended
+    }
+
+    /// The job, the numbers of the lines, and how it ends.
+    pub fn into_parts(self) -> (Job, Vec<u64>, Ended)
         ensures job { result.0 ≡ self.job }
         ensures lines { result.1.items ≡ self.numbers }
+        ensures ended { result.2 ≡ self.ended }
     {
-        let Compiled { job, numbers } = self;
-        (job, numbers)
+        let Compiled {
+            job,
+            numbers,
+            ended,
+        } = self;
+        (job, numbers, ended)
     }
 
     /// The number of the text's line that an instruction came from, or 0.
@@ -68,57 +91,158 @@ impl Compiled {
 /// The program that a text spells and its job, or why there is none.
 ///
 /// The time is linear in the text, and in what the program does: it is run once, to find after how
-/// many steps it is over.
+/// many steps it is over, and how it ends.
 pub fn compile(alloc: Global, text: &[u8]) -> Result<(Program, Compiled), Refusal>
     ensures program { IfOk result (λ given. program_of text.now ≡ Ok given.0) }
     ensures job { IfOk result (λ given.
         IsCompiled given.0 given.1.job (slice_index given.1.numbers)) }
-    ensures refused { IfErr result (IsRefusal text.now) }
+    ensures ended { IfOk result (λ given.
+        HasEnded given.1.job (slice_index given.1.numbers) given.1.ended) }
+    ensures refused { IfErr result (IsProgramRefusal text.now) }
 {
-    laws::programs_are_lawful();
-    let program = read_program(alloc, text)?;
-    let compiled = compile_program(alloc, &program)?;
+    let draft = draft_in(alloc, text)?;
+    let (program, compiled, _) = finish(alloc, draft, Nobody)?;
     Ok((program, compiled))
 }
 
-// The job of a program, or why there is none.
-fn compile_program(alloc: Global, program: &Program) -> Result<Compiled, JobFault>
+/// A program, its job before that is run, which has no steps, and the number of the text's line
+/// that each instruction came from.
+#[derive(Drop)]
+pub struct Draft {
+    pub program: Program,
+    pub job: Job,
+    pub numbers: Vec<u64>,
+}
+
+/// The first half of `compile`: nothing is run.
+pub fn draft_in(alloc: Global, text: &[u8]) -> Result<Draft, Refusal>
+    ensures program { IfOk result (λ draft. program_of text.now ≡ Ok draft.program) }
+    ensures draft { IfOk result (λ draft. IsDraft draft.program draft.job draft.numbers.items) }
+    ensures refused { IfErr result (IsProgramRefusal text.now) }
+{
+    laws::programs_are_lawful();
+    let program = read_program(alloc, text)?;
+    let (job, numbers) = draft_of(alloc, &program)?;
+    Ok(Draft {
+        program,
+        job,
+        numbers,
+    })
+}
+
+/// The other half: the job is run once. The observer sees all its steps.
+pub fn finish<O: Observer + Drop>(
+    alloc: Global,
+    draft: Draft,
+    observer: O,
+) -> Result<(Program, Compiled, O), JobFault>
+    requires draft { IsDraft draft.program draft.job draft.numbers.items }
+    requires seen { O.has_seen draft.job 0 observer }
+    ensures program { IfOk result (λ given. given.0 ≡ draft.program) }
+    ensures made { IfOk result (λ given. IsComplete draft.program given.1) }
+    ensures seen { IfOk result (λ given.
+        O.has_seen (record given.1.job { steps = 0 }) given.1.job.steps given.2) }
+    ensures refused { IfErr result (λ fault. IsProgramFault draft.program fault.line fault.kind) }
+{
+    let Draft {
+        program,
+        job,
+        numbers,
+    } = draft;
+    let (compiled, observer) = finished(alloc, job, numbers, observer)?;
+    Ok((program, compiled, observer))
+}
+
+// The job of a program, which is not run, or why there is none.
+fn draft_of(alloc: Global, program: &Program) -> Result<(Job, Vec<u64>), JobFault>
     requires { IsProgram program.now }
-    ensures given { IfOk result (λ compiled.
-        IsCompiled program.now compiled.job (slice_index compiled.numbers)) }
-    ensures refused { IfErr result (λ fault. IsFault program.now fault.line fault.kind) }
+    ensures draft { IfOk result (λ given. IsDraft program.now given.0 given.1.items) }
+    ensures refused { IfErr result (λ fault. IsProgramFault program.now fault.line fault.kind) }
 {
     let listing = Listing::of(alloc, program)?;
     let code = listing.code(alloc)?;
     let numbers = listing.numbers(alloc)?;
     let init = start_values(alloc, program, &listing.layout)?;
-    let job = Job::of_parts(machine_rule(program.rule()), program.procs(), 0, init, code);
-    finished(alloc, job, numbers)
+    let job = Job::of_parts(program.rule(), program.procs(), 0, init, code);
+    Ok((job, numbers))
 }
 
-// The job with as many steps as it needs.
-fn finished(alloc: Global, job: Job, numbers: Vec<u64>) -> Result<Compiled, JobFault>
-    ensures job { IfOk result (λ compiled. IsJob compiled.job) }
-    ensures given { IfOk result (IsFinished job numbers.items) }
-    ensures refused { IfErr result (λ fault. IsLate job numbers.items fault.line fault.kind) }
+// The job with as many steps as it needs, and how it ends.
+fn finished<O: Observer + Drop>(
+    alloc: Global,
+    job: Job,
+    numbers: Vec<u64>,
+    observer: O,
+) -> Result<(Compiled, O), JobFault>
+    requires { O.has_seen job 0 observer }
+    ensures job { IfOk result (λ given. IsJob given.0.job) }
+    ensures given { IfOk result (λ given. IsFinished job numbers.items given.0) }
+    ensures seen { IfOk result (λ given. O.has_seen job given.0.job.steps given.1) }
+    ensures refused { IfErr result (λ fault. EndsTooLate job numbers.items fault.line fault.kind) }
 {
-    match ending_of(alloc, &job)? {
-        Ending::Over(steps) => {
-            let job = job.with_steps(steps);
-            job.limits_hold();
-            Ok(Compiled { job, numbers })
+    let (run, observer) = run_of(alloc, &job, observer)?;
+    match run {
+        Run::Stopped(rest) => Ok((stopped(alloc, job, numbers, rest)?, observer)),
+        Run::Disputed(fault, last) => {
+            Ok((
+                disputed(alloc, job, numbers, fault, last.as_slice()),
+                observer,
+            ))
         }
-        Ending::Endless(index) => Err(JobFault {
-            line: numbers.get(index as usize).copied().unwrap_or(0),
+        Run::Endless(index) => Err(JobFault {
+            line: line_at(numbers.as_slice(), index),
             kind: JobKind::Endless,
         }),
+    }
+}
+
+// The job with the steps that it needs and its ending, where all processors have stopped.
+fn stopped(alloc: Global, job: Job, numbers: Vec<u64>, rest: Rest) -> Result<Compiled, AllocError>
+    requires { IsRest job rest }
+    ensures job { IfOk result (λ compiled. IsJob compiled.job) }
+    ensures given { IfOk result (IsFinished job numbers.items) }
+    ensures steps { IfOk result (λ compiled. compiled.job.steps ≡ rest.steps) }
+{
+    let gone = gone_lines(alloc, &job, &rest, numbers.as_slice())?;
+    let Rest { steps, state, .. } = rest;
+    let answer = RunAnswer::Final(state.into_cells(&job));
+    let lines = Lines { gone, disputed: 0 };
+    let job = job.with_steps(steps);
+    job.limits_hold();
+    let ended = Ended { answer, lines };
+    Ok(Compiled {
+        job,
+        numbers,
+        ended,
+    })
+}
+
+// The job with the steps that it makes and its ending, where a step is against the rule.
+fn disputed(alloc: Global, job: Job, numbers: Vec<u64>, fault: Fault, last: &[LastRow]) -> Compiled
+    requires conflict { IsFirstConflict job fault }
+    requires last { AreLast job fault.step last.now }
+    ensures job { IsJob result.job }
+    ensures given { IsFinished job numbers.items result }
+    ensures steps { result.job.steps ≡ fault.step }
+{
+    let disputed = disputed_line(&job, fault, last, numbers.as_slice());
+    let gone = Vec::new(alloc);
+    let lines = Lines { gone, disputed };
+    let job = job.with_steps(fault.step);
+    job.limits_hold();
+    let answer = RunAnswer::Conflict(fault);
+    let ended = Ended { answer, lines };
+    Compiled {
+        job,
+        numbers,
+        ended,
     }
 }
 
 // The values that the cells start with.
 fn start_values(alloc: Global, program: &Program, layout: &Layout) -> Result<Vec<u32>, AllocError>
     requires lawful { IsProgram program.now }
-    requires layout { layout.now ≡ layout_of program.now }
+    requires layout { layout.now ≡ program_layout program.now }
     ensures { IfOk result (λ values. values.items ≡ start_values program.now) }
 {
     let mut values = Vec::with_capacity(alloc, layout.cells() as usize)?;
@@ -130,15 +254,4 @@ fn start_values(alloc: Global, program: &Program, layout: &Layout) -> Result<Vec
     }
     values.resize(layout.cells() as usize, 0)?;
     Ok(values)
-}
-
-// The machine's name of a rule.
-fn machine_rule(rule: Rule) -> pram_job::Rule
-    ensures { result ≡ machine_rule rule }
-{
-    match rule {
-        Rule::Common => pram_job::Rule::Common,
-        Rule::Priority => pram_job::Rule::Priority,
-        Rule::Crew => pram_job::Rule::Crew,
-    }
 }

@@ -9,7 +9,8 @@ pub fn loops_are_common()
     ensures { LoopsAreCommon }
 {}
 
-/// A processor that is not active asks for nothing, keeps its variables, and is not lost.
+/// A processor that is not active asks for nothing, keeps its variables, and is gone or there as
+/// before.
 pub fn outside_is_unchanged()
     ensures { OutsideIsUnchanged }
 {}

@@ -3,7 +3,7 @@
 //! depth of loops, then one for each depth of `if`s.
 ghost use Rattle.std.specs.Prelude.{◌≡◌, ◌+◌, ◌<◌, ◌≤◌, length, IfOk};
 ghost use Rattle.pardo_text.specs.Lawful.{IsProgram};
-ghost use Rattle.pardo_job.specs.Layouts.{array_cells, cell_count, layout_of, loop_cells};
+ghost use Rattle.pardo_job.specs.Layouts.{array_cells, cell_count, program_layout, loop_cells};
 ghost use Rattle.pardo_job.specs.Layouts.{mask_cells, private_cells, row};
 
 use pardo_text::Program;
@@ -26,9 +26,9 @@ impl Model for Layout {
     ghost use Rattle.std.specs.Prelude.{◌+◌, ◌*◌, ◌≤◌};
     ghost use Rattle.std.specs.Coded.{codes};
     ghost use Rattle.pram_job.specs.contracts.instr.Array as a;
-    ghost use Rattle.pardo_job.specs.Layouts.{LayoutData};
+    ghost use Rattle.pardo_job.specs.Layouts.{ProgramLayoutData};
 
-    ghost Value = { LayoutData };
+    ghost Value = { ProgramLayoutData };
 
     ghost coded = { Prim.hlevel (codes, a.the_row.coded) };
 
@@ -50,7 +50,7 @@ impl Layout {
     /// The layout of a program.
     pub(crate) fn of(alloc: Global, program: &Program) -> Result<Self, AllocError>
         requires { IsProgram program.now }
-        ensures { IfOk result (λ layout. layout ≡ layout_of program.now) }
+        ensures { IfOk result (λ layout. layout ≡ program_layout program.now) }
     {
         let mut arrays = Vec::with_capacity(alloc, program.arrays().len())?;
         let mut shared = 0;

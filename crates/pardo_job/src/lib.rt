@@ -2,6 +2,7 @@
 #![tactic(auto)]
 
 mod compiler;
+mod ended;
 mod fault;
 mod held;
 pub mod laws;
@@ -15,5 +16,6 @@ mod places;
 mod run;
 mod values;
 
-pub use compiler::{Compiled, compile};
+pub use compiler::{Compiled, Draft, compile, draft_in, finish};
+pub use ended::{Ended, Lines};
 pub use fault::{JobFault, JobKind, Refusal};

@@ -4,9 +4,9 @@ ghost use Rattle.std.specs.Prelude.{slice_index, vec_len};
 ghost use Rattle.pram_job.specs.declared.limits.TheConstants.{MAX_CODE as MOST};
 ghost use Rattle.pram_job.specs.declared.instr.Instr.TheVariants.{Jz as JzTo, Jmp as JmpTo};
 ghost use Rattle.pardo_text.specs.Lawful.{IsLine, IsProgram, IsStatement, bounds_of};
-ghost use Rattle.pardo_job.specs.Inner.Emitting.{Puts};
+ghost use Rattle.pardo_job.specs.Inner.Emitting.{PutsCode};
 ghost use Rattle.pardo_job.specs.Inner.Pieces.{PutsLine, choice_code, rest_code, under};
-ghost use Rattle.pardo_job.specs.Layouts.{layout_of};
+ghost use Rattle.pardo_job.specs.Layouts.{program_layout};
 ghost use Rattle.pardo_job.specs.Lines.{choosing, idle, line_code, loop_end, masked, next_value};
 ghost use Rattle.pardo_job.specs.Lines.{others};
 ghost use Rattle.pardo_job.specs.Operations.{is_shallow};
@@ -31,7 +31,7 @@ pub(crate) struct Listing<'p> {
     pub(crate) program: &'p Program,
     pub(crate) layout: Layout,
     pub(crate) places: Vec<u32>,
-    ghost laid_out: { layout ≡ layout_of program.now },
+    ghost laid_out: { layout ≡ program_layout program.now },
 }
 
 impl Listing<'_> {
@@ -96,8 +96,9 @@ impl Listing<'_> {
         first: &Statement,
     ) -> Result<(), JobKind>
         requires { IsStatement (bounds_of self.now.program.now) first.now }
-        ensures { Puts code.old.items code.new.items result
-            (loop_end (layout_of self.now.program.now) (slice_index self.now.places.items) begin
+        ensures { PutsCode code.old.items code.new.items result
+            (loop_end (program_layout self.now.program.now) (slice_index self.now.places.items)
+            begin
             first.now) }
     {
         match first {
@@ -158,12 +159,12 @@ impl Site<'_> {
         self.put_under(code, body)
     }
 
-    // The same where an `if` is open.
+    // What an active processor does where an `if` is open, which takes the others as many steps.
     fn put_under(&self, code: &mut Vec<Instr>, body: &[Instr]) -> Result<(), JobKind>
         requires room { vec_len code.old + length body.now ≤ MOST + MOST }
         requires depth { 0 < self.now.depth }
         requires shallow { is_shallow body.now ≡ true }
-        ensures { Puts code.old.items code.new.items result
+        ensures { PutsCode code.old.items code.new.items result
             (under self.now.layout.now (length code.old.items) self.now.depth body.now) }
     {
         let at = code.len() as u32;
@@ -195,7 +196,7 @@ impl Site<'_> {
     fn put_choice(&self, code: &mut Vec<Instr>, body: &[Instr]) -> Result<(), JobKind>
         requires room { vec_len code.old + length body.now ≤ MOST + MOST }
         requires shallow { is_shallow body.now ≡ true }
-        ensures { Puts code.old.items code.new.items result
+        ensures { PutsCode code.old.items code.new.items result
             (choice_code self.now.layout.now (length code.old.items) self.now.depth body.now) }
     {
         if self.depth == 0 {
@@ -214,7 +215,7 @@ impl Site<'_> {
     #[tactic(auto, unfolding(crate::specs::Lines::others))]
     fn put_else(&self, code: &mut Vec<Instr>) -> Result<(), JobKind>
         requires { self.now.depth < self.now.layout.now.choices }
-        ensures { Puts code.old.items code.new.items result
+        ensures { PutsCode code.old.items code.new.items result
             (others self.now.layout.now self.now.depth) }
     {
         let mask = self.layout.inner_mask(self.depth);
@@ -226,7 +227,7 @@ impl Site<'_> {
     // Register 0 becomes 1 for those of the mask around that it is 0 for.
     fn put_rest(&self, code: &mut Vec<Instr>) -> Result<(), JobKind>
         requires { self.now.depth < self.now.layout.now.choices }
-        ensures { Puts code.old.items code.new.items result
+        ensures { PutsCode code.old.items code.new.items result
             (rest_code self.now.layout.now self.now.depth) }
     {
         if self.depth == 0 {
@@ -273,10 +274,10 @@ fn next_turn(up: bool) -> Instr
     }
 }
 
-// So many steps that do nothing.
+// Puts instructions that do nothing, as many as the count says.
 fn put_idle(code: &mut Vec<Instr>, count: u32) -> Result<(), JobKind>
     requires { vec_len code.old + count < 2 ^ 32 }
-    ensures { Puts code.old.items code.new.items result (idle (length code.old.items) count) }
+    ensures { PutsCode code.old.items code.new.items result (idle (length code.old.items) count) }
 {
     for _pad in 0..count {
         let next = code.len() as u32 + 1;

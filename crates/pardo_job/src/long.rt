@@ -4,11 +4,11 @@ ghost use Rattle.std.specs.Prelude.{◌≡◌, ◌<◌, ◌≤◌, ℕ, length, 
 ghost use Rattle.std.specs.Prelude.{slice_index};
 ghost use Rattle.pram_job.specs.declared.limits.TheConstants.{MAX_CODE as MOST};
 ghost use Rattle.pardo_text.specs.Lawful.{IsLine, IsProgram, bounds_of};
-ghost use Rattle.pardo_job.specs.Inner.Emitting.{IsFaultOf};
+ghost use Rattle.pardo_job.specs.Inner.Emitting.{IsCodeFault};
 ghost use Rattle.pardo_job.specs.Inner.Nodes.{held_of};
 ghost use Rattle.pardo_job.specs.Inner.Pieces.{IsLineFault, bounds_code};
-ghost use Rattle.pardo_job.specs.Lawful.{IsLawful};
-ghost use Rattle.pardo_job.specs.Layouts.{LayoutData};
+ghost use Rattle.pardo_job.specs.Lawful.{IsLawfulTree};
+ghost use Rattle.pardo_job.specs.Layouts.{ProgramLayoutData};
 ghost use Rattle.pardo_job.specs.Lines.{line_code};
 ghost use Rattle.pardo_job.specs.Operations.{is_shallow, taken_by};
 ghost use Rattle.pardo_job.specs.Values.{takes, value_code};
@@ -50,7 +50,7 @@ impl Listing<'_> {
 
 // What is wrong with an expression, if it is long.
 fn judge_one(alloc: Global, layout: &Layout, expr: &Expr) -> Result<(), JobKind>
-    requires { IsLawful layout.now expr.now }
+    requires { IsLawfulTree layout.now expr.now }
     ensures { IfErr result (IsLineFault (value_code layout.now 0 expr.now)) }
 {
     if is_long(expr) {
@@ -62,8 +62,8 @@ fn judge_one(alloc: Global, layout: &Layout, expr: &Expr) -> Result<(), JobKind>
 
 // What is wrong with two expressions of a line, if they are long.
 fn judge_both(alloc: Global, layout: &Layout, first: &Expr, second: &Expr) -> Result<(), JobKind>
-    requires first { IsLawful layout.now first.now }
-    requires second { IsLawful layout.now second.now }
+    requires first { IsLawfulTree layout.now first.now }
+    requires second { IsLawfulTree layout.now second.now }
     ensures { IfErr result (IsLineFault (bounds_code layout.now first.now second.now)) }
 {
     if are_long(first, second) {
@@ -76,7 +76,7 @@ fn judge_both(alloc: Global, layout: &Layout, first: &Expr, second: &Expr) -> Re
 
 // Whether an expression has so many nodes that its code is too long.
 fn is_long(expr: &Expr) -> bool
-    ensures { IsTrue result → (layout : LayoutData) (at : ℕ) →
+    ensures { IsTrue result → (layout : ProgramLayoutData) (at : ℕ) →
         MOST < length (value_code layout at expr.now) }
 {
     expr.nodes().len() > MAX_NODES
@@ -84,7 +84,7 @@ fn is_long(expr: &Expr) -> bool
 
 // Whether two expressions have so many nodes that their code is too long.
 fn are_long(first: &Expr, second: &Expr) -> bool
-    ensures { IsTrue result → (layout : LayoutData) →
+    ensures { IsTrue result → (layout : ProgramLayoutData) →
         MOST < length (bounds_code layout first.now second.now) }
 {
     let count = first.nodes().len().saturating_add(second.nodes().len());
@@ -94,11 +94,11 @@ fn are_long(first: &Expr, second: &Expr) -> bool
 // Where the value of an expression is, whose code goes by the registers from `at` on.
 fn try_value(alloc: Global, layout: &Layout, at: u8, expr: &Expr) -> Result<Held, JobKind>
     requires at { at ≤ 3 }
-    requires lawful { IsLawful layout.now expr.now }
+    requires lawful { IsLawfulTree layout.now expr.now }
     ensures shallow { OnOk result (is_shallow (value_code layout.now at expr.now) ≡ true) }
     ensures held { IfOk result (λ held. held ≡ held_of at expr.now) }
     ensures taken { IfOk result (λ held. taken_by held.operand ≡ takes expr.now) }
-    ensures fault { IfErr result (IsFaultOf (value_code layout.now at expr.now)) }
+    ensures fault { IfErr result (IsCodeFault (value_code layout.now at expr.now)) }
 {
     let mut stack = Stack::above(alloc, at);
     let mut code = Vec::new(alloc);

@@ -1,9 +1,9 @@
 //! The code of operations. Their values come into the register `at`; the registers below it are
 //! taken, and those of the operands, and the own number's.
 ghost use Rattle.std.specs.Prelude.{◌≡◌, ◌<◌, ◌+◌, ◌∷◌, [], ◌++◌, ◌&&◌, IfOk};
-ghost use Rattle.pardo_job.specs.Inner.Emitting.{Puts};
+ghost use Rattle.pardo_job.specs.Inner.Emitting.{PutsCode};
 ghost use Rattle.pardo_job.specs.Operations.{target_of, instruction_of, is_turned, register_code};
-ghost use Rattle.pardo_job.specs.Operations.{register_of, native, in_order};
+ghost use Rattle.pardo_job.specs.Operations.{register_or_spare, native, in_order};
 ghost use Rattle.pardo_job.specs.Operations.{negation, copy_code, choice};
 ghost use Rattle.pardo_job.specs.Operations.{zero_test, tested_in, conjunction, operation_code};
 ghost use Rattle.pardo_job.specs.Operations.{gives_truth, chosen_of, is_max};
@@ -23,7 +23,7 @@ pub(crate) fn put_operation(
     second: Held,
 ) -> Result<(), JobKind>
     requires { at < 4 }
-    ensures { Puts code.old.items code.new.items result
+    ensures { PutsCode code.old.items code.new.items result
         (operation_code at op (first.is_truth && second.is_truth) first.operand second.operand) }
 {
     let (a, b) = (first.operand, second.operand);
@@ -76,7 +76,7 @@ pub(crate) fn put_native(
     b: Operand,
 ) -> Result<(), JobKind>
     requires { at < 4 }
-    ensures { Puts code.old.items code.new.items result (native at op a b) }
+    ensures { PutsCode code.old.items code.new.items result (native at op a b) }
 {
     if is_turned(op, a) {
         put_in_order(code, at, op, b, a)
@@ -91,8 +91,8 @@ pub(crate) fn put_register(
     spare: u8,
     operand: Operand,
 ) -> Result<u8, JobKind>
-    ensures put { Puts code.old.items code.new.items result (register_code spare operand) }
-    ensures register { IfOk result (λ register. register ≡ register_of spare operand) }
+    ensures put { PutsCode code.old.items code.new.items result (register_code spare operand) }
+    ensures register { IfOk result (λ register. register ≡ register_or_spare spare operand) }
 {
     match operand {
         Operand::Register(register) => Ok(register),
@@ -105,7 +105,7 @@ pub(crate) fn put_register(
 
 /// One instruction more, which may give a value to the registers that are for values alone.
 pub(crate) fn put(code: &mut Vec<Instr>, instr: Instr) -> Result<(), JobKind>
-    ensures { Puts code.old.items code.new.items result (instr ∷ []) }
+    ensures { PutsCode code.old.items code.new.items result (instr ∷ []) }
 {
     if target_of(instr) >= OWN {
         return Err(JobKind::TooDeep);
@@ -114,7 +114,7 @@ pub(crate) fn put(code: &mut Vec<Instr>, instr: Instr) -> Result<(), JobKind>
     Ok(())
 }
 
-// The same of operands that keep their places.
+// An operation of two operands that keep their places.
 #[tactic(auto, using(crate::proofs::Emitting::puts_then, crate::proofs::Emitting::puts_fails))]
 fn put_in_order(
     code: &mut Vec<Instr>,
@@ -124,7 +124,7 @@ fn put_in_order(
     second: Operand,
 ) -> Result<(), JobKind>
     requires { at < 4 }
-    ensures { Puts code.old.items code.new.items result (in_order at op first second) }
+    ensures { PutsCode code.old.items code.new.items result (in_order at op first second) }
 {
     let register = put_register(code, at + taken_by(second), first)?;
     put(code, instruction(op, at, register, second))
@@ -132,7 +132,7 @@ fn put_in_order(
 
 // Makes the register 1 where it is 0, and else 0.
 fn put_negation(code: &mut Vec<Instr>, at: u8) -> Result<(), JobKind>
-    ensures { Puts code.old.items code.new.items result (negation at) }
+    ensures { PutsCode code.old.items code.new.items result (negation at) }
 {
     put(code, Instr::Eq(at, at, Operand::Number(0)))
 }
@@ -141,7 +141,7 @@ fn put_negation(code: &mut Vec<Instr>, at: u8) -> Result<(), JobKind>
 #[tactic(auto, unfolding(crate::specs::Operations::conjunction))]
 fn put_conjunction(code: &mut Vec<Instr>, at: u8, a: Operand, b: Operand) -> Result<(), JobKind>
     requires { at < 4 }
-    ensures { Puts code.old.items code.new.items result (conjunction at a b) }
+    ensures { PutsCode code.old.items code.new.items result (conjunction at a b) }
 {
     let first = put_zero_test(code, at + taken_by(b), a)?;
     let second = put_zero_test(code, at + 1, b)?;
@@ -152,9 +152,9 @@ fn put_conjunction(code: &mut Vec<Instr>, at: u8, a: Operand, b: Operand) -> Res
 // Whether an operand is 0: the register that this comes into, which is the operand's own if one
 // was taken for it, and else `spare`.
 fn put_zero_test(code: &mut Vec<Instr>, spare: u8, operand: Operand) -> Result<u8, JobKind>
-    ensures put { Puts code.old.items code.new.items result (zero_test spare operand) }
+    ensures put { PutsCode code.old.items code.new.items result (zero_test spare operand) }
     ensures register { IfOk result (λ register.
-        register ≡ tested_in spare (register_of spare operand)) }
+        register ≡ tested_in spare (register_or_spare spare operand)) }
 {
     let register = put_register(code, spare, operand)?;
     let target = if register == OWN { spare } else { register };
@@ -167,7 +167,7 @@ fn put_zero_test(code: &mut Vec<Instr>, spare: u8, operand: Operand) -> Result<u
 #[tactic(auto, unfolding(crate::specs::Operations::choice))]
 fn put_choice(code: &mut Vec<Instr>, at: u8, op: Op, a: Operand, b: Operand) -> Result<(), JobKind>
     requires { at < 4 }
-    ensures { Puts code.old.items code.new.items result (choice at op a b) }
+    ensures { PutsCode code.old.items code.new.items result (choice at op a b) }
 {
     if taken_by(a) == 0 && taken_by(b) == 1 {
         put_first(code, at, op, b, a)
@@ -176,7 +176,7 @@ fn put_choice(code: &mut Vec<Instr>, at: u8, op: Op, a: Operand, b: Operand) -> 
     }
 }
 
-// The same of operands whose first one comes into the register.
+// The least or the greatest of two values, the first of which comes into the register.
 fn put_first(
     code: &mut Vec<Instr>,
     at: u8,
@@ -185,17 +185,17 @@ fn put_first(
     second: Operand,
 ) -> Result<(), JobKind>
     requires { at < 4 }
-    ensures { Puts code.old.items code.new.items result
+    ensures { PutsCode code.old.items code.new.items result
         (copy_code at first ++ chosen_of at op second) }
 {
     put_copy(code, at, first)?;
     put_chosen(code, at, op, second)
 }
 
-// The same, where the first one is in the register.
+// The least or the greatest of the value in the register and another one.
 fn put_chosen(code: &mut Vec<Instr>, at: u8, op: Op, second: Operand) -> Result<(), JobKind>
     requires { at < 4 }
-    ensures { Puts code.old.items code.new.items result (chosen_of at op second) }
+    ensures { PutsCode code.old.items code.new.items result (chosen_of at op second) }
 {
     let test = at + 1 + taken_by(second);
     put(code, Instr::Lt(test, at, second))?;
@@ -209,7 +209,7 @@ fn put_chosen(code: &mut Vec<Instr>, at: u8, op: Op, second: Operand) -> Result<
 
 // Brings an operand for which no register was taken into this one.
 fn put_copy(code: &mut Vec<Instr>, at: u8, operand: Operand) -> Result<(), JobKind>
-    ensures { Puts code.old.items code.new.items result (copy_code at operand) }
+    ensures { PutsCode code.old.items code.new.items result (copy_code at operand) }
 {
     match operand {
         Operand::Register(register) if register < OWN => Ok(()),

@@ -5,14 +5,14 @@ ghost use Rattle.std.specs.Prelude.{IfErr, IfOk, OnOk};
 ghost use Rattle.pram_job.specs.declared.instr.Operand.TheVariants.{Register};
 ghost use Rattle.pram_job.specs.declared.instr.Instr.TheVariants.{St};
 ghost use Rattle.pardo_text.specs.declared.operation.Op.TheVariants as op;
-ghost use Rattle.pardo_job.specs.Inner.Emitting.{IsFaultOf, Puts};
+ghost use Rattle.pardo_job.specs.Inner.Emitting.{IsCodeFault, PutsCode};
 ghost use Rattle.pardo_job.specs.Inner.Pieces.{IsLawfulTarget};
 ghost use Rattle.pardo_job.specs.Inner.Pieces.{bounds_code, bounds_operands};
-ghost use Rattle.pardo_job.specs.Lawful.{IsLawful};
+ghost use Rattle.pardo_job.specs.Lawful.{IsLawfulTree};
 ghost use Rattle.pardo_job.specs.Lines.{assignment_code, condition_code, first_code, none_code};
 ghost use Rattle.pardo_job.specs.Lines.{own_store, turn_code, while_code};
-ghost use Rattle.pardo_job.specs.Operations.{is_shallow, register_of};
-ghost use Rattle.pardo_job.specs.Values.{operand_of, own_load, own_place};
+ghost use Rattle.pardo_job.specs.Operations.{is_shallow, register_or_spare};
+ghost use Rattle.pardo_job.specs.Values.{value_operand, own_load, own_place};
 
 use crate::fault::JobKind;
 use crate::held::{OWN, taken_by};
@@ -33,8 +33,8 @@ pub(crate) fn put_assignment(
     value: &Expr,
 ) -> Result<(), JobKind>
     requires target { IsLawfulTarget layout.now target.now }
-    requires value { IsLawful layout.now value.now }
-    ensures { Puts code.old.items code.new.items result
+    requires value { IsLawfulTree layout.now value.now }
+    ensures { PutsCode code.old.items code.new.items result
         (assignment_code layout.now target.now value.now) }
 {
     let held = put_value(code, alloc, layout, 0, value)?;
@@ -59,8 +59,8 @@ pub(crate) fn put_condition(
     layout: &Layout,
     expr: &Expr,
 ) -> Result<(), JobKind>
-    requires { IsLawful layout.now expr.now }
-    ensures { Puts code.old.items code.new.items result (condition_code layout.now expr.now) }
+    requires { IsLawfulTree layout.now expr.now }
+    ensures { PutsCode code.old.items code.new.items result (condition_code layout.now expr.now) }
 {
     let held = put_value(code, alloc, layout, 0, expr)?;
     if held.is_truth {
@@ -78,10 +78,10 @@ pub(crate) fn put_while_test(
     layout: &Layout,
     expr: &Expr,
 ) -> Result<u8, JobKind>
-    requires { IsLawful layout.now expr.now }
-    ensures put { Puts code.old.items code.new.items result (while_code layout.now expr.now) }
+    requires { IsLawfulTree layout.now expr.now }
+    ensures put { PutsCode code.old.items code.new.items result (while_code layout.now expr.now) }
     ensures register { IfOk result (λ register.
-        register ≡ register_of 0 (operand_of 0 expr.now)) }
+        register ≡ register_or_spare 0 (value_operand 0 expr.now)) }
 {
     let held = put_value(code, alloc, layout, 0, expr)?;
     put_register(code, 0, held.operand)
@@ -95,12 +95,12 @@ pub(crate) fn none_test(
     last: &Expr,
     up: bool,
 ) -> Result<Vec<Instr>, JobKind>
-    requires first { IsLawful layout.now first.now }
-    requires last { IsLawful layout.now last.now }
+    requires first { IsLawfulTree layout.now first.now }
+    requires last { IsLawfulTree layout.now last.now }
     ensures code { IfOk result (λ code. code.items ≡ none_code layout.now up first.now last.now) }
     ensures shallow { OnOk result
         (is_shallow (none_code layout.now up first.now last.now) ≡ true) }
-    ensures fault { IfErr result (IsFaultOf (none_code layout.now up first.now last.now)) }
+    ensures fault { IfErr result (IsCodeFault (none_code layout.now up first.now last.now)) }
 {
     let mut code = Vec::new(alloc);
     let (a, b) = put_bounds(&mut code, alloc, layout, first, last)?;
@@ -123,9 +123,9 @@ fn put_bounds(
     first: &Expr,
     last: &Expr,
 ) -> Result<(Operand, Operand), JobKind>
-    requires first { IsLawful layout.now first.now }
-    requires last { IsLawful layout.now last.now }
-    ensures put { Puts code.old.items code.new.items result
+    requires first { IsLawfulTree layout.now first.now }
+    requires last { IsLawfulTree layout.now last.now }
+    ensures put { PutsCode code.old.items code.new.items result
         (bounds_code layout.now first.now last.now) }
     ensures operands { IfOk result (λ both. both ≡ bounds_operands first.now last.now) }
 {
@@ -144,8 +144,8 @@ pub(crate) fn put_first_value(
     first: &Expr,
 ) -> Result<(), JobKind>
     requires nest { nest < layout.now.loops }
-    requires first { IsLawful layout.now first.now }
-    ensures { Puts code.old.items code.new.items result (first_code layout.now nest first.now) }
+    requires first { IsLawfulTree layout.now first.now }
+    ensures { PutsCode code.old.items code.new.items result (first_code layout.now nest first.now) }
 {
     let held = put_value(code, alloc, layout, 0, first)?;
     let cells = layout.loop_variable(nest);
@@ -154,14 +154,14 @@ pub(crate) fn put_first_value(
 
 /// A register becomes what a processor's own cell of a row holds.
 pub(crate) fn put_load(code: &mut Vec<Instr>, register: u8, row: Array) -> Result<(), JobKind>
-    ensures { Puts code.old.items code.new.items result (own_load register row ∷ []) }
+    ensures { PutsCode code.old.items code.new.items result (own_load register row ∷ []) }
 {
     put(code, Instr::Ld(register, own_place(row)))
 }
 
 /// A processor's own cell of a row becomes what register 0 holds.
 pub(crate) fn put_store(code: &mut Vec<Instr>, row: Array) -> Result<(), JobKind>
-    ensures { Puts code.old.items code.new.items result (own_store row ∷ []) }
+    ensures { PutsCode code.old.items code.new.items result (own_store row ∷ []) }
 {
     put(code, Instr::St(own_place(row), Operand::Register(0)))
 }
@@ -169,7 +169,7 @@ pub(crate) fn put_store(code: &mut Vec<Instr>, row: Array) -> Result<(), JobKind
 /// Shallow code that was put elsewhere.
 pub(crate) fn put_all(code: &mut Vec<Instr>, more: &[Instr]) -> Result<(), JobKind>
     requires { is_shallow more.now ≡ true }
-    ensures { Puts code.old.items code.new.items result more.now }
+    ensures { PutsCode code.old.items code.new.items result more.now }
 {
     code.extend_from_slice(more)?;
     Ok(())

@@ -5,7 +5,7 @@ ghost use Rattle.pardo_text.specs.Lawful.{IsLine, IsProgram, bounds_of};
 ghost use Rattle.pardo_job.specs.Inner.Listings.{AreAllPlaces, IsFaultAt, IsPlaceAfter};
 ghost use Rattle.pardo_job.specs.Inner.Pieces.{PutsLine};
 ghost use Rattle.pardo_job.specs.Lines.{code_of, line_code};
-ghost use Rattle.pardo_job.specs.Refusals.{IsFault, line_numbers};
+ghost use Rattle.pardo_job.specs.Refusals.{IsProgramFault, line_numbers};
 
 use crate::fault::{JobFault, JobKind};
 use crate::held::OWN;
@@ -22,7 +22,7 @@ impl<'p> Listing<'p> {
         requires { IsProgram program.now }
         ensures program { IfOk result (λ listing. listing.program.now ≡ program.now) }
         ensures places { IfOk result (λ listing. AreAllPlaces program.now listing.places.items) }
-        ensures refused { IfErr result (λ fault. IsFault program.now fault.line fault.kind) }
+        ensures refused { IfErr result (λ fault. IsProgramFault program.now fault.line fault.kind) }
     {
         let layout = Layout::of(alloc, program)?;
         let mut listing = Listing {
@@ -42,7 +42,7 @@ impl<'p> Listing<'p> {
         ensures given { IfOk result (λ places.
             AreAllPlaces self.now.program.now places.items) }
         ensures refused { IfErr result (λ fault.
-            IsFault self.now.program.now fault.line fault.kind) }
+            IsProgramFault self.now.program.now fault.line fault.kind) }
     {
         let lines = self.program.lines();
         let mut code = Vec::new(alloc);
@@ -102,7 +102,7 @@ impl<'p> Listing<'p> {
         requires places { AreAllPlaces self.now.program.now self.now.places.items }
         ensures given { IfOk result (λ code. code.items ≡ code_of self.now.program.now) }
         ensures refused { IfErr result (λ fault.
-            IsFault self.now.program.now fault.line fault.kind) }
+            IsProgramFault self.now.program.now fault.line fault.kind) }
     {
         let mut code = Vec::new(alloc);
         code.push(Instr::Pid(OWN))?;

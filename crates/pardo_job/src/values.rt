@@ -3,9 +3,9 @@ ghost use Rattle.std.specs.Prelude.{◌≡◌, ◌+◌, ◌≤◌, ◌++◌, ◌
 ghost use Rattle.pram_job.specs.declared.instr.Instr.TheVariants.{Ld};
 ghost use Rattle.pram_job.specs.declared.instr.Operand.TheVariants.{Register};
 ghost use Rattle.pram_job.specs.declared.instr.Place.TheVariants.{Named};
-ghost use Rattle.pardo_job.specs.Inner.Emitting.{Puts};
+ghost use Rattle.pardo_job.specs.Inner.Emitting.{PutsCode};
 ghost use Rattle.pardo_job.specs.Inner.Nodes.{CanTake, Takes, held_of};
-ghost use Rattle.pardo_job.specs.Lawful.{IsLawful};
+ghost use Rattle.pardo_job.specs.Lawful.{IsLawfulTree};
 ghost use Rattle.pardo_job.specs.Operations.{taken_by};
 ghost use Rattle.pardo_job.specs.Values.{own_load, takes, value_code};
 
@@ -26,8 +26,9 @@ pub(crate) fn put_value(
     expr: &Expr,
 ) -> Result<Held, JobKind>
     requires at { at ≤ 3 }
-    requires lawful { IsLawful layout.now expr.now }
-    ensures put { Puts code.old.items code.new.items result (value_code layout.now at expr.now) }
+    requires lawful { IsLawfulTree layout.now expr.now }
+    ensures put { PutsCode code.old.items code.new.items result
+        (value_code layout.now at expr.now) }
     ensures held { IfOk result (λ held. held ≡ held_of at expr.now) }
     ensures taken { IfOk result (λ held. taken_by held.operand ≡ takes expr.now) }
 {
@@ -40,7 +41,7 @@ pub(crate) fn put_value(
 
 // Takes what a processor's own cell of a row holds to hand.
 fn put_own(code: &mut Vec<Instr>, stack: &mut Stack, row: Array) -> Result<(), JobKind>
-    ensures put { Puts code.old.items code.new.items result
+    ensures put { PutsCode code.old.items code.new.items result
         (own_load stack.old.taken row ∷ []) }
     ensures held { OnOk result (stack.new.values.items ≡ stack.old.values.items
         ++ record { operand = Register stack.old.taken; is_truth = false } ∷ []) }
@@ -57,7 +58,7 @@ fn put_load(
     array: Array,
     index: Operand,
 ) -> Result<(), JobKind>
-    ensures put { Puts code.old.items code.new.items result
+    ensures put { PutsCode code.old.items code.new.items result
         (Ld stack.old.taken (Named array index) ∷ []) }
     ensures held { OnOk result (stack.new.values.items ≡ stack.old.values.items
         ++ record { operand = Register stack.old.taken; is_truth = false } ∷ []) }

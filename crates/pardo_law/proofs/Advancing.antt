@@ -1,236 +1,58 @@
 -- A line of the program, and the steps of the job for it.
-use Rattle.std.proofs.Common.{◌≡◌, ℕ, suc, ◌+◌, ◌-◌, ◌*◌, ◌^◌, ◌<◌, ◌≤◌, ◌==◌, ◌⊎◌, Bool, true, not}
+use Rattle.std.proofs.Common.{◌≡◌, ℕ, suc, ◌+◌, ◌-◌, ◌^◌, ◌<◌, ◌≤◌, ◌==◌, Bool, true, not}
 use Rattle.std.proofs.Common.{false, ◌&&◌, List, [], ◌∷◌, ◌++◌, Option, Some, None, refl, sym, ap}
-use Rattle.std.proofs.Common.{◌∙◌, subst, inl, inr, ⊎_elim, arith, if◌then◌else◌, length}
-use Rattle.std.specs.Prelude.{is_some, unwrap_or, sum_by}
-use Rattle.std.proofs.lemmas.List.Sums.{sum_by-take-le}
-use Rattle.std.proofs.Math.Seq.{take-length}
+use Rattle.std.proofs.Common.{◌∙◌, subst, inl, inr, arith, if◌then◌else◌, length}
+use Rattle.std.specs.Prelude.{is_some, unwrap_or}
 use Rattle.std.specs.Option.{is_none, option_map, option_and_then}
-use Rattle.std.proofs.lemmas.Bool.{ne_eqb, eq-eqb, cases_Bool, cases_lt}
+use Rattle.std.proofs.lemmas.Bool.{ne_eqb, eq-eqb, cases_Bool}
 use Rattle.std.proofs.lemmas.Option.{none-some, some_pair_parts}
 use Rattle.pram_job.specs.declared.instr.Instr.{Instr}
 use Rattle.pram_job.specs.declared.instr.Instr.TheVariants.{St, Jz, Jmp, Eq, Lt}
 use Rattle.pram_job.specs.declared.instr.Operand.TheVariants.{Register, Number}
 use Rattle.pram_job.specs.declared.instr.Place.TheVariants.{Named}
 use Rattle.pram_job.specs.Job.{JobData}
-use Rattle.pram_machine.specs.Machine.{counter, out_of_range}
-use Rattle.pram_machine.specs.Instructions.{request_in}
-use Rattle.pram_step.specs.Runs.{state_after}
-use Rattle.pardo_text.specs.declared.statement.Statement.{Statement}
-use Rattle.pardo_text.specs.declared.statement.Statement.TheVariants.{Assign, If, Else, EndIf, For}
-use Rattle.pardo_text.specs.declared.statement.Statement.TheVariants.{While, EndWhile, EndFor}
-use Rattle.pardo_text.specs.declared.statement.Target.TheVariants.{Private, Array as Shared}
+use Rattle.pardo_text.specs.declared.statement.Statement.TheVariants.{Assign}
+use Rattle.pardo_text.specs.declared.statement.Target.TheVariants.{Array as Shared}
 use Rattle.pardo_text.specs.Expression.{Tree}
-use Rattle.pardo_text.specs.Lawful.{IsTree, IsCommonTree, bounds_of}
+use Rattle.pardo_text.specs.Lawful.{IsExpression, IsCommonTree, bounds_of}
 use Rattle.pardo_text.specs.Operations.{bit}
 use Rattle.pardo_text.specs.Program.{ProgramData}
-use Rattle.pardo_job.specs.Layouts.{LayoutData, layout_of, private_cells, loop_cells, mask_cells}
+use Rattle.pardo_job.specs.Layouts.{program_layout, private_cells, loop_cells}
+use Rattle.pardo_job.specs.Layouts.{mask_cells}
 use Rattle.pardo_job.specs.Layouts.{array_cells}
-use Rattle.pardo_job.specs.Lines.{idle, masked, choosing, others, own_store, place_of, length_of}
+use Rattle.pardo_job.specs.Lines.{masked, choosing, others, own_store, place_of}
 use Rattle.pardo_job.specs.Lines.{next_value, condition_code, while_code, none_code, first_code}
 use Rattle.pardo_job.specs.Lines.{turn_code}
 use Rattle.pardo_job.specs.Meaning.{Source, value, common_value, is_active, is_true, losing, on_to}
 use Rattle.pardo_job.specs.Meaning.{asked_in, write_of, private_assigned, shared_assigned, chosen}
-use Rattle.pardo_job.specs.Meaning.{otherwise, turned, has_none, next_turn, cell_of, given_to}
-use Rattle.pardo_job.specs.Meaning.{first_below, statement_at}
-use Rattle.pardo_job.specs.Operations.{is_shallow, register_of}
-use Rattle.pardo_job.specs.Values.{value_code, operand_of, takes, own_place, own_load}
+use Rattle.pardo_job.specs.Meaning.{otherwise, turned, has_none, next_turn, array_cell, given_to}
+use Rattle.pardo_job.specs.Meaning.{first_below}
+use Rattle.pardo_job.specs.Operations.{is_shallow, register_or_spare}
+use Rattle.pardo_job.specs.Values.{value_code, value_operand, takes, own_place, own_load}
 use Rattle.pardo_job.proofs.Assigning.{both_code}
-use Rattle.pardo_job.proofs.Shallow.{shallow_front, shallow_back, shallow_rest}
-use Rattle.pardo_law.specs.Locals.{Local, StandsAt, Standing, StoresAgree, memory_of}
-use Rattle.pardo_law.proofs.Bodies.{own_body, with_store, under, between}
+use Rattle.pardo_law.specs.Locals.{Local, HasCodeAt, StandsAfter}
+use Rattle.pardo_law.proofs.Bodies.{own_body, with_store}
 use Rattle.pardo_law.proofs.Effects.{private_pictured, masks_pictured, turned_pictured}
 use Rattle.pardo_law.proofs.Effects.{moved_pictured, there_before}
 use Rattle.pardo_law.proofs.Loops.{while_goes, jump_goes, none_goes, turn_makes, for_end_is}
 use Rattle.pardo_law.proofs.Loops.{last_goes, again_makes}
 use Rattle.pardo_law.proofs.Placing.{stands_back}
-use Rattle.pardo_law.proofs.Cutting.{site, is_inside, Below, PutOnly, StaysIn, Unchanged, made_in}
+use Rattle.pardo_law.proofs.Cutting.{site, Below, PutOnly, StaysIn, Unchanged, made_in}
 use Rattle.pardo_law.proofs.Cutting.{gone_in}
-use Rattle.pardo_law.proofs.Lengths.{code_len}
 use Rattle.pardo_law.proofs.Making.{Makes, Goes, IsMade, Went}
 use Rattle.pardo_law.proofs.Masks.{quiet, quiet_choice, masked_makes, choosing_makes, others_makes}
 use Rattle.pardo_law.proofs.Masks.{active_is}
 use Rattle.pardo_law.proofs.Picturing.{IsOf, IsHere, Pictured, memory_fits, procs_are, procs_same}
-use Rattle.pardo_law.proofs.Picturing.{layout_procs, shared_low, sees, code_is, row_low, held_low}
+use Rattle.pardo_law.proofs.Picturing.{layout_procs, shared_low, sees, row_low, held_low}
 use Rattle.pardo_law.proofs.Rows.{own_stores, own_agree, after_apart, after_before, place_is}
 use Rattle.pardo_law.proofs.Rows.{own_of, own_high, held_before, held_below}
 use Rattle.pardo_law.proofs.Straightness.{value_straight}
 use Rattle.pardo_law.proofs.Values.{decided, value_to, shared_to}
-
--- ---- how many steps
-
--- those of the end of a loop
-abbrev pub loop_cost : ProgramData → Source → Statement → ℕ
-loop_cost program source (For nest first last up end) =
-    if source.loops nest == common_value program source last
-    then length (turn_code (layout_of program) nest last) + 1
-    else suc ((length (turn_code (layout_of program) nest last) + 1) + 1) + 1
-loop_cost program source _ = 0
-
-abbrev pub cost : ProgramData → Source → ℕ → Statement → ℕ
-cost program source depth (Assign (Private x) tree) =
-    suc (quiet depth (length (value_code (layout_of program) 0 tree)))
-cost program source depth (Assign (Shared array index) tree) =
-    suc (quiet depth (length (both_code (layout_of program) tree index)))
-cost program source depth (If tree) =
-    suc (quiet_choice depth (length (condition_code (layout_of program) tree)))
-cost program source depth Else = length (others (layout_of program) depth)
-cost program source depth EndIf = 0
-cost program source depth (While tree end) = length (while_code (layout_of program) tree) + 1
-cost program source depth (EndWhile begin) = 1
-cost program source depth (For nest first last up end) =
-    if has_none up (common_value program source first) (common_value program source last)
-    then length (none_code (layout_of program) up first last) + 1 + 1
-    else suc ((length (none_code (layout_of program) up first last) + 1) +
-    length (value_code (layout_of program) 0 first))
-cost program source depth (EndFor begin) = loop_cost program source (statement_at program begin)
-
--- after t steps the machine shows this state of the program
-pub record Carried (program : ProgramData) (job : JobData) (source : Source) (t : ℕ) : Type 0 where
-  pub memory : ℕ → ℕ
-  pub locals : ℕ → Local
-  pub standing : Standing job t memory locals
-  pub pictured : Pictured program source memory locals
-
--- in these steps memory below a cell is what it was before them
-abbrev pub StillBelow : JobData → ℕ → ℕ → ℕ → Type 0
-StillBelow job low t n = (k cell : ℕ) → k < n → cell < low →
-    memory_of job (state_after job (t + k)) cell ≡ memory_of job (state_after job t) cell
-
--- the same after a line, before all whose steps the processors stand in its code, and arrays and
--- private variables are what they were
-pub record Advance (program : ProgramData) (job : JobData) (asked : ℕ → Option (ℕ × ℕ))
-    (source : Source) (t c lo hi : ℕ) : Type 0 where
-  pub carried : Carried program job source (t + c)
-  pub stays : StaysIn job lo hi t c
-  pub still : StillBelow job (held_below (layout_of program)) t c
-  pub puts : PutOnly job (layout_of program).shared t c asked
-
-here_below : (job : JobData) (lo hi place i : ℕ) (g : Option ℕ) (l : Local) →
-    place < length job.code → IsHere g place i l →
-    Below lo hi job l
-here_below job lo hi place i (Some line) l lt here = subst (Below lo hi job) (sym here) tt
-here_below job lo hi place i None l lt here = subst (Below lo hi job) (sym here.is) lt
-
-place_most : (program : ProgramData) (j : ℕ) →
-    place_of program j ≤ place_of program (length program.lines)
-unfolding place_of
-place_most program j =
-    let e = sum_by-take-le (length_of program) program.lines j in
-    let f = ap (λ lines. sum_by (length_of program) lines) (take-length program.lines) in
-    omega arith
-
-pub place_low : (program : ProgramData) (job : JobData) → IsOf program job → (j : ℕ) →
-    place_of program j < length job.code
-place_low program job of j =
-    let e = place_most program j in let f = code_len program job (code_is program job of) in
-    omega arith
-
-stays_then : (job : JobData) (lo hi t u n m : ℕ) → u ≡ t + n → StaysIn job lo hi t n →
-    StaysIn job lo hi u m →
-    StaysIn job lo hi t (n + m)
-stays_then job lo hi t u n m e first second k i lt less = ⊎_elim
-    (λ (low : k < n). first k i low less)
-    (λ (high : n ≤ k).
-    let same : u + (k - n) ≡ t + k = omega arith in
-    subst (λ v. (counter job (state_after job v) i ≡ out_of_range job)
-    ⊎ (is_inside lo hi (counter job (state_after job v) i) ≡ true)) same
-    (second (k - n) i (omega arith) less))
-    (cases_lt k n)
-
-pub stays_none : (job : JobData) (lo hi t : ℕ) → StaysIn job lo hi t 0
-stays_none job lo hi t k i lt less = absurd (omega arith)
-
-pub still_all : (job : JobData) (low t n : ℕ) → Unchanged job t n → StillBelow job low t n
-still_all job low t n same k cell lt less = ap (λ (f : ℕ → ℕ). f cell) (same k lt)
-
-still_then : (job : JobData) (low t u n m : ℕ) → u ≡ t + n → StillBelow job low t n →
-    ((cell : ℕ) → cell < low →
-    memory_of job (state_after job u) cell ≡ memory_of job (state_after job t) cell) →
-    StillBelow job low u m →
-    StillBelow job low t (n + m)
-still_then job low t u n m e first between second k cell lt less = ⊎_elim
-    (λ (early : k < n). first k cell early less)
-    (λ (late : n ≤ k).
-    let same : t + k ≡ u + (k - n) = omega arith in
-    ap (λ (v : ℕ). memory_of job (state_after job v) cell) same
-    ∙ second (k - n) cell (omega arith) less ∙ between cell less)
-    (cases_lt k n)
-
-puts_then : (job : JobData) (low t u n m : ℕ) (asked : ℕ → Option (ℕ × ℕ)) → u ≡ t + n →
-    PutOnly job low t n asked → PutOnly job low u m asked →
-    PutOnly job low t (n + m) asked
-puts_then job low t u n m asked e first second k i cell value lt less below put = ⊎_elim
-    (λ (early : k < n). first k i cell value early less below put)
-    (λ (late : n ≤ k).
-    let same : t + k ≡ u + (k - n) = omega arith in
-    second (k - n) i cell value (omega arith) less below
-    (subst (λ (v : ℕ). (request_in job (state_after job v) i).put ≡ Some (cell, value)) same put))
-    (cases_lt k n)
-
-pub puts_none : (job : JobData) (low t : ℕ) (asked : ℕ → Option (ℕ × ℕ)) →
-    PutOnly job low t 0 asked
-puts_none job low t asked k i cell value lt less below put = absurd (omega arith)
-
-pub still_none : (job : JobData) (low t : ℕ) → StillBelow job low t 0
-still_none job low t k cell lt less = absurd (omega arith)
-
--- the writes of a line agree with the machine's rule
-abbrev pub AgreesIn : ProgramData → JobData → Source → ℕ → Statement → Type 0
-AgreesIn program job source depth statement =
-    StoresAgree job (λ i. asked_in program source depth statement i)
-
--- ---- pieces of shallow code
-
-masked_body : (layout : LayoutData) (at depth : ℕ) (body : List Instr) (t : Bool) →
-    is_shallow (if t then body else under layout at depth body) ≡ true → is_shallow body ≡ true
-masked_body layout at depth body true shallow = shallow
-masked_body layout at depth body false shallow =
-    shallow_rest (Jmp (at + 4 + 2 * length body)) body
-    (shallow_back (idle (at + 3) (length body)) (Jmp (at + 4 + 2 * length body) ∷ body)
-    (shallow_rest (Jmp (at + 4 + length body))
-    (idle (at + 3) (length body) ++ (Jmp (at + 4 + 2 * length body) ∷ body))
-    (shallow_rest (Jz 0 (at + 3)) (Jmp (at + 4 + length body) ∷
-    (idle (at + 3) (length body) ++ (Jmp (at + 4 + 2 * length body) ∷ body)))
-    (shallow_rest (own_load 0 (mask_cells layout depth))
-    (Jz 0 (at + 3) ∷ (Jmp (at + 4 + length body) ∷
-    (idle (at + 3) (length body) ++ (Jmp (at + 4 + 2 * length body) ∷ body)))) shallow))))
-
-choosing_body : (layout : LayoutData) (at depth : ℕ) (body : List Instr) (t : Bool) →
-    is_shallow (if t then body else between layout at depth body) ≡ true → is_shallow body ≡ true
-choosing_body layout at depth body true shallow = shallow
-choosing_body layout at depth body false shallow =
-    shallow_front body (Jmp (at + 4 + 2 * length body) ∷
-    idle (at + 3 + length body) (length body + 1))
-    (shallow_rest (Jz 0 (at + 3 + length body))
-    (body ++ (Jmp (at + 4 + 2 * length body) ∷ idle (at + 3 + length body) (length body + 1)))
-    (shallow_rest (own_load 0 (mask_cells layout depth))
-    (Jz 0 (at + 3 + length body) ∷ (body ++
-    (Jmp (at + 4 + 2 * length body) ∷ idle (at + 3 + length body) (length body + 1)))) shallow))
-
-pub shallow_masked : (layout : LayoutData) (at depth : ℕ) (body : List Instr) →
-    is_shallow (masked layout at depth body) ≡ true →
-    is_shallow body ≡ true
-unfolding masked
-shallow_masked layout at depth body shallow = masked_body layout at depth body (depth == 0) shallow
-
-pub shallow_choosing : (layout : LayoutData) (at depth : ℕ) (body : List Instr) →
-    is_shallow (choosing layout at depth body) ≡ true →
-    is_shallow body ≡ true
-unfolding choosing
-shallow_choosing layout at depth body shallow = choosing_body layout at depth body (depth == 0)
-    (shallow_front (if depth == 0 then body else between layout at depth body)
-    (own_store (mask_cells layout (depth + 1)) ∷ []) shallow)
-
-if_map : (cell : ℕ) (b : Bool) (o : Option ℕ) →
-    (if b then option_map {U = ℕ × ℕ} (λ v. (cell, v)) o else None)
-    ≡ option_map {U = ℕ × ℕ} (λ v. (cell, v)) (if b then o else None)
-if_map cell true o = refl
-if_map cell false o = refl
+use Rattle.pardo_law.proofs.Carried.{StillBelow, here_below, place_low, stays_then, still_all, still_then, puts_then, AgreesIn, if_map, Advance}
 
 module _ (program : ProgramData) (job : JobData) (of : IsOf program job) (source : Source) (t : ℕ)
     (memory : ℕ → ℕ)
-    (locals : ℕ → Local) (standing : Standing job t memory locals)
+    (locals : ℕ → Local) (standing : StandsAfter job t memory locals)
     (pictured : Pictured program source memory locals)
     (text_line depth : ℕ) (low : source.at < length program.lines)
     (hi : ℕ) (hi_low : hi ≤ length job.code) where
@@ -255,77 +77,78 @@ module _ (program : ProgramData) (job : JobData) (of : IsOf program job) (source
 
   -- stores to the own cells of a row go to no place of the program
   none_put : (u n row : ℕ) (values : ℕ → Option ℕ) →
-      PutOnly job job.cells u n (own_stores (layout_of program) row values) →
-      PutOnly job (layout_of program).shared u n (λ i. None)
+      PutOnly job job.cells u n (own_stores (program_layout program) row values) →
+      PutOnly job (program_layout program).shared u n (λ i. None)
   none_put u n row values puts k i cell value lt less below put =
-      absurd (own_high (layout_of program) row i cell value values below
+      absurd (own_high (program_layout program) row i cell value values below
       (puts k i cell value lt less (shared_low program job of cell below) put))
 
   -- ---- `x := e`
 
-  pub private_advances : (x : ℕ) (tree : Tree) → x < (layout_of program).privates →
-      IsTree (bounds_of program) tree →
-      depth ≤ (layout_of program).choices →
-      is_shallow (value_code (layout_of program) 0 tree) ≡ true →
-      StandsAt (site at hi job) at (masked (layout_of program) at depth
-      (value_code (layout_of program) 0 tree
-      ++ St (own_place (private_cells (layout_of program) x)) (operand_of 0 tree) ∷ [])) →
-      at + length (masked (layout_of program) at depth (value_code (layout_of program) 0 tree
-      ++ St (own_place (private_cells (layout_of program) x)) (operand_of 0 tree) ∷ [])) ≡
+  pub private_advances : (x : ℕ) (tree : Tree) → x < (program_layout program).privates →
+      IsExpression (bounds_of program) tree →
+      depth ≤ (program_layout program).choices →
+      is_shallow (value_code (program_layout program) 0 tree) ≡ true →
+      HasCodeAt (site at hi job) at (masked (program_layout program) at depth
+      (value_code (program_layout program) 0 tree
+      ++ St (own_place (private_cells (program_layout program) x)) (value_operand 0 tree) ∷ [])) →
+      at + length (masked (program_layout program) at depth
+      (value_code (program_layout program) 0 tree
+      ++ St (own_place (private_cells (program_layout program) x)) (value_operand 0 tree) ∷ [])) ≡
       place_of program (source.at + 1) →
       Advance program job (λ i. None) (on_to (source.at + 1)
       (private_assigned program text_line depth x tree source)) t
-      (suc (quiet depth (length (value_code (layout_of program) 0 tree)))) at hi
+      (suc (quiet depth (length (value_code (program_layout program) 0 tree)))) at hi
   private_advances x tree x_low is few_ifs shallow stands ends =
-      let front : List Instr = value_code (layout_of program) 0 tree in
+      let front : List Instr = value_code (program_layout program) 0 tree in
       let n : ℕ = quiet depth (length front) in
       let P : (ℕ → Local → Type 0) = λ i. IsHere
       (losing text_line depth (λ j. is_some (value program source j tree)) source i)
       (place_of program (source.at + 1)) i in
       let values : (ℕ → Option ℕ) = λ i. if is_active source depth i then value program source i
       tree else None in
-      let done : IsMade job (suc (t + n)) memory (own_stores (layout_of program) x values) P ×
+      let done : IsMade job (suc (t + n)) memory (own_stores (program_layout program) x values) P ×
       StaysIn job at hi t (suc n) × Unchanged job t (suc n)
-      × PutOnly job job.cells t (suc n) (own_stores (layout_of program) x values) =
+      × PutOnly job job.cells t (suc n) (own_stores (program_layout program) x values) =
       made_in job of.job_is at hi t n memory locals standing
-      (own_stores (layout_of program) x values) P
+      (own_stores (program_layout program) x values) P
       (λ i l. bounded (place_of program (source.at + 1)) i
       (losing text_line depth (λ j. is_some (value program source j tree)) source i) l
       (place_low program job of (source.at + 1)))
       (λ i lt. with_store (site at hi job) memory i n (locals i) (P i) _ _
-      (if_map (own_of (layout_of program) x i) (is_active source depth i)
+      (if_map (own_of (program_layout program) x i) (is_active source depth i)
       (value program source i tree))
       (subst (λ place. Makes (site at hi job) memory i n (locals i)
       (if is_active source depth i then option_map {U = ℕ × ℕ}
-      (λ v. (own_of (layout_of program) x i, v)) (value program source i tree) else None)
+      (λ v. (own_of (program_layout program) x i, v)) (value program source i tree) else None)
       (IsHere (losing text_line depth (λ j. is_some (value program source j tree)) source i) place
       i)) ends
       (masked_makes program (site at hi job) of.program_is source memory locals pictured fits i
       (few i lt) ℕ depth text_line front
-      (St (own_place (private_cells (layout_of program) x)) (operand_of 0 tree))
-      (option_map {U = ℕ × ℕ} (λ v. (own_of (layout_of program) x i, v))
+      (St (own_place (private_cells (program_layout program) x)) (value_operand 0 tree))
+      (option_map {U = ℕ × ℕ} (λ v. (own_of (program_layout program) x i, v))
       (value program source i tree))
       (value program source i tree) (λ j. is_some (value program source j tree)) few_ifs
       (λ there. refl)
       (λ there place held own here. own_body (site at hi job) memory i place held front
-      (private_cells (layout_of program) x) (operand_of 0 tree)
-      (value program source i tree) (value_straight (layout_of program) 0 tree) here
+      (private_cells (program_layout program) x) (value_operand 0 tree)
+      (value program source i tree) (value_straight (program_layout program) 0 tree) here
       (let e = layout_procs program in let f = few i lt in omega arith)
       (value_to program (site at hi job) of.program_is source memory i
       (sees program of.program_is source memory locals pictured fits i (few i lt) there) tree held
       own is shallow))
       stands)))
-      (own_agree job (layout_of program) x values (procs_same program job of)) in
-      let made : IsMade job (suc (t + n)) memory (own_stores (layout_of program) x values) P =
+      (own_agree job (program_layout program) x values (procs_same program job of)) in
+      let made : IsMade job (suc (t + n)) memory (own_stores (program_layout program) x values) P =
       done.0 in
       record {
         stays = done.1;
-        still = still_all job (held_below (layout_of program)) t (suc n) done.2;
+        still = still_all job (held_below (program_layout program)) t (suc n) done.2;
         puts = none_put t (suc n) x values done.3;
         carried = record {
           memory = made.now;
           locals = made.locals;
-          standing = subst (λ u. Standing job u made.now made.locals)
+          standing = subst (λ u. StandsAfter job u made.now made.locals)
               (let e : suc (t + n) ≡ t + suc n = omega arith in e) made.standing;
           pictured = private_pictured program job of source memory locals pictured (suc (t + n))
               text_line depth x (source.at + 1) tree
@@ -340,15 +163,15 @@ module _ (program : ProgramData) (job : JobData) (of : IsOf program job) (source
 
   write_shared : (array cell v : ℕ) (a b : Option ℕ) →
       option_and_then {U = ℕ × ℕ} (λ w. option_map {U = ℕ × ℕ} (λ c. (c, w))
-      (option_and_then (cell_of program array) b)) a ≡ Some (cell, v) →
-      cell < (layout_of program).shared
+      (option_and_then (array_cell program array) b)) a ≡ Some (cell, v) →
+      cell < (program_layout program).shared
   write_shared array cell v None b e = absurd (none-some (cell, v) e)
   write_shared array cell v (Some w) None e = absurd (none-some (cell, v) e)
-  write_shared array cell v (Some w) (Some k) e = by_cell (cell_of program array k) refl e
+  write_shared array cell v (Some w) (Some k) e = by_cell (array_cell program array k) refl e
     where
-      by_cell : (o : Option ℕ) → cell_of program array k ≡ o →
+      by_cell : (o : Option ℕ) → array_cell program array k ≡ o →
           option_map {U = ℕ × ℕ} (λ c. (c, w)) o ≡ Some (cell, v) →
-          cell < (layout_of program).shared
+          cell < (program_layout program).shared
       by_cell None f g = absurd (none-some (cell, v) g)
       by_cell (Some c) f g =
           let same : c ≡ cell = (some_pair_parts c cell w v g).0 in
@@ -357,7 +180,7 @@ module _ (program : ProgramData) (job : JobData) (of : IsOf program job) (source
 
   pub asked_shared : (array cell v i : ℕ) (index tree : Tree) → asked_of array index tree i ≡
       Some (cell, v) →
-      cell < (layout_of program).shared
+      cell < (program_layout program).shared
   asked_shared array cell v i index tree e = elim (cases_Bool (is_active source depth i)) [
     | inl on ↦ write_shared array cell v (value program source i tree)
         (value program source i index)
@@ -366,21 +189,21 @@ module _ (program : ProgramData) (job : JobData) (of : IsOf program job) (source
         (sym (ap (λ b. if b then write_of program source array i index tree else None) off) ∙ e))
   ]
 
-  module _ (array : ℕ) (index tree : Tree) (is : IsTree (bounds_of program) tree)
-      (is_too : IsTree (bounds_of program) index)
-      (few_ifs : depth ≤ (layout_of program).choices)
-      (shallow : is_shallow (both_code (layout_of program) tree index) ≡ true)
-      (stands : StandsAt (site at hi job) at
-      (masked (layout_of program) at depth (both_code (layout_of program) tree index
-      ++ St (Named (array_cells (layout_of program) array) (operand_of (takes tree) index))
-      (operand_of 0 tree) ∷ [])))
-      (ends : at + length (masked (layout_of program) at depth
-      (both_code (layout_of program) tree index
-      ++ St (Named (array_cells (layout_of program) array) (operand_of (takes tree) index))
-      (operand_of 0 tree) ∷ []))
+  module _ (array : ℕ) (index tree : Tree) (is : IsExpression (bounds_of program) tree)
+      (is_too : IsExpression (bounds_of program) index)
+      (few_ifs : depth ≤ (program_layout program).choices)
+      (shallow : is_shallow (both_code (program_layout program) tree index) ≡ true)
+      (stands : HasCodeAt (site at hi job) at
+      (masked (program_layout program) at depth (both_code (program_layout program) tree index
+      ++ St (Named (array_cells (program_layout program) array) (value_operand (takes tree) index))
+      (value_operand 0 tree) ∷ [])))
+      (ends : at + length (masked (program_layout program) at depth
+      (both_code (program_layout program) tree index
+      ++ St (Named (array_cells (program_layout program) array) (value_operand (takes tree) index))
+      (value_operand 0 tree) ∷ []))
       ≡ place_of program (source.at + 1)) where
     abbrev shared_steps : ℕ
-    shared_steps = quiet depth (length (both_code (layout_of program) tree index))
+    shared_steps = quiet depth (length (both_code (program_layout program) tree index))
 
     abbrev shared_gone : ℕ → Option ℕ
     shared_gone i = losing text_line depth
@@ -394,9 +217,9 @@ module _ (program : ProgramData) (job : JobData) (of : IsOf program job) (source
         (asked_of array index tree i) (IsHere (shared_gone i) place i)) ends
         (masked_makes program (site at hi job) of.program_is source memory locals pictured fits i
         (few i lt) (ℕ × ℕ) depth text_line
-        (both_code (layout_of program) tree index)
-        (St (Named (array_cells (layout_of program) array) (operand_of (takes tree) index))
-        (operand_of 0 tree))
+        (both_code (program_layout program) tree index)
+        (St (Named (array_cells (program_layout program) array) (value_operand (takes tree) index))
+        (value_operand 0 tree))
         (write_of program source array i index tree) (write_of program source array i index tree)
         (λ j. is_some (write_of program source array j index tree)) few_ifs (λ there. refl)
         (λ there place held own here. shared_to program (site at hi job) of.program_is source memory
@@ -421,7 +244,7 @@ module _ (program : ProgramData) (job : JobData) (of : IsOf program job) (source
         (place_low program job of (source.at + 1)))
         shared_makes agree in
         let made : IsMade job (suc (t + shared_steps)) memory stores P = done.0 in
-        let kept : ((cell : ℕ) → (layout_of program).shared ≤ cell → cell < job.cells →
+        let kept : ((cell : ℕ) → (program_layout program).shared ≤ cell → cell < job.cells →
         made.now cell ≡ memory cell) =
         λ cell high within. made.cells cell within
         ∙ after_apart job.procs cell stores memory
@@ -429,16 +252,16 @@ module _ (program : ProgramData) (job : JobData) (of : IsOf program job) (source
         let there : ((i : ℕ) → shared_gone i ≡ None → source.gone i ≡ None) =
         λ i e. there_before source text_line depth i
         (λ j. is_some (write_of program source array j index tree)) e in
-        let enough : ((i : ℕ) → i < program.procs → i < (layout_of program).procs) =
+        let enough : ((i : ℕ) → i < program.procs → i < (program_layout program).procs) =
         λ i lt. let e = layout_procs program in omega arith in record {
           stays = done.1;
-          still = still_all job (held_below (layout_of program)) t (suc shared_steps) done.2;
+          still = still_all job (held_below (program_layout program)) t (suc shared_steps) done.2;
           puts = λ k i cell value lt less low put.
               done.3 k i cell value lt less (shared_low program job of cell low) put;
           carried = record {
             memory = made.now;
             locals = made.locals;
-            standing = subst (λ u. Standing job u made.now made.locals)
+            standing = subst (λ u. StandsAfter job u made.now made.locals)
                 (let e : suc (t + shared_steps) ≡ t + suc shared_steps = omega arith in e)
                 made.standing;
             pictured = record {
@@ -447,19 +270,21 @@ module _ (program : ProgramData) (job : JobData) (of : IsOf program job) (source
               cells = λ cell lt. made.cells cell (shared_low program job of cell lt)
                   ∙ (λ k. unwrap_or (first_below (procs_are program job of k)
                   (λ i. given_to cell (asked_of array index tree i))) (pictured.cells cell lt k));
-              privates = λ x i lt less. kept (own_of (layout_of program) x i) (omega arith)
+              privates = λ x i lt less. kept (own_of (program_layout program) x i) (omega arith)
                   (row_low program job of x i (omega arith) (enough i less)) ∙
                   pictured.privates x i lt less;
               loops = λ nest i lt less e. kept
-                  (own_of (layout_of program) ((layout_of program).privates + nest) i) (omega arith)
-                  (row_low program job of ((layout_of program).privates + nest) i (omega arith)
+                  (own_of (program_layout program) ((program_layout program).privates + nest) i)
+                  (omega arith)
+                  (row_low program job of ((program_layout program).privates + nest) i (omega arith)
                   (enough i less))
                   ∙ pictured.loops nest i lt less (there i e);
-              masks = λ d i lt less e. kept (own_of (layout_of program)
-                  ((layout_of program).privates + (layout_of program).loops + (suc d - 1)) i)
+              masks = λ d i lt less e. kept (own_of (program_layout program)
+                  ((program_layout program).privates + (program_layout program).loops + (suc d - 1))
+                  i)
                   (omega arith)
-                  (row_low program job of ((layout_of program).privates +
-                  (layout_of program).loops + (suc d - 1)) i (omega arith) (enough i less))
+                  (row_low program job of ((program_layout program).privates +
+                  (program_layout program).loops + (suc d - 1)) i (omega arith) (enough i less))
                   ∙ pictured.masks d i lt less (there i e);
               here = λ i lt. made.each i (many i lt);
             };
@@ -468,47 +293,51 @@ module _ (program : ProgramData) (job : JobData) (of : IsOf program job) (source
 
   -- ---- `if` and `else`
 
-  pub choice_advances : (tree : Tree) → IsTree (bounds_of program) tree → depth +
-      1 ≤ (layout_of program).choices →
-      is_shallow (condition_code (layout_of program) tree) ≡ true →
-      StandsAt (site at hi job) at (choosing (layout_of program) at depth
-      (condition_code (layout_of program) tree)) →
-      at + length (choosing (layout_of program) at depth (condition_code (layout_of program) tree))
+  pub choice_advances : (tree : Tree) → IsExpression (bounds_of program) tree → depth +
+      1 ≤ (program_layout program).choices →
+      is_shallow (condition_code (program_layout program) tree) ≡ true →
+      HasCodeAt (site at hi job) at (choosing (program_layout program) at depth
+      (condition_code (program_layout program) tree)) →
+      at + length (choosing (program_layout program) at depth
+      (condition_code (program_layout program) tree))
       ≡ place_of program (source.at + 1) →
       Advance program job (λ i. None)
       (on_to (source.at + 1) (chosen program text_line depth tree source)) t
-      (suc (quiet_choice depth (length (condition_code (layout_of program) tree)))) at hi
+      (suc (quiet_choice depth (length (condition_code (program_layout program) tree)))) at hi
   choice_advances tree is few_ifs shallow stands ends =
-      let n : ℕ = quiet_choice depth (length (condition_code (layout_of program) tree)) in
+      let n : ℕ = quiet_choice depth (length (condition_code (program_layout program) tree)) in
       let after : Source = on_to (source.at + 1) (chosen program text_line depth tree source) in
       let P : (ℕ → Local → Type 0) = λ i. IsHere (after.gone i) (place_of program (source.at + 1))
       i in
-      let row : ℕ = (layout_of program).privates + (layout_of program).loops + (depth + 1 - 1) in
+      let row : ℕ =
+      (program_layout program).privates + (program_layout program).loops + (depth + 1 - 1) in
       let values : (ℕ → Option ℕ) = λ i. if is_none (source.gone i)
       then (if source.masks depth i then decided (value program source i tree) else Some 0) else
       None in
-      let done : IsMade job (suc (t + n)) memory (own_stores (layout_of program) row values) P ×
+      let done : IsMade job (suc (t + n)) memory (own_stores (program_layout program) row values) P
+      ×
       StaysIn job at hi t (suc n) × Unchanged job t (suc n)
-      × PutOnly job job.cells t (suc n) (own_stores (layout_of program) row values) =
+      × PutOnly job job.cells t (suc n) (own_stores (program_layout program) row values) =
       made_in job of.job_is at hi t n memory locals standing
-      (own_stores (layout_of program) row values) P
+      (own_stores (program_layout program) row values) P
       (λ i l. bounded (place_of program (source.at + 1)) i (after.gone i) l
       (place_low program job of (source.at + 1)))
       (λ i lt. subst (λ place. Makes (site at hi job) memory i n (locals i)
-      (own_stores (layout_of program) row values i) (IsHere (after.gone i) place i)) ends
+      (own_stores (program_layout program) row values i) (IsHere (after.gone i) place i)) ends
       (choosing_makes program (site at hi job) of.program_is source memory locals pictured fits i
       (few i lt) depth text_line tree is shallow few_ifs stands))
-      (own_agree job (layout_of program) row values (procs_same program job of)) in
-      let made : IsMade job (suc (t + n)) memory (own_stores (layout_of program) row values) P =
+      (own_agree job (program_layout program) row values (procs_same program job of)) in
+      let made : IsMade job (suc (t + n)) memory (own_stores (program_layout program) row values)
+      P =
       done.0 in
       record {
         stays = done.1;
-        still = still_all job (held_below (layout_of program)) t (suc n) done.2;
+        still = still_all job (held_below (program_layout program)) t (suc n) done.2;
         puts = none_put t (suc n) row values done.3;
         carried = record {
           memory = made.now;
           locals = made.locals;
-          standing = subst (λ u. Standing job u made.now made.locals)
+          standing = subst (λ u. StandsAfter job u made.now made.locals)
               (let e : suc (t + n) ≡ t + suc n = omega arith in e) made.standing;
           pictured = masks_pictured program job of source memory locals pictured (suc (t + n)) depth
               (source.at + 1) values after
@@ -556,60 +385,64 @@ module _ (program : ProgramData) (job : JobData) (of : IsOf program job) (source
           is_true (value program source i tree)
           else source.masks (depth + 1) i))) (eq-eqb (depth + 1) (depth + 1) refl))
 
-  others_length : length (others (layout_of program) depth) ≡
-      suc (length (own_load 0 (mask_cells (layout_of program) (depth + 1))
+  others_length : length (others (program_layout program) depth) ≡
+      suc (length (own_load 0 (mask_cells (program_layout program) (depth + 1))
       ∷ (if depth == 0 then Eq 0 0 (Number 0) ∷
-      [] else own_load 1 (mask_cells (layout_of program) depth) ∷ Lt 0 0 (Register 1) ∷ [])))
+      [] else own_load 1 (mask_cells (program_layout program) depth) ∷ Lt 0 0 (Register 1) ∷ [])))
   unfolding others
   others_length = ap suc (by_depth (depth == 0))
     where
       by_depth : (b : Bool) → length ((if b then Eq 0 0 (Number 0) ∷ []
-          else own_load 1 (mask_cells (layout_of program) depth) ∷ Lt 0 0 (Register 1) ∷ [])
-          ++ own_store (mask_cells (layout_of program) (depth + 1)) ∷ [])
+          else own_load 1 (mask_cells (program_layout program) depth) ∷ Lt 0 0 (Register 1) ∷ [])
+          ++ own_store (mask_cells (program_layout program) (depth + 1)) ∷ [])
           ≡ suc (length (if b then Eq 0 0 (Number 0) ∷
-          [] else own_load 1 (mask_cells (layout_of program) depth) ∷ Lt 0 0 (Register 1) ∷ []))
+          [] else own_load 1 (mask_cells (program_layout program) depth) ∷ Lt 0 0 (Register 1)
+          ∷ []))
       by_depth true = refl
       by_depth false = refl
 
-  pub else_advances : depth + 1 ≤ (layout_of program).choices →
-      StandsAt (site at hi job) at (others (layout_of program) depth) →
-      at + length (others (layout_of program) depth) ≡ place_of program (source.at + 1) →
+  pub else_advances : depth + 1 ≤ (program_layout program).choices →
+      HasCodeAt (site at hi job) at (others (program_layout program) depth) →
+      at + length (others (program_layout program) depth) ≡ place_of program (source.at + 1) →
       Advance program job (λ i. None) (on_to (source.at + 1) (otherwise depth source)) t
-      (length (others (layout_of program) depth)) at hi
+      (length (others (program_layout program) depth)) at hi
   else_advances few_ifs stands ends =
-      let n : ℕ = length (own_load 0 (mask_cells (layout_of program) (depth + 1))
+      let n : ℕ = length (own_load 0 (mask_cells (program_layout program) (depth + 1))
       ∷ (if depth == 0 then Eq 0 0 (Number 0) ∷
-      [] else own_load 1 (mask_cells (layout_of program) depth) ∷ Lt 0 0 (Register 1) ∷ [])) in
+      [] else own_load 1 (mask_cells (program_layout program) depth) ∷ Lt 0 0 (Register 1) ∷ [])) in
       let after : Source = on_to (source.at + 1) (otherwise depth source) in
       let P : (ℕ → Local → Type 0) = λ i. IsHere (source.gone i) (place_of program (source.at + 1))
       i in
-      let row : ℕ = (layout_of program).privates + (layout_of program).loops + (depth + 1 - 1) in
+      let row : ℕ =
+      (program_layout program).privates + (program_layout program).loops + (depth + 1 - 1) in
       let values : (ℕ → Option ℕ) = λ i. if is_none (source.gone i)
       then Some (bit (source.masks depth i && not (source.masks (depth + 1) i))) else None in
-      let done : IsMade job (suc (t + n)) memory (own_stores (layout_of program) row values) P ×
+      let done : IsMade job (suc (t + n)) memory (own_stores (program_layout program) row values) P
+      ×
       StaysIn job at hi t (suc n) × Unchanged job t (suc n)
-      × PutOnly job job.cells t (suc n) (own_stores (layout_of program) row values) =
+      × PutOnly job job.cells t (suc n) (own_stores (program_layout program) row values) =
       made_in job of.job_is at hi t n memory locals standing
-      (own_stores (layout_of program) row values) P
+      (own_stores (program_layout program) row values) P
       (λ i l. bounded (place_of program (source.at + 1)) i (source.gone i) l
       (place_low program job of (source.at + 1)))
       (λ i lt. subst (λ place. Makes (site at hi job) memory i n (locals i)
-      (own_stores (layout_of program) row values i) (IsHere (source.gone i) place i)) ends
+      (own_stores (program_layout program) row values i) (IsHere (source.gone i) place i)) ends
       (others_makes program (site at hi job) of.program_is source memory locals pictured fits i
       (few i lt) depth few_ifs stands))
-      (own_agree job (layout_of program) row values (procs_same program job of)) in
-      let made : IsMade job (suc (t + n)) memory (own_stores (layout_of program) row values) P =
+      (own_agree job (program_layout program) row values (procs_same program job of)) in
+      let made : IsMade job (suc (t + n)) memory (own_stores (program_layout program) row values)
+      P =
       done.0 in
       record {
         stays = subst (StaysIn job at hi t) (sym others_length) done.1;
-        still = subst (StillBelow job (held_below (layout_of program)) t) (sym others_length)
-            (still_all job (held_below (layout_of program)) t (suc n) done.2);
-        puts = subst (λ m. PutOnly job (layout_of program).shared t m (λ i. None))
+        still = subst (StillBelow job (held_below (program_layout program)) t) (sym others_length)
+            (still_all job (held_below (program_layout program)) t (suc n) done.2);
+        puts = subst (λ m. PutOnly job (program_layout program).shared t m (λ i. None))
             (sym others_length) (none_put t (suc n) row values done.3);
         carried = record {
           memory = made.now;
           locals = made.locals;
-          standing = subst (λ u. Standing job u made.now made.locals)
+          standing = subst (λ u. StandsAfter job u made.now made.locals)
               (let e : suc (t + n) ≡ t + suc n = omega arith in e ∙
               ap (λ k. t + k) (sym others_length)) made.standing;
           pictured = masks_pictured program job of source memory locals pictured (suc (t + n)) depth
@@ -644,7 +477,7 @@ module _ (program : ProgramData) (job : JobData) (of : IsOf program job) (source
       done.0 in
       record {
         stays = done.1;
-        still = still_all job (held_below (layout_of program)) t n done.2;
+        still = still_all job (held_below (program_layout program)) t n done.2;
         puts = λ k i cell value lt less low put.
             done.3 k i cell value lt less (shared_low program job of cell low) put;
         carried = record {
@@ -659,71 +492,73 @@ module _ (program : ProgramData) (job : JobData) (of : IsOf program job) (source
 
   pub while_advances : (tree : Tree) (end : ℕ) → IsCommonTree (bounds_of program) tree →
       end < length program.lines →
-      is_shallow (while_code (layout_of program) tree) ≡ true →
-      StandsAt (site at hi job) at (while_code (layout_of program) tree ++
-      Jz (register_of 0 (operand_of 0 tree)) (place_of program (end + 1)) ∷ []) →
-      at + length (while_code (layout_of program) tree) + 1 ≡ place_of program (source.at + 1) →
+      is_shallow (while_code (program_layout program) tree) ≡ true →
+      HasCodeAt (site at hi job) at (while_code (program_layout program) tree ++
+      Jz (register_or_spare 0 (value_operand 0 tree)) (place_of program (end + 1)) ∷ []) →
+      at + length (while_code (program_layout program) tree) + 1
+      ≡ place_of program (source.at + 1) →
       Advance program job (λ i. None)
       (if common_value program source tree == 0 then on_to (end + 1) source else on_to
       (source.at + 1) source)
-      t (length (while_code (layout_of program) tree) + 1) at hi
+      t (length (while_code (program_layout program) tree) + 1) at hi
   while_advances tree end is end_low shallow stands ends =
       by_value (common_value program source tree == 0) refl
     where
       goes : (b : Bool) → (common_value program source tree == 0) ≡ b → (i : ℕ) → i < job.procs →
-          Goes (site at hi job) memory i (length (while_code (layout_of program) tree) + 1)
+          Goes (site at hi job) memory i (length (while_code (program_layout program) tree) + 1)
           (locals i)
           (IsHere (source.gone i) (if b then place_of program (end + 1) else at +
-          length (while_code (layout_of program) tree) + 1) i)
+          length (while_code (program_layout program) tree) + 1) i)
       goes b e i lt = subst (λ x. Goes (site at hi job) memory i
-          (length (while_code (layout_of program) tree) + 1) (locals i)
+          (length (while_code (program_layout program) tree) + 1) (locals i)
           (IsHere (source.gone i) (if x then place_of program (end + 1) else at +
-          length (while_code (layout_of program) tree) + 1) i)) e
+          length (while_code (program_layout program) tree) + 1) i)) e
           (while_goes program (site at hi job) of.program_is source memory locals pictured fits i
           (few i lt) tree (place_of program (end + 1)) is shallow stands)
 
       by_value : (b : Bool) → (common_value program source tree == 0) ≡ b →
           Advance program job (λ i. None)
           (if b then on_to (end + 1) source else on_to (source.at + 1) source)
-          t (length (while_code (layout_of program) tree) + 1) at hi
-      by_value true e = went_on (end + 1) (length (while_code (layout_of program) tree) + 1)
+          t (length (while_code (program_layout program) tree) + 1) at hi
+      by_value true e = went_on (end + 1) (length (while_code (program_layout program) tree) + 1)
           (omega arith)
           (goes true e)
-      by_value false e = went_on (source.at + 1) (length (while_code (layout_of program) tree) + 1)
+      by_value false e = went_on (source.at + 1)
+          (length (while_code (program_layout program) tree) + 1)
           (omega arith)
           (λ i lt. subst (λ place. Goes (site at hi job) memory i
-          (length (while_code (layout_of program) tree) + 1) (locals i)
+          (length (while_code (program_layout program) tree) + 1) (locals i)
           (IsHere (source.gone i) place i)) ends (goes false e i lt))
 
   pub back_advances : (begin : ℕ) → begin < length program.lines →
-      StandsAt (site at hi job) at (Jmp (place_of program begin) ∷ []) →
+      HasCodeAt (site at hi job) at (Jmp (place_of program begin) ∷ []) →
       Advance program job (λ i. None) (on_to begin source) t 1 at hi
   back_advances begin begin_low stands = went_on begin 1 (omega arith)
       (λ i lt. jump_goes (site at hi job) memory i at (place_of program begin) [] stands
       (source.gone i) (locals i) (pictured.here i (few i lt)))
 
   pub for_advances : (nest : ℕ) (first last : Tree) (up : Bool) (end : ℕ) →
-      nest < (layout_of program).loops →
+      nest < (program_layout program).loops →
       IsCommonTree (bounds_of program) first → IsCommonTree (bounds_of program) last →
       end < length program.lines →
-      is_shallow (none_code (layout_of program) up first last) ≡ true →
-      is_shallow (value_code (layout_of program) 0 first) ≡ true →
-      StandsAt (site at hi job) at (none_code (layout_of program) up first last
-      ++ (Jz 0 (at + length (none_code (layout_of program) up first last) + 2) ∷
+      is_shallow (none_code (program_layout program) up first last) ≡ true →
+      is_shallow (value_code (program_layout program) 0 first) ≡ true →
+      HasCodeAt (site at hi job) at (none_code (program_layout program) up first last
+      ++ (Jz 0 (at + length (none_code (program_layout program) up first last) + 2) ∷
       (Jmp (place_of program (end + 1))
-      ∷ first_code (layout_of program) nest first))) →
-      at + length (none_code (layout_of program) up first last
-      ++ (Jz 0 (at + length (none_code (layout_of program) up first last) + 2) ∷
+      ∷ first_code (program_layout program) nest first))) →
+      at + length (none_code (program_layout program) up first last
+      ++ (Jz 0 (at + length (none_code (program_layout program) up first last) + 2) ∷
       (Jmp (place_of program (end + 1))
-      ∷ first_code (layout_of program) nest first))) ≡ place_of program (source.at + 1) →
+      ∷ first_code (program_layout program) nest first))) ≡ place_of program (source.at + 1) →
       Advance program job (λ i. None)
       (if has_none up (common_value program source first) (common_value program source last) then
       on_to (end + 1) source
       else on_to (source.at + 1) (turned nest (common_value program source first) source))
       t (if has_none up (common_value program source first) (common_value program source last)
-      then length (none_code (layout_of program) up first last) + 1 + 1
-      else suc ((length (none_code (layout_of program) up first last) + 1) +
-      length (value_code (layout_of program) 0 first))) at hi
+      then length (none_code (program_layout program) up first last) + 1 + 1
+      else suc ((length (none_code (program_layout program) up first last) + 1) +
+      length (value_code (program_layout program) 0 first))) at hi
   for_advances nest first last up end nest_low is is_too end_low shallow first_shallow stands ends =
       by_value (has_none up (common_value program source first) (common_value program source last))
       refl
@@ -732,55 +567,57 @@ module _ (program : ProgramData) (job : JobData) (of : IsOf program job) (source
       v = common_value program source first
 
       n : ℕ
-      n = length (none_code (layout_of program) up first last)
+      n = length (none_code (program_layout program) up first last)
 
       by_value : (b : Bool) → has_none up (common_value program source first)
           (common_value program source last) ≡ b →
           Advance program job (λ i. None)
           (if b then on_to (end + 1) source else on_to (source.at + 1)
           (turned nest (common_value program source first) source))
-          t (if b then length (none_code (layout_of program) up first last) + 1 + 1
-          else suc ((length (none_code (layout_of program) up first last) + 1) +
-          length (value_code (layout_of program) 0 first))) at hi
+          t (if b then length (none_code (program_layout program) up first last) + 1 + 1
+          else suc ((length (none_code (program_layout program) up first last) + 1) +
+          length (value_code (program_layout program) 0 first))) at hi
       by_value true e = went_on (end + 1)
-          (length (none_code (layout_of program) up first last) + 1 + 1) (omega arith)
+          (length (none_code (program_layout program) up first last) + 1 + 1) (omega arith)
           (λ i lt. none_goes program (site at hi job) of.program_is source memory locals pictured
           fits i (few i lt) nest first last up (place_of program (end + 1))
           nest_low is is_too shallow first_shallow stands e)
       by_value false e =
-          let k : ℕ = (length (none_code (layout_of program) up first last) + 1) +
-          length (value_code (layout_of program) 0 first) in
-          let row : ℕ = (layout_of program).privates + nest in
+          let k : ℕ = (length (none_code (program_layout program) up first last) + 1) +
+          length (value_code (program_layout program) 0 first) in
+          let row : ℕ = (program_layout program).privates + nest in
           let values : (ℕ → Option ℕ) = λ i. if is_none (source.gone i) then Some
           (common_value program source first) else None in
           let P : (ℕ → Local → Type 0) = λ i. IsHere (source.gone i)
           (place_of program (source.at + 1)) i in
-          let done : IsMade job (suc (t + k)) memory (own_stores (layout_of program) row values) P ×
+          let done : IsMade job (suc (t + k)) memory
+          (own_stores (program_layout program) row values) P ×
           StaysIn job at hi t (suc k) × Unchanged job t (suc k)
-          × PutOnly job job.cells t (suc k) (own_stores (layout_of program) row values) =
+          × PutOnly job job.cells t (suc k) (own_stores (program_layout program) row values) =
           made_in job of.job_is at hi t k memory locals standing
-          (own_stores (layout_of program) row values) P
+          (own_stores (program_layout program) row values) P
           (λ i l. bounded (place_of program (source.at + 1)) i (source.gone i) l
           (place_low program job of (source.at + 1)))
           (λ i lt. subst (λ place. Makes (site at hi job) memory i k (locals i)
-          (own_stores (layout_of program) row values i) (IsHere (source.gone i) place i))
+          (own_stores (program_layout program) row values i) (IsHere (source.gone i) place i))
           (sym (for_end_is program (site at hi job) of.program_is source memory locals pictured fits
           i (few i lt) nest first last up (place_of program (end + 1))
           nest_low is is_too shallow first_shallow stands) ∙ ends)
           (turn_makes program (site at hi job) of.program_is source memory locals pictured fits i
           (few i lt) nest first last up (place_of program (end + 1))
           nest_low is is_too shallow first_shallow stands e))
-          (own_agree job (layout_of program) row values (procs_same program job of)) in
-          let made : IsMade job (suc (t + k)) memory (own_stores (layout_of program) row values) P =
+          (own_agree job (program_layout program) row values (procs_same program job of)) in
+          let made : IsMade job (suc (t + k)) memory
+          (own_stores (program_layout program) row values) P =
           done.0 in
           record {
             stays = done.1;
-            still = still_all job (held_below (layout_of program)) t (suc k) done.2;
+            still = still_all job (held_below (program_layout program)) t (suc k) done.2;
             puts = none_put t (suc k) row values done.3;
             carried = record {
               memory = made.now;
               locals = made.locals;
-              standing = subst (λ u. Standing job u made.now made.locals)
+              standing = subst (λ u. StandsAfter job u made.now made.locals)
                   (let f : suc (t + k) ≡ t + suc k = omega arith in f) made.standing;
               pictured = turned_pictured program job of source memory locals pictured (suc (t + k))
                   nest (source.at + 1) (common_value program source first)
@@ -790,66 +627,70 @@ module _ (program : ProgramData) (job : JobData) (of : IsOf program job) (source
           }
 
   tail_stands : (nest : ℕ) (last : Tree) (up : Bool) (begin end : ℕ) →
-      StandsAt (site at hi job) at (turn_code (layout_of program) nest last
+      HasCodeAt (site at hi job) at (turn_code (program_layout program) nest last
       ++ (Jz 1 (place_of program (end + 1)) ∷
-      (next_value up ∷ (own_store (loop_cells (layout_of program) nest)
+      (next_value up ∷ (own_store (loop_cells (program_layout program) nest)
       ∷ (Jmp (place_of program (begin + 1)) ∷ []))))) →
-      StandsAt (site at hi job) (at + length (turn_code (layout_of program) nest last) + 1 + 1 + 1)
+      HasCodeAt (site at hi job)
+      (at + length (turn_code (program_layout program) nest last) + 1 + 1 + 1)
       (Jmp (place_of program (begin + 1)) ∷ [])
   tail_stands nest last up begin end stands =
-      (stands_back (site at hi job) at (turn_code (layout_of program) nest last)
+      (stands_back (site at hi job) at (turn_code (program_layout program) nest last)
       (Jz 1 (place_of program (end + 1)) ∷
-      (next_value up ∷ (own_store (loop_cells (layout_of program) nest)
+      (next_value up ∷ (own_store (loop_cells (program_layout program) nest)
       ∷ (Jmp (place_of program (begin + 1)) ∷ [])))) stands).1.1.1
 
   pub turn_advances : (nest : ℕ) (last : Tree) (up : Bool) (begin end : ℕ) →
-      nest < (layout_of program).loops →
+      nest < (program_layout program).loops →
       IsCommonTree (bounds_of program) last → end < length program.lines →
       begin < length program.lines →
-      is_shallow (turn_code (layout_of program) nest last) ≡ true →
-      StandsAt (site at hi job) at (turn_code (layout_of program) nest last
+      is_shallow (turn_code (program_layout program) nest last) ≡ true →
+      HasCodeAt (site at hi job) at (turn_code (program_layout program) nest last
       ++ (Jz 1 (place_of program (end + 1)) ∷
-      (next_value up ∷ (own_store (loop_cells (layout_of program) nest)
+      (next_value up ∷ (own_store (loop_cells (program_layout program) nest)
       ∷ (Jmp (place_of program (begin + 1)) ∷ []))))) →
-      at + length (turn_code (layout_of program) nest last) + 1 + 1 + 1 < hi →
+      at + length (turn_code (program_layout program) nest last) + 1 + 1 + 1 < hi →
       Advance program job (λ i. None)
       (if source.loops nest == common_value program source last then on_to (end + 1) source
       else on_to (begin + 1) (turned nest (next_turn up (source.loops nest)) source))
       t (if source.loops nest == common_value program source last
-      then length (turn_code (layout_of program) nest last) + 1
-      else suc ((length (turn_code (layout_of program) nest last) + 1) + 1) + 1) at hi
+      then length (turn_code (program_layout program) nest last) + 1
+      else suc ((length (turn_code (program_layout program) nest last) + 1) + 1) + 1) at hi
   turn_advances nest last up begin end nest_low is end_low begin_low shallow stands inside =
       by_value (source.loops nest == common_value program source last) refl
     where
       by_value : (b : Bool) → (source.loops nest == common_value program source last) ≡ b →
           Advance program job (λ i. None) (if b then on_to (end + 1) source else on_to (begin + 1)
           (turned nest (next_turn up (source.loops nest)) source))
-          t (if b then length (turn_code (layout_of program) nest last) + 1
-          else suc ((length (turn_code (layout_of program) nest last) + 1) + 1) + 1) at hi
-      by_value true e = went_on (end + 1) (length (turn_code (layout_of program) nest last) + 1)
+          t (if b then length (turn_code (program_layout program) nest last) + 1
+          else suc ((length (turn_code (program_layout program) nest last) + 1) + 1) + 1) at hi
+      by_value true e = went_on (end + 1)
+          (length (turn_code (program_layout program) nest last) + 1)
           (omega arith)
           (λ i lt. last_goes program (site at hi job) of.program_is source memory locals pictured
           fits i (few i lt) nest last up (place_of program (end + 1))
           (place_of program (begin + 1)) nest_low is shallow stands e)
       by_value false e =
-          let k : ℕ = (length (turn_code (layout_of program) nest last) + 1) + 1 in
-          let row : ℕ = (layout_of program).privates + nest in
-          let place : ℕ = at + length (turn_code (layout_of program) nest last) + 1 + 1 + 1 in
+          let k : ℕ = (length (turn_code (program_layout program) nest last) + 1) + 1 in
+          let row : ℕ = (program_layout program).privates + nest in
+          let place : ℕ = at + length (turn_code (program_layout program) nest last) + 1 + 1 + 1 in
           let place_is_low : place < length job.code = omega arith in
           let values : (ℕ → Option ℕ) = λ i. if is_none (source.gone i) then Some
           (next_turn up (source.loops nest)) else None in
           let P : (ℕ → Local → Type 0) = λ i. IsHere (source.gone i) place i in
-          let done : IsMade job (suc (t + k)) memory (own_stores (layout_of program) row values) P ×
+          let done : IsMade job (suc (t + k)) memory
+          (own_stores (program_layout program) row values) P ×
           StaysIn job at hi t (suc k) × Unchanged job t (suc k)
-          × PutOnly job job.cells t (suc k) (own_stores (layout_of program) row values) =
+          × PutOnly job job.cells t (suc k) (own_stores (program_layout program) row values) =
           made_in job of.job_is at hi t k memory locals standing
-          (own_stores (layout_of program) row values) P
+          (own_stores (program_layout program) row values) P
           (λ i l. bounded place i (source.gone i) l place_is_low)
           (λ i lt. again_makes program (site at hi job) of.program_is source memory locals pictured
           fits i (few i lt) nest last up (place_of program (end + 1))
           (place_of program (begin + 1)) nest_low is shallow stands e)
-          (own_agree job (layout_of program) row values (procs_same program job of)) in
-          let made : IsMade job (suc (t + k)) memory (own_stores (layout_of program) row values) P =
+          (own_agree job (program_layout program) row values (procs_same program job of)) in
+          let made : IsMade job (suc (t + k)) memory
+          (own_stores (program_layout program) row values) P =
           done.0 in
           let left : Went job (suc (t + k) + 1) made.now
           (λ i. IsHere (source.gone i) (place_of program (begin + 1)) i)
@@ -867,16 +708,17 @@ module _ (program : ProgramData) (job : JobData) (of : IsOf program job) (source
           record {
             stays = stays_then job at hi t (suc (t + k)) (suc k) 1
                 (let f : suc (t + k) ≡ t + suc k = omega arith in f) done.1 left.1;
-            still = still_then job (held_below (layout_of program)) t (suc (t + k)) (suc k) 1
+            still = still_then job (held_below (program_layout program)) t (suc (t + k)) (suc k) 1
                 (let f : suc (t + k) ≡ t + suc k = omega arith in f)
-                (still_all job (held_below (layout_of program)) t (suc k) done.2)
+                (still_all job (held_below (program_layout program)) t (suc k) done.2)
                 (λ cell less. ap (λ (f : ℕ → ℕ). f cell) made.standing.memory_is
                 ∙ made.cells cell (held_low program job of cell less)
-                ∙ after_before (layout_of program) job.procs row cell values memory
-                (held_before (layout_of program) row cell (omega arith) less)
+                ∙ after_before (program_layout program) job.procs row cell values memory
+                (held_before (program_layout program) row cell (omega arith) less)
                 ∙ sym (ap (λ (f : ℕ → ℕ). f cell) standing.memory_is))
-                (still_all job (held_below (layout_of program)) (suc (t + k)) 1 left.2);
-            puts = puts_then job (layout_of program).shared t (suc (t + k)) (suc k) 1 (λ i. None)
+                (still_all job (held_below (program_layout program)) (suc (t + k)) 1 left.2);
+            puts = puts_then job (program_layout program).shared t (suc (t + k)) (suc k) 1
+                (λ i. None)
                 (let f : suc (t + k) ≡ t + suc k = omega arith in f)
                 (none_put t (suc k) row values done.3)
                 (λ n i cell value lt less low put.
@@ -884,7 +726,7 @@ module _ (program : ProgramData) (job : JobData) (of : IsOf program job) (source
             carried = record {
               memory = made.now;
               locals = went.places;
-              standing = subst (λ u. Standing job u made.now went.places)
+              standing = subst (λ u. StandsAfter job u made.now went.places)
                   (let f : suc (t + k) + 1 ≡ t + (suc k + 1) = omega arith in f) went.standing;
               pictured = turned_pictured program job of source memory locals pictured (suc (t + k))
                   nest (begin + 1) (next_turn up (source.loops nest))

@@ -13,31 +13,33 @@ use Rattle.pram_step.specs.Runs.{state_after, IsAnswer}
 use Rattle.pram_step.proofs.LawAnswer.{one_answer}
 use Rattle.pardo_text.specs.Program.{ProgramData}
 use Rattle.pardo_job.specs.Carries.{Carries, EndsAs}
-use Rattle.pardo_job.specs.Conflicts.{Dispute}
-use Rattle.pardo_job.specs.Layouts.{layout_of}
+use Rattle.pram_step.specs.declared.answer.Dispute.{Dispute}
+use Rattle.pardo_job.specs.Layouts.{program_layout}
 use Rattle.pardo_job.specs.Meaning.{after}
-use Rattle.pardo_job.specs.Runs.{IsReached, IsEnd, IsConflict}
-use Rattle.pardo_law.specs.Theorem.{EndsIn, RunsEndOnce, IsAnswerOf, AnswersAreThePrograms}
+use Rattle.pardo_job.specs.Runs.{IsLineReached, IsProgramEnd, IsProgramConflict}
+use Rattle.pardo_law.specs.Theorem.{ProgramEndsIn, RunsEndOnce, IsAnswerOf, AnswersAreThePrograms}
 use Rattle.pardo_law.proofs.Picturing.{shared_low}
 use Rattle.pardo_law.proofs.Ruling.{one_dispute}
 use Rattle.pardo_law.proofs.Theorem.{of, carries}
 
 -- ---- once
 
-reached_to : (program : ProgramData) (n : ℕ) (end : Option Dispute) → EndsIn program n end →
-    IsReached program n
+reached_to : (program : ProgramData) (n : ℕ) (end : Option Dispute) → ProgramEndsIn program n end →
+    IsLineReached program n
 reached_to program n None is = is.reached
 reached_to program n (Some dispute) is = is.reached
 
 -- no line comes after the end
-none_after : (program : ProgramData) (n m : ℕ) (end : Option Dispute) → EndsIn program n end →
-    IsReached program m → n < m → ⊥
+none_after : (program : ProgramData) (n m : ℕ) (end : Option Dispute) →
+    ProgramEndsIn program n end →
+    IsLineReached program m → n < m → ⊥
 none_after program n m None is reached lt = (reached n lt).0 is.over
 none_after program n m (Some dispute) is reached lt =
     (reached n lt).1 dispute.cell dispute.first dispute.second is.disputed.clash
 
-same_end : (program : ProgramData) (n : ℕ) (end other : Option Dispute) → EndsIn program n end →
-    EndsIn program n other → end ≡ other
+same_end : (program : ProgramData) (n : ℕ) (end other : Option Dispute) →
+    ProgramEndsIn program n end →
+    ProgramEndsIn program n other → end ≡ other
 same_end program n None None is too = refl
 same_end program n None (Some dispute) is too = absurd (too.goes_on is.over)
 same_end program n (Some dispute) None is too = absurd (is.goes_on too.over)
@@ -46,7 +48,11 @@ same_end program n (Some dispute) (Some other) is too =
 
 pub runs_end_once : RunsEndOnce
 runs_end_once program n m end other is too = elim (cases_order n m) [
-  | inl same ↦ (same, same_end program m end other (subst (λ k. EndsIn program k end) same is) too)
+  | inl same ↦ (
+    same,
+    same_end program m end other
+        (subst (λ k. ProgramEndsIn program k end) same is) too,
+  )
   | inr apart ↦ elim apart [
     | inl low ↦ absurd (none_after program n m end is (reached_to program m other too) low)
     | inr high ↦ absurd (none_after program m n other too (reached_to program n end is) high)
@@ -56,10 +62,10 @@ runs_end_once program n m end other is too = elim (cases_order n m) [
 -- ---- the answer
 
 module _ (program : ProgramData) (job : JobData) (line_of : ℕ → ℕ)
-    (low : (cell : ℕ) → cell < (layout_of program).shared → cell < job.cells)
+    (low : (cell : ℕ) → cell < (program_layout program).shared → cell < job.cells)
     (c : Carries program job line_of) where
   -- where the program is over
-  at_end : (n : ℕ) → IsEnd program n → (answer : RunAnswer) → IsAnswer job answer →
+  at_end : (n : ℕ) → IsProgramEnd program n → (answer : RunAnswer) → IsAnswer job answer →
       IsAnswerOf program answer
   at_end n is (Final cells) x =
       let ends : EndsAs program job line_of (after program n) = (c.ends n is).0 in (
@@ -90,7 +96,8 @@ module _ (program : ProgramData) (job : JobData) (line_of : ℕ → ℕ)
       }
 
   -- where a line is against the rule
-  in_conflict : (n : ℕ) (dispute : Dispute) → IsConflict program n dispute → (answer : RunAnswer) →
+  in_conflict : (n : ℕ) (dispute : Dispute) → IsProgramConflict program n dispute →
+      (answer : RunAnswer) →
       IsAnswer job answer →
       IsAnswerOf program answer
   in_conflict n dispute is (Final cells) x =
@@ -103,15 +110,16 @@ module _ (program : ProgramData) (job : JobData) (line_of : ℕ → ℕ)
       one_answer job (Conflict fault) (Conflict (fault_at found.0 dispute)) x found.3 in
       let it : fault_at found.0 dispute ≡ fault = cc in (
         n,
-        subst (λ (f : Fault). IsConflict program n
+        subst (λ (f : Fault). IsProgramConflict program n
             (record { cell = f.cell; first = f.first; second = f.second })) it is,
       )
   in_conflict n dispute is (Unfinished step) x = absurd x
 
   pub answer_is : (answer : RunAnswer) → IsAnswer job answer → IsAnswerOf program answer
   answer_is answer x = ⊎_elim
-      (λ (is : IsEnd program c.over.0). at_end c.over.0 is answer x)
-      (λ (is : (dispute : Dispute) × IsConflict program c.over.0 dispute). in_conflict c.over.0 is.0
+      (λ (is : IsProgramEnd program c.over.0). at_end c.over.0 is answer x)
+      (λ (is : (dispute : Dispute) × IsProgramConflict program c.over.0 dispute). in_conflict
+      c.over.0 is.0
       is.1 answer x)
       c.over.1
 

@@ -19,18 +19,20 @@ use Rattle.pram_step.proofs.LawStopped.{stopped_request}
 use Rattle.pardo_text.specs.declared.statement.Line.{Line}
 use Rattle.pardo_text.specs.Program.{ProgramData}
 use Rattle.pardo_job.specs.Carries.{ComesFrom}
-use Rattle.pardo_job.specs.Compiled.{AreNumbers, IsWhole}
-use Rattle.pardo_job.specs.Conflicts.{Agrees, Dispute, IsDispute, Writes}
-use Rattle.pardo_job.specs.Layouts.{layout_of}
+use Rattle.pardo_job.specs.Compiled.{AreLineNumbers, IsWhole}
+use Rattle.pram_step.specs.declared.answer.Dispute.{Dispute}
+use Rattle.pardo_job.specs.Conflicts.{LineAgrees, IsLineDispute, Assigns}
+use Rattle.pardo_job.specs.Layouts.{program_layout}
 use Rattle.pardo_job.specs.Lines.{place_of}
 use Rattle.pardo_job.specs.Meaning.{Source, after, after_statement, asked_in}
-use Rattle.pardo_job.specs.Runs.{IsConflict, IsEnd, IsOver, IsReached, line_number}
+use Rattle.pardo_job.specs.Runs.{IsProgramConflict, IsProgramEnd, IsProgramOver, IsLineReached}
+use Rattle.pardo_job.specs.Runs.{line_number}
 use Rattle.pardo_job.proofs.Assigning.{both_code}
 use Rattle.pardo_job.proofs.Meanings.{asked_at, next_at}
-use Rattle.pardo_law.specs.Between.{AreMade, Executes, Holds, IsInLine}
+use Rattle.pardo_law.specs.Between.{AreLinesMade, Executes, HoldsVariables, IsInLine}
 use Rattle.pardo_law.specs.Between.{JobsGoThrough, LeavesIn, LinesNeverFall, PutsTo}
 use Rattle.pardo_law.specs.Locals.{memory_of}
-use Rattle.pardo_law.proofs.Advancing.{Carried, StillBelow, cost, place_low, still_all}
+use Rattle.pardo_law.proofs.Carried.{Carried, StillBelow, cost, place_low, still_all}
 use Rattle.pardo_law.proofs.Carrying.{carried_after, line_carried, line_next, time_next}
 use Rattle.pardo_law.proofs.Carrying.{time_of}
 use Rattle.pardo_law.proofs.Cutting.{PutOnly, StaysIn, is_inside}
@@ -77,8 +79,8 @@ lines_never_fall program time t u n m rises is later le = ⊎_elim
 record Keeps (program : ProgramData) (job : JobData) (asked : ℕ → Option (ℕ × ℕ))
     (source : Source) (t c : ℕ) : Type 0 where
   stays : StaysIn job (place_of program source.at) (place_of program (source.at + 1)) t c
-  still : StillBelow job (held_below (layout_of program)) t c
-  puts : PutOnly job (layout_of program).shared t c asked
+  still : StillBelow job (held_below (program_layout program)) t c
+  puts : PutOnly job (program_layout program).shared t c asked
 
 module _ (program : ProgramData) (job : JobData) (of : IsOf program job) (source : Source) (t : ℕ)
     (carried : Carried program job source t) (line : Line)
@@ -90,24 +92,24 @@ module _ (program : ProgramData) (job : JobData) (of : IsOf program job) (source
   KeptHere =
       Keeps program job asked_here source t (cost program source line.depth line.statement)
 
-  agreed : Agrees program source → KeptHere
+  agreed : LineAgrees program source → KeptHere
   agreed agrees =
       let advance = line_carried program job of source t carried line is agrees in
       record { stays = advance.stays; still = advance.still; puts = advance.puts }
 
-  disputed : (dispute : Dispute) → IsDispute program source dispute → KeptHere
+  disputed : (dispute : Dispute) → IsLineDispute program source dispute → KeptHere
   disputed dispute d =
       let it = asks_nothing program source line.depth dispute.first line.statement dispute.cell
       d.clash.value
       (sym (asked_at program source line dispute.first is) ∙ d.clash.writes.1) in
-      let n : ℕ = quiet line.depth (length (both_code (layout_of program) it.2 it.1)) in
+      let n : ℕ = quiet line.depth (length (both_code (program_layout program) it.2 it.1)) in
       let costs : suc n ≡ cost program source line.depth line.statement =
       sym (ap (cost program source line.depth) it.3) in record {
         stays = subst
             (StaysIn job (place_of program source.at) (place_of program (source.at + 1)) t) costs
             (stays_here program job of source t carried line is it.0 it.1 it.2 it.3);
-        still = subst (StillBelow job (held_below (layout_of program)) t) costs
-            (still_all job (held_below (layout_of program)) t (suc n)
+        still = subst (StillBelow job (held_below (program_layout program)) t) costs
+            (still_all job (held_below (program_layout program)) t (suc n)
             (unchanged_here program job of source t carried line is it.0 it.1 it.2 it.3));
         puts = λ k i cell value lt less below put.
             ap (λ s. asked_in program source line.depth s i) it.3
@@ -116,12 +118,12 @@ module _ (program : ProgramData) (job : JobData) (of : IsOf program job) (source
       }
 
   keeps : KeptHere
-  keeps = ⊎_elim agreed (λ (d : (dispute : Dispute) × IsDispute program source dispute).
+  keeps = ⊎_elim agreed (λ (d : (dispute : Dispute) × IsLineDispute program source dispute).
       disputed d.0 d.1) (decides program job of source t carried line is)
 
   -- who leaves before the stores of a line in conflict is gone after it
-  lost_disputed : (line_of : ℕ → ℕ) (numbers : AreNumbers program line_of) (dispute : Dispute) →
-      IsDispute program source dispute → (u i : ℕ) → t ≤ u → machine.IsReached job u →
+  lost_disputed : (line_of : ℕ → ℕ) (numbers : AreLineNumbers program line_of) (dispute : Dispute) →
+      IsLineDispute program source dispute → (u i : ℕ) → t ≤ u → machine.IsReached job u →
       i < job.procs →
       ((v : ℕ) → u ≤ v → counter job (state_after job v) i ≡ out_of_range job) →
       (number : ℕ) ×
@@ -130,7 +132,7 @@ module _ (program : ProgramData) (job : JobData) (of : IsOf program job) (source
       let it = asks_nothing program source line.depth dispute.first line.statement dispute.cell
       d.clash.value
       (sym (asked_at program source line dispute.first is) ∙ d.clash.writes.1) in
-      let n : ℕ = quiet line.depth (length (both_code (layout_of program) it.2 it.1)) in
+      let n : ℕ = quiet line.depth (length (both_code (program_layout program) it.2 it.1)) in
       let found : InConflict program job source t line line_of dispute =
       in_conflict program job of source t carried line is line_of numbers dispute d in
       let costs : suc n ≡ suc found.before =
@@ -152,9 +154,9 @@ time_least program zero = omega arith
 time_least program (suc n) = let e = time_least program n in omega arith
 
 module _ (program : ProgramData) (job : JobData) (of : IsOf program job) (line_of : ℕ → ℕ)
-    (numbers : AreNumbers program line_of) (whole : IsWhole job) where
+    (numbers : AreLineNumbers program line_of) (whole : IsWhole job) where
   abbrev Made : ℕ → ℕ → Type 0
-  Made t n = AreMade program (time_of program) t n
+  Made t n = AreLinesMade program (time_of program) t n
 
   low : (i : ℕ) → i < program.procs → i < job.procs
   low i lt = let e = procs_are program job of in omega arith
@@ -168,14 +170,14 @@ module _ (program : ProgramData) (job : JobData) (of : IsOf program job) (line_o
       subst (λ (n : ℕ). counter job (state_after job n) i ≡ out_of_range job) e
       ((stopped_processor job t (u - t) i of.job_is lt past).0 ∙ out)
 
-  carried : (n : ℕ) → IsReached program n →
+  carried : (n : ℕ) → IsLineReached program n →
       Carried program job (after program n) (time_of program n)
   carried n reached = carried_after program job of n reached
 
   -- ---- which lines are made
 
-  find : (t m : ℕ) → IsReached program m →
-      (IsOver program (after program m) ⊎ (t < time_of program (m + 1))) →
+  find : (t m : ℕ) → IsLineReached program m →
+      (IsProgramOver program (after program m) ⊎ (t < time_of program (m + 1))) →
       (n : ℕ) × Made t n
   find t zero reached no_more =
       (0, record { reached = reached; made = inl refl; no_more = no_more })
@@ -189,7 +191,7 @@ module _ (program : ProgramData) (job : JobData) (of : IsOf program job) (line_o
       (cases_lt t (time_of program (suc m)))
 
   before_conflict : (t n : ℕ) (dispute : Dispute) → machine.IsReached job t →
-      IsConflict program n dispute → t < time_of program (n + 1)
+      IsProgramConflict program n dispute → t < time_of program (n + 1)
   before_conflict t n dispute reached is =
       let c = carried n is.reached in
       let line = line_next program (after program n) c.pictured.within is.goes_on in
@@ -209,8 +211,8 @@ module _ (program : ProgramData) (job : JobData) (of : IsOf program job) (line_o
   made_at : (t : ℕ) → machine.IsReached job t → (n : ℕ) × Made t n
   made_at t reached =
       let over = finishes program job of whole in ⊎_elim
-      (λ (is : IsEnd program over.0). find t over.0 is.reached (inl is.over))
-      (λ (is : (dispute : Dispute) × IsConflict program over.0 dispute).
+      (λ (is : IsProgramEnd program over.0). find t over.0 is.reached (inl is.over))
+      (λ (is : (dispute : Dispute) × IsProgramConflict program over.0 dispute).
       find t over.0 is.1.reached (inr (before_conflict t over.0 is.0 reached is.1)))
       over.1
 
@@ -229,7 +231,7 @@ module _ (program : ProgramData) (job : JobData) (of : IsOf program job) (line_o
       (λ (late : time_of program n ≤ t). late)
       is.made
 
-  midst : (t n : ℕ) → 1 ≤ t → Made t n → (IsOver program (after program n) → ⊥) → Midst t n
+  midst : (t n : ℕ) → 1 ≤ t → Made t n → (IsProgramOver program (after program n) → ⊥) → Midst t n
   midst t n some is goes_on =
       let line = line_next program (after program n) (carried n is.reached).pictured.within
       goes_on in
@@ -256,49 +258,50 @@ module _ (program : ProgramData) (job : JobData) (of : IsOf program job) (line_o
   -- ---- what is held
 
   holds_still : (source : Source) (s r : State) →
-      ((cell : ℕ) → cell < held_below (layout_of program) →
+      ((cell : ℕ) → cell < held_below (program_layout program) →
       memory_of job s cell ≡ memory_of job r cell) →
-      Holds program source r → Holds program source s
+      HoldsVariables program source r → HoldsVariables program source s
   holds_still source s r same holds = record {
     cells = λ cell lt. same_cell job s cell (shared_low program job of cell lt)
         ∙ same cell (omega arith)
         ∙ sym (same_cell job r cell (shared_low program job of cell lt)) ∙ holds.cells cell lt;
     privates = λ x i lt less.
-        let few : i < (layout_of program).procs =
+        let few : i < (program_layout program).procs =
         (let e = layout_procs program in omega arith) in
         let here = row_low program job of x i (omega arith) few in
-        same_cell job s (own_of (layout_of program) x i) here
-        ∙ same (own_of (layout_of program) x i)
-        (row_within (layout_of program) x (layout_of program).privates i lt few)
-        ∙ sym (same_cell job r (own_of (layout_of program) x i) here)
+        same_cell job s (own_of (program_layout program) x i) here
+        ∙ same (own_of (program_layout program) x i)
+        (row_within (program_layout program) x (program_layout program).privates i lt few)
+        ∙ sym (same_cell job r (own_of (program_layout program) x i) here)
         ∙ holds.privates x i lt less;
   }
 
-  holds_after : (n : ℕ) → IsReached program n →
-      Holds program (after program n) (state_after job (time_of program n))
+  holds_after : (n : ℕ) → IsLineReached program n →
+      HoldsVariables program (after program n) (state_after job (time_of program n))
   holds_after n reached =
       let s = shows program job of (after program n) (time_of program n) (carried n reached) in
       record { cells = s.cells; privates = s.privates }
 
-  holds_first : Holds program (after program 0) (state_after job 0)
+  holds_first : HoldsVariables program (after program 0) (state_after job 0)
   unfolding after state_after
   holds_first = record {
     cells = λ cell lt. same_cell job (state_after job 0) cell (shared_low program job of cell lt)
         ∙ held_shared program job of cell lt;
-    privates = λ x i lt less. same_cell job (state_after job 0) (own_of (layout_of program) x i)
+    privates = λ x i lt less. same_cell job (state_after job 0)
+        (own_of (program_layout program) x i)
         (row_low program job of x i (omega arith)
         (let e = layout_procs program in omega arith))
         ∙ held_private program job of x i lt less;
   }
 
   -- after the end nothing changes
-  holds_end : (n t : ℕ) → IsReached program n → IsOver program (after program n) →
-      time_of program n + 1 ≤ t → Holds program (after program n) (state_after job t)
+  holds_end : (n t : ℕ) → IsLineReached program n → IsProgramOver program (after program n) →
+      time_of program n + 1 ≤ t → HoldsVariables program (after program n) (state_after job t)
   holds_end n t reached over late =
       let c = carried n reached in
       let source : Source = after program n in
       let u : ℕ = time_of program n in
-      subst (Holds program (after program n))
+      subst (HoldsVariables program (after program n))
       (later_same job (u + 1) t late (reached_last program job of source u c over)
       (all_stopped program job of source u c over))
       (record {
@@ -306,25 +309,25 @@ module _ (program : ProgramData) (job : JobData) (of : IsOf program job) (line_o
         privates = last_privates program job of source u c over;
       })
 
-  holds_over : (n t : ℕ) → IsReached program n → IsOver program (after program n) →
-      time_of program n ≤ t → Holds program (after program n) (state_after job t)
+  holds_over : (n t : ℕ) → IsLineReached program n → IsProgramOver program (after program n) →
+      time_of program n ≤ t → HoldsVariables program (after program n) (state_after job t)
   holds_over n t reached over late = ⊎_elim
       (λ (later : time_of program n < t). holds_end n t reached over (omega arith))
       (λ (same : t ≤ time_of program n). let e : time_of program n ≡ t = omega arith in
-      subst (λ (k : ℕ). Holds program (after program n) (state_after job k)) e
+      subst (λ (k : ℕ). HoldsVariables program (after program n) (state_after job k)) e
       (holds_after n reached))
       (cases_lt (time_of program n) t)
 
   holds_midst : (t n : ℕ) → Made t n → Midst t n →
-      Holds program (after program n) (state_after job t)
+      HoldsVariables program (after program n) (state_after job t)
   holds_midst t n is m =
-      subst (λ (k : ℕ). Holds program (after program n) (state_after job k)) m.at_step
+      subst (λ (k : ℕ). HoldsVariables program (after program n) (state_after job k)) m.at_step
       (holds_still (after program n) (state_after job (time_of program n + m.steps))
       (state_after job (time_of program n))
       (λ cell lt. (kept t n is m).still m.steps cell m.within lt) (holds_after n is.reached))
 
   holds_from : (t n : ℕ) → 1 ≤ t → Made t n →
-      Holds program (after program n) (state_after job t)
+      HoldsVariables program (after program n) (state_after job t)
   holds_from t n some is = ⊎_elim
       (λ over. holds_over n t is.reached over (begun t n some is))
       (λ on. holds_midst t n is (midst t n some is on.0))
@@ -335,15 +338,16 @@ module _ (program : ProgramData) (job : JobData) (of : IsOf program job) (line_o
       (λ (late : time_of program n ≤ 0). absurd (omega (arith, time_least program n)))
       is.made
 
-  pub holds_at : (t n : ℕ) → Made t n → Holds program (after program n) (state_after job t)
-  holds_at zero n is = subst (λ (k : ℕ). Holds program (after program k) (state_after job 0))
+  pub holds_at : (t n : ℕ) → Made t n → HoldsVariables program (after program n) (state_after job t)
+  holds_at zero n is = subst
+      (λ (k : ℕ). HoldsVariables program (after program k) (state_after job 0))
       (sym (none_made n is)) holds_first
   holds_at (suc t) n is = holds_from (suc t) n (omega arith) is
 
   -- ---- where the processors stand
 
   -- one that is there stands at the line that is next
-  stands : (n i : ℕ) → IsReached program n → i < program.procs →
+  stands : (n i : ℕ) → IsLineReached program n → i < program.procs →
       (after program n).gone i ≡ None →
       counter job (state_after job (time_of program n)) i ≡ place_of program (after program n).at
   stands n i reached lt there =
@@ -352,7 +356,7 @@ module _ (program : ProgramData) (job : JobData) (of : IsOf program job) (line_o
       (place_of program (after program n).at) (c.locals i) there (c.pictured.here i lt)
       (c.standing.locals_are i (low i lt))).0
 
-  is_out : (n i number : ℕ) → IsReached program n → i < program.procs →
+  is_out : (n i number : ℕ) → IsLineReached program n → i < program.procs →
       (after program n).gone i ≡ Some number →
       counter job (state_after job (time_of program n)) i ≡ out_of_range job
   is_out n i number reached lt gone =
@@ -361,7 +365,7 @@ module _ (program : ProgramData) (job : JobData) (of : IsOf program job) (line_o
       (place_of program (after program n).at) number (c.locals i) gone (c.pictured.here i lt)
       (c.standing.locals_are i (low i lt))
 
-  there_before : (t n i : ℕ) → time_of program n ≤ t → IsReached program n → i < program.procs →
+  there_before : (t n i : ℕ) → time_of program n ≤ t → IsLineReached program n → i < program.procs →
       counter job (state_after job t) i ≢ out_of_range job → (after program n).gone i ≡ None
   there_before t n i late reached lt there = by_gone ((after program n).gone i) refl
     where
@@ -395,14 +399,15 @@ module _ (program : ProgramData) (job : JobData) (of : IsOf program job) (line_o
       ap (slice_get job.code) here ∙ (first_is program job (code_is program job of)).0
 
   -- after the last line
-  over_stands : (n i : ℕ) → IsOver program (after program n) → (after program n).gone i ≡ None →
+  over_stands : (n i : ℕ) → IsProgramOver program (after program n) →
+      (after program n).gone i ≡ None →
       i < program.procs → place_of program (length program.lines)
       ≡ place_of program (after program n).at
   over_stands n i (inl at_end) there lt = ap (place_of program) at_end
   over_stands n i (inr all_gone) there lt = absurd
       (let no : false ≡ true = sym (ap is_some there) ∙ all_gone i lt in cc)
 
-  ends_first : (n i : ℕ) → IsReached program n → IsOver program (after program n) →
+  ends_first : (n i : ℕ) → IsLineReached program n → IsProgramOver program (after program n) →
       i < program.procs → (after program n).gone i ≡ None →
       Executes job (time_of program n) i Halt
   ends_first n i reached over lt there =
@@ -410,8 +415,8 @@ module _ (program : ProgramData) (job : JobData) (of : IsOf program job) (line_o
       (stands n i reached lt there ∙ sym (over_stands n i over there lt))
       ∙ (end_stands program job (code_is program job of)).0
 
-  ends : (t n i : ℕ) → time_of program n ≤ t → IsReached program n →
-      IsOver program (after program n) → i < program.procs →
+  ends : (t n i : ℕ) → time_of program n ≤ t → IsLineReached program n →
+      IsProgramOver program (after program n) → i < program.procs →
       counter job (state_after job t) i < halted job → Executes job t i Halt
   ends t n i late reached over lt runs = ⊎_elim
       (λ (later : time_of program n < t).
@@ -475,8 +480,8 @@ module _ (program : ProgramData) (job : JobData) (of : IsOf program job) (line_o
   stopped_puts t cell i value past put = none-some (cell, value)
       (sym (ap (λ (r : Request). r.put) (stopped_request job (state_after job t) i past)) ∙ put)
 
-  over_puts : (t n cell i value : ℕ) → time_of program n ≤ t → IsReached program n →
-      IsOver program (after program n) → i < program.procs → PutsTo job t cell i value → ⊥
+  over_puts : (t n cell i value : ℕ) → time_of program n ≤ t → IsLineReached program n →
+      IsProgramOver program (after program n) → i < program.procs → PutsTo job t cell i value → ⊥
   over_puts t n cell i value late reached over lt put = ⊎_elim
       (λ (runs : counter job (state_after job t) i < halted job).
       halt_puts t cell i value (ends t n i late reached over lt runs) put)
@@ -485,8 +490,8 @@ module _ (program : ProgramData) (job : JobData) (of : IsOf program job) (line_o
       (cases_lt (counter job (state_after job t) i) (halted job))
 
   midst_puts : (t n cell i value : ℕ) → Made t n → Midst t n → i < program.procs →
-      cell < (layout_of program).shared → PutsTo job t cell i value →
-      Writes program (after program n) cell i value
+      cell < (program_layout program).shared → PutsTo job t cell i value →
+      Assigns program (after program n) cell i value
   midst_puts t n cell i value is m lt below put = (
     lt,
     asked_at program (after program n) m.line i m.is
@@ -495,16 +500,16 @@ module _ (program : ProgramData) (job : JobData) (of : IsOf program job) (line_o
   )
 
   puts_from : (t n cell i value : ℕ) → 1 ≤ t → Made t n → i < program.procs →
-      cell < (layout_of program).shared → PutsTo job t cell i value →
-      Writes program (after program n) cell i value
+      cell < (program_layout program).shared → PutsTo job t cell i value →
+      Assigns program (after program n) cell i value
   puts_from t n cell i value some is lt below put = ⊎_elim
       (λ over. absurd (over_puts t n cell i value (begun t n some is) is.reached over lt put))
       (λ on. midst_puts t n cell i value is (midst t n some is on.0) lt below put)
       (decide_over program (after program n))
 
   pub puts_at : (t n cell i value : ℕ) → Made t n → i < program.procs →
-      cell < (layout_of program).shared → PutsTo job t cell i value →
-      Writes program (after program n) cell i value
+      cell < (program_layout program).shared → PutsTo job t cell i value →
+      Assigns program (after program n) cell i value
   puts_at zero n cell i value is lt below put =
       absurd (pid_puts 0 cell i value (shared_low program job of cell below) (starts i lt) put)
   puts_at (suc t) n cell i value is lt below put =
@@ -513,7 +518,7 @@ module _ (program : ProgramData) (job : JobData) (of : IsOf program job) (line_o
   -- ---- who leaves
 
   -- one whose counter says that it is gone is gone
-  gone_by : (n i : ℕ) → IsReached program n → i < program.procs →
+  gone_by : (n i : ℕ) → IsLineReached program n → i < program.procs →
       counter job (state_after job (time_of program n)) i ≡ out_of_range job →
       (number : ℕ) × ((after program n).gone i ≡ Some number)
   gone_by n i reached lt out = by_gone ((after program n).gone i) refl
@@ -527,8 +532,8 @@ module _ (program : ProgramData) (job : JobData) (of : IsOf program job) (line_o
           absurd (omega arith)
 
   -- nobody leaves after the end
-  none_leaves : (t n i : ℕ) → time_of program n ≤ t → IsReached program n →
-      IsOver program (after program n) → i < program.procs →
+  none_leaves : (t n i : ℕ) → time_of program n ≤ t → IsLineReached program n →
+      IsProgramOver program (after program n) → i < program.procs →
       (after program n).gone i ≡ None →
       counter job (state_after job (t + 1)) i ≡ out_of_range job → ⊥
   none_leaves t n i late reached over lt there out =
@@ -543,7 +548,8 @@ module _ (program : ProgramData) (job : JobData) (of : IsOf program job) (line_o
       omega arith
 
   -- who leaves in a line is gone after it
-  lost_after : (t n i : ℕ) (m : Midst t n) → Made t n → (IsOver program (after program n) → ⊥) →
+  lost_after : (t n i : ℕ) (m : Midst t n) → Made t n →
+      (IsProgramOver program (after program n) → ⊥) →
       machine.IsReached job (t + 1) → i < program.procs →
       counter job (state_after job (t + 1)) i ≡ out_of_range job →
       (number : ℕ) × ((after_statement program m.line.number m.line.depth m.line.statement
@@ -555,8 +561,8 @@ module _ (program : ProgramData) (job : JobData) (of : IsOf program job) (line_o
       let at_step = m.at_step in
       let within = m.within in
       ⊎_elim
-      (λ (agrees : Agrees program source).
-      let more : IsReached program (suc n) = reached_next program n is.reached goes_on agrees in
+      (λ (agrees : LineAgrees program source).
+      let more : IsLineReached program (suc n) = reached_next program n is.reached goes_on agrees in
       let later : t + 1 ≤ time_of program (suc n) =
       (let e = time_next program n m.line m.is in omega arith) in
       let gone = gone_by (suc n) i more lt
@@ -564,13 +570,14 @@ module _ (program : ProgramData) (job : JobData) (of : IsOf program job) (line_o
         gone.0,
         sym (ap (λ (s : Source). s.gone i) (next_at program source m.line m.is)) ∙ gone.1,
       ))
-      (λ (d : (dispute : Dispute) × IsDispute program source dispute).
+      (λ (d : (dispute : Dispute) × IsLineDispute program source dispute).
       lost_disputed program job of source u (carried n is.reached) m.line m.is line_of numbers
       d.0 d.1 (t + 1) i (omega arith) reached (low i lt)
       (λ v late. out_later (t + 1) v i late (low i lt) out))
       (decides program job of source u (carried n is.reached) m.line m.is)
 
-  leaves_midst : (t n i : ℕ) → Midst t n → Made t n → (IsOver program (after program n) → ⊥) →
+  leaves_midst : (t n i : ℕ) → Midst t n → Made t n →
+      (IsProgramOver program (after program n) → ⊥) →
       machine.IsReached job (t + 1) → i < program.procs → (after program n).gone i ≡ None →
       counter job (state_after job (t + 1)) i ≡ out_of_range job →
       (after program (n + 1)).gone i ≡ Some (line_number program (after program n))

@@ -12,14 +12,14 @@ use Rattle.pram_job.specs.declared.instr.Instr.TheVariants.{St, Jz, Jmp}
 use Rattle.pram_job.specs.declared.instr.Operand.{Operand}
 use Rattle.pram_job.specs.declared.instr.Operand.TheVariants.{Register}
 use Rattle.pram_job.specs.Job.{JobData}
-use Rattle.pardo_job.specs.Layouts.{LayoutData, mask_cells}
+use Rattle.pardo_job.specs.Layouts.{ProgramLayoutData, mask_cells}
 use Rattle.pardo_job.specs.Lines.{idle, own_store}
 use Rattle.pardo_job.specs.Straight.{Registers, put, operand_in, after_one, after_all}
 use Rattle.pardo_job.specs.Values.{own_place, own_load}
 use Rattle.pardo_job.proofs.Straight.{put_other}
 use Rattle.pardo_job.proofs.Evaluating.{load_within}
 use Rattle.pardo_law.specs.Locals.{Local, standing_at, after_instr, store_by}
-use Rattle.pardo_law.specs.Locals.{AreStraight, StandsAt}
+use Rattle.pardo_law.specs.Locals.{AreStraight, HasCodeAt}
 use Rattle.pardo_law.proofs.Lengths.{length-idle}
 use Rattle.pardo_law.proofs.Placing.{runs_to, stands_front, stands_back}
 use Rattle.pardo_law.proofs.Idling.{runs_idle}
@@ -82,13 +82,13 @@ pub with_store : (job : JobData) (memory : ℕ → ℕ) (i n : ℕ) (l : Local) 
 with_store job memory i n l P store other e c = subst (λ x. Makes job memory i n l x P) e c
 
 -- the code under a mask
-abbrev pub under : LayoutData → ℕ → ℕ → List Instr → List Instr
+abbrev pub under : ProgramLayoutData → ℕ → ℕ → List Instr → List Instr
 under layout at depth body = own_load 0 (mask_cells layout depth) ∷ (Jz 0 (at + 3)
     ∷ (Jmp (at + 4 + length body)
     ∷ (idle (at + 3) (length body) ++ (Jmp (at + 4 + 2 * length body) ∷ body))))
 
 -- a condition under a mask, up to its store
-abbrev pub between : LayoutData → ℕ → ℕ → List Instr → List Instr
+abbrev pub between : ProgramLayoutData → ℕ → ℕ → List Instr → List Instr
 between layout at depth body = own_load 0 (mask_cells layout depth) ∷ (Jz 0 (at + 3 + length body)
     ∷ (body ++ (Jmp (at + 4 + 2 * length body) ∷ idle (at + 3 + length body) (length body + 1))))
 
@@ -107,7 +107,7 @@ module _ (job : JobData) (memory : ℕ → ℕ) (i : ℕ) where
 
   pub own_body : (at : ℕ) (held : Registers) (front : List Instr) (cells : Array)
       (operand : Operand) (o : Option ℕ) →
-      AreStraight front → StandsAt job at (front ++ St (own_place cells) operand ∷ []) →
+      AreStraight front → HasCodeAt job at (front ++ St (own_place cells) operand ∷ []) →
       i < cells.len →
       ValueTo memory i front held operand o →
       Makes job memory i (length front) (Some (at, held)) (option_map (λ v. (cells.base + i, v)) o)
@@ -128,7 +128,7 @@ module _ (job : JobData) (memory : ℕ → ℕ) (i : ℕ) where
 
   -- ---- the mask of the line comes into register 0
 
-  loads_mask : (layout : LayoutData) (depth : ℕ) (held : Registers) (v : ℕ) → held 3 ≡ i →
+  loads_mask : (layout : ProgramLayoutData) (depth : ℕ) (held : Registers) (v : ℕ) → held 3 ≡ i →
       i < layout.procs →
       memory ((mask_cells layout depth).base + i) ≡ v →
       after_one memory i (own_load 0 (mask_cells layout depth)) held ≡ Some (put 0 v held)
@@ -140,10 +140,10 @@ module _ (job : JobData) (memory : ℕ → ℕ) (i : ℕ) where
   put_own v held own = put_other 0 v 3 held (λ e. omega arith) ∙ own
 
   -- by a load of the mask, and a jump if it is 0
-  makes_mask : (layout : LayoutData) (depth n at target v : ℕ) (held : Registers)
+  makes_mask : (layout : ProgramLayoutData) (depth n at target v : ℕ) (held : Registers)
       (rest : List Instr)
       (store : Option (ℕ × ℕ)) (P : Local → Type 0) →
-      StandsAt job at (own_load 0 (mask_cells layout depth) ∷ Jz 0 target ∷ rest) → held 3 ≡ i →
+      HasCodeAt job at (own_load 0 (mask_cells layout depth) ∷ Jz 0 target ∷ rest) → held 3 ≡ i →
       i < layout.procs →
       memory ((mask_cells layout depth).base + i) ≡ v →
       Makes job memory i n (Some (if v == 0 then target else at + 1 + 1, put 0 v held)) store P →
@@ -157,28 +157,28 @@ module _ (job : JobData) (memory : ℕ → ℕ) (i : ℕ) where
 
   -- ---- assignments
 
-  module _ (layout : LayoutData) (at depth : ℕ) (body : List Instr) (held : Registers)
-      (stands : StandsAt job at (under layout at depth body)) (own : held 3 ≡ i)
+  module _ (layout : ProgramLayoutData) (at depth : ℕ) (body : List Instr) (held : Registers)
+      (stands : HasCodeAt job at (under layout at depth body)) (own : held 3 ≡ i)
       (lt : i < layout.procs) where
     abbrev rest : List Instr
     rest = Jmp (at + 4 + length body) ∷
         (idle (at + 3) (length body) ++ (Jmp (at + 4 + 2 * length body) ∷ body))
 
-    back_stands : StandsAt job (at + 3)
+    back_stands : HasCodeAt job (at + 3)
         (idle (at + 3) (length body) ++ (Jmp (at + 4 + 2 * length body) ∷ body))
     back_stands = let e : at + 1 + 1 + 1 ≡ at + 3 = omega arith in
-        subst (λ k. StandsAt job k (idle (at + 3) (length body) ++
+        subst (λ k. HasCodeAt job k (idle (at + 3) (length body) ++
         (Jmp (at + 4 + 2 * length body) ∷ body))) e stands.1.1.1
 
-    last_stands : StandsAt job (at + 3 + length body) (Jmp (at + 4 + 2 * length body) ∷ body)
-    last_stands = subst (λ k. StandsAt job (at + 3 + k) (Jmp (at + 4 + 2 * length body) ∷ body))
+    last_stands : HasCodeAt job (at + 3 + length body) (Jmp (at + 4 + 2 * length body) ∷ body)
+    last_stands = subst (λ k. HasCodeAt job (at + 3 + k) (Jmp (at + 4 + 2 * length body) ∷ body))
         (length-idle (at + 3) (length body))
         (stands_back job (at + 3) (idle (at + 3) (length body))
         (Jmp (at + 4 + 2 * length body) ∷ body) back_stands)
 
-    pub body_stands : StandsAt job (at + 4 + length body) body
+    pub body_stands : HasCodeAt job (at + 4 + length body) body
     body_stands = let e : at + 3 + length body + 1 ≡ at + 4 + length body = omega arith in
-        subst (λ k. StandsAt job k body) e last_stands.1
+        subst (λ k. HasCodeAt job k body) e last_stands.1
 
     pub passes : (k : ℕ) → length body ≡ suc k → memory ((mask_cells layout depth).base + i) ≡ 0 →
         Makes job memory i (suc (suc (suc k))) (Some (at, held)) None
@@ -210,16 +210,16 @@ module _ (job : JobData) (memory : ℕ → ℕ) (i : ℕ) where
 
   -- ---- conditions
 
-  length-between : (layout : LayoutData) (at depth : ℕ) (body : List Instr) →
+  length-between : (layout : ProgramLayoutData) (at depth : ℕ) (body : List Instr) →
       length (between layout at depth body) ≡ 4 + 2 * length body
   length-between layout at depth body =
       let e = length-append body (Jmp (at + 4 + 2 * length body) ∷
       idle (at + 3 + length body) (length body + 1)) in
       let f = length-idle (at + 3 + length body) (length body + 1) in omega arith
 
-  module _ (layout : LayoutData) (at depth : ℕ) (body : List Instr) (held : Registers)
+  module _ (layout : ProgramLayoutData) (at depth : ℕ) (body : List Instr) (held : Registers)
       (cells : Array)
-      (whole : StandsAt job at (between layout at depth body ++ own_store cells ∷ []))
+      (whole : HasCodeAt job at (between layout at depth body ++ own_store cells ∷ []))
       (own : held 3 ≡ i) (lt : i < layout.procs) (low : i < cells.len) where
     abbrev skip : ℕ
     skip = at + 3 + length body
@@ -227,7 +227,7 @@ module _ (job : JobData) (memory : ℕ → ℕ) (i : ℕ) where
     abbrev end : ℕ
     end = at + 4 + 2 * length body
 
-    stands : StandsAt job at (between layout at depth body)
+    stands : HasCodeAt job at (between layout at depth body)
     stands = stands_front job at (between layout at depth body) (own_store cells ∷ []) whole
 
     store_stands : slice_get job.code end ≡ Some (own_store cells)
@@ -237,15 +237,15 @@ module _ (job : JobData) (memory : ℕ → ℕ) (i : ℕ) where
         subst (λ n. slice_get job.code n ≡ Some (own_store cells)) e
         (stands_back job at (between layout at depth body) (own_store cells ∷ []) whole).0
 
-    inner : StandsAt job (at + 1 + 1) (body ++ (Jmp end ∷ idle skip (length body + 1)))
+    inner : HasCodeAt job (at + 1 + 1) (body ++ (Jmp end ∷ idle skip (length body + 1)))
     inner = stands.1.1
 
-    jump_stands : StandsAt job (at + 1 + 1 + length body) (Jmp end ∷ idle skip (length body + 1))
+    jump_stands : HasCodeAt job (at + 1 + 1 + length body) (Jmp end ∷ idle skip (length body + 1))
     jump_stands = stands_back job (at + 1 + 1) body (Jmp end ∷ idle skip (length body + 1)) inner
 
-    idle_stands : StandsAt job skip (idle skip (length body + 1))
+    idle_stands : HasCodeAt job skip (idle skip (length body + 1))
     idle_stands = let e : at + 1 + 1 + length body + 1 ≡ skip = omega arith in
-        subst (λ n. StandsAt job n (idle skip (length body + 1))) e jump_stands.1
+        subst (λ n. HasCodeAt job n (idle skip (length body + 1))) e jump_stands.1
 
     -- a processor outside the mask stores 0
     pub goes_around : memory ((mask_cells layout depth).base + i) ≡ 0 →

@@ -11,9 +11,6 @@ use Rattle.pram_job.specs.declared.instr.Instr.TheVariants.{St, Jz, Jmp}
 use Rattle.pram_job.specs.declared.instr.Rule.{Rule}
 use Rattle.pram_job.specs.declared.instr.Place.TheVariants.{Named}
 use Rattle.pram_job.specs.Job.{JobData}
-use Rattle.pram_step.specs.Steps as machine
-use Rattle.pardo_text.specs.declared.program.Rule.{Rule as SourceRule}
-use Rattle.pardo_text.specs.declared.program.Rule.TheVariants.{Common, Priority, Crew}
 use Rattle.pardo_text.specs.declared.statement.Line.{Line}
 use Rattle.pardo_text.specs.declared.statement.Statement.{Statement}
 use Rattle.pardo_text.specs.declared.statement.Statement.TheVariants.{Assign, If, Else, EndIf}
@@ -22,23 +19,24 @@ use Rattle.pardo_text.specs.declared.statement.Target.TheVariants.{Private, Arra
 use Rattle.pardo_text.specs.Expression.{Tree}
 use Rattle.pardo_text.specs.Lawful.{IsLine, IsStatement, masks_of, bounds_of}
 use Rattle.pardo_text.specs.Program.{ProgramData}
-use Rattle.pardo_job.specs.Conflicts.{Agrees, Forbids}
-use Rattle.pardo_job.specs.Layouts.{LayoutData, layout_of, array_cells, loop_cells}
-use Rattle.pardo_job.specs.Lines.{line_code, loop_end, place_of, assignment_code, machine_rule}
+use Rattle.pram_step.specs.Disputes.{Forbids}
+use Rattle.pardo_job.specs.Conflicts.{LineAgrees}
+use Rattle.pardo_job.specs.Layouts.{ProgramLayoutData, program_layout, array_cells, loop_cells}
+use Rattle.pardo_job.specs.Lines.{line_code, loop_end, place_of, assignment_code}
 use Rattle.pardo_job.specs.Lines.{masked, none_code, turn_code, while_code}
 use Rattle.pardo_job.specs.Lines.{next_value, own_store}
 use Rattle.pardo_job.specs.Meaning.{Source, after, next, after_statement, asked_in, loop_ended}
 use Rattle.pardo_job.specs.Meaning.{statement_at, on_to, losing, write_of}
-use Rattle.pardo_job.specs.Operations.{is_shallow, register_of}
-use Rattle.pardo_job.specs.Runs.{IsOver, IsReached}
-use Rattle.pardo_job.specs.Values.{value_code, operand_of, takes}
+use Rattle.pardo_job.specs.Operations.{is_shallow, register_or_spare}
+use Rattle.pardo_job.specs.Runs.{IsProgramOver, IsLineReached}
+use Rattle.pardo_job.specs.Values.{value_code, value_operand, takes}
 use Rattle.pardo_job.proofs.Assigning.{both_code}
 use Rattle.pardo_job.proofs.Meanings.{next_at, asked_at}
 use Rattle.pardo_job.proofs.Shallow.{shallow_front}
-use Rattle.pardo_law.specs.Locals.{StandsAt}
-use Rattle.pardo_law.proofs.Advancing.{Carried, Advance, AgreesIn, cost, loop_cost, shallow_masked}
-use Rattle.pardo_law.proofs.Advancing.{shallow_choosing}
-use Rattle.pardo_law.proofs.Advancing.{stays_none, still_none, puts_none, place_low}
+use Rattle.pardo_law.specs.Locals.{HasCodeAt}
+use Rattle.pardo_law.proofs.Carried.{Carried, Advance, AgreesIn, cost, loop_cost, shallow_masked}
+use Rattle.pardo_law.proofs.Carried.{shallow_choosing}
+use Rattle.pardo_law.proofs.Carried.{stays_none, still_none, puts_none, place_low}
 use Rattle.pardo_law.proofs.Cutting.{site, stands_site}
 use Rattle.pardo_law.proofs.Making.{Makes}
 use Rattle.pardo_law.proofs.Masks.{quiet}
@@ -58,7 +56,7 @@ pub all_at : {A : Type 0} (P : A → Type 0) (xs : List A) (k : ℕ) (x : A) →
 all_at P xs k x are is = subst P (sym (unwrap_or-slice_get xs k x) ∙ ap (λ o. unwrap_or o x) is)
     (are k x (slice_get_within xs k x is))
 
-shallow_none : (layout : LayoutData) (up : Bool) (first last : Tree) →
+shallow_none : (layout : ProgramLayoutData) (up : Bool) (first last : Tree) →
     is_shallow (none_code layout up first last) ≡ true →
     is_shallow (value_code layout 0 first) ≡ true
 unfolding none_code
@@ -86,27 +84,28 @@ module _ (program : ProgramData) (job : JobData) (of : IsOf program job) (source
     carried = same_time t (t + 0) source (omega arith) carried;
     stays =
         stays_none job at hi t;
-    still = still_none job (held_below (layout_of program)) t;
-    puts = puts_none job (layout_of program).shared t (λ i. None);
+    still = still_none job (held_below (program_layout program)) t;
+    puts = puts_none job (program_layout program).shared t (λ i. None);
   }
 
   opened : (begin : ℕ) (opener : Statement) → begin < length program.lines →
       IsStatement (bounds_of program) opener →
-      is_shallow (loop_end (layout_of program) (λ j. 0) begin opener) ≡ true →
-      StandsAt (site at hi job) at (loop_end (layout_of program) (place_of program) begin opener) →
-      at + length (loop_end (layout_of program) (place_of program) begin opener) ≡ hi →
+      is_shallow (loop_end (program_layout program) (λ j. 0) begin opener) ≡ true →
+      HasCodeAt (site at hi job) at
+      (loop_end (program_layout program) (place_of program) begin opener) →
+      at + length (loop_end (program_layout program) (place_of program) begin opener) ≡ hi →
       Advance program job (λ i. None) (loop_ended program begin opener source) t
       (loop_cost program source opener) at hi
   opened begin (For nest first last up end) begin_low is shallow stands ends =
       let tail : List Instr = Jz 1 (place_of program (end + 1)) ∷
-      (next_value up ∷ (own_store (loop_cells (layout_of program) nest)
+      (next_value up ∷ (own_store (loop_cells (program_layout program) nest)
       ∷ (Jmp (place_of program (begin + 1)) ∷ []))) in
-      let long = length-append (turn_code (layout_of program) nest last) tail in
+      let long = length-append (turn_code (program_layout program) nest last) tail in
       turn_advances program job of source t carried.memory carried.locals carried.standing
       carried.pictured text_line depth low hi hi_low
       nest last up begin end (let e = loop_count program job of in let f = is.0 in omega arith) is.2
       is.3 begin_low
-      (shallow_front (turn_code (layout_of program) nest last) _ shallow) stands (omega arith)
+      (shallow_front (turn_code (program_layout program) nest last) _ shallow) stands (omega arith)
   opened begin (Assign target tree) begin_low is shallow stands ends = stays_here
   opened begin (If tree) begin_low is shallow stands ends = stays_here
   opened begin Else begin_low is shallow stands ends = stays_here
@@ -139,20 +138,20 @@ module _ (program : ProgramData) (job : JobData) (of : IsOf program job) (source
 
   abbrev pub shared_store : ℕ → Tree → Tree → Instr
   shared_store array index tree =
-      St (Named (array_cells (layout_of program) array) (operand_of (takes tree) index))
-      (operand_of 0 tree)
+      St (Named (array_cells (program_layout program) array) (value_operand (takes tree) index))
+      (value_operand 0 tree)
 
   pub shared_body : (array : ℕ) (index tree : Tree) →
-      value_code (layout_of program) 0 tree ++
-      (value_code (layout_of program) (takes tree) index ++ shared_store array index tree ∷ [])
-      ≡ both_code (layout_of program) tree index ++ shared_store array index tree ∷ []
-  shared_body array index tree = sym (append_assoc (value_code (layout_of program) 0 tree)
-      (value_code (layout_of program) (takes tree) index) (shared_store array index tree ∷ []))
+      value_code (program_layout program) 0 tree ++
+      (value_code (program_layout program) (takes tree) index ++ shared_store array index tree ∷ [])
+      ≡ both_code (program_layout program) tree index ++ shared_store array index tree ∷ []
+  shared_body array index tree = sym (append_assoc (value_code (program_layout program) 0 tree)
+      (value_code (program_layout program) (takes tree) index) (shared_store array index tree ∷ []))
 
   by_statement : (statement : Statement) → IsStatement (bounds_of program) statement → depth +
       masks_of statement ≤ program.choices →
       is_shallow (line_code program (λ j. 0) 0 depth statement) ≡ true →
-      StandsAt (site at hi job) at (line_code program (place_of program) at depth statement) →
+      HasCodeAt (site at hi job) at (line_code program (place_of program) at depth statement) →
       at + length (line_code program (place_of program) at depth statement) ≡
       place_of program (source.at + 1) →
       AgreesIn program job source depth statement →
@@ -165,25 +164,28 @@ module _ (program : ProgramData) (job : JobData) (of : IsOf program job) (source
       carried.pictured text_line depth low hi hi_low
       x tree (let e = private_count program job of in let f = is.0 in omega arith) is.1
       (let e = choice_count program job of in omega arith)
-      (shallow_front (value_code (layout_of program) 0 tree) _
-      (shallow_masked (layout_of program) 0 depth _ shallow)) stands ends
+      (shallow_front (value_code (program_layout program) 0 tree) _
+      (shallow_masked (program_layout program) 0 depth _ shallow)) stands ends
   by_statement (Assign (Shared array index) tree) is few shallow stands ends agree =
-      let body : List Instr = both_code (layout_of program) tree index ++
+      let body : List Instr = both_code (program_layout program) tree index ++
       shared_store array index tree ∷ [] in
       let e = shared_body array index tree in
       shared_advances program job of source t carried.memory carried.locals carried.standing
       carried.pictured text_line depth low hi hi_low
       array index tree is.1 is.0.1 (let f = choice_count program job of in omega arith)
-      (shallow_front (both_code (layout_of program) tree index) (shared_store array index tree ∷ [])
-      (subst (λ b. is_shallow b ≡ true) e (shallow_masked (layout_of program) 0 depth _ shallow)))
-      (subst (λ b. StandsAt (site at hi job) at (masked (layout_of program) at depth b)) e stands)
-      (subst (λ b. at + length (masked (layout_of program) at depth b) ≡
+      (shallow_front (both_code (program_layout program) tree index)
+      (shared_store array index tree ∷ [])
+      (subst (λ b. is_shallow b ≡ true) e
+      (shallow_masked (program_layout program) 0 depth _ shallow)))
+      (subst (λ b. HasCodeAt (site at hi job) at (masked (program_layout program) at depth b)) e
+      stands)
+      (subst (λ b. at + length (masked (program_layout program) at depth b) ≡
       place_of program (source.at + 1)) e ends) agree
   by_statement (If tree) is few shallow stands ends agree =
       choice_advances program job of source t carried.memory carried.locals carried.standing
       carried.pictured text_line depth low hi hi_low
       tree is (let e = choice_count program job of in omega arith)
-      (shallow_choosing (layout_of program) 0 depth _ shallow) stands ends
+      (shallow_choosing (program_layout program) 0 depth _ shallow) stands ends
   by_statement Else is few shallow stands ends agree =
       else_advances program job of source t carried.memory carried.locals carried.standing
       carried.pictured text_line depth low hi hi_low
@@ -193,30 +195,31 @@ module _ (program : ProgramData) (job : JobData) (of : IsOf program job) (source
         carried = same_time t (t + 0) (on_to (source.at + 1) source) (omega arith)
             (nothing_done (let e : at ≡ at + 0 = omega arith in e ∙ ends));
         stays = stays_none job at hi t;
-        still = still_none job (held_below (layout_of program)) t;
-        puts = puts_none job (layout_of program).shared t (λ i. None);
+        still = still_none job (held_below (program_layout program)) t;
+        puts = puts_none job (program_layout program).shared t (λ i. None);
       }
   by_statement (While tree end) is few shallow stands ends agree =
-      let jump : List Instr = Jz (register_of 0 (operand_of 0 tree)) (place_of program (end + 1)) ∷
+      let jump : List Instr = Jz (register_or_spare 0 (value_operand 0 tree))
+      (place_of program (end + 1)) ∷
       [] in
-      let long = length-append (while_code (layout_of program) tree) jump in
+      let long = length-append (while_code (program_layout program) tree) jump in
       while_advances program job of source t carried.memory carried.locals carried.standing
       carried.pictured text_line depth low hi hi_low
-      tree end is.0 is.1 (shallow_front (while_code (layout_of program) tree) _ shallow) stands
-      (let e : at + length (while_code (layout_of program) tree) + 1 ≡ at +
-      length (while_code (layout_of program) tree ++ jump) = omega arith in e ∙ ends)
+      tree end is.0 is.1 (shallow_front (while_code (program_layout program) tree) _ shallow) stands
+      (let e : at + length (while_code (program_layout program) tree) + 1 ≡ at +
+      length (while_code (program_layout program) tree ++ jump) = omega arith in e ∙ ends)
   by_statement (EndWhile begin) is few shallow stands ends agree =
       back_advances program job of source t carried.memory carried.locals carried.standing
       carried.pictured text_line depth low hi hi_low
       begin is stands
   by_statement (For nest first last up end) is few shallow stands ends agree =
-      let none_shallow : is_shallow (none_code (layout_of program) up first last) ≡ true =
-      shallow_front (none_code (layout_of program) up first last) _ shallow in
+      let none_shallow : is_shallow (none_code (program_layout program) up first last) ≡ true =
+      shallow_front (none_code (program_layout program) up first last) _ shallow in
       for_advances program job of source t carried.memory carried.locals carried.standing
       carried.pictured text_line depth low hi hi_low
       nest first last up end (let e = loop_count program job of in let f = is.0 in omega arith) is.1
       is.2 is.3 none_shallow
-      (shallow_none (layout_of program) up first last none_shallow) stands ends
+      (shallow_none (program_layout program) up first last none_shallow) stands ends
   by_statement (EndFor begin) is few shallow stands ends agree =
       opened begin (statement_at program begin) is (lawful_at begin) shallow stands ends
 
@@ -231,7 +234,7 @@ module _ (program : ProgramData) (job : JobData) (of : IsOf program job) (source
   pub stores_make : IsStatement (bounds_of program) (Assign (Shared array index) tree) →
       depth ≤ program.choices →
       is_shallow (line_code program (λ j. 0) 0 depth (Assign (Shared array index) tree)) ≡ true →
-      StandsAt (site (place_of program source.at) line_end job) (place_of program source.at)
+      HasCodeAt (site (place_of program source.at) line_end job) (place_of program source.at)
       (line_code program (place_of program) (place_of program source.at) depth
       (Assign (Shared array index) tree)) →
       place_of program source.at + length
@@ -239,52 +242,40 @@ module _ (program : ProgramData) (job : JobData) (of : IsOf program job) (source
       (Assign (Shared array index) tree))
       ≡ line_end → (i : ℕ) → i < job.procs →
       Makes (site (place_of program source.at) line_end job) carried.memory i
-      (quiet depth (length (both_code (layout_of program) tree index)))
+      (quiet depth (length (both_code (program_layout program) tree index)))
       (carried.locals i) (asked_in program source depth (Assign (Shared array index) tree) i)
       (IsHere (losing text_line depth (λ j. is_some (write_of program source array j index tree))
       source i) line_end i)
   unfolding line_code assignment_code
   stores_make is few shallow stands ends =
-      let body : List Instr = both_code (layout_of program) tree index
+      let body : List Instr = both_code (program_layout program) tree index
       ++ shared_store program job of source t carried text_line depth low array index tree ∷ [] in
       let e = shared_body program job of source t carried text_line depth low array index tree in
       shared_makes program job of source t carried.memory carried.locals carried.standing
       carried.pictured text_line depth low
       line_end (let f = place_low program job of (source.at + 1) in omega arith)
       array index tree is.1 is.0.1 (let f = choice_count program job of in omega arith)
-      (shallow_front (both_code (layout_of program) tree index)
+      (shallow_front (both_code (program_layout program) tree index)
       (shared_store program job of source t carried text_line depth low array index tree ∷ [])
-      (subst (λ b. is_shallow b ≡ true) e (shallow_masked (layout_of program) 0 depth _ shallow)))
-      (subst (λ b. StandsAt (site (place_of program source.at) line_end job)
+      (subst (λ b. is_shallow b ≡ true) e
+      (shallow_masked (program_layout program) 0 depth _ shallow)))
+      (subst (λ b. HasCodeAt (site (place_of program source.at) line_end job)
       (place_of program source.at)
-      (masked (layout_of program) (place_of program source.at) depth b)) e stands)
+      (masked (program_layout program) (place_of program source.at) depth b)) e stands)
       (subst (λ b. place_of program source.at +
-      length (masked (layout_of program) (place_of program source.at) depth b) ≡ line_end) e ends)
+      length (masked (program_layout program) (place_of program source.at) depth b) ≡ line_end) e
+      ends)
 
 -- the writes of the line that is next, by the machine's rule
-rule_same : (rule : SourceRule) (i v j w : ℕ) → machine.Forbids (machine_rule rule) i v j w →
-    Forbids rule i v j w
-rule_same Common i v j w f = f
-rule_same Priority i v j w f = f
-rule_same Crew i v j w f = f
-
-pub rule_back : (rule : SourceRule) (i v j w : ℕ) → Forbids rule i v j w →
-    machine.Forbids (machine_rule rule) i v j w
-rule_back Common i v j w f = f
-rule_back Priority i v j w f = f
-rule_back Crew i v j w f = f
-
 pub forbids_to : (program : ProgramData) (job : JobData) → IsOf program job → (i v j w : ℕ) →
-    machine.Forbids job.rule i v j w → Forbids program.rule i v j w
+    Forbids job.rule i v j w → Forbids program.rule i v j w
 forbids_to program job of i v j w f =
-    rule_same program.rule i v j w (subst (λ (r : Rule). machine.Forbids r i v j w)
-    (rule_is program job of) f)
+    subst (λ (r : Rule). Forbids r i v j w) (rule_is program job of) f
 
 pub forbids_from : (program : ProgramData) (job : JobData) → IsOf program job → (i v j w : ℕ) →
-    Forbids program.rule i v j w → machine.Forbids job.rule i v j w
+    Forbids program.rule i v j w → Forbids job.rule i v j w
 forbids_from program job of i v j w f =
-    subst (λ (r : Rule). machine.Forbids r i v j w) (sym (rule_is program job of))
-    (rule_back program.rule i v j w f)
+    subst (λ (r : Rule). Forbids r i v j w) (sym (rule_is program job of)) f
 
 module _ (program : ProgramData) (job : JobData) (of : IsOf program job) (source : Source) (t : ℕ)
     (carried : Carried program job source t) (line : Line)
@@ -295,7 +286,7 @@ module _ (program : ProgramData) (job : JobData) (of : IsOf program job) (source
   pub line_is : IsLine (bounds_of program) line
   line_is = all_at (IsLine (bounds_of program)) program.lines source.at line of.program_is.lines is
 
-  pub stands_here : StandsAt job place
+  pub stands_here : HasCodeAt job place
       (line_code program (place_of program) place line.depth line.statement)
   stands_here = line_stands program job (code_is program job of) source.at line is
 
@@ -305,7 +296,7 @@ module _ (program : ProgramData) (job : JobData) (of : IsOf program job) (source
       let e = length_is program (place_of program) place line in
       let f = place_next program source.at line is in omega arith
 
-  pub agree_here : Agrees program source → AgreesIn program job source line.depth line.statement
+  pub agree_here : LineAgrees program source → AgreesIn program job source line.depth line.statement
   agree_here agree cell i j v w lt less writes too forbidden =
       agree cell i j (record {
         value = v;
@@ -322,14 +313,14 @@ module _ (program : ProgramData) (job : JobData) (of : IsOf program job) (source
         forbidden = forbids_to program job of i v j w forbidden;
       })
 
-  pub stands_site_here : StandsAt (site place (place_of program (source.at + 1)) job) place
+  pub stands_site_here : HasCodeAt (site place (place_of program (source.at + 1)) job) place
       (line_code program (place_of program) place line.depth line.statement)
   stands_site_here = stands_site place (place_of program (source.at + 1)) job place
       (line_code program (place_of program) place line.depth line.statement) stands_here
       (omega arith)
       (let e = ends_here in omega arith)
 
-  pub line_carried : Agrees program source →
+  pub line_carried : LineAgrees program source →
       Advance program job (asked_in program source line.depth line.statement)
       (next program source) t (cost program source line.depth line.statement)
       place (place_of program (source.at + 1))
@@ -368,7 +359,7 @@ some_line program k lt = found program.lines k lt
 
 -- a program that is not over has a line that is next
 pub line_next : (program : ProgramData) (source : Source) → source.at ≤ length program.lines →
-    (IsOver program source → ⊥) →
+    (IsProgramOver program source → ⊥) →
     (line : Line) × (slice_get program.lines source.at ≡ Some line)
 line_next program source within goes_on =
     some_line program source.at (let apart : (length program.lines ≡ source.at → ⊥) =
@@ -382,7 +373,7 @@ unfolding step_cost
 time_next program n line is = ap (λ o. time_of program n + step_cost program (after program n) o) is
 
 pub carried_after : (program : ProgramData) (job : JobData) → IsOf program job → (n : ℕ) →
-    IsReached program n →
+    IsLineReached program n →
     Carried program job (after program n) (time_of program n)
 unfolding after
 carried_after program job of zero reached = starts_carried program job of

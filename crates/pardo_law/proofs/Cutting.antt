@@ -18,9 +18,9 @@ use Rattle.pram_machine.specs.Instructions.{request_in}
 use Rattle.pram_step.specs.Runs.{state_after}
 use Rattle.pram_step.proofs.LawFixed.{length-state_after}
 use Rattle.pardo_job.specs.Straight.{Registers}
-use Rattle.pardo_law.specs.Locals.{Local, after_instr, after_fetched, next_local, store_at}
+use Rattle.pardo_law.specs.Locals.{Local, after_instr, after_fetched, next_local, store_by_instr}
 use Rattle.pardo_law.specs.Locals.{store_of, IsNamedAt}
-use Rattle.pardo_law.specs.Locals.{StandsAt, Standing, StoresAgree, IsLocal, memory_of}
+use Rattle.pardo_law.specs.Locals.{HasCodeAt, StandsAfter, StoresAgree, IsLocal, memory_of}
 use Rattle.pardo_law.proofs.Making.{Makes, Goes, IsMade, Went, all_make, all_go, moved, runs_moved}
 use Rattle.pardo_law.proofs.Running.{IsQuiet, Runs, quiet_run}
 use Rattle.pardo_law.proofs.Stepping.{each_by_itself}
@@ -85,9 +85,9 @@ module _ (lo hi : ℕ) (job : JobData) where
       ∙ ap (λ o. option_map (kept lo hi p) o) is
       ∙ ap (λ b. Some (if b then one else unnamed)) e
 
-  pub stands_site : (at : ℕ) (code : List Instr) → StandsAt job at code → lo ≤ at → at +
+  pub stands_site : (at : ℕ) (code : List Instr) → HasCodeAt job at code → lo ≤ at → at +
       length code ≤ hi →
-      StandsAt (site lo hi job) at code
+      HasCodeAt (site lo hi job) at code
   stands_site at [] stands low high = tt
   stands_site at (one ∷ code) stands low high = (
     get_same at (inside_true lo hi at low (omega arith)) ∙ stands.0,
@@ -141,7 +141,7 @@ module _ (lo hi : ℕ) (job : JobData) where
 
   store_same : (l : Local) → Within l → store_of (site lo hi job) l ≡ store_of job l
   store_same None is = refl
-  store_same (Some local) is = ap (store_at local.1) (get_same local.0 is)
+  store_same (Some local) is = ap (store_by_instr local.1) (get_same local.0 is)
 
   named_same : (l : Local) → Within l → IsNamedAt (site lo hi job) l → IsNamedAt job l
   named_same None is named = tt
@@ -265,7 +265,7 @@ Unchanged job t n = (k : ℕ) → k < n →
     memory_of job (state_after job (t + k)) ≡ memory_of job (state_after job t)
 
 module _ (job : JobData) (is_job : IsJob job) (lo hi t n : ℕ) (memory : ℕ → ℕ) (locals : ℕ → Local)
-    (standing : Standing job t memory locals) where
+    (standing : StandsAfter job t memory locals) where
   at_step : (k i : ℕ) (l : Local) → Within lo hi job l → IsLocal job (state_after job (t + k)) i l →
       (counter job (state_after job (t + k)) i ≡ out_of_range job)
       ⊎ (is_inside lo hi (counter job (state_after job (t + k)) i) ≡ true)
@@ -277,7 +277,7 @@ module _ (job : JobData) (is_job : IsJob job) (lo hi t n : ℕ) (memory : ℕ �
   AllRun mids = (i : ℕ) → i < job.procs → Runs job memory i n (locals i) (mids i)
 
   there_after : (mids : ℕ → Local) → AllRun mids → (k : ℕ) → k < suc n →
-      Standing job (t + k) memory (λ j. moved job memory j k (locals j))
+      StandsAfter job (t + k) memory (λ j. moved job memory j k (locals j))
   there_after mids runs k lt =
       quiet_run job is_job k t memory locals (λ j. moved job memory j k (locals j)) standing
       (λ j low. runs_front job memory j n k (locals j) (mids j) (runs j low) lt)

@@ -4,7 +4,7 @@ use Rattle.std.proofs.Common.{refl, sym, ap, ◌∙◌, subst, inl, inr, ⊎_eli
 use Rattle.std.specs.Prelude.{slice_get, is_some}
 use Rattle.std.proofs.lemmas.Option.{none-some, slice_get_within}
 use Rattle.pram_job.specs.Job.{JobData}
-use Rattle.pram_step.specs.declared.answer.Dispute.{Dispute as Disputed}
+use Rattle.pram_step.specs.declared.answer.Dispute.{Dispute}
 use Rattle.pram_machine.specs.Instructions.{requests_in}
 use Rattle.pram_machine.specs.Machine.{counter, out_of_range}
 use Rattle.pram_step.specs.Runs.{state_after, IsReached, AgreesAfter, IsFirstConflict}
@@ -18,9 +18,9 @@ use Rattle.pardo_text.specs.declared.statement.Target.TheVariants.{Private, Arra
 use Rattle.pardo_text.specs.Expression.{Tree}
 use Rattle.pardo_text.specs.Lawful.{IsStatement, bounds_of}
 use Rattle.pardo_text.specs.Program.{ProgramData}
-use Rattle.pardo_job.specs.Compiled.{AreNumbers}
-use Rattle.pardo_job.specs.Conflicts.{Agrees, Clashes, Writes, Dispute, IsDispute, asked}
-use Rattle.pardo_job.specs.Layouts.{layout_of}
+use Rattle.pardo_job.specs.Compiled.{AreLineNumbers}
+use Rattle.pardo_job.specs.Conflicts.{LineAgrees, LineClashes, Assigns, IsLineDispute, asked}
+use Rattle.pardo_job.specs.Layouts.{program_layout}
 use Rattle.pardo_job.specs.Lines.{line_code, place_of}
 use Rattle.pardo_job.specs.Meaning.{Source, asked_in, losing, write_of}
 use Rattle.pardo_job.specs.Operations.{is_shallow}
@@ -28,9 +28,10 @@ use Rattle.pardo_job.specs.Runs.{line_number}
 use Rattle.pardo_job.proofs.Assigning.{both_code}
 use Rattle.pardo_job.proofs.Meanings.{asked_at}
 use Rattle.pardo_job.proofs.Placed.{number_in}
-use Rattle.pardo_law.specs.Locals.{Local, IsLocal, IsNamedAt, Standing, store_of, StandsAt}
+use Rattle.pardo_law.specs.Locals.{Local, IsLocal, IsNamedAt, StandsAfter, store_of, HasCodeAt}
 use Rattle.pardo_law.specs.Locals.{next_local}
-use Rattle.pardo_law.proofs.Advancing.{Carried, asked_shared, cost, place_low}
+use Rattle.pardo_law.proofs.Carried.{Carried, cost, place_low}
+use Rattle.pardo_law.proofs.Advancing.{asked_shared}
 use Rattle.pardo_law.proofs.Carrying.{stores_make, line_is, stands_site_here, ends_here, forbids_to}
 use Rattle.pardo_law.proofs.Carrying.{forbids_from}
 use Rattle.pardo_law.proofs.Cutting.{site, is_inside, Within, Below, MakesIn, makes_in, inside_back}
@@ -43,7 +44,7 @@ use Rattle.pardo_law.proofs.Picturing.{IsOf, IsHere, procs_are, shared_low}
 use Rattle.pardo_law.proofs.Running.{writer_stores, store_writes}
 
 -- a number of a line's code is that of the line
-pub number_at : (program : ProgramData) (line_of : ℕ → ℕ) → AreNumbers program line_of →
+pub number_at : (program : ProgramData) (line_of : ℕ → ℕ) → AreLineNumbers program line_of →
     (j p : ℕ) (line : Line) →
     slice_get program.lines j ≡ Some line →
     is_inside (place_of program j) (place_of program (j + 1)) p ≡ true →
@@ -84,7 +85,7 @@ module _ (program : ProgramData) (job : JobData) (of : IsOf program job) (source
   hi = place_of program (source.at + 1)
 
   abbrev steps : ℕ
-  steps = quiet line.depth (length (both_code (layout_of program) tree index))
+  steps = quiet line.depth (length (both_code (program_layout program) tree index))
 
   abbrev stores : ℕ → Option (ℕ × ℕ)
   stores i = asked_in program source line.depth (Assign (Shared array index) tree) i
@@ -110,7 +111,7 @@ module _ (program : ProgramData) (job : JobData) (of : IsOf program job) (source
       (line_is program job of source t carried line is).0) few
       (subst (λ s. is_shallow (line_code program (λ j. 0) 0 line.depth s) ≡ true) statement_is
       (of.level source.at line is))
-      (subst (λ s. StandsAt (site lo hi job) lo
+      (subst (λ s. HasCodeAt (site lo hi job) lo
       (line_code program (place_of program) lo line.depth s)) statement_is
       (stands_site_here program job of source t carried line is))
       (subst (λ s. lo + length (line_code program (place_of program) lo line.depth s) ≡ hi)
@@ -138,7 +139,7 @@ module _ (program : ProgramData) (job : JobData) (of : IsOf program job) (source
   abbrev mid : ℕ → Local
   mid = mids job of.job_is t steps carried.memory carried.locals carried.standing stores Comes made
 
-  pub then_standing : Standing job (t + steps) carried.memory mid
+  pub then_standing : StandsAfter job (t + steps) carried.memory mid
   then_standing = before job of.job_is t steps carried.memory carried.locals carried.standing stores
       Comes made
 
@@ -156,7 +157,7 @@ module _ (program : ProgramData) (job : JobData) (of : IsOf program job) (source
 
   pub writes_to : (cell i v : ℕ) → cell < job.cells →
       machine.Writes job (requests_in job (state_after job (t + steps))) cell i v →
-      Writes program source cell i v
+      Assigns program source cell i v
   writes_to cell i v low w =
       let by = writer_stores job of.job_is (t + steps) carried.memory mid then_standing named cell i
       v low w in (
@@ -165,7 +166,7 @@ module _ (program : ProgramData) (job : JobData) (of : IsOf program job) (source
             sym (store_is i by.0) ∙ by.1,
       )
 
-  pub is_cell : (cell i v : ℕ) → Writes program source cell i v → cell < job.cells
+  pub is_cell : (cell i v : ℕ) → Assigns program source cell i v → cell < job.cells
   is_cell cell i v w = shared_low program job of cell
       (asked_shared program job of source t carried.memory carried.locals carried.standing
       carried.pictured line.number line.depth
@@ -173,7 +174,7 @@ module _ (program : ProgramData) (job : JobData) (of : IsOf program job) (source
       (let f = place_low program job of (source.at + 1) in omega arith)
       array cell v i index tree (sym (asks i) ∙ w.1))
 
-  pub writes_from : (cell i v : ℕ) → Writes program source cell i v →
+  pub writes_from : (cell i v : ℕ) → Assigns program source cell i v →
       machine.Writes job (requests_in job (state_after job (t + steps))) cell i v
   writes_from cell i v w =
       let lt : i < job.procs = (let e = procs_are program job of in let f = w.0 in omega arith) in
@@ -183,53 +184,51 @@ module _ (program : ProgramData) (job : JobData) (of : IsOf program job) (source
 
   pub clash_to : (cell i j : ℕ) →
       machine.Clashes job (requests_in job (state_after job (t + steps))) cell i j →
-      Clashes program source cell i j
+      LineClashes program source cell i j
   clash_to cell i j c = record {
     value = c.value;
     other = c.other;
-    writes = writes_to cell i c.value c.is_cell c.writes;
-    writes_too = writes_to cell j c.other c.is_cell c.writes_too;
+    writes = writes_to cell i c.value c.writes.0 c.writes.1;
+    writes_too = writes_to cell j c.other c.writes_too.0 c.writes_too.1;
     forbidden = forbids_to program job of i c.value j c.other c.forbidden;
   }
 
-  pub clash_from : (cell i j : ℕ) → Clashes program source cell i j →
+  pub clash_from : (cell i j : ℕ) → LineClashes program source cell i j →
       machine.Clashes job (requests_in job (state_after job (t + steps))) cell i j
   clash_from cell i j c = record {
     value = c.value;
     other = c.other;
-    is_cell = is_cell cell i c.value c.writes;
-    writes = writes_from cell i c.value c.writes;
-    writes_too = writes_from cell j c.other c.writes_too;
+    writes = (is_cell cell i c.value c.writes, writes_from cell i c.value c.writes);
+    writes_too = (is_cell cell j c.other c.writes_too, writes_from cell j c.other c.writes_too);
     forbidden = forbids_from program job of i c.value j c.other c.forbidden;
   }
 
   -- the dispute of the line is that of the step
-  pub dispute_from : (dispute : Dispute) → IsDispute program source dispute →
+  pub dispute_from : (dispute : Dispute) → IsLineDispute program source dispute →
       machine.IsDispute job (requests_in job (state_after job (t + steps)))
       (record { cell = dispute.cell; first = dispute.first; second = dispute.second })
   dispute_from dispute d = record {
     clash = clash_from dispute.cell dispute.first dispute.second d.clash;
     least_cell = λ cell i j c. d.least_cell cell i j (clash_to cell i j c);
-    least_first = λ i v w. d.least_first i v
-        (writes_to dispute.cell i v (is_cell dispute.cell dispute.first d.clash.value d.clash.writes)
-        w);
+    least_first = λ i v w. d.least_first i v (writes_to dispute.cell i v w.0 w.1);
     least_second = λ j c. d.least_second j (clash_to dispute.cell dispute.first j c);
   }
 
-  pub dispute_to : (dispute : Disputed) →
+  pub dispute_to : (dispute : Dispute) →
       machine.IsDispute job (requests_in job (state_after job (t + steps))) dispute →
-      IsDispute program source (record
+      IsLineDispute program source (record
       { cell = dispute.cell; first = dispute.first; second = dispute.second })
   dispute_to dispute d = record {
     clash = clash_to dispute.cell dispute.first dispute.second d.clash;
     least_cell = λ cell i j c. d.least_cell cell i j (clash_from cell i j c);
-    least_first = λ i v w. d.least_first i v (writes_from dispute.cell i v w);
+    least_first = λ i v w.
+        d.least_first i v (is_cell dispute.cell i v w, writes_from dispute.cell i v w);
     least_second = λ j c. d.least_second j (clash_from dispute.cell dispute.first j c);
   }
 
   -- it is one or the other
-  pub shared_decides : Agrees program source ⊎
-      ((dispute : Dispute) × IsDispute program source dispute)
+  pub shared_decides : LineAgrees program source ⊎
+      ((dispute : Dispute) × IsLineDispute program source dispute)
   shared_decides = ⊎_elim
       (λ agrees. inl (λ cell i j c. agrees cell i j (clash_from cell i j c)))
       (λ d. inr (
@@ -276,7 +275,7 @@ module _ (program : ProgramData) (job : JobData) (of : IsOf program job) (source
   stands_by i v cell None e inside local = absurd (none-some (cell, v) e)
   stands_by i v cell (Some at_it) e inside local = ap (is_inside lo hi) local.0 ∙ inside
 
-  pub writer_stands : (cell i v : ℕ) → Writes program source cell i v →
+  pub writer_stands : (cell i v : ℕ) → Assigns program source cell i v →
       is_inside lo hi (counter job (state_after job (t + steps)) i) ≡ true
   writer_stands cell i v w =
       let lt : i < job.procs = (let e = procs_are program job of in let f = w.0 in omega arith) in
@@ -327,12 +326,12 @@ module _ (program : ProgramData) (job : JobData) (of : IsOf program job) (source
     (carried : Carried program job source t) (line : Line)
     (is : slice_get program.lines source.at ≡ Some line) where
   silent : ((i cell v : ℕ) → asked_in program source line.depth line.statement i ≡ Some (cell, v) →
-      ⊥) → Agrees program source
+      ⊥) → LineAgrees program source
   silent none cell i j c = none i cell c.value
       (sym (asked_at program source line i is) ∙ c.writes.1)
 
   decides_by : (statement : Statement) → line.statement ≡ statement →
-      Agrees program source ⊎ ((dispute : Dispute) × IsDispute program source dispute)
+      LineAgrees program source ⊎ ((dispute : Dispute) × IsLineDispute program source dispute)
   decides_by (Assign (Shared array index) tree) e =
       shared_decides program job of source t carried line is array index tree e
   decides_by (Assign (Private x) tree) e =
@@ -360,17 +359,17 @@ module _ (program : ProgramData) (job : JobData) (of : IsOf program job) (source
       (silent (λ i cell v f. none-some (cell, v)
       (sym (ap (λ s. asked_in program source line.depth s i) e) ∙ f)))
 
-  pub decides : Agrees program source ⊎ ((dispute : Dispute) × IsDispute program source dispute)
+  pub decides : LineAgrees program source ⊎ ((dispute : Dispute) × IsLineDispute program source dispute)
   decides = decides_by line.statement refl
 
-  pub in_conflict : (line_of : ℕ → ℕ) → AreNumbers program line_of → (dispute : Dispute) →
-      IsDispute program source dispute →
+  pub in_conflict : (line_of : ℕ → ℕ) → AreLineNumbers program line_of → (dispute : Dispute) →
+      IsLineDispute program source dispute →
       InConflict program job source t line line_of dispute
   in_conflict line_of numbers dispute d =
       let it = asks_nothing program source line.depth dispute.first line.statement dispute.cell
       d.clash.value
       (sym (asked_at program source line dispute.first is) ∙ d.clash.writes.1) in
-      let before : ℕ = quiet line.depth (length (both_code (layout_of program) it.2 it.1)) in
+      let before : ℕ = quiet line.depth (length (both_code (program_layout program) it.2 it.1)) in
       let found = dispute_from program job of source t carried line is it.0 it.1 it.2 it.3 dispute
       d in record {
         before = before;

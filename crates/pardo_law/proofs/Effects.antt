@@ -11,7 +11,7 @@ use Rattle.pram_job.specs.Job.{JobData}
 use Rattle.pardo_text.specs.Expression.{Tree}
 use Rattle.pardo_text.specs.Operations.{bit}
 use Rattle.pardo_text.specs.Program.{ProgramData}
-use Rattle.pardo_job.specs.Layouts.{layout_of, private_cells, loop_cells, mask_cells}
+use Rattle.pardo_job.specs.Layouts.{program_layout, private_cells, loop_cells, mask_cells}
 use Rattle.pardo_job.specs.Lines.{place_of}
 use Rattle.pardo_job.specs.Meaning.{Source, value, is_active, losing, on_to, private_assigned}
 use Rattle.pardo_job.specs.Meaning.{turned}
@@ -38,47 +38,50 @@ module _ (program : ProgramData) (job : JobData) (of : IsOf program job) (source
     (memory : ℕ → ℕ) (locals : ℕ → Local)
     (pictured : Pictured program source memory locals) where
   abbrev rows : ℕ
-  rows = (layout_of program).privates + (layout_of program).loops + (layout_of program).choices
+  rows = (program_layout program).privates + (program_layout program).loops + (program_layout
+      program).choices
 
   module _ (t which : ℕ) (values : ℕ → Option ℕ) (P : ℕ → Local → Type 0)
-      (made : IsMade job t memory (own_stores (layout_of program) which values) P) where
-    few : (i : ℕ) → i < program.procs → i < (layout_of program).procs
+      (made : IsMade job t memory (own_stores (program_layout program) which values) P) where
+    few : (i : ℕ) → i < program.procs → i < (program_layout program).procs
     few i lt = let e = layout_procs program in omega arith
 
     now_is : (cell : ℕ) → cell < job.cells →
-        made.now cell ≡ after_stores (layout_of program).procs
-        (own_stores (layout_of program) which values) memory cell
+        made.now cell ≡ after_stores (program_layout program).procs
+        (own_stores (program_layout program) which values) memory cell
     now_is cell low = made.cells cell low
-        ∙ ap (λ n. after_stores n (own_stores (layout_of program) which values) memory cell)
+        ∙ ap (λ n. after_stores n (own_stores (program_layout program) which values) memory cell)
         (procs_same program job of)
 
-    now_shared : (cell : ℕ) → cell < (layout_of program).shared → made.now cell ≡ memory cell
+    now_shared : (cell : ℕ) → cell < (program_layout program).shared → made.now cell ≡ memory cell
     now_shared cell lt = now_is cell (shared_low program job of cell lt)
-        ∙ after_shared (layout_of program) which cell values memory lt
+        ∙ after_shared (program_layout program) which cell values memory lt
 
     now_same : (w i : ℕ) → w ≡ which → w < rows → i < program.procs →
-        made.now (own_of (layout_of program) w i) ≡
-        unwrap_or (values i) (memory (own_of (layout_of program) w i))
-    now_same w i same lt less = now_is (own_of (layout_of program) w i)
+        made.now (own_of (program_layout program) w i) ≡
+        unwrap_or (values i) (memory (own_of (program_layout program) w i))
+    now_same w i same lt less = now_is (own_of (program_layout program) w i)
         (row_low program job of w i lt (few i less))
-        ∙ ap (λ v. after_stores (layout_of program).procs
-        (own_stores (layout_of program) which values) memory (own_of (layout_of program) v i))
+        ∙ ap (λ v. after_stores (program_layout program).procs
+        (own_stores (program_layout program) which values) memory
+        (own_of (program_layout program) v i))
         same
-        ∙ after_own (layout_of program) which i values memory (few i less)
-        ∙ ap (λ v. unwrap_or (values i) (memory (own_of (layout_of program) v i))) (sym same)
+        ∙ after_own (program_layout program) which i values memory (few i less)
+        ∙ ap (λ v. unwrap_or (values i) (memory (own_of (program_layout program) v i))) (sym same)
 
     now_other : (w i : ℕ) → w ≢ which → w < rows → i < program.procs →
-        made.now (own_of (layout_of program) w i) ≡ memory (own_of (layout_of program) w i)
-    now_other w i ne lt less = now_is (own_of (layout_of program) w i)
+        made.now (own_of (program_layout program) w i)
+        ≡ memory (own_of (program_layout program) w i)
+    now_other w i ne lt less = now_is (own_of (program_layout program) w i)
         (row_low program job of w i lt (few i less))
-        ∙ after_other (layout_of program) which w i values memory (few i less)
+        ∙ after_other (program_layout program) which w i values memory (few i less)
         (λ same. ne (sym same))
 
   -- ---- `x := e`
 
   module _ (t text_line depth x at : ℕ) (tree : Tree) (at_low : at ≤ length program.lines)
-      (low : x < (layout_of program).privates)
-      (made : IsMade job t memory (own_stores (layout_of program) x
+      (low : x < (program_layout program).privates)
+      (made : IsMade job t memory (own_stores (program_layout program) x
       (λ i. if is_active source depth i then value program source i tree else None))
       (λ i. IsHere (losing text_line depth (λ j. is_some (value program source j tree)) source i)
       (place_of program at) i)) where
@@ -94,8 +97,8 @@ module _ (program : ProgramData) (job : JobData) (of : IsOf program job) (source
     by_active true o v = refl
     by_active false o v = refl
 
-    privates_now : (y i : ℕ) → y < (layout_of program).privates → i < program.procs →
-        made.now ((private_cells (layout_of program) y).base + i) ≡ assigned.privates y i
+    privates_now : (y i : ℕ) → y < (program_layout program).privates → i < program.procs →
+        made.now ((private_cells (program_layout program) y).base + i) ≡ assigned.privates y i
     privates_now y i lt less = ⊎_elim
         (λ (same : y ≡ x).
         now_same t x _ _ made y i same (omega arith) less
@@ -118,11 +121,12 @@ module _ (program : ProgramData) (job : JobData) (of : IsOf program job) (source
       all = pictured.all;
       cells = λ cell lt. now_shared t x _ _ made cell lt ∙ pictured.cells cell lt;
       privates = privates_now;
-      loops = λ nest i lt less there. now_other t x _ _ made ((layout_of program).privates + nest) i
+      loops = λ nest i lt less there. now_other t x _ _ made
+          ((program_layout program).privates + nest) i
           (λ e. omega arith) (omega arith) less
           ∙ pictured.loops nest i lt less (was_there i there);
       masks = λ d i lt less there. now_other t x _ _ made
-          ((layout_of program).privates + (layout_of program).loops + (suc d - 1)) i
+          ((program_layout program).privates + (program_layout program).loops + (suc d - 1)) i
           (λ e. omega arith) (omega arith) less ∙ pictured.masks d i lt less (was_there i there);
       here = λ i lt. made.each i (let e = procs_same program job of in let f =
           layout_procs program in omega arith);
@@ -132,7 +136,7 @@ module _ (program : ProgramData) (job : JobData) (of : IsOf program job) (source
 
   module _ (t depth at : ℕ) (values : ℕ → Option ℕ) (after : Source)
       (at_low : at ≤ length program.lines)
-      (low : depth < (layout_of program).choices)
+      (low : depth < (program_layout program).choices)
       (same_cells : (cell : ℕ) → after.cells cell ≡ source.cells cell)
       (same_privates : (x i : ℕ) → after.privates x i ≡ source.privates x i)
       (same_loops : (nest : ℕ) → after.loops nest ≡ source.loops nest)
@@ -142,26 +146,28 @@ module _ (program : ProgramData) (job : JobData) (of : IsOf program job) (source
       Some (bit (after.masks (depth + 1) i)))
       (after_at : after.at ≡ at)
       (made : IsMade job t memory
-      (own_stores (layout_of program)
-      ((layout_of program).privates + (layout_of program).loops + (depth + 1 - 1)) values)
+      (own_stores (program_layout program)
+      ((program_layout program).privates + (program_layout program).loops + (depth + 1 - 1)) values)
       (λ i. IsHere (after.gone i) (place_of program at) i)) where
     abbrev mask_row : ℕ
-    mask_row = (layout_of program).privates + (layout_of program).loops + (depth + 1 - 1)
+    mask_row = (program_layout program).privates + (program_layout program).loops + (depth + 1 - 1)
 
-    masks_now : (d i : ℕ) → d < (layout_of program).choices → i < program.procs → after.gone i ≡
+    masks_now : (d i : ℕ) → d < (program_layout program).choices → i < program.procs →
+        after.gone i ≡
         None →
-        made.now ((mask_cells (layout_of program) (suc d)).base + i) ≡ bit (after.masks (suc d) i)
+        made.now ((mask_cells (program_layout program) (suc d)).base + i)
+        ≡ bit (after.masks (suc d) i)
     masks_now d i lt less there = ⊎_elim
         (λ (same : suc d ≡ depth + 1).
         now_same t mask_row values _ made
-        ((layout_of program).privates + (layout_of program).loops + (suc d - 1)) i
+        ((program_layout program).privates + (program_layout program).loops + (suc d - 1)) i
         (omega arith) (omega arith) less
-        ∙ ap (λ o. unwrap_or o (memory ((mask_cells (layout_of program) (suc d)).base + i)))
+        ∙ ap (λ o. unwrap_or o (memory ((mask_cells (program_layout program) (suc d)).base + i)))
         (mask_is i less there)
         ∙ ap (λ n. bit (after.masks n i)) (sym same))
         (λ (ne : suc d ≢ depth + 1).
         now_other t mask_row values _ made
-        ((layout_of program).privates + (layout_of program).loops + (suc d - 1)) i
+        ((program_layout program).privates + (program_layout program).loops + (suc d - 1)) i
         (λ e. ne (omega arith)) (omega arith) less
         ∙ pictured.masks d i lt less (was_there i there) ∙ ap bit (sym (other_masks (suc d) i ne)))
         (cases_eq (suc d) (depth + 1))
@@ -176,7 +182,7 @@ module _ (program : ProgramData) (job : JobData) (of : IsOf program job) (source
           (omega arith) less
           ∙ pictured.privates x i lt less ∙ sym (same_privates x i);
       loops = λ nest i lt less there. now_other t mask_row values _ made
-          ((layout_of program).privates + nest) i (λ e. omega arith) (omega arith) less
+          ((program_layout program).privates + nest) i (λ e. omega arith) (omega arith) less
           ∙ pictured.loops nest i lt less (was_there i there) ∙ sym (same_loops nest);
       masks = masks_now;
       here = λ i lt. subst (λ n. IsHere (after.gone i) (place_of program n) i (made.locals i))
@@ -188,29 +194,30 @@ module _ (program : ProgramData) (job : JobData) (of : IsOf program job) (source
   -- ---- the variable of a loop
 
   module _ (t nest at v place : ℕ) (at_low : at ≤ length program.lines)
-      (nest_low : nest < (layout_of program).loops)
-      (made : IsMade job t memory (own_stores (layout_of program)
-      ((layout_of program).privates + nest)
+      (nest_low : nest < (program_layout program).loops)
+      (made : IsMade job t memory (own_stores (program_layout program)
+      ((program_layout program).privates + nest)
       (λ i. if is_none (source.gone i) then Some v else None))
       (λ i. IsHere (source.gone i) place i)) where
     abbrev turned_on : Source
     turned_on = on_to at (turned nest v source)
 
     abbrev loop_row : ℕ
-    loop_row = (layout_of program).privates + nest
+    loop_row = (program_layout program).privates + nest
 
-    loops_now : (n i : ℕ) → n < (layout_of program).loops → i < program.procs → source.gone i ≡
+    loops_now : (n i : ℕ) → n < (program_layout program).loops → i < program.procs → source.gone i ≡
         None →
-        made.now ((loop_cells (layout_of program) n).base + i) ≡ turned_on.loops n
+        made.now ((loop_cells (program_layout program) n).base + i) ≡ turned_on.loops n
     loops_now n i lt less there = ⊎_elim
         (λ (same : n ≡ nest).
-        now_same t loop_row _ _ made ((layout_of program).privates + n) i (omega arith)
+        now_same t loop_row _ _ made ((program_layout program).privates + n) i (omega arith)
         (omega arith) less
         ∙ ap (λ g. unwrap_or (if is_none g then Some v else None)
-        (memory (own_of (layout_of program) ((layout_of program).privates + n) i))) there
+        (memory (own_of (program_layout program) ((program_layout program).privates + n) i))) there
         ∙ sym (ap (λ b. if b then v else source.loops n) (eq-eqb n nest same)))
         (λ (ne : n ≢ nest).
-        now_other t loop_row _ _ made ((layout_of program).privates + n) i (λ e. ne (omega arith))
+        now_other t loop_row _ _ made ((program_layout program).privates + n) i
+        (λ e. ne (omega arith))
         (omega arith) less
         ∙ pictured.loops n i lt less there
         ∙ sym (ap (λ b. if b then v else source.loops n) (ne_eqb n nest ne)))
@@ -228,7 +235,7 @@ module _ (program : ProgramData) (job : JobData) (of : IsOf program job) (source
           less ∙ pictured.privates x i lt less;
       loops = loops_now;
       masks = λ d i lt less there. now_other t loop_row _ _ made
-          ((layout_of program).privates + (layout_of program).loops + (suc d - 1)) i
+          ((program_layout program).privates + (program_layout program).loops + (suc d - 1)) i
           (λ e. omega arith) (omega arith) less ∙ pictured.masks d i lt less there;
       here = comes;
     }

@@ -8,11 +8,11 @@ use Rattle.pram_machine.specs.Machine.{State, counter, halted}
 use Rattle.pram_step.specs.Runs.{state_after}
 use Rattle.pardo_text.specs.Program.{ProgramData}
 use Rattle.pardo_job.specs.Carries.{EndsAs}
-use Rattle.pardo_job.specs.Compiled.{AreNumbers, IsWhole}
+use Rattle.pardo_job.specs.Compiled.{AreLineNumbers, IsWhole}
 use Rattle.pardo_job.specs.Leaving.{Leaves, GoneIn}
 use Rattle.pardo_job.specs.Meaning.{after}
-use Rattle.pardo_job.specs.Runs.{IsEnd}
-use Rattle.pardo_law.proofs.Advancing.{Carried}
+use Rattle.pardo_job.specs.Runs.{IsProgramEnd}
+use Rattle.pardo_law.proofs.Carried.{Carried}
 use Rattle.pardo_law.proofs.Carrying.{carried_after, time_of}
 use Rattle.pardo_law.proofs.Leaving.{left_after}
 use Rattle.pardo_law.proofs.Picturing.{IsOf}
@@ -21,7 +21,7 @@ use Rattle.pardo_law.proofs.Showing.{last_there, later_same}
 
 module _ (program : ProgramData) (job : JobData) (of : IsOf program job) (whole : IsWhole job)
     (line_of : ℕ → ℕ)
-    (numbers : AreNumbers program line_of) (n : ℕ) (is : IsEnd program n) where
+    (numbers : AreLineNumbers program line_of) (n : ℕ) (is : IsProgramEnd program n) where
   carried : Carried program job (after program n) (time_of program n)
   carried = carried_after program job of n is.reached
 

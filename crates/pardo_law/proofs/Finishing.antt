@@ -16,13 +16,15 @@ use Rattle.pardo_text.specs.declared.statement.Statement.TheVariants.{While, End
 use Rattle.pardo_text.specs.declared.statement.Target.TheVariants.{Private, Array as Shared}
 use Rattle.pardo_text.specs.Program.{ProgramData}
 use Rattle.pardo_job.specs.Compiled.{IsWhole}
-use Rattle.pardo_job.specs.Conflicts.{Agrees, Dispute, IsDispute}
+use Rattle.pram_step.specs.declared.answer.Dispute.{Dispute}
+use Rattle.pardo_job.specs.Conflicts.{LineAgrees, IsLineDispute}
 use Rattle.pardo_job.specs.Lines.{others, place_of}
 use Rattle.pardo_job.specs.Meaning.{Source, after, after_statement, statement_at, common_value}
 use Rattle.pardo_job.specs.Meaning.{has_none}
-use Rattle.pardo_job.specs.Runs.{IsOver, AllGone, IsReached, IsEnd, IsConflict}
+use Rattle.pardo_job.specs.Runs.{IsProgramOver, AllGone, IsLineReached, IsProgramEnd}
+use Rattle.pardo_job.specs.Runs.{IsProgramConflict}
 use Rattle.pardo_job.proofs.Meanings.{next_at}
-use Rattle.pardo_law.proofs.Advancing.{Carried, cost, loop_cost, place_low}
+use Rattle.pardo_law.proofs.Carried.{Carried, cost, loop_cost, place_low}
 use Rattle.pardo_law.proofs.Carrying.{carried_after, line_next, time_of, time_next}
 use Rattle.pardo_law.proofs.Disputing.{decides}
 use Rattle.pardo_law.proofs.Picturing.{IsOf, IsFor, procs_are}
@@ -100,8 +102,8 @@ decide_gone source (suc n) = ⊎_elim
 abbrev Still : ProgramData → Source → Type 0
 Still program source = (i : ℕ) × (i < program.procs) × (source.gone i ≡ None)
 
-pub decide_over : (program : ProgramData) (source : Source) → IsOver program source
-    ⊎ ((IsOver program source → ⊥) × Still program source)
+pub decide_over : (program : ProgramData) (source : Source) → IsProgramOver program source
+    ⊎ ((IsProgramOver program source → ⊥) × Still program source)
 decide_over program source = ⊎_elim
     (λ (at_end : length program.lines ≡ source.at). inl (inl at_end))
     (λ (before_end : length program.lines ≢ source.at). ⊎_elim
@@ -117,20 +119,21 @@ decide_over program source = ⊎_elim
     not_gone : (i : ℕ) → source.gone i ≡ None → IsTrue (is_some (source.gone i)) → ⊥
     not_gone i e is = let no : false ≡ true = sym (ap is_some e) ∙ is in absurd (cc)
 
-pub reached_next : (program : ProgramData) (n : ℕ) → IsReached program n →
-    (IsOver program (after program n) → ⊥) →
-    Agrees program (after program n) → IsReached program (suc n)
+pub reached_next : (program : ProgramData) (n : ℕ) → IsLineReached program n →
+    (IsProgramOver program (after program n) → ⊥) →
+    LineAgrees program (after program n) → IsLineReached program (suc n)
 reached_next program n reached goes_on agrees earlier lt = ⊎_elim
     (λ (low : earlier < n). reached earlier low)
     (λ (high : n ≤ earlier). let same : n ≡ earlier = omega arith in
-    subst (λ k. (IsOver program (after program k) → ⊥) × Agrees program (after program k)) same
+    subst (λ k. (IsProgramOver program (after program k) → ⊥)
+    × LineAgrees program (after program k)) same
     (goes_on, agrees))
     (cases_lt earlier n)
 
 -- the end of the run, or its conflict
 abbrev pub IsOverAt : ProgramData → Type 0
-IsOverAt program = (n : ℕ) × (IsEnd program n ⊎
-    ((dispute : Dispute) × IsConflict program n dispute))
+IsOverAt program = (n : ℕ) × (IsProgramEnd program n ⊎
+    ((dispute : Dispute) × IsProgramConflict program n dispute))
 
 module _ (program : ProgramData) (job : JobData) (of : IsOf program job) (whole : IsWhole job) where
   abbrev size : ℕ
@@ -139,12 +142,12 @@ module _ (program : ProgramData) (job : JobData) (of : IsOf program job) (whole 
   abbrev measure : ℕ → ℕ
   measure n = size * time_of program n + (after program n).at
 
-  carried : (n : ℕ) → IsReached program n →
+  carried : (n : ℕ) → IsLineReached program n →
       Carried program job (after program n) (time_of program n)
   carried n reached = carried_after program job of n reached
 
   -- a processor that is there has not stopped
-  below_steps : (n : ℕ) → IsReached program n → Still program (after program n) →
+  below_steps : (n : ℕ) → IsLineReached program n → Still program (after program n) →
       time_of program n < job.steps
   below_steps n reached found =
       let c : Carried program job (after program n) (time_of program n) =
@@ -174,7 +177,7 @@ module _ (program : ProgramData) (job : JobData) (of : IsOf program job) (whole 
     ap (λ (s : Source). s.at) (next_at program (after program n) line is) ∙ level.1,
   )
 
-  measure_rises : (n : ℕ) (line : Line) → IsReached program n →
+  measure_rises : (n : ℕ) (line : Line) → IsLineReached program n →
       slice_get program.lines (after program n).at ≡ Some line →
       measure n + 1 ≤ measure (suc n)
   measure_rises n line reached is = elim (rises_by n line is
@@ -187,9 +190,10 @@ module _ (program : ProgramData) (job : JobData) (of : IsOf program job) (whole 
       ]
 
   abbrev Ends : ℕ → Type 0
-  Ends fuel = (n : ℕ) → IsReached program n → size * job.steps ≤ fuel + measure n → IsOverAt program
+  Ends fuel = (n : ℕ) → IsLineReached program n → size * job.steps ≤ fuel + measure n →
+      IsOverAt program
 
-  none_left : (n : ℕ) → IsReached program n → size * job.steps ≤ 0 + measure n →
+  none_left : (n : ℕ) → IsLineReached program n → size * job.steps ≤ 0 + measure n →
       Still program (after program n) → ⊥
   none_left n reached bound found =
       let more : time_of program n + 1 ≤ job.steps =
@@ -197,28 +201,30 @@ module _ (program : ProgramData) (job : JobData) (of : IsOf program job) (whole 
       let a = mul-le-mul_left size more in
       let b = (carried n reached).pictured.within in omega arith
 
-  goes_by : (fuel n : ℕ) → Ends fuel → IsReached program n → size * job.steps ≤ suc fuel +
+  goes_by : (fuel n : ℕ) → Ends fuel → IsLineReached program n → size * job.steps ≤ suc fuel +
       measure n →
-      (IsOver program (after program n) → ⊥) → IsOverAt program
+      (IsProgramOver program (after program n) → ⊥) → IsOverAt program
   goes_by fuel n again reached bound goes_on =
       let c : Carried program job (after program n) (time_of program n) = carried n reached in
       let line = line_next program (after program n) c.pictured.within goes_on in ⊎_elim
-      (λ (agrees : Agrees program (after program n)). again (suc n)
+      (λ (agrees : LineAgrees program (after program n)). again (suc n)
       (reached_next program n reached goes_on agrees)
       (let r = measure_rises n line.0 reached line.1 in omega arith))
-      (λ (d : (dispute : Dispute) × IsDispute program (after program n) dispute).
+      (λ (d : (dispute : Dispute) × IsLineDispute program (after program n) dispute).
       (n, inr (d.0, record { reached = reached; goes_on = goes_on; disputed = d.1 })))
       (decides program job of (after program n) (time_of program n) c line.0 line.1)
 
   ends_by : (fuel : ℕ) → Ends fuel
   ends_by zero n reached bound = ⊎_elim
       (λ over. (n, inl (record { reached = reached; over = over })))
-      (λ (on : (IsOver program (after program n) → ⊥) × Still program (after program n)). absurd
+      (λ (on : (IsProgramOver program (after program n) → ⊥) × Still program (after program n)).
+      absurd
       (none_left n reached bound on.1))
       (decide_over program (after program n))
   ends_by (suc fuel) n reached bound = ⊎_elim
       (λ over. (n, inl (record { reached = reached; over = over })))
-      (λ (on : (IsOver program (after program n) → ⊥) × Still program (after program n)). goes_by
+      (λ (on : (IsProgramOver program (after program n) → ⊥) × Still program (after program n)).
+      goes_by
       fuel n (ends_by fuel) reached bound on.0)
       (decide_over program (after program n))
 

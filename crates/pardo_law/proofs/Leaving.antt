@@ -14,15 +14,15 @@ use Rattle.pardo_text.specs.declared.statement.Statement.TheVariants.{Assign, If
 use Rattle.pardo_text.specs.declared.statement.Statement.TheVariants.{While, EndWhile, For, EndFor}
 use Rattle.pardo_text.specs.declared.statement.Target.TheVariants.{Private, Array as Shared}
 use Rattle.pardo_text.specs.Program.{ProgramData}
-use Rattle.pardo_job.specs.Compiled.{AreNumbers}
+use Rattle.pardo_job.specs.Compiled.{AreLineNumbers}
 use Rattle.pardo_job.specs.Leaving.{Leaves}
 use Rattle.pardo_job.specs.Lines.{place_of}
 use Rattle.pardo_job.specs.Meaning.{Source, after, next, after_statement, losing, loop_ended}
 use Rattle.pardo_job.specs.Meaning.{statement_at}
 use Rattle.pardo_job.specs.Meaning.{asked_in, common_value, has_none, is_active, value, write_of}
-use Rattle.pardo_job.specs.Runs.{IsReached}
+use Rattle.pardo_job.specs.Runs.{IsLineReached}
 use Rattle.pardo_job.proofs.Meanings.{next_at, gone_for_good}
-use Rattle.pardo_law.proofs.Advancing.{Carried, Advance, cost, place_low}
+use Rattle.pardo_law.proofs.Carried.{Carried, Advance, cost, place_low}
 use Rattle.pardo_law.proofs.Carrying.{carried_after, line_carried, line_next, time_of, time_next}
 use Rattle.pardo_law.proofs.Cutting.{is_inside}
 use Rattle.pardo_law.proofs.Disputing.{number_at}
@@ -133,7 +133,7 @@ leaves_more job line_of t u i number le is = record {
 }
 
 module _ (program : ProgramData) (job : JobData) (of : IsOf program job) (line_of : ℕ → ℕ)
-    (numbers : AreNumbers program line_of) where
+    (numbers : AreLineNumbers program line_of) where
   newly : (source : Source) (t i : ℕ) (line : Line) → Carried program job source t →
       slice_get program.lines source.at ≡ Some line →
       Advance program job (asked_in program source line.depth line.statement)
@@ -171,12 +171,12 @@ module _ (program : ProgramData) (job : JobData) (of : IsOf program job) (line_o
             (counter job (state_after job (t + found.step)) i) line is inside ∙ named;
       }
 
-  pub left_after : (n : ℕ) → IsReached program n → (i : ℕ) → i < program.procs → (number : ℕ) →
+  pub left_after : (n : ℕ) → IsLineReached program n → (i : ℕ) → i < program.procs → (number : ℕ) →
       (after program n).gone i ≡ Some number → Leaves job line_of (time_of program n) i number
   unfolding after
   left_after zero reached i lt number gone = absurd (none-some number gone)
   left_after (suc n) reached i lt number gone =
-      let so_far : IsReached program n = λ earlier low. reached earlier (omega arith) in
+      let so_far : IsLineReached program n = λ earlier low. reached earlier (omega arith) in
       let here = reached n (omega arith) in
       let c : Carried program job (after program n) (time_of program n) =
       carried_after program job of n so_far in

@@ -14,6 +14,7 @@ pub mod Values
 pub mod Masks
 pub mod Loops
 pub mod Effects
+pub mod Carried
 pub mod Advancing
 pub mod Starting
 pub mod Carrying

@@ -11,18 +11,19 @@ use Rattle.pram_job.specs.declared.instr.Operand.TheVariants.{Register}
 use Rattle.pram_job.specs.Job.{JobData}
 use Rattle.pardo_text.specs.Expression.{Tree}
 use Rattle.pardo_text.specs.Lawful.{IsCommonTree, IsProgram, bounds_of}
-use Rattle.pardo_text.specs.Operations.{bit, value_of}
+use Rattle.pardo_text.specs.Operations.{bit, operation_value}
 use Rattle.pardo_text.specs.Program.{ProgramData}
-use Rattle.pardo_job.specs.Layouts.{layout_of, loop_cells}
+use Rattle.pardo_job.specs.Layouts.{program_layout, loop_cells}
 use Rattle.pardo_job.specs.Lines.{while_code, none_code, first_code, turn_code, next_value}
 use Rattle.pardo_job.specs.Lines.{own_store, place_of}
 use Rattle.pardo_job.specs.Meaning.{Source, common_value, has_none, next_turn}
-use Rattle.pardo_job.specs.Operations.{is_shallow, register_of}
+use Rattle.pardo_job.specs.Operations.{is_shallow, register_or_spare}
 use Rattle.pardo_job.specs.Straight.{Registers, put, after_all}
-use Rattle.pardo_job.specs.Values.{value_code, operand_of, own_place}
+use Rattle.pardo_job.specs.Values.{value_code, value_operand, own_place}
 use Rattle.pardo_job.proofs.Assigning.{HasIn}
 use Rattle.pardo_job.proofs.Straight.{put_same, put_other}
-use Rattle.pardo_law.specs.Locals.{Local, StandsAt, AreStraight, after_instr, store_by, IsNamed}
+use Rattle.pardo_law.specs.Locals.{Local, HasCodeAt, AreStraight, after_instr, store_by}
+use Rattle.pardo_law.specs.Locals.{NamesByArray}
 use Rattle.pardo_law.proofs.Bodies.{IsThere, ValueTo, there_at, own_body, own_last}
 use Rattle.pardo_law.proofs.Making.{Makes, Goes, makes_out, goes_out, makes_one, goes_one}
 use Rattle.pardo_law.proofs.Making.{makes_then, goes_then, goes_here}
@@ -54,7 +55,7 @@ rest_zero a b few same = omega arith
 rest_more : (a b : ℕ) → a < 2 ^ 32 → b < 2 ^ 32 → a ≢ b → (a + (2 ^ 32 - b)) % 2 ^ 32 ≢ 0
 rest_more a b few low ne zero_is = ne (omega arith)
 
-next_named : (up : Bool) → IsNamed (next_value up)
+next_named : (up : Bool) → NamesByArray (next_value up)
 next_named true = tt
 next_named false = tt
 
@@ -65,13 +66,13 @@ next_stores held false = refl
 next_goes : (job : JobData) (memory : ℕ → ℕ) (i at : ℕ) (held : Registers) (up : Bool) →
     after_instr job memory i at held (next_value up) ≡
     Some (at + 1, put 0 (next_turn up (held 0)) held)
-unfolding value_of
+unfolding operation_value
 next_goes job memory i at held true = refl
 next_goes job memory i at held false = refl
 
 -- a jump alone
 pub jump_goes : (job : JobData) (memory : ℕ → ℕ) (i place target : ℕ) (rest : List Instr) →
-    StandsAt job place (Jmp target ∷ rest) → (g : Option ℕ) (l : Local) → IsHere g place i l →
+    HasCodeAt job place (Jmp target ∷ rest) → (g : Option ℕ) (l : Local) → IsHere g place i l →
     Goes job memory i 1 l (IsHere g target i)
 jump_goes job memory i place target rest stands (Some line) l here =
     subst (λ x. Goes job memory i 1 x (IsHere (Some line) target i)) (sym here)
@@ -89,14 +90,14 @@ module _ (program : ProgramData) (job : JobData) (of : IsProgram program) (sourc
   abbrev at : ℕ
   at = place_of program source.at
 
-  low : i < (layout_of program).procs
+  low : i < (program_layout program).procs
   low = let e = layout_procs program in omega arith
 
   -- ---- straight code, and then a jump
 
   jumps : (place target register v : ℕ) (held now : Registers) (code rest : List Instr) →
       AreStraight code →
-      StandsAt job place (code ++ Jz register target ∷ rest) → after_all memory i code held ≡
+      HasCodeAt job place (code ++ Jz register target ∷ rest) → after_all memory i code held ≡
       Some now → now register ≡ v →
       now 3 ≡ i → Goes job memory i (length code + 1) (Some (place, held))
       (λ l. l ≡ Some (if v == 0 then target else place + length code + 1, now))
@@ -113,11 +114,11 @@ module _ (program : ProgramData) (job : JobData) (of : IsProgram program) (sourc
   -- ---- `while`
 
   module _ (tree : Tree) (target : ℕ) (is : IsCommonTree (bounds_of program) tree)
-      (shallow : is_shallow (while_code (layout_of program) tree) ≡ true)
-      (stands : StandsAt job at (while_code (layout_of program) tree ++
-      Jz (register_of 0 (operand_of 0 tree)) target ∷ [])) where
+      (shallow : is_shallow (while_code (program_layout program) tree) ≡ true)
+      (stands : HasCodeAt job at (while_code (program_layout program) tree ++
+      Jz (register_or_spare 0 (value_operand 0 tree)) target ∷ [])) where
     abbrev test : List Instr
-    test = while_code (layout_of program) tree
+    test = while_code (program_layout program) tree
 
     abbrev after_while : ℕ
     after_while = if common_value program source tree == 0 then target else at + length test + 1
@@ -129,7 +130,7 @@ module _ (program : ProgramData) (job : JobData) (of : IsProgram program) (sourc
         here gone
         (goes_out job memory i (length test + 1) (IsHere (Some line) after_while i) refl)
     while_by None gone here =
-        let found : HasIn memory i here.held test (register_of 0 (operand_of 0 tree))
+        let found : HasIn memory i here.held test (register_or_spare 0 (value_operand 0 tree))
         (common_value program source tree) =
         while_to program job of source memory i
         (sees program of source memory locals pictured fits i lt gone) tree here.held here.own is
@@ -139,9 +140,10 @@ module _ (program : ProgramData) (job : JobData) (of : IsProgram program) (sourc
         (source.gone i) None here.is gone
         (goes_map job memory i (length test + 1) (Some (at, here.held)) _ _
         (λ l e. subst (IsThere after_while i) (sym e) (there_at after_while i found.now own_now))
-        (jumps at target (register_of 0 (operand_of 0 tree)) (common_value program source tree)
+        (jumps at target (register_or_spare 0 (value_operand 0 tree))
+        (common_value program source tree)
         here.held found.now test []
-        (while_straight (layout_of program) tree) stands found.runs found.gives own_now))
+        (while_straight (program_layout program) tree) stands found.runs found.gives own_now))
 
     pub while_goes : Goes job memory i (length test + 1) (locals i)
         (IsHere (source.gone i) after_while i)
@@ -150,18 +152,18 @@ module _ (program : ProgramData) (job : JobData) (of : IsProgram program) (sourc
   -- ---- `for`
 
   module _ (nest : ℕ) (first last : Tree) (up : Bool) (target : ℕ)
-      (nest_low : nest < (layout_of program).loops)
+      (nest_low : nest < (program_layout program).loops)
       (is : IsCommonTree (bounds_of program) first) (is_too : IsCommonTree (bounds_of program) last)
-      (shallow : is_shallow (none_code (layout_of program) up first last) ≡ true)
-      (first_shallow : is_shallow (value_code (layout_of program) 0 first) ≡ true)
-      (stands : StandsAt job at (none_code (layout_of program) up first last
-      ++ (Jz 0 (at + length (none_code (layout_of program) up first last) + 2) ∷ (Jmp target
-      ∷ first_code (layout_of program) nest first)))) where
+      (shallow : is_shallow (none_code (program_layout program) up first last) ≡ true)
+      (first_shallow : is_shallow (value_code (program_layout program) 0 first) ≡ true)
+      (stands : HasCodeAt job at (none_code (program_layout program) up first last
+      ++ (Jz 0 (at + length (none_code (program_layout program) up first last) + 2) ∷ (Jmp target
+      ∷ first_code (program_layout program) nest first)))) where
     abbrev asks_none : List Instr
-    asks_none = none_code (layout_of program) up first last
+    asks_none = none_code (program_layout program) up first last
 
     abbrev begins : List Instr
-    begins = first_code (layout_of program) nest first
+    begins = first_code (program_layout program) nest first
 
     abbrev turns_at : ℕ
     turns_at = at + length asks_none + 2
@@ -169,7 +171,7 @@ module _ (program : ProgramData) (job : JobData) (of : IsProgram program) (sourc
     abbrev none : Bool
     none = has_none up (common_value program source first) (common_value program source last)
 
-    back_stands : StandsAt job (at + length asks_none) (Jz 0 turns_at ∷ (Jmp target ∷ begins))
+    back_stands : HasCodeAt job (at + length asks_none) (Jz 0 turns_at ∷ (Jmp target ∷ begins))
     back_stands = stands_back job at asks_none (Jz 0 turns_at ∷ (Jmp target ∷ begins)) stands
 
     tested : (held : Registers) → held 3 ≡ i → source.gone i ≡ None →
@@ -191,7 +193,7 @@ module _ (program : ProgramData) (job : JobData) (of : IsProgram program) (sourc
         let own_now : found.now 3 ≡ i = found.keeps ∙ here.own in
         let next : ℕ = at + length asks_none + 1 in
         let c = jumps at turns_at 0 1 here.held found.now asks_none (Jmp target ∷ begins)
-        (none_straight (layout_of program) up first last)
+        (none_straight (program_layout program) up first last)
         stands found.runs (found.gives ∙ ap bit e) own_now in
         goes_as job memory i (length asks_none + 1 + 1) target (locals i) (Some (at, here.held))
         (source.gone i) None here.is gone
@@ -213,20 +215,21 @@ module _ (program : ProgramData) (job : JobData) (of : IsProgram program) (sourc
 
     abbrev loop_stored : Option ℕ → Option (ℕ × ℕ)
     loop_stored o = option_map {U = ℕ × ℕ}
-        (λ v. ((loop_cells (layout_of program) nest).base + i, v)) o
+        (λ v. ((loop_cells (program_layout program) nest).base + i, v)) o
 
     abbrev first_front : List Instr
-    first_front = value_code (layout_of program) 0 first
+    first_front = value_code (program_layout program) 0 first
 
     abbrev for_end : ℕ
     for_end = turns_at + length first_front + 1
 
-    first_stands : StandsAt job turns_at
-        (first_front ++ St (own_place (loop_cells (layout_of program) nest)) (operand_of 0 first) ∷
+    first_stands : HasCodeAt job turns_at
+        (first_front ++ St (own_place (loop_cells (program_layout program) nest))
+        (value_operand 0 first) ∷
         [])
     unfolding first_code
     first_stands = let e : at + length asks_none + 1 + 1 ≡ turns_at = omega arith in
-        subst (λ n. StandsAt job n begins) e back_stands.1.1
+        subst (λ n. HasCodeAt job n begins) e back_stands.1.1
 
     turn_by : none ≡ false → (g : Option ℕ) → source.gone i ≡ g → IsHere g at i (locals i) →
         Makes job memory i ((length asks_none + 1) + length first_front) (locals i)
@@ -246,10 +249,10 @@ module _ (program : ProgramData) (job : JobData) (of : IsProgram program) (sourc
         let own_now : found.now 3 ≡ i = found.keeps ∙ here.own in
         let v : ℕ = common_value program source first in
         let c = jumps at turns_at 0 0 here.held found.now asks_none (Jmp target ∷ begins)
-        (none_straight (layout_of program) up first last)
+        (none_straight (program_layout program) up first last)
         stands found.runs (found.gives ∙ ap bit e) own_now in
-        let leaves : ValueTo memory i first_front found.now (operand_of 0 first) (Some v) =
-        subst (ValueTo memory i first_front found.now (operand_of 0 first))
+        let leaves : ValueTo memory i first_front found.now (value_operand 0 first) (Some v) =
+        subst (ValueTo memory i first_front found.now (value_operand 0 first))
         (common_is program source of first is i)
         (value_to program job of source memory i
         (sees program of source memory locals pictured fits i lt gone) first found.now own_now
@@ -262,9 +265,10 @@ module _ (program : ProgramData) (job : JobData) (of : IsProgram program) (sourc
         c.now (loop_stored (Some v)) (IsThere for_end i) c.runs
         (subst (λ l. Makes job memory i (length first_front) l (loop_stored (Some v))
         (IsThere for_end i)) (sym c.goes)
-        (own_body job memory i turns_at found.now first_front (loop_cells (layout_of program) nest)
-        (operand_of 0 first) (Some v)
-        (value_straight (layout_of program) 0 first) first_stands low leaves)))
+        (own_body job memory i turns_at found.now first_front
+        (loop_cells (program_layout program) nest)
+        (value_operand 0 first) (Some v)
+        (value_straight (program_layout program) 0 first) first_stands low leaves)))
 
     pub turn_makes : none ≡ false →
         Makes job memory i ((length asks_none + 1) + length first_front) (locals i)
@@ -276,23 +280,23 @@ module _ (program : ProgramData) (job : JobData) (of : IsProgram program) (sourc
     unfolding first_code
     for_end_is =
         let e = length-append asks_none (Jz 0 turns_at ∷ (Jmp target ∷ begins)) in
-        let f = length_one first_front (St (own_place (loop_cells (layout_of program) nest))
-        (operand_of 0 first)) in omega arith
+        let f = length_one first_front (St (own_place (loop_cells (program_layout program) nest))
+        (value_operand 0 first)) in omega arith
 
   -- ---- the end of a `for`
 
   module _ (nest : ℕ) (last : Tree) (up : Bool) (out again : ℕ)
-      (nest_low : nest < (layout_of program).loops)
+      (nest_low : nest < (program_layout program).loops)
       (is : IsCommonTree (bounds_of program) last)
-      (shallow : is_shallow (turn_code (layout_of program) nest last) ≡ true)
-      (stands : StandsAt job at (turn_code (layout_of program) nest last
+      (shallow : is_shallow (turn_code (program_layout program) nest last) ≡ true)
+      (stands : HasCodeAt job at (turn_code (program_layout program) nest last
       ++ (Jz 1 out ∷ (next_value up ∷
-      (own_store (loop_cells (layout_of program) nest) ∷ (Jmp again ∷ [])))))) where
+      (own_store (loop_cells (program_layout program) nest) ∷ (Jmp again ∷ [])))))) where
     abbrev turn : List Instr
-    turn = turn_code (layout_of program) nest last
+    turn = turn_code (program_layout program) nest last
 
     abbrev tail : List Instr
-    tail = next_value up ∷ (own_store (loop_cells (layout_of program) nest) ∷ (Jmp again ∷ []))
+    tail = next_value up ∷ (own_store (loop_cells (program_layout program) nest) ∷ (Jmp again ∷ []))
 
     abbrev a : ℕ
     a = source.loops nest
@@ -300,7 +304,7 @@ module _ (program : ProgramData) (job : JobData) (of : IsProgram program) (sourc
     abbrev b : ℕ
     b = common_value program source last
 
-    end_stands : StandsAt job (at + length turn) (Jz 1 out ∷ tail)
+    end_stands : HasCodeAt job (at + length turn) (Jz 1 out ∷ tail)
     end_stands = stands_back job at turn (Jz 1 out ∷ tail) stands
 
     turned_to : (held : Registers) → held 3 ≡ i → source.gone i ≡ None →
@@ -323,7 +327,7 @@ module _ (program : ProgramData) (job : JobData) (of : IsProgram program) (sourc
         (goes_map job memory i (length turn + 1) (Some (at, here.held)) _ _
         (λ l same. subst (IsThere out i) (sym same) (there_at out i found.now found.own))
         (jumps at out 1 0 here.held found.now turn tail
-        (turn_straight (layout_of program) nest last) stands found.runs zero_is found.own))
+        (turn_straight (program_layout program) nest last) stands found.runs zero_is found.own))
 
     pub last_goes : (a == b) ≡ true →
         Goes job memory i (length turn + 1) (locals i) (IsHere (source.gone i) out i)
@@ -334,7 +338,7 @@ module _ (program : ProgramData) (job : JobData) (of : IsProgram program) (sourc
 
     abbrev turn_stored : Option ℕ → Option (ℕ × ℕ)
     turn_stored o = option_map {U = ℕ × ℕ}
-        (λ v. ((loop_cells (layout_of program) nest).base + i, v)) o
+        (λ v. ((loop_cells (program_layout program) nest).base + i, v)) o
 
     abbrev stored_at : ℕ
     stored_at = at + length turn + 1 + 1 + 1
@@ -357,7 +361,7 @@ module _ (program : ProgramData) (job : JobData) (of : IsProgram program) (sourc
         let more : (found.now 1 == 0) ≡ false = ne_eqb (found.now 1) 0
         (λ zero_is. rest_more a b found.low found.last_low apart (sym found.rest ∙ zero_is)) in
         let c = jumps at out 1 (found.now 1) here.held found.now turn tail
-        (turn_straight (layout_of program) nest last) stands found.runs refl found.own in
+        (turn_straight (program_layout program) nest last) stands found.runs refl found.own in
         let came : c.now ≡ Some (place, found.now) = c.goes ∙
         ap (λ t. Some (if t then out else place, found.now)) more in
         let then_held : Registers = put 0 (next_turn up (found.now 0)) found.now in
@@ -376,7 +380,7 @@ module _ (program : ProgramData) (job : JobData) (of : IsProgram program) (sourc
         (next_named up) (next_stores found.now up)
         (subst (λ l. Makes job memory i 0 l (turn_stored (Some v)) (IsThere stored_at i))
         (sym (next_goes job memory i place found.now up))
-        (own_last job memory i (place + 1) v (loop_cells (layout_of program) nest) (Register 0)
+        (own_last job memory i (place + 1) v (loop_cells (program_layout program) nest) (Register 0)
         then_held end_stands.1.1.0 own_then low gives)))))
 
     pub again_makes : (a == b) ≡ false →
@@ -384,5 +388,5 @@ module _ (program : ProgramData) (job : JobData) (of : IsProgram program) (sourc
         (IsHere (source.gone i) stored_at i)
     again_makes e = again_by e (source.gone i) refl (pictured.here i lt)
 
-    pub jump_stands : StandsAt job stored_at (Jmp again ∷ [])
+    pub jump_stands : HasCodeAt job stored_at (Jmp again ∷ [])
     jump_stands = end_stands.1.1.1

@@ -6,7 +6,8 @@ use Rattle.pram_job.specs.declared.instr.Instr.{Instr}
 use Rattle.pram_job.specs.Job.{JobData, IsJob}
 use Rattle.pardo_job.specs.Straight.{Registers, after_all}
 use Rattle.pardo_law.specs.Locals.{Local, after_instr, next_local, store_by, store_of}
-use Rattle.pardo_law.specs.Locals.{IsNamed, IsNamedAt, AreStraight, StandsAt, Standing, StoresAgree}
+use Rattle.pardo_law.specs.Locals.{NamesByArray, IsNamedAt, AreStraight, HasCodeAt, StandsAfter}
+use Rattle.pardo_law.specs.Locals.{StoresAgree}
 use Rattle.pardo_law.specs.Locals.{after_stores}
 use Rattle.pardo_law.proofs.Placing.{runs_one, next_at, runs_to, stands_front, stands_back}
 use Rattle.pardo_job.specs.Meaning.{given_to}
@@ -68,7 +69,7 @@ goes_then job memory i n m l x P runs c = record {
 -- one quiet instruction, and then others
 pub makes_one : (job : JobData) (memory : ℕ → ℕ) (i n at : ℕ) (held : Registers) (one : Instr)
     (store : Option (ℕ × ℕ)) (P : Local → Type 0) →
-    slice_get job.code at ≡ Some one → IsNamed one → store_by held one ≡ None →
+    slice_get job.code at ≡ Some one → NamesByArray one → store_by held one ≡ None →
     Makes job memory i n (after_instr job memory i at held one) store P →
     Makes job memory i (suc n) (Some (at, held)) store P
 makes_one job memory i n at held one store P stands named none c = record {
@@ -81,7 +82,7 @@ makes_one job memory i n at held one store P stands named none c = record {
 
 pub goes_one : (job : JobData) (memory : ℕ → ℕ) (i n at : ℕ) (held : Registers) (one : Instr)
     (P : Local → Type 0) →
-    slice_get job.code at ≡ Some one → IsNamed one → store_by held one ≡ None →
+    slice_get job.code at ≡ Some one → NamesByArray one → store_by held one ≡ None →
     Goes job memory i n (after_instr job memory i at held one) P →
     Goes job memory i (suc n) (Some (at, held)) P
 goes_one job memory i n at held one P stands named none c = record {
@@ -98,12 +99,12 @@ goes_here job memory i l P p = record { now = l; runs = refl; goes = p }
 -- the last step
 pub makes_last : (job : JobData) (memory : ℕ → ℕ) (i at : ℕ) (held : Registers) (one : Instr)
     (P : Local → Type 0) →
-    slice_get job.code at ≡ Some one → IsNamed one → P (after_instr job memory i at held one) →
+    slice_get job.code at ≡ Some one → NamesByArray one → P (after_instr job memory i at held one) →
     Makes job memory i 0 (Some (at, held)) (store_by held one) P
 makes_last job memory i at held one P stands named p = record {
   mid = Some (at, held);
   runs = refl;
-  named = λ instr is. subst IsNamed (same one instr (sym stands ∙ is)) named;
+  named = λ instr is. subst NamesByArray (same one instr (sym stands ∙ is)) named;
   stores = ap (λ o. elim o [ None ↦ None | Some instr ↦ store_by held instr ]) stands;
   goes = subst P (sym (next_at job memory i at held one stands)) p;
 }
@@ -123,7 +124,7 @@ ended_by job memory i at (Some held) one = after_instr job memory i at held one
 pub makes_body : (job : JobData) (memory : ℕ → ℕ) (i at : ℕ) (held : Registers) (front : List Instr)
     (one : Instr)
     (P : Local → Type 0) (o : Option Registers) →
-    AreStraight front → StandsAt job at (front ++ one ∷ []) → IsNamed one →
+    AreStraight front → HasCodeAt job at (front ++ one ∷ []) → NamesByArray one →
     after_all memory i front held ≡ o → P (ended_by job memory i (at + length front) o one) →
     Makes job memory i (length front) (Some (at, held)) (stored_by o one) P
 unfolding makes_last
@@ -169,18 +170,18 @@ pub record IsMade (job : JobData) (t : ℕ) (memory : ℕ → ℕ) (stores : ℕ
     (P : ℕ → Local → Type 0) : Type 0 where
   pub now : ℕ → ℕ
   pub locals : ℕ → Local
-  pub standing : Standing job t now locals
+  pub standing : StandsAfter job t now locals
   pub cells : (cell : ℕ) → cell < job.cells → now cell ≡ after_stores job.procs stores memory cell
   pub each : (i : ℕ) → i < job.procs → P i (locals i)
 
 -- the same, where nobody stored
 pub record Went (job : JobData) (t : ℕ) (memory : ℕ → ℕ) (P : ℕ → Local → Type 0) : Type 0 where
   pub places : ℕ → Local
-  pub standing : Standing job t memory places
+  pub standing : StandsAfter job t memory places
   pub each : (i : ℕ) → i < job.procs → P i (places i)
 
 module _ (job : JobData) (is_job : IsJob job) (t n : ℕ) (memory : ℕ → ℕ) (locals : ℕ → Local)
-    (standing : Standing job t memory locals) where
+    (standing : StandsAfter job t memory locals) where
   pub all_go : (P : ℕ → Local → Type 0) →
       ((i : ℕ) → i < job.procs → Goes job memory i n (locals i) (P i)) → Went job (t + n) memory P
   all_go P goes = record {
@@ -201,7 +202,7 @@ module _ (job : JobData) (is_job : IsJob job) (t n : ℕ) (memory : ℕ → ℕ)
     pub mid_is : (i : ℕ) (lt : i < job.procs) → mids i ≡ (makes i lt).mid
     mid_is i lt = runs_moved job memory i n (locals i) (makes i lt).mid (makes i lt).runs
 
-    pub before : Standing job (t + n) memory mids
+    pub before : StandsAfter job (t + n) memory mids
     before = quiet_run job is_job n t memory locals mids standing
         (λ i lt. subst (Runs job memory i n (locals i)) (sym (mid_is i lt)) (makes i lt).runs)
 

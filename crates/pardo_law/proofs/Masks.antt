@@ -13,10 +13,10 @@ use Rattle.pram_job.specs.declared.instr.Instr.TheVariants.{Jmp, Eq, Lt}
 use Rattle.pram_job.specs.declared.instr.Operand.TheVariants.{Register, Number}
 use Rattle.pram_job.specs.Job.{JobData}
 use Rattle.pardo_text.specs.Expression.{Tree}
-use Rattle.pardo_text.specs.Lawful.{IsTree, IsProgram, bounds_of}
+use Rattle.pardo_text.specs.Lawful.{IsExpression, IsProgram, bounds_of}
 use Rattle.pardo_text.specs.Operations.{bit}
 use Rattle.pardo_text.specs.Program.{ProgramData}
-use Rattle.pardo_job.specs.Layouts.{LayoutData, layout_of, mask_cells}
+use Rattle.pardo_job.specs.Layouts.{ProgramLayoutData, program_layout, mask_cells}
 use Rattle.pardo_job.specs.Lines.{idle, masked, choosing, others, own_store, place_of}
 use Rattle.pardo_job.specs.Lines.{condition_code}
 use Rattle.pardo_job.specs.Meaning.{Source, value, is_active, losing}
@@ -25,7 +25,7 @@ use Rattle.pardo_job.specs.Straight.{Registers, put, after_one, after_all}
 use Rattle.pardo_job.specs.Values.{own_load}
 use Rattle.pardo_job.proofs.Straight.{put_same, put_other}
 use Rattle.pardo_job.proofs.Evaluating.{load_within}
-use Rattle.pardo_law.specs.Locals.{Local, StandsAt, AreStraight}
+use Rattle.pardo_law.specs.Locals.{Local, HasCodeAt, AreStraight}
 use Rattle.pardo_law.proofs.Bodies.{IsThere, Arrives, ValueTo, there_moved, own_body, under, passes}
 use Rattle.pardo_law.proofs.Bodies.{enters}
 use Rattle.pardo_law.proofs.Bodies.{between, goes_around, goes_through, body_stands}
@@ -57,7 +57,7 @@ makes_as job memory i n place l other store stored g other_gone e f h c =
     (subst (λ x. Makes job memory i n other x (IsHere g place i)) (sym f)
     (subst (λ x. Makes job memory i n other stored (IsHere x place i)) (sym h) c))
 
-pub length-under : (layout : LayoutData) (at depth : ℕ) (body : List Instr) →
+pub length-under : (layout : ProgramLayoutData) (at depth : ℕ) (body : List Instr) →
     length (under layout at depth body) ≡ 4 + 2 * length body
 length-under layout at depth body =
     let e = length-append (idle (at + 3) (length body)) (Jmp (at + 4 + 2 * length body) ∷ body) in
@@ -116,12 +116,12 @@ module _ (program : ProgramData) (job : JobData) (of : IsProgram program) (sourc
   abbrev at : ℕ
   at = place_of program source.at
 
-  low : i < (layout_of program).procs
+  low : i < (program_layout program).procs
   low = let e = layout_procs program in omega arith
 
-  pub mask_at : (depth : ℕ) → (depth == 0) ≡ false → depth ≤ (layout_of program).choices →
+  pub mask_at : (depth : ℕ) → (depth == 0) ≡ false → depth ≤ (program_layout program).choices →
       source.gone i ≡ None →
-      memory ((mask_cells (layout_of program) depth).base + i) ≡ bit (source.masks depth i)
+      memory ((mask_cells (program_layout program) depth).base + i) ≡ bit (source.masks depth i)
   mask_at zero e few there = absurd (let f : true ≡ false = e in cc)
   mask_at (suc d) e few there = pictured.masks d i (omega arith) lt there
 
@@ -135,17 +135,17 @@ module _ (program : ProgramData) (job : JobData) (of : IsProgram program) (sourc
 
   module _ (A : Type 0) (depth text_line : ℕ) (front : List Instr) (st : Instr)
       (store : Option (ℕ × ℕ)) (o : Option A)
-      (has : ℕ → Bool) (few : depth ≤ (layout_of program).choices)
+      (has : ℕ → Bool) (few : depth ≤ (program_layout program).choices)
       (has_is : source.gone i ≡ None → has i ≡ is_some o)
       (active : source.gone i ≡ None → (place : ℕ) (held : Registers) → held 3 ≡ i →
-      StandsAt job place (front ++ st ∷ []) →
+      HasCodeAt job place (front ++ st ∷ []) →
       Makes job memory i (length front) (Some (place, held)) store
       (Arrives (place + length front + 1) i o)) where
     abbrev body : List Instr
     body = front ++ st ∷ []
 
     abbrev code_by : Bool → List Instr
-    code_by t = if t then body else under (layout_of program) at depth body
+    code_by t = if t then body else under (program_layout program) at depth body
 
     abbrev steps_by : Bool → ℕ
     steps_by t = if t then length front else suc (suc (suc (length front)))
@@ -156,7 +156,7 @@ module _ (program : ProgramData) (job : JobData) (of : IsProgram program) (sourc
     abbrev store_after : Option (ℕ × ℕ)
     store_after = if is_active source depth i then store else None
 
-    in_mask : (t : Bool) → (depth == 0) ≡ t → StandsAt job at (code_by t) → source.gone i ≡ None →
+    in_mask : (t : Bool) → (depth == 0) ≡ t → HasCodeAt job at (code_by t) → source.gone i ≡ None →
         source.masks depth i ≡ true → (held : Registers) → held 3 ≡ i →
         Makes job memory i (steps_by t) (Some (at, held)) store
         (IsHere gone_after (at + length (code_by t)) i)
@@ -171,34 +171,37 @@ module _ (program : ProgramData) (job : JobData) (of : IsProgram program) (sourc
     in_mask false e stands there m held own =
         let place : ℕ = at + 4 + length body in
         let same : place + length front + 1 ≡ at +
-        length (under (layout_of program) at depth body) =
+        length (under (program_layout program) at depth body) =
         (let f = length_one_more front st in let g =
-        length-under (layout_of program) at depth body in omega arith) in
-        enters job memory i (layout_of program) at depth body held stands own low (length front)
+        length-under (program_layout program) at depth body in omega arith) in
+        enters job memory i (program_layout program) at depth body held stands own low
+        (length front)
         store
-        (IsHere gone_after (at + length (under (layout_of program) at depth body)) i)
+        (IsHere gone_after (at + length (under (program_layout program) at depth body)) i)
         (mask_at depth e few there ∙ ap bit m)
         (λ now now_i. makes_map job memory i (length front) (Some (place, now)) store _ _
         (λ l. arrives_here A source text_line depth i (place + length front + 1)
-        (at + length (under (layout_of program) at depth body)) has o l
+        (at + length (under (program_layout program) at depth body)) has o l
         (has_is there) (active_is source depth i true there m) there same)
-        (active there place now now_i (body_stands job memory i (layout_of program) at depth body
+        (active there place now now_i
+        (body_stands job memory i (program_layout program) at depth body
         held stands own low)))
 
-    outside : (t : Bool) → (depth == 0) ≡ t → StandsAt job at (code_by t) → source.gone i ≡ None →
+    outside : (t : Bool) → (depth == 0) ≡ t → HasCodeAt job at (code_by t) → source.gone i ≡ None →
         source.masks depth i ≡ false → (held : Registers) → held 3 ≡ i →
         Makes job memory i (steps_by t) (Some (at, held)) None (IsThere (at + length (code_by t)) i)
     outside true e stands there m held own = outermost depth e m
     outside false e stands there m held own =
         makes_map job memory i (suc (suc (suc (length front)))) (Some (at, held)) None _ _
         (λ l. there_moved (at + 4 + 2 * length body)
-        (at + length (under (layout_of program) at depth body)) i l
-        (let g = length-under (layout_of program) at depth body in omega arith))
-        (passes job memory i (layout_of program) at depth body held stands own low (length front)
+        (at + length (under (program_layout program) at depth body)) i l
+        (let g = length-under (program_layout program) at depth body in omega arith))
+        (passes job memory i (program_layout program) at depth body held stands own low
+        (length front)
         (length_one_more front st)
         (mask_at depth e few there ∙ ap bit m))
 
-    by_mask : (t : Bool) → (depth == 0) ≡ t → StandsAt job at (code_by t) → (m : Bool) →
+    by_mask : (t : Bool) → (depth == 0) ≡ t → HasCodeAt job at (code_by t) → (m : Bool) →
         source.masks depth i ≡ m →
         source.gone i ≡ None → IsThere at i (locals i) →
         Makes job memory i (steps_by t) (locals i) store_after
@@ -217,7 +220,7 @@ module _ (program : ProgramData) (job : JobData) (of : IsProgram program) (sourc
         (still source text_line depth i has inactive ∙ there)
         (outside t e stands there m here.held here.own)
 
-    by_gone : (t : Bool) → (depth == 0) ≡ t → StandsAt job at (code_by t) → (g : Option ℕ) →
+    by_gone : (t : Bool) → (depth == 0) ≡ t → HasCodeAt job at (code_by t) → (g : Option ℕ) →
         source.gone i ≡ g →
         IsHere g at i (locals i) →
         Makes job memory i (steps_by t) (locals i) store_after
@@ -231,22 +234,22 @@ module _ (program : ProgramData) (job : JobData) (of : IsProgram program) (sourc
         (makes_out job memory i (steps_by t) (IsHere (Some line) (at + length (code_by t)) i) refl)
     by_gone t e stands None gone here = by_mask t e stands (source.masks depth i) refl gone here
 
-    pub masked_makes : StandsAt job at (masked (layout_of program) at depth body) →
+    pub masked_makes : HasCodeAt job at (masked (program_layout program) at depth body) →
         Makes job memory i (quiet depth (length front)) (locals i) store_after
-        (IsHere gone_after (at + length (masked (layout_of program) at depth body)) i)
+        (IsHere gone_after (at + length (masked (program_layout program) at depth body)) i)
     unfolding masked
     masked_makes stands = by_gone (depth == 0) refl stands (source.gone i) refl (pictured.here i lt)
 
   -- ---- conditions
 
-  module _ (depth text_line : ℕ) (tree : Tree) (is : IsTree (bounds_of program) tree)
-      (shallow : is_shallow (condition_code (layout_of program) tree) ≡ true)
-      (few : depth + 1 ≤ (layout_of program).choices) where
+  module _ (depth text_line : ℕ) (tree : Tree) (is : IsExpression (bounds_of program) tree)
+      (shallow : is_shallow (condition_code (program_layout program) tree) ≡ true)
+      (few : depth + 1 ≤ (program_layout program).choices) where
     abbrev choice_body : List Instr
-    choice_body = condition_code (layout_of program) tree
+    choice_body = condition_code (program_layout program) tree
 
     abbrev mask : Array
-    mask = mask_cells (layout_of program) (depth + 1)
+    mask = mask_cells (program_layout program) (depth + 1)
 
     abbrev chosen_value : Option ℕ
     chosen_value = if is_none (source.gone i)
@@ -257,7 +260,8 @@ module _ (program : ProgramData) (job : JobData) (of : IsProgram program) (sourc
     stored o = option_map {U = ℕ × ℕ} (λ v. (mask.base + i, v)) o
 
     abbrev choice_code : Bool → List Instr
-    choice_code t = (if t then choice_body else between (layout_of program) at depth choice_body) ++
+    choice_code t =
+        (if t then choice_body else between (program_layout program) at depth choice_body) ++
         own_store mask ∷ []
 
     abbrev choice_steps : Bool → ℕ
@@ -269,7 +273,7 @@ module _ (program : ProgramData) (job : JobData) (of : IsProgram program) (sourc
     mask_low : i < mask.len
     mask_low = low
 
-    length-between : length (between (layout_of program) at depth choice_body) ≡ 4 + 2 *
+    length-between : length (between (program_layout program) at depth choice_body) ≡ 4 + 2 *
         length choice_body
     length-between =
         let e = length-append choice_body
@@ -286,7 +290,7 @@ module _ (program : ProgramData) (job : JobData) (of : IsProgram program) (sourc
     abbrev chosen : Option ℕ
     chosen = decided (value program source i tree)
 
-    choice_in : (t : Bool) → (depth == 0) ≡ t → StandsAt job at (choice_code t) → source.gone i ≡
+    choice_in : (t : Bool) → (depth == 0) ≡ t → HasCodeAt job at (choice_code t) → source.gone i ≡
         None →
         source.masks depth i ≡ true → (held : Registers) → held 3 ≡ i →
         Makes job memory i (choice_steps t) (Some (at, held)) (stored chosen)
@@ -301,14 +305,14 @@ module _ (program : ProgramData) (job : JobData) (of : IsProgram program) (sourc
         (some_decided (value program source i tree))
         (active_is source depth i true there m) there same)
         (own_body job memory i at held choice_body mask (Register 0) chosen
-        (condition_straight (layout_of program) tree) stands mask_low
+        (condition_straight (program_layout program) tree) stands mask_low
         (through held there own))
     choice_in false e stands there m held own =
         let end : ℕ = at + 4 + 2 * length choice_body in
-        let whole : List Instr = between (layout_of program) at depth choice_body ++
+        let whole : List Instr = between (program_layout program) at depth choice_body ++
         own_store mask ∷ [] in
         let same : end + 1 ≡ at + length whole =
-        (let f = length_one_more (between (layout_of program) at depth choice_body)
+        (let f = length_one_more (between (program_layout program) at depth choice_body)
         (own_store mask) in
         let g = length-between in omega arith) in
         makes_map job memory i (suc (suc (length choice_body + 1))) (Some (at, held))
@@ -317,12 +321,13 @@ module _ (program : ProgramData) (job : JobData) (of : IsProgram program) (sourc
         (λ j. is_some (value program source j tree)) chosen l
         (some_decided (value program source i tree))
         (active_is source depth i true there m) there same)
-        (goes_through job memory i (layout_of program) at depth choice_body held mask stands own low
+        (goes_through job memory i (program_layout program) at depth choice_body held mask stands
+        own low
         mask_low chosen
-        (condition_straight (layout_of program) tree)
+        (condition_straight (program_layout program) tree)
         (mask_at depth e (omega arith) there ∙ ap bit m) (λ now now_i. through now there now_i))
 
-    choice_out : (t : Bool) → (depth == 0) ≡ t → StandsAt job at (choice_code t) → source.gone i ≡
+    choice_out : (t : Bool) → (depth == 0) ≡ t → HasCodeAt job at (choice_code t) → source.gone i ≡
         None →
         source.masks depth i ≡ false → (held : Registers) → held 3 ≡ i →
         Makes job memory i (choice_steps t) (Some (at, held)) (stored (Some 0))
@@ -330,19 +335,20 @@ module _ (program : ProgramData) (job : JobData) (of : IsProgram program) (sourc
     choice_out true e stands there m held own = outermost depth e m
     choice_out false e stands there m held own =
         let end : ℕ = at + 4 + 2 * length choice_body in
-        let whole : List Instr = between (layout_of program) at depth choice_body ++
+        let whole : List Instr = between (program_layout program) at depth choice_body ++
         own_store mask ∷ [] in
         makes_map job memory i (suc (suc (length choice_body + 1))) (Some (at, held))
         (stored (Some 0)) _ _
         (λ l. there_moved (end + 1) (at + length whole) i l
-        (let f = length_one_more (between (layout_of program) at depth choice_body)
+        (let f = length_one_more (between (program_layout program) at depth choice_body)
         (own_store mask) in
         let g = length-between in omega arith))
-        (goes_around job memory i (layout_of program) at depth choice_body held mask stands own low
+        (goes_around job memory i (program_layout program) at depth choice_body held mask stands own
+        low
         mask_low
         (mask_at depth e (omega arith) there ∙ ap bit m))
 
-    choice_mask : (t : Bool) → (depth == 0) ≡ t → StandsAt job at (choice_code t) → (m : Bool) →
+    choice_mask : (t : Bool) → (depth == 0) ≡ t → HasCodeAt job at (choice_code t) → (m : Bool) →
         source.masks depth i ≡ m →
         source.gone i ≡ None → IsThere at i (locals i) →
         Makes job memory i (choice_steps t) (locals i) (stored chosen_value)
@@ -362,7 +368,7 @@ module _ (program : ProgramData) (job : JobData) (of : IsProgram program) (sourc
         (active_is source depth i false there m) ∙ there)
         (choice_out t e stands there m here.held here.own)
 
-    choice_whole : (t : Bool) → (depth == 0) ≡ t → StandsAt job at (choice_code t) →
+    choice_whole : (t : Bool) → (depth == 0) ≡ t → HasCodeAt job at (choice_code t) →
         (g : Option ℕ) → source.gone i ≡ g →
         IsHere g at i (locals i) →
         Makes job memory i (choice_steps t) (locals i) (stored chosen_value)
@@ -380,22 +386,23 @@ module _ (program : ProgramData) (job : JobData) (of : IsProgram program) (sourc
     choice_whole t e stands None gone here =
         choice_mask t e stands (source.masks depth i) refl gone here
 
-    pub choosing_makes : StandsAt job at (choosing (layout_of program) at depth choice_body) →
+    pub choosing_makes : HasCodeAt job at (choosing (program_layout program) at depth choice_body) →
         Makes job memory i (quiet_choice depth (length choice_body)) (locals i)
         (stored chosen_value)
-        (IsHere choice_gone (at + length (choosing (layout_of program) at depth choice_body)) i)
+        (IsHere choice_gone (at + length (choosing (program_layout program) at depth choice_body))
+        i)
     unfolding choosing
     choosing_makes stands = choice_whole (depth == 0) refl stands (source.gone i) refl
         (pictured.here i lt)
 
   -- ---- `else`
 
-  module _ (depth : ℕ) (few : depth + 1 ≤ (layout_of program).choices) where
+  module _ (depth : ℕ) (few : depth + 1 ≤ (program_layout program).choices) where
     abbrev inner : Array
-    inner = mask_cells (layout_of program) (depth + 1)
+    inner = mask_cells (program_layout program) (depth + 1)
 
     abbrev outer : Array
-    outer = mask_cells (layout_of program) depth
+    outer = mask_cells (program_layout program) depth
 
     abbrev others_front : Bool → List Instr
     others_front t = own_load 0 inner ∷
@@ -406,7 +413,8 @@ module _ (program : ProgramData) (job : JobData) (of : IsProgram program) (sourc
 
     inner_is : source.gone i ≡ None → memory (inner.base + i) ≡ bit (source.masks (depth + 1) i)
     inner_is there = let e : suc depth ≡ depth + 1 = omega arith in
-        subst (λ n. memory ((mask_cells (layout_of program) n).base + i) ≡ bit (source.masks n i)) e
+        subst (λ n. memory ((mask_cells (program_layout program) n).base + i)
+        ≡ bit (source.masks n i)) e
         (pictured.masks depth i (omega arith) lt there)
 
     load_inner : (held : Registers) → held 3 ≡ i → source.gone i ≡ None →
@@ -474,7 +482,7 @@ module _ (program : ProgramData) (job : JobData) (of : IsProgram program) (sourc
     else_stored o = option_map {U = ℕ × ℕ} (λ v. (inner.base + i, v)) o
 
     others_by : (t : Bool) → (depth == 0) ≡ t →
-        StandsAt job at (others_front t ++ own_store inner ∷ []) →
+        HasCodeAt job at (others_front t ++ own_store inner ∷ []) →
         (g : Option ℕ) → source.gone i ≡ g → IsHere g at i (locals i) →
         Makes job memory i (length (others_front t)) (locals i) (else_stored else_value)
         (IsHere (source.gone i) (at + length (others_front t ++ own_store inner ∷ [])) i)
@@ -499,9 +507,9 @@ module _ (program : ProgramData) (job : JobData) (of : IsProgram program) (sourc
         (Some (bit other_value))
         (others_straight t) stands low (others_to t e gone here.held here.own)))
 
-    pub others_makes : StandsAt job at (others (layout_of program) depth) →
+    pub others_makes : HasCodeAt job at (others (program_layout program) depth) →
         Makes job memory i (length (others_front (depth == 0))) (locals i) (else_stored else_value)
-        (IsHere (source.gone i) (at + length (others (layout_of program) depth)) i)
+        (IsHere (source.gone i) (at + length (others (program_layout program) depth)) i)
     unfolding others
     others_makes stands = others_by (depth == 0) refl stands (source.gone i) refl
         (pictured.here i lt)

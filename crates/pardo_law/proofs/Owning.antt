@@ -18,7 +18,7 @@ use Rattle.pram_step.proofs.LawCounters.{next_counter}
 use Rattle.pram_step.proofs.RequestList.{written_of_put, written_cases}
 use Rattle.pram_machine.proofs.Shapes.{asks}
 use Rattle.pardo_job.specs.Straight.{Registers, put}
-use Rattle.pardo_law.specs.Locals.{registers_of, Follows}
+use Rattle.pardo_law.specs.Locals.{registers_of, FollowsByItself}
 use Rattle.pardo_job.proofs.Straight.{put_same, put_other}
 
 module _ (job : JobData) (is_job : IsJob job) (s : State) (len : length s ≡ place_count job)
@@ -136,7 +136,8 @@ module _ (job : JobData) (is_job : IsJob job) (s : State) (len : length s ≡ pl
   no_put r e none place v puts = none-some (place, v)
       (sym none ∙ sym (ap (λ (q : Request). q.put) e) ∙ puts)
 
-  pub follows_out : request_in job s i ≡ goes_to (out_of_range job) → Follows job s i None None
+  pub follows_out : request_in job s i ≡ goes_to (out_of_range job) →
+      FollowsByItself job s i None None
   follows_out e = record {
     local_is = counter_is (goes_to (out_of_range job)) e;
     wrote = λ cell v low puts. absurd (no_put (goes_to (out_of_range job)) e refl cell v puts);
@@ -144,7 +145,7 @@ module _ (job : JobData) (is_job : IsJob job) (s : State) (len : length s ≡ pl
   }
 
   pub follows_goes : (n : ℕ) (held : Registers) → request_in job s i ≡ goes_to n →
-      registers_of job s i ≡ held → Follows job s i (Some (n, held)) None
+      registers_of job s i ≡ held → FollowsByItself job s i (Some (n, held)) None
   follows_goes n held e is = record {
     local_is = (
       counter_is (goes_to n) e,
@@ -162,7 +163,7 @@ module _ (job : JobData) (is_job : IsJob job) (s : State) (len : length s ≡ pl
 
   pub follows_gives : (at target v : ℕ) (held : Registers) → target < 4 →
       request_in job s i ≡ gives job i at target v → registers_of job s i ≡ held →
-      Follows job s i (Some (at + 1, put target v held)) None
+      FollowsByItself job s i (Some (at + 1, put target v held)) None
   follows_gives at target v held few e is = record {
     local_is = (
       counter_is (gives job i at target v) e,
@@ -182,7 +183,7 @@ module _ (job : JobData) (is_job : IsJob job) (s : State) (len : length s ≡ pl
 
   pub follows_stores : (next cell v : ℕ) (held : Registers) → cell < job.cells →
       request_in job s i ≡ record { put = Some (cell, v); next = next } →
-      registers_of job s i ≡ held → Follows job s i (Some (next, held)) (Some (cell, v))
+      registers_of job s i ≡ held → FollowsByItself job s i (Some (next, held)) (Some (cell, v))
   follows_stores next cell v held low e is =
       let puts : (request_in job s i).put ≡ Some (cell, v) = ap (λ (q : Request). q.put) e in
       record {

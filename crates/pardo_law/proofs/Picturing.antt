@@ -14,12 +14,13 @@ use Rattle.pardo_text.specs.Lawful.{IsProgram}
 use Rattle.pardo_text.specs.Operations.{bit}
 use Rattle.pardo_text.specs.Program.{ProgramData}
 use Rattle.pardo_job.specs.Compiled.{AreLevel}
-use Rattle.pardo_job.specs.Layouts.{layout_of, private_cells, loop_cells, mask_cells, cell_count}
+use Rattle.pardo_job.specs.Layouts.{program_layout, private_cells, loop_cells, mask_cells}
+use Rattle.pardo_job.specs.Layouts.{cell_count}
 use Rattle.pardo_job.specs.Layouts.{start_values}
-use Rattle.pardo_job.specs.Lines.{job_of, code_of, place_of, machine_rule}
+use Rattle.pardo_job.specs.Lines.{job_of, code_of, place_of}
 use Rattle.pardo_job.specs.Meaning.{Source, statement_at}
 use Rattle.pardo_job.specs.Sees.{Sees}
-use Rattle.pardo_law.specs.Locals.{Local, Standing}
+use Rattle.pardo_law.specs.Locals.{Local, StandsAfter}
 use Rattle.pardo_law.proofs.Bodies.{IsThere}
 use Rattle.pardo_law.proofs.Rows.{held_below, own_of, row_within, place_is, place_outside}
 
@@ -42,8 +43,8 @@ pub record IsOf (program : ProgramData) (job : JobData) : Type 0 where
   pub level : AreLevel program
   pub tied : TurnsAreTied program
 
-pub layout_procs : (program : ProgramData) → (layout_of program).procs ≡ program.procs
-unfolding layout_of
+pub layout_procs : (program : ProgramData) → (program_layout program).procs ≡ program.procs
+unfolding program_layout
 layout_procs program = refl
 
 module _ (program : ProgramData) (job : JobData) (of : IsOf program job) where
@@ -51,10 +52,10 @@ module _ (program : ProgramData) (job : JobData) (of : IsOf program job) where
   unfolding job_of
   procs_are = ap (λ (j : JobData). j.procs) of.made
 
-  pub procs_same : job.procs ≡ (layout_of program).procs
+  pub procs_same : job.procs ≡ (program_layout program).procs
   procs_same = procs_are ∙ sym (layout_procs program)
 
-  pub cells_are : job.cells ≡ cell_count (layout_of program)
+  pub cells_are : job.cells ≡ cell_count (program_layout program)
   unfolding job_of
   cells_are = ap (λ (j : JobData). j.cells) of.made
 
@@ -62,7 +63,7 @@ module _ (program : ProgramData) (job : JobData) (of : IsOf program job) where
   unfolding job_of
   code_is = ap (λ (j : JobData). j.code) of.made
 
-  pub rule_is : job.rule ≡ machine_rule program.rule
+  pub rule_is : job.rule ≡ program.rule
   unfolding job_of
   rule_is = ap (λ (j : JobData). j.rule) of.made
 
@@ -73,44 +74,48 @@ module _ (program : ProgramData) (job : JobData) (of : IsOf program job) where
   le_max : (a b : ℕ) → b ≤ max a b
   le_max a b = omega arith
 
-  pub all_cells : (layout_of program).shared +
-      ((layout_of program).privates + (layout_of program).loops + (layout_of program).choices)
-      * (layout_of program).procs ≤ job.cells
-  all_cells = subst (λ n. (layout_of program).shared +
-      ((layout_of program).privates + (layout_of program).loops + (layout_of program).choices)
-      * (layout_of program).procs ≤ n) (sym cells_are)
-      (le_max 1 ((layout_of program).shared + ((layout_of program).privates
-      + (layout_of program).loops + (layout_of program).choices) * (layout_of program).procs))
+  pub all_cells : (program_layout program).shared +
+      ((program_layout program).privates + (program_layout program).loops + (program_layout
+      program).choices)
+      * (program_layout program).procs ≤ job.cells
+  all_cells = subst (λ n. (program_layout program).shared +
+      ((program_layout program).privates + (program_layout program).loops + (program_layout
+      program).choices)
+      * (program_layout program).procs ≤ n) (sym cells_are)
+      (le_max 1 ((program_layout program).shared + ((program_layout program).privates
+      + (program_layout program).loops + (program_layout program).choices) * (program_layout
+      program).procs))
 
-  pub row_low : (w i : ℕ) → w < (layout_of program).privates + (layout_of program).loops +
-      (layout_of program).choices →
-      i < (layout_of program).procs → own_of (layout_of program) w i < job.cells
+  pub row_low : (w i : ℕ) → w < (program_layout program).privates + (program_layout program).loops +
+      (program_layout program).choices →
+      i < (program_layout program).procs → own_of (program_layout program) w i < job.cells
   row_low w i lt less =
-      let a = row_within (layout_of program) w
-      ((layout_of program).privates + (layout_of program).loops + (layout_of program).choices) i
+      let a = row_within (program_layout program) w
+      ((program_layout program).privates + (program_layout program).loops + (program_layout
+      program).choices) i
       lt less in
       let b = all_cells in omega arith
 
-  pub shared_low : (cell : ℕ) → cell < (layout_of program).shared → cell < job.cells
+  pub shared_low : (cell : ℕ) → cell < (program_layout program).shared → cell < job.cells
   shared_low cell lt = let b = all_cells in omega arith
 
-  pub held_low : (cell : ℕ) → cell < held_below (layout_of program) → cell < job.cells
+  pub held_low : (cell : ℕ) → cell < held_below (program_layout program) → cell < job.cells
   held_low cell lt =
       let b = all_cells in
-      let few : (layout_of program).privates ≤ (layout_of program).privates
-      + (layout_of program).loops + (layout_of program).choices = omega arith in
-      omega (arith, mul-le-mul_left (layout_of program).procs few)
+      let few : (program_layout program).privates ≤ (program_layout program).privates
+      + (program_layout program).loops + (program_layout program).choices = omega arith in
+      omega (arith, mul-le-mul_left (program_layout program).procs few)
 
-  pub private_count : (layout_of program).privates ≡ length program.privates
-  unfolding layout_of
+  pub private_count : (program_layout program).privates ≡ length program.privates
+  unfolding program_layout
   private_count = refl
 
-  pub loop_count : (layout_of program).loops ≡ program.loops
-  unfolding layout_of
+  pub loop_count : (program_layout program).loops ≡ program.loops
+  unfolding program_layout
   loop_count = refl
 
-  pub choice_count : (layout_of program).choices ≡ program.choices
-  unfolding layout_of
+  pub choice_count : (program_layout program).choices ≡ program.choices
+  unfolding program_layout
   choice_count = refl
 
 -- ---- what a standing machine shows
@@ -124,21 +129,22 @@ pub record Pictured (program : ProgramData) (source : Source) (memory : ℕ → 
     (locals : ℕ → Local) : Type 0 where
   pub within : source.at ≤ length program.lines
   pub all : (i : ℕ) → source.masks 0 i ≡ true
-  pub cells : (cell : ℕ) → cell < (layout_of program).shared → memory cell ≡ source.cells cell
-  pub privates : (x i : ℕ) → x < (layout_of program).privates → i < program.procs →
-      memory ((private_cells (layout_of program) x).base + i) ≡ source.privates x i
-  pub loops : (nest i : ℕ) → nest < (layout_of program).loops → i < program.procs → source.gone i ≡
+  pub cells : (cell : ℕ) → cell < (program_layout program).shared → memory cell ≡ source.cells cell
+  pub privates : (x i : ℕ) → x < (program_layout program).privates → i < program.procs →
+      memory ((private_cells (program_layout program) x).base + i) ≡ source.privates x i
+  pub loops : (nest i : ℕ) → nest < (program_layout program).loops → i < program.procs →
+      source.gone i ≡
       None →
-      memory ((loop_cells (layout_of program) nest).base + i) ≡ source.loops nest
-  pub masks : (depth i : ℕ) → depth < (layout_of program).choices → i < program.procs →
+      memory ((loop_cells (program_layout program) nest).base + i) ≡ source.loops nest
+  pub masks : (depth i : ℕ) → depth < (program_layout program).choices → i < program.procs →
       source.gone i ≡ None →
-      memory ((mask_cells (layout_of program) (suc depth)).base + i) ≡
+      memory ((mask_cells (program_layout program) (suc depth)).base + i) ≡
       bit (source.masks (suc depth) i)
   pub here : (i : ℕ) → i < program.procs →
       IsHere (source.gone i) (place_of program source.at) i (locals i)
 
 pub memory_fits : (job : JobData) (t : ℕ) (memory : ℕ → ℕ) (locals : ℕ → Local) → IsJob job →
-    Standing job t memory locals → (cell : ℕ) → memory cell < 2 ^ 32
+    StandsAfter job t memory locals → (cell : ℕ) → memory cell < 2 ^ 32
 memory_fits job t memory locals is_job standing cell =
     subst (λ (m : ℕ → ℕ). m cell < 2 ^ 32) standing.memory_is
     (⊎_elim (λ (low : cell < job.cells).
@@ -155,7 +161,7 @@ module _ (program : ProgramData) (of : IsProgram program) (source : Source) (mem
     (pictured : Pictured program source memory locals)
     (fits : (cell : ℕ) → memory cell < 2 ^ 32) where
   pub sees : (i : ℕ) → i < program.procs → source.gone i ≡ None →
-      Sees program (layout_of program) source memory i
+      Sees program (program_layout program) source memory i
   sees i lt there = record {
     is_processor = let e = layout_procs program in omega arith;
     few = let e = layout_procs program in let f = of.procs.1 in omega arith;

@@ -10,25 +10,25 @@ use Rattle.pram_job.specs.declared.instr.Place.TheVariants.{Cell, Named}
 use Rattle.pram_job.specs.Job.{JobData}
 use Rattle.pardo_job.specs.Straight.{Registers, after_one, after_all}
 use Rattle.pardo_law.specs.Locals.{Local, standing_at, after_instr, after_fetched, next_local}
-use Rattle.pardo_law.specs.Locals.{store_by, store_at, IsNamed}
-use Rattle.pardo_law.specs.Locals.{IsStraight, AreStraight, StandsAt, StraightCodeRuns}
+use Rattle.pardo_law.specs.Locals.{store_by, store_by_instr, NamesByArray}
+use Rattle.pardo_law.specs.Locals.{IsStraight, AreStraight, HasCodeAt, StraightCodeRuns}
 use Rattle.pardo_law.proofs.Running.{IsQuiet, Runs, runs_out, quiet_run}
 
 -- ---- where code stands
 
 pub stands_front : (job : JobData) (at : ℕ) (front back : List Instr) →
-    StandsAt job at (front ++ back) → StandsAt job at front
+    HasCodeAt job at (front ++ back) → HasCodeAt job at front
 stands_front job at [] back stands = tt
 stands_front job at (one ∷ front) back stands =
     (stands.0, stands_front job (at + 1) front back stands.1)
 
 pub stands_back : (job : JobData) (at : ℕ) (front back : List Instr) →
-    StandsAt job at (front ++ back) → StandsAt job (at + length front) back
+    HasCodeAt job at (front ++ back) → HasCodeAt job (at + length front) back
 stands_back job at [] back stands =
-    let e : at ≡ at + 0 = omega arith in subst (λ n. StandsAt job n back) e stands
+    let e : at ≡ at + 0 = omega arith in subst (λ n. HasCodeAt job n back) e stands
 stands_back job at (one ∷ front) back stands =
     let e : (at + 1) + length front ≡ at + suc (length front) = omega arith in
-    subst (λ n. StandsAt job n back) e (stands_back job (at + 1) front back stands.1)
+    subst (λ n. HasCodeAt job n back) e (stands_back job (at + 1) front back stands.1)
 
 slice_get-seam : (before : List Instr) (one : Instr) (rest : List Instr) →
     slice_get (before ++ one ∷ rest) (length before) ≡ Some one
@@ -40,7 +40,7 @@ length_more [] one = refl
 length_more (x ∷ before) one = let e = length_more before one in omega arith
 
 pub stands_whole : (job : JobData) (before code after : List Instr) →
-    job.code ≡ before ++ (code ++ after) → StandsAt job (length before) code
+    job.code ≡ before ++ (code ++ after) → HasCodeAt job (length before) code
 stands_whole job before [] after e = tt
 stands_whole job before (one ∷ code) after e =
     let first : slice_get (before ++ (one ∷ (code ++ after))) (length before) ≡ Some one =
@@ -48,7 +48,7 @@ stands_whole job before (one ∷ code) after e =
     let moved : (before ++ (one ∷ [])) ++ (code ++ after) ≡ before ++ (one ∷ (code ++ after)) =
     append_assoc before (one ∷ []) (code ++ after) in (
       ap (λ c. slice_get c (length before)) e ∙ first,
-      subst (λ n. StandsAt job n code) (length_more before one)
+      subst (λ n. HasCodeAt job n code) (length_more before one)
           (stands_whole job (before ++ (one ∷ [])) code after (e ∙ sym moved)),
     )
 
@@ -68,7 +68,7 @@ straight_stores held (Jmp index) is = absurd is
 straight_stores held Halt is = absurd is
 straight_stores held _ is = refl
 
-straight_named : (one : Instr) → IsStraight one → IsNamed one
+straight_named : (one : Instr) → IsStraight one → NamesByArray one
 straight_named (Ld target (Named array index)) is = tt
 straight_named (Ld target (Cell index)) is = absurd is
 straight_named (St at value) is = absurd is
@@ -91,10 +91,10 @@ straight_instr job memory i at held _ is = refl
 -- an instruction that stands there
 pub quiet_at : (job : JobData) (at : ℕ) (held : Registers) (one : Instr) → slice_get job.code at ≡
     Some one →
-    IsNamed one → store_by held one ≡ None → IsQuiet job (Some (at, held))
+    NamesByArray one → store_by held one ≡ None → IsQuiet job (Some (at, held))
 quiet_at job at held one stands named none = (
-  λ instr is. subst IsNamed (same_Some one instr (sym stands ∙ is)) named,
-  ap (store_at held) stands ∙ none,
+  λ instr is. subst NamesByArray (same_Some one instr (sym stands ∙ is)) named,
+  ap (store_by_instr held) stands ∙ none,
 )
 
 pub next_at : (job : JobData) (memory : ℕ → ℕ) (i at : ℕ) (held : Registers) (one : Instr) →
@@ -105,7 +105,7 @@ next_at job memory i at held one stands = ap (after_fetched job memory i at held
 -- one quiet instruction, and then others
 pub runs_one : (job : JobData) (memory : ℕ → ℕ) (i n at : ℕ) (held : Registers) (one : Instr)
     (now : Local) →
-    slice_get job.code at ≡ Some one → IsNamed one → store_by held one ≡ None →
+    slice_get job.code at ≡ Some one → NamesByArray one → store_by held one ≡ None →
     Runs job memory i n (after_instr job memory i at held one) now →
     Runs job memory i (suc n) (Some (at, held)) now
 runs_one job memory i n at held one now stands named none runs = (
@@ -125,7 +125,7 @@ runs_rest job memory i code at each (Some now) =
     (standing_at n (after_all memory i code now))) e (each now)
 
 pub runs_straight : (job : JobData) (memory : ℕ → ℕ) (i : ℕ) (code : List Instr) (at : ℕ)
-    (held : Registers) → AreStraight code → StandsAt job at code →
+    (held : Registers) → AreStraight code → HasCodeAt job at code →
     Runs job memory i (length code) (Some (at, held))
     (standing_at (at + length code) (after_all memory i code held))
 runs_straight job memory i [] at held straight stands =
@@ -143,7 +143,7 @@ runs_straight job memory i (one ∷ code) at held straight stands =
 -- code that leads to some registers
 pub runs_to : (job : JobData) (memory : ℕ → ℕ) (i : ℕ) (code : List Instr) (at : ℕ)
     (held : Registers) (o : Option Registers) →
-    AreStraight code → StandsAt job at code → after_all memory i code held ≡ o →
+    AreStraight code → HasCodeAt job at code → after_all memory i code held ≡ o →
     Runs job memory i (length code) (Some (at, held)) (standing_at (at + length code) o)
 runs_to job memory i code at held o straight stands e =
     subst (λ x. Runs job memory i (length code) (Some (at, held))
@@ -151,7 +151,7 @@ runs_to job memory i code at held o straight stands e =
     (runs_straight job memory i code at held straight stands)
 
 runs_from : (job : JobData) (memory : ℕ → ℕ) (i at : ℕ) (code : List Instr) → AreStraight code →
-    StandsAt job at code → (o : Option Registers) →
+    HasCodeAt job at code → (o : Option Registers) →
     Runs job memory i (length code) (standing_at at o)
     (standing_at (at + length code) (option_and_then (after_all memory i code) o))
 runs_from job memory i at code straight stands None = runs_out job memory i (length code)

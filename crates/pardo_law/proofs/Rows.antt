@@ -12,21 +12,22 @@ use Rattle.pram_job.specs.declared.instr.Array.{Array}
 use Rattle.pram_job.specs.declared.instr.Rule.{Rule}
 use Rattle.pram_job.specs.declared.instr.Rule.TheVariants.{Common, Priority, Crew}
 use Rattle.pram_job.specs.Job.{JobData}
-use Rattle.pram_step.specs.Steps.{Forbids}
+use Rattle.pram_step.specs.Disputes.{Forbids}
 use Rattle.pardo_text.specs.Lawful.{AreArrays}
 use Rattle.pardo_text.specs.Program.{ProgramData, ArrayData, shared_cells}
-use Rattle.pardo_job.specs.Layouts.{LayoutData, row, cells_of, layout_of, array_cells}
-use Rattle.pardo_job.specs.Meaning.{cell_of, first_below, given_to}
+use Rattle.pardo_job.specs.Layouts.{ProgramLayoutData, row, cells_of_array, program_layout}
+use Rattle.pardo_job.specs.Layouts.{array_cells}
+use Rattle.pardo_job.specs.Meaning.{array_cell, first_below, given_to}
 use Rattle.pardo_job.proofs.Sharing.{shared_more}
 use Rattle.pardo_law.specs.Locals.{StoresAgree, after_stores}
 use Rattle.pardo_law.proofs.Running.{first_none, first_some, given_of, given_none}
 
 -- ---- rows
 
-abbrev pub own_of : LayoutData → ℕ → ℕ → ℕ
+abbrev pub own_of : ProgramLayoutData → ℕ → ℕ → ℕ
 own_of layout which i = (row layout which).base + i
 
-pub rows_apart : (layout : LayoutData) (w v i j : ℕ) → i < layout.procs → j < layout.procs →
+pub rows_apart : (layout : ProgramLayoutData) (w v i j : ℕ) → i < layout.procs → j < layout.procs →
     own_of layout w i ≡ own_of layout v j → (w ≡ v) × (i ≡ j)
 rows_apart layout w v i j lt less same = elim (cases_order w v) [
   | inl is ↦ (
@@ -44,14 +45,14 @@ rows_apart layout w v i j lt less same = elim (cases_order w v) [
   ]
 ]
 
-pub row_within : (layout : LayoutData) (w n i : ℕ) → w < n → i < layout.procs →
+pub row_within : (layout : ProgramLayoutData) (w n i : ℕ) → w < n → i < layout.procs →
     own_of layout w i < layout.shared + n * layout.procs
 row_within layout w n i lt less =
     let below : suc w ≤ n = omega arith in omega (arith, mul-le-mul_left layout.procs below)
 
 -- ---- each stores to its own cell
 
-abbrev pub own_stores : LayoutData → ℕ → (ℕ → Option ℕ) → ℕ → Option (ℕ × ℕ)
+abbrev pub own_stores : ProgramLayoutData → ℕ → (ℕ → Option ℕ) → ℕ → Option (ℕ × ℕ)
 own_stores layout which values i = option_map (λ v. (own_of layout which i, v)) (values i)
 
 own_parts : (cell c w : ℕ) (o : Option ℕ) → option_map {U = ℕ × ℕ} (λ v. (cell, v)) o ≡
@@ -61,7 +62,7 @@ own_parts cell c w None e = absurd (none-some (c, w) e)
 own_parts cell c w (Some v) e =
     let parts = some_pair_parts cell c v w e in (parts.0, ap Some parts.1)
 
-own_given : (layout : LayoutData) (which j : ℕ) (values : ℕ → Option ℕ) → j < layout.procs →
+own_given : (layout : ProgramLayoutData) (which j : ℕ) (values : ℕ → Option ℕ) → j < layout.procs →
     first_below layout.procs (λ i. given_to (own_of layout which j)
     (own_stores layout which values i)) ≡ values j
 own_given layout which j values lt = by_value (values j) refl
@@ -85,7 +86,8 @@ own_given layout which j values lt = by_value (values j) refl
         none-some w (sym e ∙ ap values (sym same.1) ∙ parts.1)))
 
 -- what it has stored there is
-pub after_own : (layout : LayoutData) (which j : ℕ) (values : ℕ → Option ℕ) (memory : ℕ → ℕ) →
+pub after_own : (layout : ProgramLayoutData) (which j : ℕ) (values : ℕ → Option ℕ)
+    (memory : ℕ → ℕ) →
     j < layout.procs →
     after_stores layout.procs (own_stores layout which values) memory (own_of layout which j)
     ≡ unwrap_or (values j) (memory (own_of layout which j))
@@ -100,7 +102,8 @@ after_apart procs cell stores memory none =
     (λ i lt. given_none cell (stores i) (λ v is. none i v lt is)))
 
 -- a cell of another row is what it was
-pub after_other : (layout : LayoutData) (which v j : ℕ) (values : ℕ → Option ℕ) (memory : ℕ → ℕ) →
+pub after_other : (layout : ProgramLayoutData) (which v j : ℕ) (values : ℕ → Option ℕ)
+    (memory : ℕ → ℕ) →
     j < layout.procs → which ≢ v →
     after_stores layout.procs (own_stores layout which values) memory (own_of layout v j)
     ≡ memory (own_of layout v j)
@@ -111,7 +114,8 @@ after_other layout which v j values memory lt ne =
     ne (rows_apart layout which v i j less lt parts.0).0)
 
 -- so is a shared one
-pub after_shared : (layout : LayoutData) (which cell : ℕ) (values : ℕ → Option ℕ) (memory : ℕ → ℕ) →
+pub after_shared : (layout : ProgramLayoutData) (which cell : ℕ) (values : ℕ → Option ℕ)
+    (memory : ℕ → ℕ) →
     cell < layout.shared →
     after_stores layout.procs (own_stores layout which values) memory cell ≡ memory cell
 after_shared layout which cell values memory low =
@@ -121,18 +125,18 @@ after_shared layout which cell values memory low =
     (own_parts (own_of layout which i) cell w (values i) is).0 in omega arith)
 
 -- no shared cell is of a row
-pub own_high : (layout : LayoutData) (which i cell v : ℕ) (values : ℕ → Option ℕ) →
+pub own_high : (layout : ProgramLayoutData) (which i cell v : ℕ) (values : ℕ → Option ℕ) →
     cell < layout.shared → own_stores layout which values i ≡ Some (cell, v) → ⊥
 own_high layout which i cell v values low is =
     let e : own_of layout which i ≡ cell =
     (own_parts (own_of layout which i) cell v (values i) is).0 in omega arith
 
 -- the cells of arrays and of private variables are those below
-abbrev pub held_below : LayoutData → ℕ
+abbrev pub held_below : ProgramLayoutData → ℕ
 held_below layout = layout.shared + layout.privates * layout.procs
 
 -- and each cell before the row
-pub after_before : (layout : LayoutData) (procs which cell : ℕ) (values : ℕ → Option ℕ)
+pub after_before : (layout : ProgramLayoutData) (procs which cell : ℕ) (values : ℕ → Option ℕ)
     (memory : ℕ → ℕ) → cell < own_of layout which 0 →
     after_stores procs (own_stores layout which values) memory cell ≡ memory cell
 after_before layout procs which cell values memory low =
@@ -142,7 +146,7 @@ after_before layout procs which cell values memory low =
     (own_parts (own_of layout which i) cell w (values i) is).0 in omega arith)
 
 -- as those of arrays and of private variables are before the other rows
-pub held_before : (layout : LayoutData) (which cell : ℕ) → layout.privates ≤ which →
+pub held_before : (layout : ProgramLayoutData) (which cell : ℕ) → layout.privates ≤ which →
     cell < held_below layout → cell < own_of layout which 0
 held_before layout which cell high low = omega (arith, mul-le-mul_left layout.procs high)
 
@@ -152,7 +156,7 @@ not_forbidden Priority i v j w same equal forbidden = forbidden
 not_forbidden Crew i v j w same equal forbidden = forbidden same
 
 -- and no rule forbids it
-pub own_agree : (job : JobData) (layout : LayoutData) (which : ℕ) (values : ℕ → Option ℕ) →
+pub own_agree : (job : JobData) (layout : ProgramLayoutData) (which : ℕ) (values : ℕ → Option ℕ) →
     job.procs ≡ layout.procs → StoresAgree job (own_stores layout which values)
 own_agree job layout which values e cell i j v w lt less is too =
     let p = own_parts (own_of layout which i) cell v (values i) is in
@@ -184,28 +188,28 @@ array_within (array ∷ arrays) base (suc k) held are is =
 
 module _ (program : ProgramData) (arrays_are : AreArrays program.arrays 0) where
   cells_found : (array : ℕ) (o : Option ArrayData) → slice_get program.arrays array ≡ o →
-      array_cells (layout_of program) array
-      ≡ elim (option_map cells_of o) as (λ (x : Option Array). Array)
+      array_cells (program_layout program) array
+      ≡ elim (option_map cells_of_array o) as (λ (x : Option Array). Array)
       [ None ↦ record { base = 0; len = 0 } | Some cells ↦ cells ]
-  unfolding layout_of
+  unfolding program_layout
   cells_found array o e = ap (λ (x : Option Array). elim x as (λ (y : Option Array). Array) [
     | None ↦ record { base = 0; len = 0 }
     | Some cells ↦ cells
-  ]) (slice_get-map cells_of program.arrays array ∙ ap (option_map cells_of) e)
+  ]) (slice_get-map cells_of_array program.arrays array ∙ ap (option_map cells_of_array) e)
 
   -- what a cell of an array is
   pub record IsPlace (array index cell : ℕ) : Type 0 where
-    pub within : index < (array_cells (layout_of program) array).len
-    pub is : (array_cells (layout_of program) array).base + index ≡ cell
-    pub shared : cell < (layout_of program).shared
+    pub within : index < (array_cells (program_layout program) array).len
+    pub is : (array_cells (program_layout program) array).base + index ≡ cell
+    pub shared : cell < (program_layout program).shared
 
   place_by : (array index cell : ℕ) (held : ArrayData) → slice_get program.arrays array ≡
       Some held →
       (t : Bool) → nat_lt index (length held.start) ≡ t →
       (if t then Some (held.base + index) else None) ≡ Some cell → IsPlace array index cell
-  unfolding layout_of
+  unfolding program_layout
   place_by array index cell held found true e is =
-      let cells : array_cells (layout_of program) array ≡ cells_of held =
+      let cells : array_cells (program_layout program) array ≡ cells_of_array held =
       cells_found array (Some held) found in
       let low : index < length held.start = ⊎_elim (λ (l : index < length held.start). l)
       (λ (no : length held.start ≤ index). let f : true ≡ false = sym e ∙
@@ -228,7 +232,7 @@ module _ (program : ProgramData) (arrays_are : AreArrays program.arrays 0) where
   place_from array index cell (Some held) found is =
       place_by array index cell held found (nat_lt index (length held.start)) refl is
 
-  pub place_is : (array index cell : ℕ) → cell_of program array index ≡ Some cell →
+  pub place_is : (array index cell : ℕ) → array_cell program array index ≡ Some cell →
       IsPlace array index cell
   place_is array index cell is = place_from array index cell (slice_get program.arrays array) refl
       is
@@ -236,10 +240,10 @@ module _ (program : ProgramData) (arrays_are : AreArrays program.arrays 0) where
   outside_by : (array index : ℕ) (held : ArrayData) → slice_get program.arrays array ≡ Some held →
       (t : Bool) → nat_lt index (length held.start) ≡ t →
       (if t then Some (held.base + index) else None) ≡ None →
-      (array_cells (layout_of program) array).len ≤ index
+      (array_cells (program_layout program) array).len ≤ index
   outside_by array index held found true e is = absurd (none-some (held.base + index) (sym is))
   outside_by array index held found false e is =
-      let cells : array_cells (layout_of program) array ≡ cells_of held =
+      let cells : array_cells (program_layout program) array ≡ cells_of_array held =
       cells_found array (Some held) found in
       let high : length held.start ≤ index = ⊎_elim
       (λ (l : index < length held.start). let f : true ≡ false =
@@ -252,19 +256,19 @@ module _ (program : ProgramData) (arrays_are : AreArrays program.arrays 0) where
       elim o as (λ (x : Option ArrayData). Option ℕ) [
         | None ↦ None
         | Some held ↦ if nat_lt index (length held.start) then Some (held.base + index) else None
-      ] ≡ None → (array_cells (layout_of program) array).len ≤ index
+      ] ≡ None → (array_cells (program_layout program) array).len ≤ index
   outside_from array index None found is =
       subst (λ (a : Array). a.len ≤ index) (sym (cells_found array None found)) (omega arith)
   outside_from array index (Some held) found is =
       outside_by array index held found (nat_lt index (length held.start)) refl is
 
-  pub place_outside : (array index : ℕ) → cell_of program array index ≡ None →
-      (array_cells (layout_of program) array).len ≤ index
+  pub place_outside : (array index : ℕ) → array_cell program array index ≡ None →
+      (array_cells (program_layout program) array).len ≤ index
   place_outside array index is = outside_from array index (slice_get program.arrays array) refl is
 
   -- an array has its first place
   first_by : (array : ℕ) (held : ArrayData) → slice_get program.arrays array ≡ Some held →
-      (cell : ℕ) × (cell_of program array 0 ≡ Some cell)
+      (cell : ℕ) × (array_cell program array 0 ≡ Some cell)
   first_by array held found =
       let some : 0 < length held.start =
       (array_within program.arrays 0 array held arrays_are found).1 in (
@@ -277,7 +281,7 @@ module _ (program : ProgramData) (arrays_are : AreArrays program.arrays 0) where
       )
 
   first_from : (array : ℕ) (o : Option ArrayData) → slice_get program.arrays array ≡ o →
-      array < length program.arrays → (cell : ℕ) × (cell_of program array 0 ≡ Some cell)
+      array < length program.arrays → (cell : ℕ) × (array_cell program array 0 ≡ Some cell)
   first_from array None found lt = absurd (none_past program.arrays array found lt)
     where
       none_past : (arrays : List ArrayData) (k : ℕ) → slice_get arrays k ≡ None →
@@ -288,5 +292,5 @@ module _ (program : ProgramData) (arrays_are : AreArrays program.arrays 0) where
   first_from array (Some held) found lt = first_by array held found
 
   pub first_place : (array : ℕ) → array < length program.arrays → (cell : ℕ) ×
-      (cell_of program array 0 ≡ Some cell)
+      (array_cell program array 0 ≡ Some cell)
   first_place array lt = first_from array (slice_get program.arrays array) refl lt

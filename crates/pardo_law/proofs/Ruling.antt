@@ -7,21 +7,23 @@ use Rattle.std.specs.Prelude.{slice_get}
 use Rattle.std.specs.Option.{option_or}
 use Rattle.std.proofs.lemmas.Bool.{cases_lt, cases_eq}
 use Rattle.std.proofs.lemmas.Option.{none-some, some_pair_parts}
-use Rattle.pardo_text.specs.declared.program.Rule.{Rule}
-use Rattle.pardo_text.specs.declared.program.Rule.TheVariants.{Common, Priority, Crew}
+use Rattle.pram_job.specs.declared.instr.Rule.{Rule}
+use Rattle.pram_job.specs.declared.instr.Rule.TheVariants.{Common, Priority, Crew}
 use Rattle.pardo_text.specs.declared.statement.Line.{Line}
 use Rattle.pardo_text.specs.declared.statement.Statement.{Statement}
 use Rattle.pardo_text.specs.declared.statement.Statement.TheVariants.{Assign, If, Else, EndIf}
 use Rattle.pardo_text.specs.declared.statement.Statement.TheVariants.{While, EndWhile, For, EndFor}
 use Rattle.pardo_text.specs.declared.statement.Target.TheVariants.{Private, Array as Shared}
 use Rattle.pardo_text.specs.Program.{ProgramData}
-use Rattle.pardo_job.specs.Conflicts.{Agrees, Clashes, Dispute, Forbids, Writes, asked}
+use Rattle.pram_step.proofs.Disputing.{one_least_clash}
+use Rattle.pram_step.specs.Disputes.{Forbids}
+use Rattle.pardo_job.specs.Conflicts.{LineAgrees, LineClashes, Assigns, asked}
 use Rattle.pardo_job.specs.Laws.{by_rule, RuleChangesNoState, CrewIsAccepted, AnyWriterCounts}
-use Rattle.pardo_job.specs.Laws.{UnwrittenIsKept, OneDispute}
+use Rattle.pardo_job.specs.Laws.{UnwrittenIsKept, OneLineDispute}
 use Rattle.pardo_job.specs.Meaning.{Source, after, next, after_statement, asked_in, first_below}
 use Rattle.pardo_job.specs.Meaning.{given_to, loop_ended, statement_at}
 use Rattle.pardo_job.specs.Meaning.{common_value, has_none}
-use Rattle.pardo_job.specs.Runs.{IsOver}
+use Rattle.pardo_job.specs.Runs.{IsProgramOver}
 use Rattle.pardo_job.proofs.Meanings.{next_at, asked_at}
 use Rattle.pardo_law.specs.Theorem.{RuleChangesNoRun}
 use Rattle.pardo_law.proofs.Running.{first_none, given_is, given_of, given_none}
@@ -44,13 +46,13 @@ unfolding asked
 same_asked program rule source i = refl
 
 writes_same : (program : ProgramData) (rule other : Rule) (source : Source) (cell i v : ℕ) →
-    Writes (by_rule rule program) source cell i v → Writes (by_rule other program) source cell i v
+    Assigns (by_rule rule program) source cell i v → Assigns (by_rule other program) source cell i v
 writes_same program rule other source cell i v w =
     (w.0, same_asked program other source i ∙ sym (same_asked program rule source i) ∙ w.1)
 
 -- two writes that another rule forbids are of two processors
 apart : (rule : Rule) (program : ProgramData) (source : Source) (cell i j v w : ℕ) →
-    Writes (by_rule rule program) source cell i v → Writes (by_rule rule program) source cell j w →
+    Assigns (by_rule rule program) source cell i v → Assigns (by_rule rule program) source cell j w →
     Forbids rule i v j w → i ≢ j
 apart Common program source cell i j v w a b forbidden same =
     forbidden (some_pair_parts cell cell v w
@@ -59,8 +61,8 @@ apart Priority program source cell i j v w a b forbidden same = forbidden
 apart Crew program source cell i j v w a b forbidden same = forbidden same
 
 crew_agrees : (program : ProgramData) (rule : Rule) (source : Source) →
-    Agrees (by_rule Crew program) source →
-    Agrees (by_rule rule program) source
+    LineAgrees (by_rule Crew program) source →
+    LineAgrees (by_rule rule program) source
 crew_agrees program rule source agrees cell i j c = agrees cell i j (record {
   value = c.value;
   other = c.other;
@@ -74,9 +76,9 @@ crew_is_accepted program rule n reached earlier lt =
     let here = reached earlier lt in
     let same : after (by_rule Crew program) earlier ≡ after (by_rule rule program) earlier =
     same_after program Crew earlier ∙ sym (same_after program rule earlier) in (
-      λ over. here.0 (subst (IsOver program) (sym same) over),
+      λ over. here.0 (subst (IsProgramOver program) (sym same) over),
       crew_agrees program rule (after (by_rule rule program) earlier)
-          (subst (Agrees (by_rule Crew program)) same here.1),
+          (subst (LineAgrees (by_rule Crew program)) same here.1),
     )
 
 -- ---- writers
@@ -182,19 +184,19 @@ module _ (program : ProgramData) (source : Source) (line : Line)
       ∙ cells_after program line.number line.depth cell line.statement source
 
   writes_of : (cell i v : ℕ) → i < program.procs → given cell i ≡ Some v →
-      Writes program source cell i v
+      Assigns program source cell i v
   writes_of cell i v lt e = (
     lt,
     asked_at program source line i is ∙
         given_is cell v (asked_in program source line.depth line.statement i) e,
   )
 
-  of_writes : (cell i v : ℕ) → Writes program source cell i v → given cell i ≡ Some v
+  of_writes : (cell i v : ℕ) → Assigns program source cell i v → given cell i ≡ Some v
   of_writes cell i v w = given_of cell v (asked_in program source line.depth line.statement i)
       (sym (asked_at program source line i is) ∙ w.1)
 
   -- nobody writes to it
-  pub kept_by : (cell : ℕ) → ((i v : ℕ) → Writes program source cell i v → ⊥) →
+  pub kept_by : (cell : ℕ) → ((i v : ℕ) → Assigns program source cell i v → ⊥) →
       (next program source).cells cell ≡ source.cells cell
   kept_by cell none = cells_next cell ∙ ap (λ o. unwrap_or o (source.cells cell))
       (first_none program.procs (given cell)
@@ -202,8 +204,8 @@ module _ (program : ProgramData) (source : Source) (line : Line)
       (λ v e. none i v (lt, asked_at program source line i is ∙ e))))
 
   -- any writer's value, where the writers agree
-  pub any_by : (cell i v : ℕ) → Writes program source cell i v →
-      ((j w : ℕ) → Writes program source cell j w → w ≡ v) → (next program source).cells cell ≡ v
+  pub any_by : (cell i v : ℕ) → Assigns program source cell i v →
+      ((j w : ℕ) → Assigns program source cell j w → w ≡ v) → (next program source).cells cell ≡ v
   any_by cell i v w same = ⊎_elim
       (λ (first : HasFirst program.procs (given cell)). cells_next cell
       ∙ ap (λ o. unwrap_or o (source.cells cell)) first.first
@@ -241,7 +243,7 @@ unwritten_is_kept program source cell none = by_line (slice_get program.lines so
 -- two writers that agree write the same
 same_value : (rule : Rule) (program : ProgramData) (source : Source) (cell i j v w : ℕ) →
     rule ≢ Priority →
-    (Forbids rule j w i v → ⊥) → Writes program source cell i v → Writes program source cell j w → w
+    (Forbids rule j w i v → ⊥) → Assigns program source cell i v → Assigns program source cell j w → w
     ≡ v
 same_value Common program source cell i j v w not_priority agree a b = ⊎_elim (λ same. same)
     (λ ne. absurd (agree ne)) (cases_eq w v)
@@ -265,31 +267,6 @@ any_writer_counts program source cell i v agrees not_priority w =
 
 -- ---- disputes
 
-abbrev dispute_at : ℕ → ℕ → ℕ → Dispute
-dispute_at cell first second = record { cell = cell; first = first; second = second }
-
-dispute_same : (a b c x y z : ℕ) → a ≡ x → b ≡ y → c ≡ z →
-    dispute_at a b c ≡ dispute_at x y z
-dispute_same a b c x y z e f g = λ k. dispute_at (e k) (f k) (g k)
-
-pub one_dispute : OneDispute
+pub one_dispute : OneLineDispute
 one_dispute program source dispute other d o =
-    let cell : dispute.cell ≡ other.cell =
-    (let p = d.least_cell other.cell other.first other.second o.clash in
-    let q = o.least_cell dispute.cell dispute.first dispute.second d.clash in omega arith) in
-    let first : dispute.first ≡ other.first =
-    (let p = d.least_first other.first o.clash.value
-    (subst (λ c. Writes program source c other.first o.clash.value) (sym cell) o.clash.writes) in
-    let q = o.least_first dispute.first d.clash.value
-    (subst (λ c. Writes program source c dispute.first d.clash.value) cell d.clash.writes) in
-    omega arith) in
-    let second : dispute.second ≡ other.second =
-    (let p = d.least_second other.second
-    (subst (λ c. Clashes program source c dispute.first other.second) (sym cell)
-    (subst (λ x. Clashes program source other.cell x other.second) (sym first) o.clash)) in
-    let q = o.least_second dispute.second
-    (subst (λ c. Clashes program source c other.first dispute.second) cell
-    (subst (λ x. Clashes program source dispute.cell x dispute.second) first d.clash)) in
-    omega arith) in
-    dispute_same dispute.cell dispute.first dispute.second other.cell other.first other.second cell
-    first second
+    one_least_clash program.rule (Assigns program source) dispute other d o

@@ -20,8 +20,8 @@ use Rattle.pram_step.proofs.RequestList.{put_of_written, written_of_put}
 use Rattle.pram_machine.proofs.Shapes.{asks}
 use Rattle.pardo_job.specs.Meaning.{first_below, given_to}
 use Rattle.pardo_law.specs.Locals.{Local, memory_of, IsLocal, next_local, store_of, IsNamedAt}
-use Rattle.pardo_law.specs.Locals.{Follows}
-use Rattle.pardo_law.specs.Locals.{Standing, StoresAgree, after_stores, StoresAreMade}
+use Rattle.pardo_law.specs.Locals.{FollowsByItself}
+use Rattle.pardo_law.specs.Locals.{StandsAfter, StoresAgree, after_stores, StoresAreMade}
 use Rattle.pardo_law.proofs.Stepping.{each_by_itself}
 
 -- ---- one processor, while nobody stores
@@ -98,7 +98,7 @@ given_none cell o none = by_given (given_to cell o) refl
     by_given (Some v) e = absurd (none v (given_is cell v o e))
 
 module _ (job : JobData) (is_job : IsJob job) (t : ℕ) (memory : ℕ → ℕ) (locals : ℕ → Local)
-    (standing : Standing job t memory locals)
+    (standing : StandsAfter job t memory locals)
     (named : (i : ℕ) → i < job.procs → IsNamedAt job (locals i)) where
   abbrev s : State
   s = state_after job t
@@ -107,7 +107,7 @@ module _ (job : JobData) (is_job : IsJob job) (t : ℕ) (memory : ℕ → ℕ) (
   stores i = store_of job (locals i)
 
   follows : (i : ℕ) → i < job.procs →
-      Follows job s i (next_local job (memory_of job s) i (locals i)) (stores i)
+      FollowsByItself job s i (next_local job (memory_of job s) i (locals i)) (stores i)
   follows i lt = each_by_itself job s i (locals i) is_job (length-state_after job t is_job) lt
       (standing.locals_are i lt) (named i lt)
 
@@ -133,8 +133,8 @@ module _ (job : JobData) (is_job : IsJob job) (t : ℕ) (memory : ℕ → ℕ) (
 
   pub stores_agree : StoresAgree job stores → AgreesAfter job t
   stores_agree agree cell i j clash =
-      let a = writer_stores cell i clash.value clash.is_cell clash.writes in
-      let b = writer_stores cell j clash.other clash.is_cell clash.writes_too in
+      let a = writer_stores cell i clash.value clash.writes.0 clash.writes.1 in
+      let b = writer_stores cell j clash.other clash.writes_too.0 clash.writes_too.1 in
       agree cell i j clash.value clash.other a.0 b.0 a.1 b.1 clash.forbidden
 
   cell_after : (cell : ℕ) → cell < job.cells →
@@ -184,7 +184,7 @@ module _ (job : JobData) (is_job : IsJob job) (t : ℕ) (memory : ℕ → ℕ) (
       lt_yes a b lt = grind arith
 
   pub store_step : StoresAgree job stores →
-      Standing job (suc t) then_memory (λ i. next_local job memory i (locals i))
+      StandsAfter job (suc t) then_memory (λ i. next_local job memory i (locals i))
   unfolding state_after
   store_step agree = record {
     reached = reached_more job t standing.reached (stores_agree agree);
@@ -198,7 +198,7 @@ module _ (job : JobData) (is_job : IsJob job) (t : ℕ) (memory : ℕ → ℕ) (
 
 module _ (job : JobData) (is_job : IsJob job) where
   quiet_memory : (t : ℕ) (memory : ℕ → ℕ) (locals : ℕ → Local) →
-      (standing : Standing job t memory locals) →
+      (standing : StandsAfter job t memory locals) →
       (quiet : (i : ℕ) → i < job.procs → IsQuiet job (locals i)) →
       memory_of job (next_state job (state_after job t)) ≡ memory
   quiet_memory t memory locals standing quiet = λ k cell. same cell k
@@ -222,9 +222,9 @@ module _ (job : JobData) (is_job : IsJob job) where
       same : (cell : ℕ) → memory_of job (next_state job (state_after job t)) cell ≡ memory cell
       same cell = ⊎_elim (λ low. near cell low) (λ high. far cell high) (cases_lt cell job.cells)
 
-  quiet_step : (t : ℕ) (memory : ℕ → ℕ) (locals : ℕ → Local) → Standing job t memory locals →
+  quiet_step : (t : ℕ) (memory : ℕ → ℕ) (locals : ℕ → Local) → StandsAfter job t memory locals →
       ((i : ℕ) → i < job.procs → IsQuiet job (locals i)) →
-      Standing job (suc t) memory (λ i. next_local job memory i (locals i))
+      StandsAfter job (suc t) memory (λ i. next_local job memory i (locals i))
   unfolding state_after
   quiet_step t memory locals standing quiet =
       let next = store_step job is_job t memory locals standing (λ i lt. (quiet i lt).0)
@@ -236,12 +236,14 @@ module _ (job : JobData) (is_job : IsJob job) where
       }
 
   same_standing : (t u : ℕ) (memory : ℕ → ℕ) (locals : ℕ → Local) → t ≡ u →
-      Standing job t memory locals → Standing job u memory locals
-  same_standing t u memory locals e standing = subst (λ n. Standing job n memory locals) e standing
+      StandsAfter job t memory locals → StandsAfter job u memory locals
+  same_standing t u memory locals e standing =
+      subst (λ n. StandsAfter job n memory locals) e standing
 
   -- other names of what is the same
-  pub renamed : (t : ℕ) (memory : ℕ → ℕ) (locals now : ℕ → Local) → Standing job t memory locals →
-      ((i : ℕ) → i < job.procs → locals i ≡ now i) → Standing job t memory now
+  pub renamed : (t : ℕ) (memory : ℕ → ℕ) (locals now : ℕ → Local) →
+      StandsAfter job t memory locals →
+      ((i : ℕ) → i < job.procs → locals i ≡ now i) → StandsAfter job t memory now
   renamed t memory locals now standing each = record {
     reached = standing.reached;
     memory_is = standing.memory_is;
@@ -250,9 +252,9 @@ module _ (job : JobData) (is_job : IsJob job) where
   }
 
   pub quiet_run : (n t : ℕ) (memory : ℕ → ℕ) (locals now : ℕ → Local) →
-      Standing job t memory locals →
+      StandsAfter job t memory locals →
       ((i : ℕ) → i < job.procs → Runs job memory i n (locals i) (now i)) →
-      Standing job (t + n) memory now
+      StandsAfter job (t + n) memory now
   quiet_run zero t memory locals now standing runs =
       same_standing t (t + zero) memory now (omega arith)
       (renamed t memory locals now standing runs)

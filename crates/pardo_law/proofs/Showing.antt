@@ -14,13 +14,13 @@ use Rattle.pram_step.proofs.LawStopped.{stopped_stays, stopped_later}
 use Rattle.pardo_text.specs.Operations.{bit}
 use Rattle.pardo_text.specs.Program.{ProgramData}
 use Rattle.pardo_job.specs.Compiled.{Stops, IsWhole}
-use Rattle.pardo_job.specs.Layouts.{layout_of, mask_cells, private_cells}
+use Rattle.pardo_job.specs.Layouts.{program_layout, mask_cells, private_cells}
 use Rattle.pardo_job.specs.Lines.{place_of}
 use Rattle.pardo_job.specs.Meaning.{Source}
-use Rattle.pardo_job.specs.Runs.{IsOver}
-use Rattle.pardo_job.specs.Shows.{Shows, IsThere as IsStill, own_cell}
+use Rattle.pardo_job.specs.Runs.{IsProgramOver}
+use Rattle.pardo_job.specs.Shows.{Represents, IsThere as IsStill, own_cell}
 use Rattle.pardo_law.specs.Locals.{Local, IsLocal}
-use Rattle.pardo_law.proofs.Advancing.{Carried}
+use Rattle.pardo_law.proofs.Carried.{Carried}
 use Rattle.pardo_law.proofs.Bodies.{IsThere, there_at}
 use Rattle.pardo_law.proofs.Lengths.{end_stands}
 use Rattle.pardo_law.proofs.Making.{Goes, Went, all_go, goes_out, goes_one, goes_here}
@@ -59,7 +59,7 @@ module _ (job : JobData) (state : State) (i : ℕ) where
 
 module _ (program : ProgramData) (job : JobData) (of : IsOf program job) (source : Source) (t : ℕ)
     (carried : Carried program job source t) where
-  few : (i : ℕ) → i < program.procs → i < (layout_of program).procs
+  few : (i : ℕ) → i < program.procs → i < (program_layout program).procs
   few i lt = let e = layout_procs program in omega arith
 
   many : (i : ℕ) → i < program.procs → i < job.procs
@@ -70,29 +70,30 @@ module _ (program : ProgramData) (job : JobData) (of : IsOf program job) (source
   cell_is cell low = same_cell job (state_after job t) cell low ∙
       ap (λ (f : ℕ → ℕ). f cell) carried.standing.memory_is
 
-  mask_shows : (depth i : ℕ) → depth < (layout_of program).choices → IsStill program source i →
-      slice_index (state_after job t) ((mask_cells (layout_of program) (depth + 1)).base + i) ≡
+  mask_shows : (depth i : ℕ) → depth < (program_layout program).choices → IsStill program source i →
+      slice_index (state_after job t) ((mask_cells (program_layout program) (depth + 1)).base + i) ≡
       bit (source.masks (depth + 1) i)
   mask_shows depth i low still =
       let e : suc depth ≡ depth + 1 = omega arith in
-      subst (λ n. slice_index (state_after job t) ((mask_cells (layout_of program) n).base + i) ≡
+      subst (λ n. slice_index (state_after job t) ((mask_cells (program_layout program) n).base + i)
+      ≡
       bit (source.masks n i)) e
-      (cell_is (own_of (layout_of program)
-      ((layout_of program).privates + (layout_of program).loops + (suc depth - 1)) i)
-      (row_low program job of ((layout_of program).privates + (layout_of program).loops +
+      (cell_is (own_of (program_layout program)
+      ((program_layout program).privates + (program_layout program).loops + (suc depth - 1)) i)
+      (row_low program job of ((program_layout program).privates + (program_layout program).loops +
       (suc depth - 1)) i (omega arith) (few i still.0))
       ∙ carried.pictured.masks depth i low still.0 (gone_not (source.gone i) still.1))
 
-  pub shows : Shows program job source (state_after job t)
+  pub shows : Represents program job source (state_after job t)
   shows = record {
     cells = λ cell lt. cell_is cell (shared_low program job of cell lt) ∙
         carried.pictured.cells cell lt;
-    privates = λ x i lt less. cell_is (own_of (layout_of program) x i)
+    privates = λ x i lt less. cell_is (own_of (program_layout program) x i)
         (row_low program job of x i (omega arith) (few i less))
         ∙ carried.pictured.privates x i lt less;
     loops = λ nest i lt still. cell_is
-        (own_of (layout_of program) ((layout_of program).privates + nest) i)
-        (row_low program job of ((layout_of program).privates + nest) i (omega arith)
+        (own_of (program_layout program) ((program_layout program).privates + nest) i)
+        (row_low program job of ((program_layout program).privates + nest) i (omega arith)
         (few i still.0))
         ∙ carried.pictured.loops nest i lt still.0 (gone_not (source.gone i) still.1);
     masks = mask_shows;
@@ -126,7 +127,7 @@ module _ (program : ProgramData) (job : JobData) (of : IsOf program job) (source
       (goes_here job carried.memory i (Some (halted job, here.held)) (IsThere (halted job) i)
       (there_at (halted job) i here.held here.own)))
 
-  over_goes : IsOver program source → (i : ℕ) → i < job.procs →
+  over_goes : IsProgramOver program source → (i : ℕ) → i < job.procs →
       Goes job carried.memory i 1 (carried.locals i) (IsHere (source.gone i) (halted job) i)
   over_goes (inl at_end) i lt = halt_goes i (source.gone i)
       (subst (λ n. IsHere (source.gone i) (place_of program n) i (carried.locals i)) (sym at_end)
@@ -140,7 +141,7 @@ module _ (program : ProgramData) (job : JobData) (of : IsOf program job) (source
       (λ g. IsHere g (place_of program source.at) i (carried.locals i)) line.1
       (carried.pictured.here i low)))
 
-  module _ (over : IsOver program source) where
+  module _ (over : IsProgramOver program source) where
     last : Went job (t + 1) carried.memory (λ i. IsHere (source.gone i) (halted job) i)
     last = all_go job of.job_is t 1 carried.memory carried.locals carried.standing
         (λ i. IsHere (source.gone i) (halted job) i) (over_goes over)
@@ -161,19 +162,19 @@ module _ (program : ProgramData) (job : JobData) (of : IsOf program job) (source
     pub reached_last : machine.IsReached job (t + 1)
     reached_last = last.standing.reached
 
-    pub last_cells : (cell : ℕ) → cell < (layout_of program).shared →
+    pub last_cells : (cell : ℕ) → cell < (program_layout program).shared →
         slice_index (state_after job (t + 1)) cell ≡ source.cells cell
     last_cells cell lt = same_cell job (state_after job (t + 1)) cell
         (shared_low program job of cell lt)
         ∙ ap (λ (f : ℕ → ℕ). f cell) last.standing.memory_is ∙ carried.pictured.cells cell lt
 
-    pub last_privates : (x i : ℕ) → x < (layout_of program).privates → i < program.procs →
-        own_cell (state_after job (t + 1)) (private_cells (layout_of program) x) i
+    pub last_privates : (x i : ℕ) → x < (program_layout program).privates → i < program.procs →
+        own_cell (state_after job (t + 1)) (private_cells (program_layout program) x) i
         ≡ source.privates x i
     last_privates x i lt less = same_cell job (state_after job (t + 1))
-        (own_of (layout_of program) x i)
+        (own_of (program_layout program) x i)
         (row_low program job of x i (omega arith) (few i less))
-        ∙ ap (λ (f : ℕ → ℕ). f (own_of (layout_of program) x i)) last.standing.memory_is
+        ∙ ap (λ (f : ℕ → ℕ). f (own_of (program_layout program) x i)) last.standing.memory_is
         ∙ carried.pictured.privates x i lt less
 
     pub last_there : (i : ℕ) → i < program.procs → source.gone i ≡ None →

@@ -18,13 +18,13 @@ use Rattle.pram_step.specs.Runs.{state_after}
 use Rattle.pardo_text.specs.Lawful.{IsPrivate}
 use Rattle.pardo_text.specs.Operations.{bit}
 use Rattle.pardo_text.specs.Program.{ProgramData, ArrayData, PrivateData}
-use Rattle.pardo_job.specs.Layouts.{layout_of, given_values, start_values, cell_count}
+use Rattle.pardo_job.specs.Layouts.{program_layout, given_values, start_values, cell_count}
 use Rattle.pardo_job.specs.Lines.{place_of}
 use Rattle.pardo_job.specs.Meaning as meaning
 use Rattle.pardo_job.specs.Straight.{put}
 use Rattle.pardo_job.proofs.Straight.{put_same}
-use Rattle.pardo_law.specs.Locals.{Local, memory_of, Standing}
-use Rattle.pardo_law.proofs.Advancing.{Carried}
+use Rattle.pardo_law.specs.Locals.{Local, memory_of, StandsAfter}
+use Rattle.pardo_law.proofs.Carried.{Carried}
 use Rattle.pardo_law.proofs.Bodies.{IsThere, there_at}
 use Rattle.pardo_law.proofs.Lengths.{first_is}
 use Rattle.pardo_law.proofs.Making.{Goes, Went, all_go, goes_one, goes_here}
@@ -100,41 +100,46 @@ module _ (program : ProgramData) (job : JobData) (of : IsOf program job) where
       ∙ with_zeros job.init (5 * job.procs) cell
       ∙ ap (λ xs. get_or xs cell 0) (init_is program job of)
       ∙ with_zeros (given_values program)
-      (cell_count (layout_of program) - length (given_values program)) cell
+      (cell_count (program_layout program) - length (given_values program)) cell
 
-  shared_long : length arrays_given ≡ (layout_of program).shared
-  unfolding layout_of
+  shared_long : length arrays_given ≡ (program_layout program).shared
+  unfolding program_layout
   shared_long = length-flat_map (λ (a : ArrayData). a.start) program.arrays
 
-  private_long : length privates_given ≡ (layout_of program).privates * (layout_of program).procs
-  unfolding layout_of
+  private_long : length privates_given
+      ≡ (program_layout program).privates * (program_layout program).procs
+  unfolding program_layout
   private_long = privates_long program.procs program.privates of.program_is.privates
 
-  given_long : length (given_values program) ≡ (layout_of program).shared +
-      (layout_of program).privates * (layout_of program).procs
+  given_long : length (given_values program) ≡ (program_layout program).shared +
+      (program_layout program).privates * (program_layout program).procs
   given_long = length-append arrays_given privates_given ∙ (λ k. shared_long k + private_long k)
 
   -- a row after those of private variables holds 0
-  held_zero : (w i : ℕ) → (layout_of program).privates ≤ w →
-      w < (layout_of program).privates + (layout_of program).loops + (layout_of program).choices →
-      i < (layout_of program).procs → memory_of job (start job) (own_of (layout_of program) w i) ≡ 0
+  held_zero : (w i : ℕ) → (program_layout program).privates ≤ w →
+      w < (program_layout program).privates + (program_layout program).loops + (program_layout
+      program).choices →
+      i < (program_layout program).procs →
+      memory_of job (start job) (own_of (program_layout program) w i) ≡ 0
   held_zero w i high low lt =
-      held_at (own_of (layout_of program) w i) (row_low program job of w i low lt)
-      ∙ get_or_past (given_values program) (own_of (layout_of program) w i) 0
-      (let e = given_long in omega (arith, mul-le-mul_left (layout_of program).procs high))
+      held_at (own_of (program_layout program) w i) (row_low program job of w i low lt)
+      ∙ get_or_past (given_values program) (own_of (program_layout program) w i) 0
+      (let e = given_long in omega (arith, mul-le-mul_left (program_layout program).procs high))
 
-  pub held_private : (x i : ℕ) → x < (layout_of program).privates → i < program.procs →
-      memory_of job (start job) (own_of (layout_of program) x i) ≡ meaning.private_start program x i
-  unfolding layout_of
+  pub held_private : (x i : ℕ) → x < (program_layout program).privates → i < program.procs →
+      memory_of job (start job) (own_of (program_layout program) x i)
+      ≡ meaning.private_at_start program x i
+  unfolding program_layout
   held_private x i low lt =
-      let here : own_of (layout_of program) x i ≡ length arrays_given + (x * program.procs + i) =
+      let here : own_of (program_layout program) x i
+      ≡ length arrays_given + (x * program.procs + i) =
       (let e = shared_long in omega arith) in
-      held_at (own_of (layout_of program) x i) (row_low program job of x i (omega arith) lt)
+      held_at (own_of (program_layout program) x i) (row_low program job of x i (omega arith) lt)
       ∙ ap (λ k. get_or (given_values program) k 0) here
       ∙ get_or-append-add arrays_given privates_given (x * program.procs + i) 0
       ∙ private_at program.procs x i program.privates of.program_is.privates lt low
 
-  pub held_shared : (cell : ℕ) → cell < (layout_of program).shared →
+  pub held_shared : (cell : ℕ) → cell < (program_layout program).shared →
       memory_of job (start job) cell ≡ slice_index arrays_given cell
   held_shared cell lt = held_at cell (shared_low program job of cell lt)
       ∙ get_or_append_left arrays_given privates_given 0 cell (let e = shared_long in omega arith)
@@ -155,7 +160,7 @@ module _ (program : ProgramData) (job : JobData) (of : IsOf program job) where
       (le-ltb which 4 many))
       (cases_lt which 4)
 
-  pub first_standing : Standing job 0 (memory_of job (start job)) (λ i. Some (0, λ which. 0))
+  pub first_standing : StandsAfter job 0 (memory_of job (start job)) (λ i. Some (0, λ which. 0))
   unfolding state_after
   first_standing = record {
     reached = λ earlier lt. absurd (omega arith);
@@ -175,23 +180,25 @@ module _ (program : ProgramData) (job : JobData) (of : IsOf program job) where
   first_place = refl
 
   first_pictured : (locals : ℕ → Local) → ((i : ℕ) → i < program.procs → IsThere 1 i (locals i)) →
-      Pictured program (meaning.start program) (memory_of job (start job)) locals
+      Pictured program (meaning.program_start program) (memory_of job (start job)) locals
   first_pictured locals each = record {
     within = omega arith;
     all = λ i. refl;
     cells = held_shared;
     privates = held_private;
-    loops = λ nest i lt less there. held_zero ((layout_of program).privates + nest) i (omega arith)
+    loops = λ nest i lt less there. held_zero ((program_layout program).privates + nest) i
+        (omega arith)
         (omega arith)
         (let e = layout_procs program in omega arith);
     masks = λ d i lt less there. held_zero
-        ((layout_of program).privates + (layout_of program).loops + (suc d - 1)) i (omega arith)
+        ((program_layout program).privates + (program_layout program).loops + (suc d - 1)) i
+        (omega arith)
         (omega arith)
         (let e = layout_procs program in omega arith) ∙ sym (ap bit (eqb-suc-zero d));
     here = λ i lt. subst (λ n. IsThere n i (locals i)) (sym first_place) (each i lt);
   }
 
-  pub starts_carried : Carried program job (meaning.start program) 1
+  pub starts_carried : Carried program job (meaning.program_start program) 1
   starts_carried =
       let went : Went job 1 (memory_of job (start job)) (λ i. IsThere 1 i) =
       all_go job of.job_is 0 1 (memory_of job (start job)) (λ i. Some (0, λ which. 0))

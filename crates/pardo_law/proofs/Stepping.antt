@@ -1,29 +1,33 @@
 -- A step of all processors, one by one.
-use Rattle.std.proofs.Common.{◌≡◌, ℕ, ◌+◌, ◌-◌, ◌*◌, ◌/◌, ◌%◌, ◌^◌, ◌<◌, ◌≤◌, ◌==◌, nat_lt, Bool}
+use Rattle.std.proofs.Common.{◌≡◌, ℕ, ◌+◌, ◌<◌, ◌≤◌, ◌==◌, nat_lt, Bool}
 use Rattle.std.proofs.Common.{true, false, ◌∷◌, Option, Some, None}
 use Rattle.std.proofs.Common.{refl, sym, ap, ◌∙◌, arith, if◌then◌else◌, length, map, ⊎_elim}
-use Rattle.std.specs.Prelude.{slice_get, slice_index, bit_and, bit_or, bit_xor}
+use Rattle.std.specs.Prelude.{slice_get, slice_index}
 use Rattle.std.proofs.lemmas.Bool.{lt-ltb, le-ltb, cases_lt}
 use Rattle.pram_job.specs.declared.instr.Array.{Array}
 use Rattle.pram_job.specs.declared.instr.Instr.{Instr}
-use Rattle.pram_job.specs.declared.instr.Instr.TheVariants.{Set, Pid, Add, Sub, Mul, And, Or, Xor}
-use Rattle.pram_job.specs.declared.instr.Instr.TheVariants.{Lt, Eq, Shl, Shr, Ld, St, Jz, Jmp}
-use Rattle.pram_job.specs.declared.instr.Instr.TheVariants.{Halt}
+use Rattle.pram_job.specs.declared.instr.Instr.TheVariants.{Ld, St}
 use Rattle.pram_job.specs.declared.instr.Operand.{Operand}
 use Rattle.pram_job.specs.declared.instr.Operand.TheVariants.{Register, Number}
+use Rattle.pram_job.specs.declared.instr.Operands.{Operands}
+use Rattle.pram_job.specs.declared.instr.Operands.TheVariants.{Bare, Target, TargetNumber}
+use Rattle.pram_job.specs.declared.instr.Operands.TheVariants.{TargetPlace, TargetTwo, PlaceValue}
+use Rattle.pram_job.specs.declared.instr.Operands.TheVariants.{RegisterIndex, Index}
 use Rattle.pram_job.specs.declared.instr.Place.TheVariants.{Cell, Named}
-use Rattle.pram_job.specs.Instructions.{IsOperand, IsArray}
+use Rattle.pram_job.specs.Instructions.{IsOperand, IsArray, AreOperands, row_of}
 use Rattle.pram_job.specs.Job.{JobData, IsJob, IsInstr}
 use Rattle.pram_machine.specs.declared.requests.Request.{Request}
 use Rattle.pram_machine.specs.Instructions.{decided, decided_in, gives, goes_to, within, request_in}
-use Rattle.pram_machine.specs.Instructions.{value_of, registers_in, shifted}
+use Rattle.pram_machine.specs.Instructions.{request_with, computed, read_at, read_by, value_of}
+use Rattle.pram_machine.specs.Instructions.{registers_in}
 use Rattle.pram_machine.specs.Machine.{State, register, counter, out_of_range, halted, place_count}
 use Rattle.pram_machine.proofs.Shapes.{instr_is}
 use Rattle.pram_step.proofs.LawStopped.{stopped_request}
-use Rattle.pardo_text.specs.Operations.{bit}
 use Rattle.pardo_job.specs.Straight.{Registers, put, operand_in}
 use Rattle.pardo_law.specs.Locals.{memory_of, registers_of, standing_at, after_instr, after_fetched}
-use Rattle.pardo_law.specs.Locals.{store_by, store_at, IsNamed, Follows, EachByItself}
+use Rattle.pardo_law.specs.Locals.{local_after, stored_in, store_by, store_by_instr, NamesArrays}
+use Rattle.pardo_law.specs.Locals.{NamesByArray}
+use Rattle.pardo_law.specs.Locals.{FollowsByItself, EachByItself}
 use Rattle.pardo_law.proofs.Owning.{follows_out, follows_goes, follows_gives, follows_stores}
 
 -- ---- registers and cells as far as there are some
@@ -50,17 +54,13 @@ same_index : (job : JobData) (s : State) (i : ℕ) (b : Operand) → IsOperand b
 same_index job s i (Register b) is = same_register job s i b is
 same_index job s i (Number n) is = refl
 
-bit_if : (t : Bool) → (if t then 1 else 0) ≡ bit t
-bit_if true = refl
-bit_if false = refl
-
 -- ---- by instructions
 
 module _ (job : JobData) (is_job : IsJob job) (s : State) (len : length s ≡ place_count job)
     (i : ℕ) (lt : i < job.procs) (at : ℕ) (held : Registers) (counter_is : counter job s i ≡ at)
     (held_is : registers_of job s i ≡ held) where
   abbrev FollowsBy : Instr → Type 0
-  FollowsBy one = Follows job s i (after_instr job (memory_of job s) i at held one)
+  FollowsBy one = FollowsByItself job s i (after_instr job (memory_of job s) i at held one)
       (store_by held one)
 
   abbrev Asks : Instr → Type 0
@@ -69,7 +69,7 @@ module _ (job : JobData) (is_job : IsJob job) (s : State) (len : length s ≡ pl
   -- it gives a register a value
   given : (target v w : ℕ) → target < 4 → v ≡ w →
       request_in job s i ≡ gives job i (counter job s i) target v →
-      Follows job s i (Some (at + 1, put target w held)) None
+      FollowsByItself job s i (Some (at + 1, put target w held)) None
   given target v w few e asks = follows_gives job is_job s len i lt at target w held few
       (asks ∙ ap (λ c. gives job i c target v) counter_is ∙ ap (gives job i at target) e) held_is
 
@@ -91,7 +91,7 @@ module _ (job : JobData) (is_job : IsJob job) (s : State) (len : length s ≡ pl
       (λ cell. gives job i (counter job s i) target
       (elim (if t then Some (array.base + k) else None)
       [ None ↦ 0 | Some found ↦ slice_index s found ])) →
-      Follows job s i (standing_at (at + 1)
+      FollowsByItself job s i (standing_at (at + 1)
       (if t then Some (put target (memory_of job s (array.base + k)) held) else None)) None
   loaded target array k few fits true e asks =
       let low : k < array.len = ⊎_elim (λ (l : k < array.len). l)
@@ -123,7 +123,7 @@ module _ (job : JobData) (is_job : IsJob job) (s : State) (len : length s ≡ pl
 
   keeps_store : (array : Array) (k v : ℕ) → array.base + array.len ≤ job.cells →
       (t : Bool) → nat_lt k array.len ≡ t → request_in job s i ≡ stores_to k v t array →
-      Follows job s i (if t then Some (at + 1, held) else None)
+      FollowsByItself job s i (if t then Some (at + 1, held) else None)
       (if t then Some (array.base + k, v) else None)
   keeps_store array k v fits true e asks =
       let low : k < array.len = ⊎_elim (λ (l : k < array.len). l)
@@ -149,46 +149,44 @@ module _ (job : JobData) (is_job : IsJob job) (s : State) (len : length s ≡ pl
   store array (Number m) (Number n) fits is too asks =
       keeps_store array m n fits.1 (nat_lt m array.len) refl asks
 
-  jump : (n m : ℕ) → n ≡ m → request_in job s i ≡ goes_to n → Follows job s i (Some (m, held)) None
+  jump : (n m : ℕ) → n ≡ m → request_in job s i ≡ goes_to n →
+      FollowsByItself job s i (Some (m, held)) None
   jump n m e asks = follows_goes job is_job s len i lt m held (asks ∙ ap goes_to e) held_is
 
-  pub follows_one : (one : Instr) → IsInstr job.cells (length job.code) one → IsNamed one →
+  -- what is asked for by an instruction with these operands, and where that goes
+  abbrev AsksWith : (ℕ → ℕ → ℕ) → Operands → Type 0
+  AsksWith computes operands = request_in job s i ≡ request_with job i (counter job s i) computes operands
+      (slice_index (map (register job s i) (read_by operands)) 0)
+      (slice_index (map (register job s i) (read_by operands)) 1)
+      (elim (read_at job operands (slice_index (map (register job s i) (read_by operands)) 0))
+      [ None ↦ 0 | Some cell ↦ slice_index s cell ])
+
+  follows_with : (computes : ℕ → ℕ → ℕ) (operands : Operands) →
+      AreOperands job.cells (length job.code) operands → NamesArrays operands →
+      AsksWith computes operands →
+      FollowsByItself job s i (local_after job (memory_of job s) i at held computes operands)
+      (stored_in held operands)
+  unfolding decided
+  follows_with computes (TargetNumber target number) is named asks =
+      given target number number is.0 refl asks
+  follows_with computes (Target target) is named asks = given target i i is refl asks
+  follows_with computes (TargetTwo target a b) is named asks = given target _ _ is.0
+      (λ k. computes (here a is.1 k) (there a b is.2 k)) asks
+  follows_with computes (TargetPlace target (Named array index)) is named asks =
+      load target array index is.0 is.1.0 is.1.1 asks
+  follows_with computes (TargetPlace target (Cell index)) is named asks = absurd named
+  follows_with computes (PlaceValue (Named array index) value) is named asks =
+      store array index value is.0.0 is.0.1 is.1 asks
+  follows_with computes (PlaceValue (Cell index) value) is named asks = absurd named
+  follows_with computes (RegisterIndex register index) is named asks =
+      jump _ _ (λ k. if here register is.0 k == 0 then index else counter_is k + 1) asks
+  follows_with computes (Index index) is named asks = jump index index refl asks
+  follows_with computes Bare is named asks = jump (halted job) (halted job) refl asks
+
+  pub follows_one : (one : Instr) → IsInstr job.cells (length job.code) one → NamesByArray one →
       Asks one → FollowsBy one
   unfolding decided
-  follows_one (Set target number) is named asks = given target number number is.0 refl asks
-  follows_one (Pid target) is named asks = given target i i is refl asks
-  follows_one (Add target a b) is named asks = given target _ _ is.0
-      (λ k. (here a is.1 k + there a b is.2 k) % 2 ^ 32) asks
-  follows_one (Sub target a b) is named asks = given target _ _ is.0
-      (λ k. (here a is.1 k + (2 ^ 32 - there a b is.2 k)) % 2 ^ 32) asks
-  follows_one (Mul target a b) is named asks = given target _ _ is.0
-      (λ k. (here a is.1 k * there a b is.2 k) % 2 ^ 32) asks
-  follows_one (And target a b) is named asks = given target _ _ is.0
-      (λ k. bit_and (here a is.1 k) (there a b is.2 k)) asks
-  follows_one (Or target a b) is named asks = given target _ _ is.0
-      (λ k. bit_or (here a is.1 k) (there a b is.2 k)) asks
-  follows_one (Xor target a b) is named asks = given target _ _ is.0
-      (λ k. bit_xor (here a is.1 k) (there a b is.2 k)) asks
-  follows_one (Lt target a b) is named asks = given target _ _ is.0
-      ((λ k. if nat_lt (here a is.1 k) (there a b is.2 k) then 1 else 0)
-      ∙ bit_if (nat_lt (held a) (operand_in held b))) asks
-  follows_one (Eq target a b) is named asks = given target _ _ is.0
-      ((λ k. if here a is.1 k == there a b is.2 k then 1 else 0)
-      ∙ bit_if (held a == operand_in held b)) asks
-  follows_one (Shl target a b) is named asks = given target _ _ is.0
-      (λ k. shifted (there a b is.2 k) ((here a is.1 k * 2 ^ there a b is.2 k) % 2 ^ 32)) asks
-  follows_one (Shr target a b) is named asks = given target _ _ is.0
-      (λ k. shifted (there a b is.2 k) (here a is.1 k / 2 ^ there a b is.2 k)) asks
-  follows_one (Ld target (Named array index)) is named asks =
-      load target array index is.0 is.1.0 is.1.1 asks
-  follows_one (Ld target (Cell index)) is named asks = absurd named
-  follows_one (St (Named array index) value) is named asks =
-      store array index value is.0.0 is.0.1 is.1 asks
-  follows_one (St (Cell index) value) is named asks = absurd named
-  follows_one (Jz register index) is named asks =
-      jump _ _ (λ k. if here register is.0 k == 0 then index else counter_is k + 1) asks
-  follows_one (Jmp index) is named asks = jump index index refl asks
-  follows_one Halt is named asks = jump (halted job) (halted job) refl asks
+  follows_one one is named asks = follows_with (computed one) (row_of one).1 is named asks
 
   fetched : (o : Option Instr) → slice_get job.code at ≡ o →
       request_in job s i ≡ elim o [
@@ -196,8 +194,9 @@ module _ (job : JobData) (is_job : IsJob job) (s : State) (len : length s ≡ pl
         | Some one ↦ decided_in job s i
             one
       ] →
-      ((one : Instr) → o ≡ Some one → IsNamed one) →
-      Follows job s i (after_fetched job (memory_of job s) i at held o) (store_at held o)
+      ((one : Instr) → o ≡ Some one → NamesByArray one) →
+      FollowsByItself job s i (after_fetched job (memory_of job s) i at held o)
+      (store_by_instr held o)
   fetched None e asks named = jump (counter job s i) at counter_is asks
   fetched (Some one) e asks named =
       follows_one one (instr_is job at one is_job e) (named one refl) asks
@@ -212,9 +211,10 @@ module _ (job : JobData) (is_job : IsJob job) (s : State) (len : length s ≡ pl
     | Some one ↦ decided_in job s i one
   ]) counter_is
 
-  pub follows_some : ((one : Instr) → slice_get job.code at ≡ Some one → IsNamed one) →
-      Follows job s i (after_fetched job (memory_of job s) i at held (slice_get job.code at))
-      (store_at held (slice_get job.code at))
+  pub follows_some : ((one : Instr) → slice_get job.code at ≡ Some one → NamesByArray one) →
+      FollowsByItself job s i
+      (after_fetched job (memory_of job s) i at held (slice_get job.code at))
+      (store_by_instr held (slice_get job.code at))
   follows_some named = fetched (slice_get job.code at) refl requested named
 
 pub each_by_itself : EachByItself

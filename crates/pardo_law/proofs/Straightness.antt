@@ -10,14 +10,14 @@ use Rattle.pardo_text.specs.declared.operation.Op.TheVariants.{Add, Sub, Mul, Di
 use Rattle.pardo_text.specs.declared.operation.Op.TheVariants.{BitAnd, BitOr, BitXor, Eq, Ne}
 use Rattle.pardo_text.specs.declared.operation.Op.TheVariants.{Lt, Le, Gt, Ge, And, Or, Min, Max}
 use Rattle.pardo_text.specs.Expression.{Tree, number, own, loop, private, place, apply}
-use Rattle.pardo_job.specs.Layouts.{LayoutData}
+use Rattle.pardo_job.specs.Layouts.{ProgramLayoutData}
 use Rattle.pardo_job.specs.Lines.{condition_code, while_code, none_code, turn_code}
 use Rattle.pardo_job.specs.Operations.{native, choice, conjunction, operation_code, negation}
-use Rattle.pardo_job.specs.Operations.{register_code, register_of}
+use Rattle.pardo_job.specs.Operations.{register_code, register_or_spare}
 use Rattle.pardo_job.specs.Operations.{instruction_of, in_order, is_turned, zero_test, tested_in}
 use Rattle.pardo_job.specs.Operations.{copy_code, chosen_of, is_max}
 use Rattle.pardo_job.specs.Operations.{first_chosen, second_chosen, taken_by}
-use Rattle.pardo_job.specs.Values.{value_code, takes, operand_of, is_truth}
+use Rattle.pardo_job.specs.Values.{value_code, takes, value_operand, is_truth}
 use Rattle.pardo_law.specs.Locals.{IsStraight, AreStraight}
 use Rattle.pardo_law.specs.Locals.{ExpressionsAreStraight}
 use Rattle.pardo_law.proofs.Placing.{straight_append}
@@ -58,9 +58,9 @@ order_straight : (at : ℕ) (op : Op) (first second : Operand) →
     AreStraight (in_order at op first second)
 order_straight at op first second =
     straight_append (register_code (at + taken_by second) first)
-    (instruction_of op at (register_of (at + taken_by second) first) second ∷ [])
+    (instruction_of op at (register_or_spare (at + taken_by second) first) second ∷ [])
     (register_straight (at + taken_by second) first)
-    (instruction_straight op at (register_of (at + taken_by second) first) second, tt)
+    (instruction_straight op at (register_or_spare (at + taken_by second) first) second, tt)
 
 pub native_straight : (at : ℕ) (op : Op) (first second : Operand) →
     AreStraight (native at op first second)
@@ -74,7 +74,8 @@ negation_straight at = (tt, tt)
 
 zero_straight : (spare : ℕ) (operand : Operand) → AreStraight (zero_test spare operand)
 zero_straight spare operand = straight_append (register_code spare operand)
-    (instr.Eq (tested_in spare (register_of spare operand)) (register_of spare operand) (Number 0) ∷
+    (instr.Eq (tested_in spare (register_or_spare spare operand)) (register_or_spare spare operand)
+    (Number 0) ∷
     [])
     (register_straight spare operand) (tt, tt)
 
@@ -126,7 +127,7 @@ operation_straight at Min t a b = choice_straight at Min a b
 operation_straight at Max t a b = choice_straight at Max a b
 operation_straight at op t a b = native_straight at op a b
 
-pub value_straight : (layout : LayoutData) (at : ℕ) (tree : Tree) →
+pub value_straight : (layout : ProgramLayoutData) (at : ℕ) (tree : Tree) →
     AreStraight (value_code layout at tree)
 value_straight layout at (number k) = tt
 value_straight layout at own = tt
@@ -138,36 +139,37 @@ value_straight layout at (apply op first second) =
     straight_append (value_code layout at first) _ (value_straight layout at first)
     (straight_append (value_code layout (at + takes first) second) _
     (value_straight layout (at + takes first) second)
-    (operation_straight at op (is_truth first && is_truth second) (operand_of at first)
-    (operand_of (at + takes first) second)))
+    (operation_straight at op (is_truth first && is_truth second) (value_operand at first)
+    (value_operand (at + takes first) second)))
 
-pub condition_straight : (layout : LayoutData) (tree : Tree) →
+pub condition_straight : (layout : ProgramLayoutData) (tree : Tree) →
     AreStraight (condition_code layout tree)
 unfolding condition_code
 condition_straight layout tree =
     straight_append (value_code layout 0 tree) _ (value_straight layout 0 tree)
     (straight_if (is_truth tree) [] _ tt
-    (straight_append (native 0 Eq (operand_of 0 tree) (Number 0)) _
-    (native_straight 0 Eq (operand_of 0 tree) (Number 0))
+    (straight_append (native 0 Eq (value_operand 0 tree) (Number 0)) _
+    (native_straight 0 Eq (value_operand 0 tree) (Number 0))
     (native_straight 0 Eq (Register 0) (Number 0))))
 
-pub while_straight : (layout : LayoutData) (tree : Tree) → AreStraight (while_code layout tree)
+pub while_straight : (layout : ProgramLayoutData) (tree : Tree) →
+    AreStraight (while_code layout tree)
 unfolding while_code
 while_straight layout tree = straight_append (value_code layout 0 tree) _
     (value_straight layout 0 tree)
-    (register_straight 0 (operand_of 0 tree))
+    (register_straight 0 (value_operand 0 tree))
 
-pub none_straight : (layout : LayoutData) (up : Bool) (first last : Tree) →
+pub none_straight : (layout : ProgramLayoutData) (up : Bool) (first last : Tree) →
     AreStraight (none_code layout up first last)
 unfolding none_code
 none_straight layout up first last =
     straight_append (value_code layout 0 first) _ (value_straight layout 0 first)
     (straight_append (value_code layout (takes first) last) _
     (value_straight layout (takes first) last)
-    (native_straight 0 (if up then Gt else Lt) (operand_of 0 first)
-    (operand_of (takes first) last)))
+    (native_straight 0 (if up then Gt else Lt) (value_operand 0 first)
+    (value_operand (takes first) last)))
 
-pub turn_straight : (layout : LayoutData) (nest : ℕ) (last : Tree) →
+pub turn_straight : (layout : ProgramLayoutData) (nest : ℕ) (last : Tree) →
     AreStraight (turn_code layout nest last)
 unfolding turn_code
 turn_straight layout nest last = (

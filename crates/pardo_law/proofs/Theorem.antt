@@ -8,11 +8,11 @@ use Rattle.pardo_text.specs.Program.{ProgramData}
 use Rattle.pardo_text.proofs.LawFors.{turns_tied}
 use Rattle.pardo_job.specs.Carries.{Carries, ComesFrom}
 use Rattle.pardo_job.specs.Compiled.{IsCompiled}
-use Rattle.pardo_job.specs.Conflicts.{Dispute}
+use Rattle.pram_step.specs.declared.answer.Dispute.{Dispute}
 use Rattle.pardo_job.specs.Meaning.{after}
-use Rattle.pardo_job.specs.Runs.{IsConflict, line_number}
+use Rattle.pardo_job.specs.Runs.{IsProgramConflict, line_number}
 use Rattle.pardo_law.specs.Theorem.{JobsCarryPrograms}
-use Rattle.pardo_law.proofs.Advancing.{Carried}
+use Rattle.pardo_law.proofs.Carried.{Carried}
 use Rattle.pardo_law.proofs.Carrying.{carried_after, line_next, time_of, time_next}
 use Rattle.pardo_law.proofs.Disputing.{InConflict, in_conflict, line_number_is}
 use Rattle.pardo_law.proofs.Finishing.{finishes}
@@ -51,7 +51,7 @@ module _ (program : ProgramData) (job : JobData) (line_of : ℕ → ℕ) (lawful
     tied = tied program nested;
   }
 
-  pub step_of : (n : ℕ) (dispute : Dispute) → IsConflict program n dispute →
+  pub step_of : (n : ℕ) (dispute : Dispute) → IsProgramConflict program n dispute →
       IsStep program job line_of n dispute
   step_of n dispute is =
       let t : ℕ = time_of program n in

@@ -12,35 +12,36 @@ use Rattle.pardo_text.specs.Nested.{IsNested}
 use Rattle.pardo_text.specs.Program.{ProgramData}
 use Rattle.pardo_job.specs.Carries.{Carries, ComesFrom}
 use Rattle.pardo_job.specs.Compiled.{IsCompiled}
-use Rattle.pardo_job.specs.Conflicts.{Writes}
-use Rattle.pardo_job.specs.Layouts.{layout_of, private_cells}
+use Rattle.pardo_job.specs.Conflicts.{Assigns}
+use Rattle.pardo_job.specs.Layouts.{program_layout, private_cells}
 use Rattle.pardo_job.specs.Meaning.{Source, after}
-use Rattle.pardo_job.specs.Runs.{IsOver, IsReached, line_number}
+use Rattle.pardo_job.specs.Runs.{IsProgramOver, IsLineReached, line_number}
 use Rattle.pardo_job.specs.Shows.{own_cell}
 
 -- ---- which lines are made
 
 -- After t steps n lines are made, and no more, where the first k lines take `time k` steps. The
 -- first step comes before all lines.
-pub record AreMade (program : ProgramData) (time : ℕ → ℕ) (t n : ℕ) : Type 0 where
-  pub reached : IsReached program n
+pub record AreLinesMade (program : ProgramData) (time : ℕ → ℕ) (t n : ℕ) : Type 0 where
+  pub reached : IsLineReached program n
   pub made : (n ≡ 0) ⊎ (time n ≤ t)
-  pub no_more : IsOver program (after program n) ⊎ (t < time (n + 1))
+  pub no_more : IsProgramOver program (after program n) ⊎ (t < time (n + 1))
 
 -- with the steps their number never falls, so it is one
 abbrev pub LinesNeverFall : Type 0
 LinesNeverFall = (program : ProgramData) (time : ℕ → ℕ) (t u n m : ℕ) →
-    ((k : ℕ) → time k ≤ time (k + 1)) → AreMade program time t n → AreMade program time u m →
+    ((k : ℕ) → time k ≤ time (k + 1)) → AreLinesMade program time t n →
+    AreLinesMade program time u m →
     t ≤ u → n ≤ m
 
 -- ---- what is shown
 
 -- Arrays and private variables hold what they hold in the program's state.
-pub record Holds (program : ProgramData) (source : Source) (state : State) : Type 0 where
-  pub cells : (cell : ℕ) → cell < (layout_of program).shared →
+pub record HoldsVariables (program : ProgramData) (source : Source) (state : State) : Type 0 where
+  pub cells : (cell : ℕ) → cell < (program_layout program).shared →
       slice_index state cell ≡ source.cells cell
-  pub privates : (x i : ℕ) → x < (layout_of program).privates → i < program.procs →
-      own_cell state (private_cells (layout_of program) x) i ≡ source.privates x i
+  pub privates : (x i : ℕ) → x < (program_layout program).privates → i < program.procs →
+      own_cell state (private_cells (program_layout program) x) i ≡ source.privates x i
 
 -- the instruction that processor i executes in the step after t
 abbrev pub Executes : JobData → ℕ → ℕ → Instr → Type 0
@@ -50,7 +51,8 @@ Executes job t i instr = slice_get job.code (counter job (state_after job t) i) 
 -- first step `pid`, and after the last line `halt`.
 abbrev pub IsInLine : ProgramData → JobData → (ℕ → ℕ) → ℕ → Source → ℕ → Type 0
 IsInLine program job line_of t source i = ComesFrom job line_of t i (line_number program source)
-    ⊎ (((t ≡ 0) × Executes job t i (Pid 3)) ⊎ (IsOver program source × Executes job t i Halt))
+    ⊎ (((t ≡ 0) × Executes job t i (Pid 3))
+    ⊎ (IsProgramOver program source × Executes job t i Halt))
 
 -- In the step after t the counter of processor i comes to say that it is gone.
 pub record LeavesIn (job : JobData) (t i : ℕ) : Type 0 where
@@ -67,16 +69,17 @@ PutsTo job t cell i value = (request_in job (state_after job t) i).put ≡ Some 
 -- that line, and who leaves in it is gone in that line.
 pub record GoesThrough (program : ProgramData) (job : JobData) (line_of : ℕ → ℕ) : Type 0 where
   pub carries : Carries program job line_of
-  pub made : (t : ℕ) → machine.IsReached job t → (n : ℕ) × AreMade program carries.time t n
-  pub holds : (t n : ℕ) → machine.IsReached job t → AreMade program carries.time t n →
-      Holds program (after program n) (state_after job t)
-  pub lines : (t n i : ℕ) → machine.IsReached job t → AreMade program carries.time t n →
+  pub made : (t : ℕ) → machine.IsReached job t → (n : ℕ) × AreLinesMade program carries.time t n
+  pub holds : (t n : ℕ) → machine.IsReached job t → AreLinesMade program carries.time t n →
+      HoldsVariables program (after program n) (state_after job t)
+  pub lines : (t n i : ℕ) → machine.IsReached job t → AreLinesMade program carries.time t n →
       i < program.procs → counter job (state_after job t) i < halted job →
       IsInLine program job line_of t (after program n) i
   pub writes : (t n cell i value : ℕ) → machine.IsReached job t →
-      AreMade program carries.time t n → i < program.procs → cell < (layout_of program).shared →
-      PutsTo job t cell i value → Writes program (after program n) cell i value
-  pub leaves : (t n i : ℕ) → machine.IsReached job (t + 1) → AreMade program carries.time t n →
+      AreLinesMade program carries.time t n → i < program.procs →
+      cell < (program_layout program).shared →
+      PutsTo job t cell i value → Assigns program (after program n) cell i value
+  pub leaves : (t n i : ℕ) → machine.IsReached job (t + 1) → AreLinesMade program carries.time t n →
       i < program.procs → LeavesIn job t i →
       (after program (n + 1)).gone i ≡ Some (line_number program (after program n))
 

@@ -4,18 +4,23 @@ use Rattle.std.specs.Prelude.{List, [], ◌∷◌, unwrap_or}
 use Rattle.std.specs.Option.{option_and_then}
 use Rattle.std.specs.Prelude.{length, slice_get, slice_index, Option, Some, None}
 use Rattle.pram_job.specs.declared.instr.Instr.{Instr}
-use Rattle.pram_job.specs.declared.instr.Instr.TheVariants.{Ld, St, Jz, Jmp, Halt}
+use Rattle.pram_job.specs.declared.instr.Operands.{Operands}
+use Rattle.pram_job.specs.declared.instr.Operands.TheVariants.{Bare, Target, TargetNumber}
+use Rattle.pram_job.specs.declared.instr.Operands.TheVariants.{TargetPlace, TargetTwo, PlaceValue}
+use Rattle.pram_job.specs.declared.instr.Operands.TheVariants.{RegisterIndex, Index}
 use Rattle.pram_job.specs.declared.instr.Place.TheVariants.{Cell, Named}
+use Rattle.pram_job.specs.Instructions.{row_of}
 use Rattle.pram_job.specs.Job.{JobData, IsJob}
-use Rattle.pram_machine.specs.Instructions.{request_in}
+use Rattle.pram_machine.specs.Instructions.{computed, request_in}
 use Rattle.pram_machine.specs.Machine.{State, register, counter, out_of_range, halted, place_count}
 use Rattle.pram_step.specs.Runs.{state_after, IsReached}
-use Rattle.pram_step.specs.Steps.{Forbids, next_state}
+use Rattle.pram_step.specs.Disputes.{Forbids}
+use Rattle.pram_step.specs.Steps.{next_state}
 use Rattle.pardo_text.specs.Expression.{Tree}
-use Rattle.pardo_job.specs.Layouts.{LayoutData}
+use Rattle.pardo_job.specs.Layouts.{ProgramLayoutData}
 use Rattle.pardo_job.specs.Lines.{idle}
 use Rattle.pardo_job.specs.Meaning.{first_below, given_to}
-use Rattle.pardo_job.specs.Straight.{Registers, operand_in, after_one, after_all}
+use Rattle.pardo_job.specs.Straight.{Registers, operand_in, registers_after, after_all}
 use Rattle.pardo_job.specs.Values.{value_code}
 
 -- ---- what a state holds
@@ -42,14 +47,21 @@ abbrev pub standing_at : ℕ → Option Registers → Local
 standing_at at None = None
 standing_at at (Some held) = Some (at, held)
 
-abbrev pub after_instr : JobData → (ℕ → ℕ) → ℕ → ℕ → Registers → Instr → Local
-after_instr job memory i at held (St (Named array index) value) =
+-- where processor i goes from `at` by an instruction that has these operands, and computes this of
+-- two numbers
+abbrev pub local_after : JobData → (ℕ → ℕ) → ℕ → ℕ → Registers → (ℕ → ℕ → ℕ) → Operands → Local
+local_after job memory i at held computes (PlaceValue (Named array index) value) =
     if nat_lt (operand_in held index) array.len then Some (at + 1, held) else None
-after_instr job memory i at held (Jz register index) =
+local_after job memory i at held computes (RegisterIndex register index) =
     Some (if held register == 0 then index else at + 1, held)
-after_instr job memory i at held (Jmp index) = Some (index, held)
-after_instr job memory i at held Halt = Some (halted job, held)
-after_instr job memory i at held instr = standing_at (at + 1) (after_one memory i instr held)
+local_after job memory i at held computes (Index index) = Some (index, held)
+local_after job memory i at held computes Bare = Some (halted job, held)
+local_after job memory i at held computes operands =
+    standing_at (at + 1) (registers_after memory i computes operands held)
+
+abbrev pub after_instr : JobData → (ℕ → ℕ) → ℕ → ℕ → Registers → Instr → Local
+after_instr job memory i at held instr =
+    local_after job memory i at held (computed instr) (row_of instr).1
 
 -- behind the code it stays
 abbrev pub after_fetched : JobData → (ℕ → ℕ) → ℕ → ℕ → Registers → Option Instr → Local
@@ -61,35 +73,43 @@ next_local job memory i None = None
 next_local job memory i (Some local) =
     after_fetched job memory i local.0 local.1 (slice_get job.code local.0)
 
--- the cell that it stores to, and the value
-abbrev pub store_by : Registers → Instr → Option (ℕ × ℕ)
-store_by held (St (Named array index) value) = if nat_lt (operand_in held index) array.len
+-- the cell that an instruction with these operands stores to, and the value
+abbrev pub stored_in : Registers → Operands → Option (ℕ × ℕ)
+stored_in held (PlaceValue (Named array index) value) =
+    if nat_lt (operand_in held index) array.len
     then Some (array.base + operand_in held index, operand_in held value) else None
-store_by held instr = None
+stored_in held operands = None
 
-abbrev pub store_at : Registers → Option Instr → Option (ℕ × ℕ)
-store_at held None = None
-store_at held (Some instr) = store_by held instr
+abbrev pub store_by : Registers → Instr → Option (ℕ × ℕ)
+store_by held instr = stored_in held (row_of instr).1
+
+abbrev pub store_by_instr : Registers → Option Instr → Option (ℕ × ℕ)
+store_by_instr held None = None
+store_by_instr held (Some instr) = store_by held instr
 
 abbrev pub store_of : JobData → Local → Option (ℕ × ℕ)
 store_of job None = None
-store_of job (Some local) = store_at local.1 (slice_get job.code local.0)
+store_of job (Some local) = store_by_instr local.1 (slice_get job.code local.0)
 
 -- ---- in a step of all
 
 -- cells are named by arrays alone
-abbrev pub IsNamed : Instr → Type 0
-IsNamed (Ld target (Cell index)) = ⊥
-IsNamed (St (Cell index) value) = ⊥
-IsNamed instr = Unit {0}
+abbrev pub NamesArrays : Operands → Type 0
+NamesArrays (TargetPlace target (Cell index)) = ⊥
+NamesArrays (PlaceValue (Cell index) value) = ⊥
+NamesArrays operands = Unit {0}
+
+abbrev pub NamesByArray : Instr → Type 0
+NamesByArray instr = NamesArrays (row_of instr).1
 
 abbrev pub IsNamedAt : JobData → Local → Type 0
 IsNamedAt job None = Unit {0}
 IsNamedAt job (Some local) =
-    (instr : Instr) → slice_get job.code local.0 ≡ Some instr → IsNamed instr
+    (instr : Instr) → slice_get job.code local.0 ≡ Some instr → NamesByArray instr
 
 -- after a step the processor is there where it went by itself, and it wrote what it stored alone
-pub record Follows (job : JobData) (state : State) (i : ℕ) (local : Local) (store : Option (ℕ × ℕ))
+pub record FollowsByItself (job : JobData) (state : State) (i : ℕ) (local : Local)
+    (store : Option (ℕ × ℕ))
     :
     Type 0 where
   pub local_is : IsLocal job (next_state job state) i local
@@ -103,53 +123,60 @@ abbrev pub EachByItself : Type 0
 EachByItself = (job : JobData) (state : State) (i : ℕ) (local : Local) → IsJob job →
     length state ≡ place_count job → i < job.procs → IsLocal job state i local →
     IsNamedAt job local →
-    Follows job state i (next_local job (memory_of job state) i local) (store_of job local)
+    FollowsByItself job state i (next_local job (memory_of job state) i local) (store_of job local)
 
 -- After t steps, none of which is in conflict, memory is this, and each processor is there.
-pub record Standing (job : JobData) (t : ℕ) (memory : ℕ → ℕ) (locals : ℕ → Local) : Type 0 where
+pub record StandsAfter (job : JobData) (t : ℕ) (memory : ℕ → ℕ) (locals : ℕ → Local) : Type 0 where
   pub reached : IsReached job t
   pub memory_is : memory_of job (state_after job t) ≡ memory
   pub locals_are : (i : ℕ) → i < job.procs → IsLocal job (state_after job t) i (locals i)
 
 -- ---- straight code
 
--- it gives a register a value, and stores and jumps nowhere
+-- an instruction with these operands gives a register a value, and stores and jumps nowhere
+abbrev pub GivesRegister : Operands → Type 0
+GivesRegister Bare = ⊥
+GivesRegister (Target target) = Unit {0}
+GivesRegister (TargetNumber target number) = Unit {0}
+GivesRegister (TargetPlace target (Cell index)) = ⊥
+GivesRegister (TargetPlace target (Named array index)) = Unit {0}
+GivesRegister (TargetTwo target a b) = Unit {0}
+GivesRegister (PlaceValue place value) = ⊥
+GivesRegister (RegisterIndex register index) = ⊥
+GivesRegister (Index index) = ⊥
+
 abbrev pub IsStraight : Instr → Type 0
-IsStraight (Ld target (Cell index)) = ⊥
-IsStraight (St at value) = ⊥
-IsStraight (Jz at index) = ⊥
-IsStraight (Jmp index) = ⊥
-IsStraight Halt = ⊥
-IsStraight _ = Unit {0}
+IsStraight instr = GivesRegister (row_of instr).1
 
 abbrev pub AreStraight : List Instr → Type 0
 AreStraight [] = Unit {0}
 AreStraight (one ∷ code) = IsStraight one × AreStraight code
 
 -- the code of the job has this code at a place
-abbrev pub StandsAt : JobData → ℕ → List Instr → Type 0
-StandsAt job at [] = Unit {0}
-StandsAt job at (one ∷ code) = (slice_get job.code at ≡ Some one) × StandsAt job (at + 1) code
+abbrev pub HasCodeAt : JobData → ℕ → List Instr → Type 0
+HasCodeAt job at [] = Unit {0}
+HasCodeAt job at (one ∷ code) = (slice_get job.code at ≡ Some one) × HasCodeAt job (at + 1) code
 
 -- Processors that stand before straight code stand after it so many steps later, with what it
 -- leaves in their registers, or are out of range; and memory is what it was.
 abbrev pub StraightCodeRuns : Type 0
 StraightCodeRuns = (job : JobData) (t at : ℕ) (memory : ℕ → ℕ) (code : List Instr)
-    (held : ℕ → Option Registers) → IsJob job → AreStraight code → StandsAt job at code →
-    Standing job t memory (λ i. standing_at at (held i)) →
-    Standing job (t + length code) memory
+    (held : ℕ → Option Registers) → IsJob job → AreStraight code → HasCodeAt job at code →
+    StandsAfter job t memory (λ i. standing_at at (held i)) →
+    StandsAfter job (t + length code) memory
     (λ i. standing_at (at + length code) (option_and_then (after_all memory i code) (held i)))
 
 -- the code of an expression stores and jumps nowhere
 abbrev pub ExpressionsAreStraight : Type 0
-ExpressionsAreStraight = (layout : LayoutData) (at : ℕ) (tree : Tree) →
+ExpressionsAreStraight = (layout : ProgramLayoutData) (at : ℕ) (tree : Tree) →
     AreStraight (value_code layout at tree)
 
 -- Steps that do nothing keep all that processors have.
 abbrev pub IdlingStays : Type 0
 IdlingStays = (job : JobData) (t at count : ℕ) (memory : ℕ → ℕ) (held : ℕ → Registers) →
-    IsJob job → StandsAt job at (idle at count) → Standing job t memory (λ i. Some (at, held i)) →
-    Standing job (t + count) memory (λ i. Some (at + count, held i))
+    IsJob job → HasCodeAt job at (idle at count) →
+    StandsAfter job t memory (λ i. Some (at, held i)) →
+    StandsAfter job (t + count) memory (λ i. Some (at + count, held i))
 
 -- ---- stores
 
@@ -166,9 +193,9 @@ after_stores procs stores memory cell =
 -- A step in which processors store as the rule allows.
 abbrev pub StoresAreMade : Type 0
 StoresAreMade = (job : JobData) (t : ℕ) (memory : ℕ → ℕ) (locals : ℕ → Local) → IsJob job →
-    Standing job t memory locals →
+    StandsAfter job t memory locals →
     ((i : ℕ) → i < job.procs → IsNamedAt job (locals i)) →
     StoresAgree job (λ i. store_of job (locals i)) →
-    (now : ℕ → ℕ) × Standing job (suc t) now (λ i. next_local job memory i (locals i))
+    (now : ℕ → ℕ) × StandsAfter job (suc t) now (λ i. next_local job memory i (locals i))
     × ((cell : ℕ) → cell < job.cells →
     now cell ≡ after_stores job.procs (λ i. store_of job (locals i)) memory cell)

@@ -1,6 +1,6 @@
 //! The laws of code that carries the meaning: each function does nothing, and says to a proof that
 //! its law holds.
-ghost use Rattle.pardo_job.specs.Laws.{AnyWriterCounts, CrewIsAccepted, OneDispute};
+ghost use Rattle.pardo_job.specs.Laws.{AnyWriterCounts, CrewIsAccepted, OneLineDispute};
 ghost use Rattle.pardo_job.specs.Laws.{RuleChangesNoState, UnwrittenIsKept};
 ghost use Rattle.pardo_law.specs.Between.{JobsGoThrough, LinesNeverFall};
 ghost use Rattle.pardo_law.specs.Locals.{EachByItself, ExpressionsAreStraight, IdlingStays};
@@ -85,7 +85,7 @@ pub fn unwritten_is_kept()
 
 /// A line has one dispute at most.
 pub fn one_dispute()
-    ensures { OneDispute }
+    ensures { OneLineDispute }
 {}
 
 /// By every rule the states of a run are the same, as far as there are some.

@@ -12,7 +12,7 @@ use Rattle.pardo_text.specs.Expressions.{Read, Inner, operator_at, operand_at, j
 use Rattle.pardo_text.specs.Expressions.{turns_at, level_at, within_at}
 use Rattle.pardo_text.specs.Names.{Names}
 use Rattle.pardo_text.specs.Operations.{loosest, level_of, is_division}
-use Rattle.pardo_text.specs.Reads.{◌>>=◌}
+use Rattle.text_lines.specs.Reads.{◌>>=◌}
 use Rattle.pardo_text.specs.Tokens.{Token}
 
 -- ---- brackets

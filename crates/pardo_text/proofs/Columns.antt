@@ -13,8 +13,8 @@ use Rattle.pardo_text.specs.declared.expression.Node.{Node}
 use Rattle.pardo_text.specs.declared.expression.Node.TheVariants.{Place, Apply}
 use Rattle.pardo_text.specs.Expression.{Tree, number, own, loop, private, place, apply, postfix}
 use Rattle.pardo_text.specs.Inner.Columns.{below, quotients, with_column, column_after, top_of}
-use Rattle.pardo_text.specs.Operations.{is_division, value_of}
-use Rattle.pardo_text.specs.Reads.{◌>>=◌}
+use Rattle.pardo_text.specs.Operations.{is_division, operation_value}
+use Rattle.text_lines.specs.Reads.{◌>>=◌}
 use Rattle.pardo_text.specs.Values.{value_for, values_for, quotient_of}
 
 -- ---- parts one after another
@@ -49,7 +49,7 @@ test_outside true value = refl
 test_outside false value = tt
 
 quotient_outside : (op : Op) (a b : ℕ) → IsOutside (quotient_of op a b)
-quotient_outside op a b = test_outside (is_division op && (b == 0)) (value_of op a b)
+quotient_outside op a b = test_outside (is_division op && (b == 0)) (operation_value op a b)
 
 quotients_outside : (op : Op) (values others : List ℕ) → IsOutside (quotients op values others)
 quotients_outside op [] others = tt

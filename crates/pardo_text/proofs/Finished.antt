@@ -8,17 +8,18 @@ use Rattle.pardo_text.specs.declared.draft.Stage.TheVariants as stage
 use Rattle.pardo_text.specs.declared.fault.PardoKind.TheVariants.{BadHeader, OpenBlock, NoCode}
 use Rattle.pardo_text.specs.declared.statement.Line.{Line}
 use Rattle.pardo_text.specs.Drafts.{Draft}
-use Rattle.pardo_text.specs.Reading.{finished, said_so_far}
+use Rattle.pardo_text.specs.Reading.{finished_draft, said_so_far}
 
 pub finished-early : (s : Stage) (blocks : List Block) (lines : List Line) (draft : Draft) →
-    (s ≡ stage.Code → ⊥) → finished s blocks lines draft ≡ Err BadHeader
+    (s ≡ stage.Code → ⊥) → finished_draft s blocks lines draft ≡ Err BadHeader
 finished-early stage.Version blocks lines draft other = refl
 finished-early stage.Rule blocks lines draft other = refl
 finished-early stage.Header blocks lines draft other = refl
 finished-early stage.Code blocks lines draft other = absurd (other refl)
 
 pub finished-open : (s : Stage) (blocks : List Block) (lines : List Line) (draft : Draft) →
-    s ≡ stage.Code → (length blocks == 0) ≡ false → finished s blocks lines draft ≡ Err OpenBlock
+    s ≡ stage.Code → (length blocks == 0) ≡ false →
+    finished_draft s blocks lines draft ≡ Err OpenBlock
 finished-open stage.Code (block ∷ blocks) lines draft is some = refl
 finished-open stage.Code [] lines draft is some = absurd (let no : true ≡ false = some in cc)
 finished-open stage.Version blocks lines draft is some = absurd (cc)
@@ -27,7 +28,7 @@ finished-open stage.Header blocks lines draft is some = absurd (cc)
 
 pub finished-empty : (s : Stage) (blocks : List Block) (lines : List Line) (draft : Draft) →
     s ≡ stage.Code → (length blocks == 0) ≡ true → (length lines == 0) ≡ true →
-    finished s blocks lines draft ≡ Err NoCode
+    finished_draft s blocks lines draft ≡ Err NoCode
 finished-empty stage.Code [] [] draft is closed none = refl
 finished-empty stage.Code [] (line ∷ lines) draft is closed none =
     absurd (let no : length (line ∷ lines) ≡ 0 = eqb-true _ _ none in omega arith)
@@ -39,7 +40,7 @@ finished-empty stage.Header blocks lines draft is closed none = absurd (cc)
 
 pub finished-whole : (s : Stage) (blocks : List Block) (lines : List Line) (draft : Draft) →
     s ≡ stage.Code → (length blocks == 0) ≡ true → (length lines == 0) ≡ false →
-    finished s blocks lines draft ≡ Ok (said_so_far draft)
+    finished_draft s blocks lines draft ≡ Ok (said_so_far draft)
 finished-whole stage.Code [] (line ∷ lines) draft is closed some = refl
 finished-whole stage.Code [] [] draft is closed some = absurd (let no : true ≡ false = some in cc)
 finished-whole stage.Code (block ∷ blocks) lines draft is closed some =

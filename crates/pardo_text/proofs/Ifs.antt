@@ -1,7 +1,7 @@
 -- What holds of a part of a reading that has no fault.
 use Rattle.std.proofs.Common.{◌≡◌, refl, Bool, true, false, Result, Ok, Err, IfOk, if◌then◌else◌}
 use Rattle.pardo_text.specs.declared.fault.PardoKind.{PardoKind}
-use Rattle.pardo_text.specs.Reads.{◌>>=◌}
+use Rattle.text_lines.specs.Reads.{◌>>=◌}
 
 pub ok_bind : {A B : Type 0} → (read : Result A PardoKind) (next : A → Result B PardoKind)
     (P : A → Type 0) (Q : B → Type 0) → IfOk read P → ((x : A) → P x → IfOk (next x) Q) →

@@ -4,7 +4,7 @@ use Rattle.pardo_text.specs.declared.fault.PardoFault.{PardoFault}
 use Rattle.pardo_text.specs.declared.fault.PardoKind.{PardoKind}
 use Rattle.pardo_text.specs.declared.fault.PardoKind.TheVariants.{Memory}
 use Rattle.pardo_text.specs.Drafts.{Draft}
-use Rattle.pardo_text.specs.Reading.{IsRefusal, and_then, on_line, program_after}
+use Rattle.pardo_text.specs.Reading.{IsReaderRefusal, and_then, on_line, program_after}
 use Rattle.pardo_text.specs.Reading.{program_of, with_text_line}
 
 -- a line is taken
@@ -33,7 +33,7 @@ same_fault fault line kind e f =
 pub IsRefusal-from : (text : List ℕ) (fault : PardoFault) (line : ℕ) (kind : PardoKind) →
     fault.kind ≡ kind → (kind ≢ Memory → fault.line ≡ line) → (kind ≡ Memory → fault.line ≡ 0) →
     (kind ≢ Memory → program_of text ≡ Err (record { line = line; kind = kind })) →
-    IsRefusal text fault
+    IsReaderRefusal text fault
 IsRefusal-from text fault line kind is here memory told = (
   λ other.
       let spoken : kind ≢ Memory = λ e. other (is ∙ e) in

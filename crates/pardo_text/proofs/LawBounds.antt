@@ -14,10 +14,11 @@ use Rattle.pardo_text.specs.declared.statement.Target.{Target}
 use Rattle.pardo_text.specs.declared.statement.Target.TheVariants as target
 use Rattle.pardo_text.specs.Expression.{Tree, number, own, loop, private, place, apply}
 use Rattle.pardo_text.specs.Expressions.{applied, joined, constant_of, is_zero}
-use Rattle.pardo_text.specs.Lawful.{Bounds, IsTree, IsCommonTree, IsTarget, IsStatement, IsLine}
+use Rattle.pardo_text.specs.Lawful.{Bounds, IsExpression, IsCommonTree, IsTarget, IsStatement}
+use Rattle.pardo_text.specs.Lawful.{IsLine}
 use Rattle.text_lines.specs.Lines.{Word}
 use Rattle.pardo_text.specs.Names.{Names, admits, divides, tree_from}
-use Rattle.pardo_text.specs.Operations.{level_of, is_division, value_of}
+use Rattle.pardo_text.specs.Operations.{level_of, is_division, operation_value}
 use Rattle.pardo_text.proofs.Ifs.{ok_if}
 use Rattle.pardo_text.proofs.LawTrees.{Keeps, IsBare}
 use Rattle.pardo_text.proofs.LawValues.{value_small}
@@ -53,7 +54,7 @@ module _ (b c : Bounds) (g : Grows b c) where
   pub things_more : (names : Names) → AreThings b names → AreThings c names
   things_more names are word found e = thing_more found (are word found e)
 
-  pub tree_more : (tree : Tree) → IsTree b tree → IsTree c tree
+  pub tree_more : (tree : Tree) → IsExpression b tree → IsExpression c tree
   tree_more (number value) is = is
   tree_more own is = tt
   tree_more (loop nest) is = omega (arith, is, g.loops)
@@ -93,7 +94,7 @@ module _ (b c : Bounds) (g : Grows b c) where
 
 -- what an operation of two expressions makes
 pub applied_keeps : (P : Tree → Type 0) (op : Op) (first second : Tree) →
-    ((a b : ℕ) → first ≡ number a → second ≡ number b → P (number (value_of op a b))) →
+    ((a b : ℕ) → first ≡ number a → second ≡ number b → P (number (operation_value op a b))) →
     P (apply op first second) → P (applied op first second)
 applied_keeps P op (number a) (number b) known both = known a b refl refl
 applied_keeps P op (number a) own known both = both
@@ -107,13 +108,13 @@ applied_keeps P op (private x) second known both = both
 applied_keeps P op (place array index) second known both = both
 applied_keeps P op (apply other first more) second known both = both
 
-as_number : (b : Bounds) (tree : Tree) (value : ℕ) → tree ≡ number value → IsTree b tree →
+as_number : (b : Bounds) (tree : Tree) (value : ℕ) → tree ≡ number value → IsExpression b tree →
     value < 2 ^ 32
-as_number b tree value e is = subst (IsTree b) e is
+as_number b tree value e is = subst (IsExpression b) e is
 
 applied_tree : (b : Bounds) (op : Op) (first second : Tree) → is_division op ≡ false →
-    IsTree b first → IsTree b second → IsTree b (applied op first second)
-applied_tree b op first second whole p q = applied_keeps (IsTree b) op first second
+    IsExpression b first → IsExpression b second → IsExpression b (applied op first second)
+applied_tree b op first second whole p q = applied_keeps (IsExpression b) op first second
     (λ x y e f. value_small op x y (as_number b first x e p) (as_number b second y f q))
     (whole, p, q)
 
@@ -124,7 +125,7 @@ before_no_division Rem e = absurd (omega arith)
 before_no_division op e = refl
 
 bare_tree : (b : Bounds) (found : Named) → IsBare found → IsThing b found →
-    IsTree b (tree_from found)
+    IsExpression b (tree_from found)
 bare_tree b (thing.Constant value) bare is = is
 bare_tree b thing.Own bare is = tt
 bare_tree b (thing.Scalar array) bare is = (is, omega arith)
@@ -133,18 +134,18 @@ bare_tree b (thing.Private x) bare is = is
 bare_tree b (thing.Loop nest) bare is = is
 
 joined_tree : (b : Bounds) (scope : Scope) (op : Op) (first second : Tree) →
-    divides scope ≡ false → IsTree b first → IsTree b second →
-    IfOk (joined scope op first second) (IsTree b)
+    divides scope ≡ false → IsExpression b first → IsExpression b second →
+    IfOk (joined scope op first second) (IsExpression b)
 unfolding joined
 joined_tree b scope op first second code p q =
-    ok_if (is_division op) _ _ (IsTree b)
-    (λ _. ok_if (divides scope) _ _ (IsTree b)
+    ok_if (is_division op) _ _ (IsExpression b)
+    (λ _. ok_if (divides scope) _ _ (IsExpression b)
     (λ yet. absurd (let both : true ≡ false = sym yet ∙ code in cc)) (λ _. tt))
     (λ whole. applied_tree b op first second whole p q)
 
 -- expressions in code
 pub keeps_tree : (b : Bounds) (names : Names) (scope : Scope) → divides scope ≡ false →
-    AreThings b names → Keeps names scope (IsTree b)
+    AreThings b names → Keeps names scope (IsExpression b)
 keeps_tree b names scope code are = record {
   numbers = λ value few. few;
   bare = λ word found e f is. bare_tree b found is (are word found e);

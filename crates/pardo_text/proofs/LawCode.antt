@@ -15,16 +15,18 @@ use Rattle.pardo_text.specs.declared.statement.Statement.{Statement}
 use Rattle.pardo_text.specs.declared.statement.Statement.TheVariants as statement
 use Rattle.pardo_text.specs.declared.statement.Target.{Target}
 use Rattle.pardo_text.specs.declared.symbol.Symbol.TheVariants as the
-use Rattle.pardo_text.specs.Blocks.{depth_of}
-use Rattle.pardo_text.specs.Code.{whole_at, place_of, bare_target, target_of, assignment_at}
+use Rattle.pardo_text.specs.Blocks.{choice_depth}
+use Rattle.pardo_text.specs.Code.{whole_at, array_place, bare_target, assignment_target}
+use Rattle.pardo_text.specs.Code.{assignment_at}
 use Rattle.pardo_text.specs.Code.{if_line}
-use Rattle.pardo_text.specs.Code.{while_line, way_at, for_line, else_of, end_of, statement_line}
-use Rattle.pardo_text.specs.Drafts.{Draft, cells_of, fitting, with_line, with_block, with_loop}
+use Rattle.pardo_text.specs.Code.{while_line, way_at, for_line, else_of, end_block, statement_line}
+use Rattle.pardo_text.specs.Drafts.{Draft, cells_needed, fitting, with_line, with_block, with_loop}
 use Rattle.pardo_text.specs.Drafts.{without, with_end}
 use Rattle.pardo_text.specs.Expression.{Tree}
-use Rattle.pardo_text.specs.Expressions.{new_name, rest_after}
+use Rattle.pardo_text.specs.Expressions.{new_name, rest_after_mark}
 use Rattle.pardo_text.specs.Expressions.{indexed, expression_at}
-use Rattle.pardo_text.specs.Lawful.{Bounds, IsTree, IsCommonTree, IsTarget, IsStatement, masks_of}
+use Rattle.pardo_text.specs.Lawful.{Bounds, IsExpression, IsCommonTree, IsTarget, IsStatement}
+use Rattle.pardo_text.specs.Lawful.{masks_of}
 use Rattle.text_lines.specs.Lines.{Word}
 use Rattle.pardo_text.specs.Names.{Names, divides}
 use Rattle.pardo_text.specs.Program.{shared_cells}
@@ -43,16 +45,17 @@ use Rattle.pardo_text.specs.declared.part.Mark.TheVariants as mark
 
 read_kept : (b : Bounds) (names : Names) (scope : Scope) (tokens : List Token) →
     divides scope ≡ false → AreThings b names →
-    IfOk (expression_at names scope tokens) (λ read. IsTree b read.0)
+    IfOk (expression_at names scope tokens) (λ read. IsExpression b read.0)
 read_kept b names scope tokens code are =
-    expression_kept names scope (IsTree b) (keeps_tree b names scope code are) tokens
+    expression_kept names scope (IsExpression b) (keeps_tree b names scope code are) tokens
 
 whole_kept : (b : Bounds) (names : Names) (scope : Scope) (tokens : List Token) →
-    divides scope ≡ false → AreThings b names → IfOk (whole_at names scope tokens) (IsTree b)
+    divides scope ≡ false → AreThings b names → IfOk (whole_at names scope tokens) (IsExpression b)
 unfolding whole_at
 whole_kept b names scope tokens code are =
-    ok_bind (expression_at names scope tokens) _ (λ read. IsTree b read.0) (IsTree b)
-    (read_kept b names scope tokens code are) (λ tree p. ended_kept (IsTree b) tree.0 tree.1 p)
+    ok_bind (expression_at names scope tokens) _ (λ read. IsExpression b read.0) (IsExpression b)
+    (read_kept b names scope tokens code are)
+    (λ tree p. ended_kept (IsExpression b) tree.0 tree.1 p)
 
 -- the same of expressions that loops depend on
 common_kept : (b : Bounds) (names : Names) (scope : Scope) (tokens : List Token) →
@@ -80,12 +83,12 @@ uniform_is_common = (refl, λ x. refl, λ array. refl)
 
 place_kept : (b : Bounds) (names : Names) (array : ℕ) (inside : Option (List Token)) →
     array < b.arrays → AreThings b names →
-    IfOk (place_of names array inside) (λ read. IsTarget b read.0)
+    IfOk (array_place names array inside) (λ read. IsTarget b read.0)
 place_kept b names array None few are = tt
 place_kept b names array (Some inside) few are =
-    ok_bind (expression_at names Any inside) _ (λ read. IsTree b read.0)
+    ok_bind (expression_at names Any inside) _ (λ read. IsExpression b read.0)
     (λ read. IsTarget b read.0) (read_kept b names Any inside refl are)
-    (λ index p. ok_after (rest_after mark.CloseIndex index.1) _ (λ read. IsTarget b read.0)
+    (λ index p. ok_after (rest_after_mark mark.CloseIndex index.1) _ (λ read. IsTarget b read.0)
     (λ rest. (few, p)))
 
 bare_kept : (b : Bounds) (to : Target) (tokens : List Token) → IsTarget b to →
@@ -95,7 +98,7 @@ bare_kept b to tokens is =
 
 target_kept : (b : Bounds) (names : Names) (word : Word) (found : Option Named)
     (tokens : List Token) → names word ≡ found → AreThings b names →
-    IfOk (target_of names found tokens) (λ read. IsTarget b read.0)
+    IfOk (assignment_target names found tokens) (λ read. IsTarget b read.0)
 target_kept b names word None tokens e are = tt
 target_kept b names word (Some (thing.Array array)) tokens e are =
     place_kept b names array (indexed tokens) (are word (thing.Array array) e) are
@@ -115,10 +118,11 @@ assignment_kept : (b : Bounds) (names : Names) (word : Word) (tokens : List Toke
     AreThings b names → IfOk (assignment_at names word tokens) (IsAssignment b)
 unfolding assignment_at
 assignment_kept b names word tokens are =
-    ok_bind (target_of names (names word) tokens) _ (λ read. IsTarget b read.0) (IsAssignment b)
+    ok_bind (assignment_target names (names word) tokens) _ (λ read. IsTarget b read.0)
+    (IsAssignment b)
     (target_kept b names word (names word) tokens refl are) (λ to p.
-    ok_after (rest_after mark.Assign to.1) _ (IsAssignment b) (λ after.
-    ok_bind (whole_at names Any after) _ (IsTree b) (IsAssignment b)
+    ok_after (rest_after_mark mark.Assign to.1) _ (IsAssignment b) (λ after.
+    ok_bind (whole_at names Any after) _ (IsExpression b) (IsAssignment b)
     (whole_kept b names Any after refl are) (λ value q. ((p, q), refl))))
 
 -- ---- lines in which no block is opened
@@ -134,7 +138,7 @@ line_grows n said d = record {
   lines = omega (
     arith,
     one_longer d.lines
-        (record { statement = said; depth = depth_of d.blocks; number = n }),
+        (record { statement = said; depth = choice_depth d.blocks; number = n }),
   );
 }
 
@@ -155,7 +159,7 @@ plain_line n said d is_said few is =
 
 opened_line : (n : ℕ) (said : Statement) (opened : Block) (d : Draft) → 0 < d.procs →
     IsStatement (bounds_in (with_block opened (with_line n said d))) said →
-    depth_of d.blocks + masks_of said ≤ max d.most_choices (depth_of (opened ∷ d.blocks)) →
+    choice_depth d.blocks + masks_of said ≤ max d.most_choices (choice_depth (opened ∷ d.blocks)) →
     ((m : ℕ) → length d.lines < m → IsBlock m opened) →
     IsDraft (bounds_in d) d →
     IsDraft (bounds_in (with_block opened (with_line n said d)))
@@ -164,7 +168,7 @@ opened_line n said opened d some is_said few begins is =
     let lined = with_line n said d in
     let next = with_block opened lined in
     let longer = one_longer d.lines
-    (record { statement = said; depth = depth_of d.blocks; number = n }) in
+    (record { statement = said; depth = choice_depth d.blocks; number = n }) in
     block_kept (bounds_in next) opened lined some (begins (length lined.lines) longer)
     (line_kept (bounds_in next) n said d is_said few
     (more_kept (bounds_in d) (bounds_in next) d (record {
@@ -179,7 +183,7 @@ if_kept : (n : ℕ) (d : Draft) (tokens : List Token) → 0 < d.procs → IsLawf
     IfOk (if_line n d tokens) IsLawful
 unfolding if_line
 if_kept n d tokens some is =
-    ok_bind (whole_at d.names Any tokens) _ (IsTree (bounds_in d)) IsLawful
+    ok_bind (whole_at d.names Any tokens) _ (IsExpression (bounds_in d)) IsLawful
     (whole_kept (bounds_in d) d.names Any tokens refl is.0.names) (λ condition p.
     let lined = with_line n (statement.If condition) d in
     let next = with_block block.If lined in
@@ -192,12 +196,17 @@ if_kept n d tokens some is =
       lines = omega (
         arith,
         one_longer d.lines
-            (record { statement = statement.If condition; depth = depth_of d.blocks; number = n }),
+            (record {
+              statement = statement.If condition;
+              depth = choice_depth d.blocks;
+              number =
+                  n;
+            }),
       );
     }) condition p) (omega arith) (λ m lt. tt) is.0))
 
 -- the cells of a draft in which no more `if`s were open than before
-same_cells : (d : Draft) (depth : ℕ) → depth ≤ d.most_choices → cells_of d ≤ MAX_CELLS →
+same_cells : (d : Draft) (depth : ℕ) → depth ≤ d.most_choices → cells_needed d ≤ MAX_CELLS →
     shared_cells d.arrays + d.procs * (length d.privates + d.most_loops + max d.most_choices depth)
     ≤ MAX_CELLS
 same_cells d depth few fit = let same : max d.most_choices depth ≡ d.most_choices = omega arith in
@@ -214,7 +223,7 @@ while_kept n d tokens some is =
     let said : Statement = statement.While condition 0 in
     let opened : Block = block.While (length d.lines) in
     let longer = one_longer d.lines
-    (record { statement = said; depth = depth_of d.blocks; number = n }) in
+    (record { statement = said; depth = choice_depth d.blocks; number = n }) in
     let next = with_block opened (with_line n said d) in (
       opened_line n said opened d some (
         common_more (bounds_in d) (bounds_in next) (record {
@@ -227,7 +236,7 @@ while_kept n d tokens some is =
         omega (arith, longer),
       )
           (omega (arith, is.0.depth)) (λ m lt. lt) is.0,
-      same_cells d (depth_of d.blocks) is.0.depth is.1,
+      same_cells d (choice_depth d.blocks) is.0.depth is.1,
     ))
 
 for_made : (n : ℕ) (d : Draft) (word : Word) (first last : Tree) (up : Bool) → 0 < d.procs →
@@ -238,7 +247,7 @@ for_made n d word first last up some p q is =
     let said : Statement = statement.For (length d.loops) first last up 0 in
     let opened : Block = block.For (length d.lines) in
     let longer = one_longer d.lines
-    (record { statement = said; depth = depth_of d.blocks; number = n }) in
+    (record { statement = said; depth = choice_depth d.blocks; number = n }) in
     let lined = with_line n said d in
     let deeper = with_block opened lined in
     let next = with_loop word deeper in
@@ -261,7 +270,7 @@ for_kept : (n : ℕ) (d : Draft) (tokens : List Token) → 0 < d.procs → IsLaw
 unfolding for_line
 for_kept n d tokens some is =
     ok_after (new_name d.names tokens) _ IsLawful (λ word.
-    ok_after (rest_after mark.Equals word.1) _ IsLawful (λ after.
+    ok_after (rest_after_mark mark.Equals word.1) _ IsLawful (λ after.
     ok_bind (expression_at d.names Bound after) _ (λ read. IsCommonTree (bounds_in d) read.0)
     IsLawful
     (common_kept (bounds_in d) d.names Bound after refl bound_is_common is.0.names) (λ first p.
@@ -280,10 +289,11 @@ else_kept n d (block.While begin ∷ blocks) e some is = tt
 else_kept n d (block.For begin ∷ blocks) e some is = tt
 else_kept n d (block.If ∷ blocks) e some is =
     let less : Draft = record d { blocks = blocks } in
-    let deep : depth_of blocks + 1 ≤ d.most_choices = omega (arith, ap depth_of e, is.0.depth) in (
+    let deep : choice_depth blocks + 1 ≤ d.most_choices =
+    omega (arith, ap choice_depth e, is.0.depth) in (
       opened_line n statement.Else block.Else less some tt (omega (arith, deep)) (λ m lt. tt)
           (popped_kept (bounds_in d) block.If blocks d e is.0),
-      same_cells d (depth_of blocks + 1) deep is.1,
+      same_cells d (choice_depth blocks + 1) deep is.1,
     )
 
 -- an end in which the first line of its loop is told
@@ -295,7 +305,7 @@ loop_ended n begin said d is_said none is =
     let next = with_line n said told in
     let same = ended_at_length begin d.lines in
     let longer = one_longer told.lines
-    (record { statement = said; depth = depth_of told.blocks; number = n }) in (
+    (record { statement = said; depth = choice_depth told.blocks; number = n }) in (
       line_kept (bounds_in next) n said told
           (is_said (bounds_in next) (omega (arith, longer, same)))
           (omega (arith, is.0.depth, none))
@@ -320,7 +330,7 @@ ended_for n begin d (word ∷ loops) few begun is =
     refl (without_kept (bounds_in d) (word ∷ loops) d few is.0, is.1)
 
 end_line_kept : (n : ℕ) (d : Draft) (blocks : List Block) → d.blocks ≡ blocks → IsLawful d →
-    IfOk (end_of n d blocks) IsLawful
+    IfOk (end_block n d blocks) IsLawful
 end_line_kept n d [] e is = tt
 end_line_kept n d (block.If ∷ blocks) e is =
     plain_line n statement.EndIf (record d { blocks = blocks }) tt refl

@@ -9,7 +9,7 @@ use Rattle.pardo_text.specs.Expression.{Tree, number}
 use Rattle.pardo_text.specs.Expressions.{Read, applied, joined, constant_of, is_zero, within_at}
 use Rattle.pardo_text.specs.Laws.{ConstantsAreNumbers}
 use Rattle.pardo_text.specs.Names.{Names, admits, tree_from}
-use Rattle.pardo_text.specs.Operations.{is_division, value_of}
+use Rattle.pardo_text.specs.Operations.{is_division, operation_value}
 use Rattle.pardo_text.specs.Tokens.{Token}
 use Rattle.pardo_text.proofs.Ifs.{ok_if}
 use Rattle.pardo_text.proofs.LawTrees.{Keeps, within_kept, expression_kept}
@@ -20,7 +20,7 @@ IsNumber tree = (value : ℕ) × (tree ≡ number value)
 applied_number : (op : Op) (first second : Tree) → IsNumber first → IsNumber second →
     IsNumber (applied op first second)
 applied_number op first second a b = (
-  value_of op a.0 b.0,
+  operation_value op a.0 b.0,
   ap (λ tree. applied op tree second) a.1
       ∙ ap (λ tree. applied op (number a.0) tree) b.1,
 )

@@ -20,9 +20,11 @@ use Rattle.pardo_text.specs.declared.draft.Stage.TheVariants as stage
 use Rattle.pardo_text.specs.declared.statement.Line.{Line}
 use Rattle.pardo_text.specs.declared.statement.Statement.{Statement}
 use Rattle.pardo_text.specs.declared.statement.Statement.TheVariants as statement
-use Rattle.pardo_text.specs.Blocks.{depth_of}
-use Rattle.pardo_text.specs.Drafts.{Draft, cells_of, fitting, with_name, with_array, with_private}
-use Rattle.pardo_text.specs.Drafts.{with_line, with_block, with_loop, without, ending, ended_at}
+use Rattle.pardo_text.specs.Blocks.{choice_depth}
+use Rattle.pardo_text.specs.Drafts.{Draft, cells_needed, fitting, with_name, with_array}
+use Rattle.pardo_text.specs.Drafts.{with_private}
+use Rattle.pardo_text.specs.Drafts.{with_line, with_block, with_loop, without, loop_ending_at}
+use Rattle.pardo_text.specs.Drafts.{ended_at}
 use Rattle.pardo_text.specs.Drafts.{with_end, thing_of}
 use Rattle.pardo_text.specs.Lawful.{Bounds, IsStatement, IsLine, AreNumbers, AreArrays, IsPrivate}
 use Rattle.pardo_text.specs.Lawful.{masks_of}
@@ -57,16 +59,16 @@ pub record IsDraft (b : Bounds) (d : Draft) : Type 0 where
   pub code : d.stage ≡ stage.Code → 0 < d.procs
   pub lines : All (IsLine b) d.lines
   pub blocks : All (IsBlock (length d.lines)) d.blocks
-  pub depth : depth_of d.blocks ≤ d.most_choices
+  pub depth : choice_depth d.blocks ≤ d.most_choices
   pub loops : length d.loops ≤ d.most_loops
 
 abbrev pub IsLawful : Draft → Type 0
-IsLawful d = IsDraft (bounds_in d) d × (cells_of d ≤ MAX_CELLS)
+IsLawful d = IsDraft (bounds_in d) d × (cells_needed d ≤ MAX_CELLS)
 
 pub fitting_kept : (d : Draft) → IsDraft (bounds_in d) d → IfOk (fitting d) IsLawful
 fitting_kept d is =
-    ok_if (nat_le (cells_of d) MAX_CELLS) _ _ IsLawful
-    (λ e. (is, let few : cells_of d ≤ MAX_CELLS = grind (arith, nat_tests) in few)) (λ _. tt)
+    ok_if (nat_le (cells_needed d) MAX_CELLS) _ _ IsLawful
+    (λ e. (is, let few : cells_needed d ≤ MAX_CELLS = grind (arith, nat_tests) in few)) (λ _. tt)
 
 pub more_kept : (b c : Bounds) (d : Draft) → Grows b c → IsDraft b d → IsDraft c d
 more_kept b c d g is = record {
@@ -220,9 +222,10 @@ block_more n m few (block.While begin) is = omega arith
 block_more n m few (block.For begin) is = omega arith
 
 pub line_kept : (b : Bounds) (n : ℕ) (said : Statement) (d : Draft) → IsStatement b said →
-    depth_of d.blocks + masks_of said ≤ b.choices → IsDraft b d → IsDraft b (with_line n said d)
+    choice_depth d.blocks + masks_of said ≤ b.choices → IsDraft b d → IsDraft b (with_line n said d)
 line_kept b n said d is_said few is =
-    let new : Line = record { statement = said; depth = depth_of d.blocks; number = n } in record {
+    let new : Line = record { statement = said; depth = choice_depth d.blocks; number = n } in
+    record {
       names = is.names;
       procs = is.procs;
       arrays = is.arrays;
@@ -267,7 +270,8 @@ loop_kept b word d some few is = record {
   loops = omega arith;
 }
 
-depth_less : (opened : Block) (blocks : List Block) → depth_of blocks ≤ depth_of (opened ∷ blocks)
+depth_less : (opened : Block) (blocks : List Block) →
+    choice_depth blocks ≤ choice_depth (opened ∷ blocks)
 depth_less block.If blocks = omega arith
 depth_less block.Else blocks = omega arith
 depth_less (block.While begin) blocks = omega arith
@@ -285,7 +289,7 @@ popped_kept b opened blocks d e is = record {
   lines = is.lines;
   blocks = All-tail (IsBlock (length d.lines)) opened blocks
       (subst (All (IsBlock (length d.lines))) e is.blocks);
-  depth = omega (arith, depth_less opened blocks, ap depth_of e, is.depth);
+  depth = omega (arith, depth_less opened blocks, ap choice_depth e, is.depth);
   loops = is.loops;
 }
 
@@ -308,7 +312,7 @@ without_kept b (word ∷ loops) d few is = record {
 -- ---- ends of loops
 
 ending_statement : (b : Bounds) (end : ℕ) (said : Statement) → end < b.lines → IsStatement b said →
-    IsStatement b (ending end said)
+    IsStatement b (loop_ending_at end said)
 ending_statement b end (statement.Assign to value) few is = is
 ending_statement b end (statement.If condition) few is = is
 ending_statement b end statement.Else few is = is
@@ -318,7 +322,7 @@ ending_statement b end (statement.EndWhile begin) few is = is
 ending_statement b end (statement.For nest first last up old) few is = (is.0, is.1, is.2, few)
 ending_statement b end (statement.EndFor begin) few is = is
 
-ending_masks : (end : ℕ) (said : Statement) → masks_of (ending end said) ≡ masks_of said
+ending_masks : (end : ℕ) (said : Statement) → masks_of (loop_ending_at end said) ≡ masks_of said
 ending_masks end (statement.Assign to value) = refl
 ending_masks end (statement.If condition) = refl
 ending_masks end statement.Else = refl
@@ -332,7 +336,8 @@ abbrev ended_with : List Line → ℕ → Option Line → List Line
 ended_with lines begin found = elim found [
   | None ↦ lines
   | Some line ↦
-      slice_set lines begin (record line { statement = ending (length lines) line.statement })
+      slice_set lines begin
+      (record line { statement = loop_ending_at (length lines) line.statement })
 ]
 
 ended_lines : (b : Bounds) (lines : List Line) (begin : ℕ) (found : Option Line) →

@@ -9,7 +9,7 @@ use Rattle.pardo_text.specs.declared.statement.Line.{Line}
 use Rattle.pardo_text.specs.declared.statement.Statement.{Statement}
 use Rattle.pardo_text.specs.declared.statement.Statement.TheVariants.{Assign, If, Else, EndIf}
 use Rattle.pardo_text.specs.declared.statement.Statement.TheVariants.{While, EndWhile, For, EndFor}
-use Rattle.pardo_text.specs.Nested.{Leads, Belongs, opened_by, around, IsNested}
+use Rattle.pardo_text.specs.Nested.{LinesLead, Belongs, opened_by, around, IsNested}
 
 abbrev pub IsFor : Statement → Type 0
 IsFor (For nest first last up end) = Unit {0}
@@ -89,7 +89,7 @@ end_is line begin o e f = sym (ap
 leads_to : (whole : List Line) (lines : List Line) (before : List Line) (at : ℕ)
     (blocks last : List Block) →
     whole ≡ before ++ lines → length before ≡ at → AreFors whole blocks →
-    Leads at blocks lines last →
+    LinesLead at blocks lines last →
     (k begin : ℕ) (line : Line) → slice_get lines k ≡ Some line → line.statement ≡ EndFor begin →
     IsFor (statement_in whole begin)
 leads_to whole [] before at blocks last same len are leads k begin line is ends =

@@ -11,18 +11,18 @@ use Rattle.pardo_text.specs.declared.names.Named.TheVariants as thing
 use Rattle.pardo_text.specs.declared.names.Scope.TheVariants.{Start}
 use Rattle.pardo_text.specs.declared.symbol.Symbol.TheVariants as the
 use Rattle.pardo_text.specs.Drafts.{Draft, fitting, with_name, with_array, with_private}
-use Rattle.pardo_text.specs.Expressions.{ended, new_name, rest_after}
+use Rattle.pardo_text.specs.Expressions.{ended, new_name, rest_after_mark}
 use Rattle.pardo_text.specs.Expressions.{indexed, fixed_at, expression_at}
 use Rattle.pardo_text.specs.Header.{version_line, rule_line, rule_named, const_line, procs_line}
 use Rattle.pardo_text.specs.Header.{length_at, shared_line, private_start, private_line, code_line}
 use Rattle.pardo_text.specs.Header.{header_line}
-use Rattle.pardo_text.specs.declared.program.Rule.{Rule}
+use Rattle.pram_job.specs.declared.instr.Rule.{Rule}
 use Rattle.pardo_text.specs.Lawful.{AreNumbers}
 use Rattle.text_lines.specs.Lines.{Word}
 use Rattle.pardo_text.specs.Names.{Names}
 use Rattle.pardo_text.specs.Program.{shared_cells}
 use Rattle.pardo_text.specs.Tokens.{Token, name, number as literal, symbol}
-use Rattle.pardo_text.specs.Values.{most, values_for, start_at}
+use Rattle.pardo_text.specs.Values.{greatest_value, values_for, start_at}
 use Rattle.pardo_text.proofs.Ifs.{ok_bind, ok_after, ok_if}
 use Rattle.pardo_text.proofs.LawBounds.{IsStart, keeps_start}
 use Rattle.pardo_text.proofs.LawDrafts.{IsLawful, bounds_in, fitting_kept, more_kept}
@@ -91,9 +91,9 @@ const_kept : (d : Draft) (tokens : List Token) → IsLawful d → IfOk (const_li
 unfolding const_line
 const_kept d tokens is =
     ok_after (new_name d.names tokens) _ IsLawful (λ word.
-    ok_after (rest_after mark.Equals word.1) _ IsLawful (λ after.
-    ok_bind (fixed_at d.names 0 most after) _ (Between 0 most) IsLawful
-    (fixed_kept d.names 0 most after) (λ value p.
+    ok_after (rest_after_mark mark.Equals word.1) _ IsLawful (λ after.
+    ok_bind (fixed_at d.names 0 greatest_value after) _ (Between 0 greatest_value) IsLawful
+    (fixed_kept d.names 0 greatest_value after) (λ value p.
     ended_kept IsLawful (with_name word.0 (thing.Constant value.0) d) value.1
     (name_kept (bounds_in d) word.0 (thing.Constant value.0) d (omega (arith, p.1)) is.0, is.1))))
 
@@ -109,7 +109,7 @@ procs_line_kept d tokens is =
     ok_if (d.procs == 0) _ _ IsLawful (λ e.
     let none : d.procs ≡ 0 = test_zero d.procs e in
     ok_after (new_name d.names tokens) _ IsLawful (λ word.
-    ok_after (rest_after mark.Less word.1) _ IsLawful (λ after.
+    ok_after (rest_after_mark mark.Less word.1) _ IsLawful (λ after.
     ok_bind (fixed_at d.names 1 MAX_PROCS after) _ (Between 1 MAX_PROCS) IsLawful
     (fixed_kept d.names 1 MAX_PROCS after) (λ procs p.
     let next : Draft = record d { procs = procs.0 } in
@@ -131,7 +131,7 @@ length_kept names tokens None = omega arith
 length_kept names tokens (Some inside) =
     ok_bind (fixed_at names 1 MAX_CELLS inside) _ (Between 1 MAX_CELLS) HasPlaces
     (fixed_kept names 1 MAX_CELLS inside)
-    (λ places p. ok_after (rest_after mark.CloseIndex places.1) _ HasPlaces
+    (λ places p. ok_after (rest_after_mark mark.CloseIndex places.1) _ HasPlaces
     (λ rest. omega (arith, p.0)))
 
 array_line : (d : Draft) (word : Word) (is_scalar : Bool) (start : List ℕ) → 0 < length start →
@@ -164,7 +164,7 @@ start_kept : (d : Draft) (tokens : List Token) → IsLawful d →
 unfolding private_start
 start_kept d [] is = omega arith
 start_kept d (token ∷ tokens) is =
-    ok_after (rest_after mark.Equals (token ∷ tokens)) _ IsStart (λ after.
+    ok_after (rest_after_mark mark.Equals (token ∷ tokens)) _ IsStart (λ after.
     ok_bind (expression_at d.names Start after) _ (λ read. IsStart read.0) IsStart
     (expression_kept d.names Start IsStart (keeps_start (bounds_in d) d.names is.0.names) after)
     (λ tree p. ended_kept IsStart tree.0 tree.1 p))

@@ -13,7 +13,8 @@ use Rattle.pardo_text.specs.Drafts.{Draft, empty}
 use Rattle.pardo_text.specs.Laws.{ProgramsAreLawful}
 use Rattle.pardo_text.specs.Lawful.{IsProgram, IsPrivate, IsLine}
 use Rattle.text_lines.specs.Lines.{lines_of, is_allowed, said_in}
-use Rattle.pardo_text.specs.Reading.{line_at, with_tokens, with_text_line, finished, program_in}
+use Rattle.pardo_text.specs.Reading.{line_in_stage, with_tokens, with_text_line, finished_draft}
+use Rattle.pardo_text.specs.Reading.{program_in}
 use Rattle.pardo_text.specs.Reading.{on_line, and_then, program_after, program_of}
 use Rattle.pardo_text.specs.Tokens.{Token, tokens_of}
 use Rattle.pardo_text.proofs.Ifs.{ok_after, ok_if}
@@ -22,7 +23,7 @@ use Rattle.pardo_text.proofs.LawDrafts.{IsLawful, IsBlock, bounds_in}
 use Rattle.pardo_text.proofs.LawHeader.{version_kept, rule_kept, header_kept}
 
 at_kept : (next : Stage) (n : ℕ) (d : Draft) (tokens : List Token) → d.stage ≡ next → IsLawful d →
-    IfOk (line_at next n d tokens) IsLawful
+    IfOk (line_in_stage next n d tokens) IsLawful
 at_kept stage.Version n d tokens e is = version_kept d tokens is
 at_kept stage.Rule n d tokens e is = rule_kept d tokens is
 at_kept stage.Header n d tokens e is = header_kept d tokens is
@@ -43,7 +44,8 @@ text_line_kept n d line is =
 -- ---- the end
 
 finished_kept : (next : Stage) (blocks : List Block) (lines : List Line) (d : Draft) →
-    d.stage ≡ next → d.lines ≡ lines → IsLawful d → IfOk (finished next blocks lines d) IsProgram
+    d.stage ≡ next → d.lines ≡ lines → IsLawful d →
+    IfOk (finished_draft next blocks lines d) IsProgram
 finished_kept stage.Version blocks lines d e f is = tt
 finished_kept stage.Rule blocks lines d e f is = tt
 finished_kept stage.Header blocks lines d e f is = tt

@@ -16,14 +16,14 @@ use Rattle.pardo_text.specs.declared.statement.Statement.{Statement}
 use Rattle.pardo_text.specs.declared.statement.Statement.TheVariants as statement
 use Rattle.pardo_text.specs.declared.statement.Target.{Target}
 use Rattle.pardo_text.specs.declared.symbol.Symbol.TheVariants as the
-use Rattle.pardo_text.specs.Blocks.{depth_of}
-use Rattle.pardo_text.specs.Code.{whole_at, target_of, assignment_at, if_line}
-use Rattle.pardo_text.specs.Code.{while_line, way_at, for_line, else_of, end_of, statement_line}
-use Rattle.pardo_text.specs.Drafts.{Draft, empty, cells_of, fitting, with_line, with_block}
+use Rattle.pardo_text.specs.Blocks.{choice_depth}
+use Rattle.pardo_text.specs.Code.{whole_at, assignment_target, assignment_at, if_line}
+use Rattle.pardo_text.specs.Code.{while_line, way_at, for_line, else_of, end_block, statement_line}
+use Rattle.pardo_text.specs.Drafts.{Draft, empty, cells_needed, fitting, with_line, with_block}
 use Rattle.pardo_text.specs.Drafts.{with_loop}
 use Rattle.pardo_text.specs.Drafts.{without, with_end, with_name, with_array, with_private}
 use Rattle.pardo_text.specs.Expression.{Tree}
-use Rattle.pardo_text.specs.Expressions.{new_name, rest_after, indexed}
+use Rattle.pardo_text.specs.Expressions.{new_name, rest_after_mark, indexed}
 use Rattle.pardo_text.specs.Expressions.{expression_at, fixed_at}
 use Rattle.pardo_text.specs.Header.{version_line, rule_named, rule_line, const_line, procs_line}
 use Rattle.pardo_text.specs.Header.{length_at, shared_line, private_start, private_line, code_line}
@@ -31,13 +31,15 @@ use Rattle.pardo_text.specs.Header.{header_line}
 use Rattle.pardo_text.specs.Laws.{ProgramsAreNested}
 use Rattle.text_lines.specs.Lines.{Word, lines_of, is_allowed, said_in}
 use Rattle.pardo_text.specs.Names.{Names}
-use Rattle.pardo_text.specs.Nested.{IsNested, Stands, opened_by, around, loop_begin, loop_end}
-use Rattle.pardo_text.specs.Nested.{loops_of, EndsAreTied, Leads}
+use Rattle.pardo_text.specs.Nested.{IsNested, StandsInBlocks, opened_by, around, loop_begin}
+use Rattle.pardo_text.specs.Nested.{loop_end_told}
+use Rattle.pardo_text.specs.Nested.{loops_of, EndsAreTied, LinesLead}
 use Rattle.pardo_text.specs.Program.{ProgramData}
-use Rattle.pardo_text.specs.Reading.{line_at, with_tokens, with_text_line, finished, program_in}
+use Rattle.pardo_text.specs.Reading.{line_in_stage, with_tokens, with_text_line, finished_draft}
+use Rattle.pardo_text.specs.Reading.{program_in}
 use Rattle.pardo_text.specs.Reading.{on_line, program_after, program_of}
 use Rattle.pardo_text.specs.Tokens.{Token, name, number as literal, symbol, tokens_of}
-use Rattle.pardo_text.specs.Values.{most, values_for, start_at}
+use Rattle.pardo_text.specs.Values.{greatest_value, values_for, start_at}
 use Rattle.pardo_text.proofs.Ifs.{ok_bind, ok_after, ok_if}
 use Rattle.pardo_text.proofs.LawHeader.{ended_kept}
 use Rattle.pardo_text.proofs.LawLawful.{on_line_kept, and_then_kept}
@@ -52,7 +54,7 @@ abbrev Code : Draft → Type 0
 Code d = IsCode d.lines d.blocks (length d.loops)
 
 fitting_code : (d : Draft) → Code d → IfOk (fitting d) Code
-fitting_code d is = ok_if (nat_le (cells_of d) MAX_CELLS) _ _ Code (λ _. is) (λ _. tt)
+fitting_code d is = ok_if (nat_le (cells_needed d) MAX_CELLS) _ _ Code (λ _. is) (λ _. tt)
 
 -- ---- header lines say nothing of code
 
@@ -71,8 +73,8 @@ const_code : (d : Draft) (tokens : List Token) → Code d → IfOk (const_line d
 unfolding const_line
 const_code d tokens is =
     ok_after (new_name d.names tokens) _ Code (λ word.
-    ok_after (rest_after mark.Equals word.1) _ Code (λ after.
-    ok_after (fixed_at d.names 0 most after) _ Code (λ value.
+    ok_after (rest_after_mark mark.Equals word.1) _ Code (λ after.
+    ok_after (fixed_at d.names 0 greatest_value after) _ Code (λ value.
     ended_kept Code (with_name word.0 (thing.Constant value.0) d) value.1 is)))
 
 procs_code : (d : Draft) (tokens : List Token) → Code d → IfOk (procs_line d tokens) Code
@@ -80,7 +82,7 @@ unfolding procs_line
 procs_code d tokens is =
     ok_if (d.procs == 0) _ _ Code (λ _.
     ok_after (new_name d.names tokens) _ Code (λ word.
-    ok_after (rest_after mark.Less word.1) _ Code (λ after.
+    ok_after (rest_after_mark mark.Less word.1) _ Code (λ after.
     ok_after (fixed_at d.names 1 MAX_PROCS after) _ Code (λ procs.
     ended_kept Code (with_name word.0 thing.Own (record d { procs = procs.0 })) procs.1 is))))
     (λ _. tt)
@@ -119,9 +121,9 @@ header_code d _ is = tt
 -- ---- lines of code
 
 -- a line that ends no loop
-pushed : (lines : List Line) (blocks : List Block) (line : Line) → Leads 0 [] lines blocks →
-    EndsAreTied lines → Stands blocks line → loop_begin line.statement ≡ None →
-    Leads 0 [] (lines ++ line ∷ [])
+pushed : (lines : List Line) (blocks : List Block) (line : Line) → LinesLead 0 [] lines blocks →
+    EndsAreTied lines → StandsInBlocks blocks line → loop_begin line.statement ≡ None →
+    LinesLead 0 [] (lines ++ line ∷ [])
     (opened_by (length lines) line.statement ++ around line.statement blocks)
     × EndsAreTied (lines ++ line ∷ [])
 pushed lines blocks line leads tied stands none = (
@@ -155,8 +157,8 @@ assignment_is : (names : Names) (word : Word) (tokens : List Token) →
     IfOk (assignment_at names word tokens) IsAssignment
 unfolding assignment_at
 assignment_is names word tokens =
-    ok_after (target_of names (names word) tokens) _ IsAssignment (λ to.
-    ok_after (rest_after mark.Assign to.1) _ IsAssignment (λ after.
+    ok_after (assignment_target names (names word) tokens) _ IsAssignment (λ to.
+    ok_after (rest_after_mark mark.Assign to.1) _ IsAssignment (λ after.
     ok_after (whole_at names Any after) _ IsAssignment (λ value. (to.0, value, refl))))
 
 assigned : (n : ℕ) (d : Draft) (to : Target) (value : Tree) → Code d →
@@ -164,7 +166,7 @@ assigned : (n : ℕ) (d : Draft) (to : Target) (value : Tree) → Code d →
 assigned n d to value is =
     let line : Line = record {
       statement = statement.Assign to value;
-      depth = depth_of d.blocks;
+      depth = choice_depth d.blocks;
       number = n;
     } in
     let more = pushed d.lines d.blocks line is.leads is.tied (tt, refl) refl in record {
@@ -182,7 +184,7 @@ if_code n d tokens is =
     ok_after (whole_at d.names Any tokens) _ Code (λ condition.
     let line : Line = record {
       statement = statement.If condition;
-      depth = depth_of d.blocks;
+      depth = choice_depth d.blocks;
       number = n;
     } in
     let more = pushed d.lines d.blocks line is.leads is.tied (tt, refl) refl in
@@ -201,7 +203,7 @@ while_code n d tokens is =
     ok_after (whole_at d.names Uniform tokens) _ Code (λ condition.
     let line : Line = record {
       statement = statement.While condition 0;
-      depth = depth_of d.blocks;
+      depth = choice_depth d.blocks;
       number = n;
     } in
     let more = pushed d.lines d.blocks line is.leads is.tied (tt, refl) refl in record {
@@ -221,12 +223,12 @@ for_code : (n : ℕ) (d : Draft) (tokens : List Token) → Code d → IfOk (for_
 unfolding for_line
 for_code n d tokens is =
     ok_after (new_name d.names tokens) _ Code (λ word.
-    ok_after (rest_after mark.Equals word.1) _ Code (λ after.
+    ok_after (rest_after_mark mark.Equals word.1) _ Code (λ after.
     ok_after (expression_at d.names Bound after) _ Code (λ first.
     ok_after (way_at first.1) _ Code (λ way.
     ok_after (whole_at d.names Bound way.1) _ Code (λ last.
     let said : Statement = statement.For (length d.loops) first.0 last way.0 0 in
-    let line : Line = record { statement = said; depth = depth_of d.blocks; number = n } in
+    let line : Line = record { statement = said; depth = choice_depth d.blocks; number = n } in
     let more = pushed d.lines d.blocks line is.leads is.tied (is.loops, refl) refl in
     fitting_code (with_loop word.0 (with_block (block.For (length d.lines)) (with_line n said d)))
     (record {
@@ -251,7 +253,8 @@ else_code n d (block.For begin ∷ blocks) e is = tt
 else_code n d (block.If ∷ blocks) e is =
     let now : IsCode d.lines (block.If ∷ blocks) (length d.loops) =
     subst (λ (opening : List Block). IsCode d.lines opening (length d.loops)) e is in
-    let line : Line = record { statement = statement.Else; depth = depth_of blocks; number = n } in
+    let line : Line =
+    record { statement = statement.Else; depth = choice_depth blocks; number = n } in
     let more = pushed d.lines (block.If ∷ blocks) line now.leads now.tied ((blocks, refl), refl)
     refl in record {
       leads = more.0;
@@ -264,13 +267,14 @@ else_code n d (block.If ∷ blocks) e is =
 
 -- the end of an `if`
 choice_code : (n : ℕ) (d : Draft) (choice : Block) (blocks : List Block) →
-    IsCode d.lines (choice ∷ blocks) (length d.loops) → Stands (choice ∷ blocks)
-    (record { statement = statement.EndIf; depth = depth_of blocks; number = n }) →
+    IsCode d.lines (choice ∷ blocks) (length d.loops) → StandsInBlocks (choice ∷ blocks)
+    (record { statement = statement.EndIf; depth = choice_depth blocks; number = n }) →
     AreOpen d.lines (length d.lines) blocks → length d.loops ≡ loops_of blocks →
     ((k : ℕ) → Among k (choice ∷ blocks) → Among k blocks) →
     Code (with_line n statement.EndIf (record d { blocks = blocks }))
 choice_code n d choice blocks is stands opened loops same =
-    let line : Line = record { statement = statement.EndIf; depth = depth_of blocks; number = n } in
+    let line : Line =
+    record { statement = statement.EndIf; depth = choice_depth blocks; number = n } in
     let more = pushed d.lines (choice ∷ blocks) line is.leads is.tied stands refl in record {
       leads = more.0;
       tied = more.1;
@@ -284,13 +288,13 @@ choice_code n d choice blocks is stands opened loops same =
 loop_code : (lines : List Line) (begin : ℕ) (closed : Block) (blocks : List Block) (line : Line)
     (end loops : ℕ) → IsLeft lines begin closed blocks end → end_at lines begin ≡ Some end →
     begin < end →
-    Stands (closed ∷ blocks) line → loop_begin line.statement ≡ Some begin →
-    loop_end line.statement ≡ None → opened_by (length lines) line.statement ++
+    StandsInBlocks (closed ∷ blocks) line → loop_begin line.statement ≡ Some begin →
+    loop_end_told line.statement ≡ None → opened_by (length lines) line.statement ++
     around line.statement (closed ∷ blocks) ≡ blocks →
     loops ≡ loops_of blocks → IsCode (lines ++ line ∷ []) blocks loops
 loop_code lines begin closed blocks line end loops is told few stands ends plain after same =
     record {
-      leads = subst (Leads 0 [] (lines ++ line ∷ [])) after
+      leads = subst (LinesLead 0 [] (lines ++ line ∷ [])) after
           (leads_last lines (closed ∷ blocks) line is.leads stands);
       tied = tied_push lines line is.tied (λ other e.
           let one : begin ≡ other = (let both : Some begin ≡ Some other = sym ends ∙ e in cc) in (
@@ -311,7 +315,7 @@ for_end_code n begin d [] blocks e is =
 for_end_code n begin d (word ∷ loops) blocks e is =
     let line : Line = record {
       statement = statement.EndFor begin;
-      depth = depth_of blocks;
+      depth = choice_depth blocks;
       number =
           n;
     } in
@@ -322,7 +326,7 @@ for_end_code n begin d (word ∷ loops) blocks e is =
     is.opened.0 ((blocks, refl), refl) refl refl refl (omega (arith, many, is.loops))
 
 end_code : (n : ℕ) (d : Draft) (blocks : List Block) → d.blocks ≡ blocks → Code d →
-    IfOk (end_of n d blocks) Code
+    IfOk (end_block n d blocks) Code
 end_code n d [] e is = tt
 end_code n d (block.If ∷ blocks) e is =
     let now : IsCode d.lines (block.If ∷ blocks) (length d.loops) =
@@ -339,7 +343,7 @@ end_code n d (block.While begin ∷ blocks) e is =
     subst (λ (opening : List Block). IsCode d.lines opening (length d.loops)) e is in
     let line : Line = record {
       statement = statement.EndWhile begin;
-      depth = depth_of blocks;
+      depth = choice_depth blocks;
       number = n;
     } in
     let left = loop_left d.lines begin (block.While begin) blocks now.opened.0 now.opened.1
@@ -370,7 +374,7 @@ statement_code n d _ is = tt
 -- ---- any line, and all of them
 
 at_code : (next : Stage) (n : ℕ) (d : Draft) (tokens : List Token) → Code d →
-    IfOk (line_at next n d tokens) Code
+    IfOk (line_in_stage next n d tokens) Code
 at_code stage.Version n d tokens is = version_code d tokens is
 at_code stage.Rule n d tokens is = rule_code d tokens is
 at_code stage.Header n d tokens is = header_code d tokens is
@@ -391,14 +395,14 @@ abbrev Nested : ProgramData → Type 0
 Nested program = IsNested program.lines
 
 finished_code : (next : Stage) (blocks : List Block) (lines : List Line) (d : Draft) →
-    d.blocks ≡ blocks → Code d → IfOk (finished next blocks lines d) Nested
+    d.blocks ≡ blocks → Code d → IfOk (finished_draft next blocks lines d) Nested
 finished_code stage.Version blocks lines d e is = tt
 finished_code stage.Rule blocks lines d e is = tt
 finished_code stage.Header blocks lines d e is = tt
 finished_code stage.Code (block ∷ blocks) lines d e is = tt
 finished_code stage.Code [] [] d e is = tt
 finished_code stage.Code [] (first ∷ lines) d e is = (
-  subst (Leads 0 [] d.lines) e is.leads,
+  subst (LinesLead 0 [] d.lines) e is.leads,
   is.tied,
   λ begin end said. elim (is.begun begin end said) [
     | inl among ↦ absurd (subst (Among begin) e among)

@@ -7,7 +7,7 @@ use Rattle.pardo_text.specs.declared.block.Block.{Block}
 use Rattle.pardo_text.specs.declared.block.Block.TheVariants as block
 use Rattle.pardo_text.specs.declared.statement.Line.{Line}
 use Rattle.pardo_text.specs.Drafts.{ended_at}
-use Rattle.pardo_text.specs.Nested.{Leads, loop_end}
+use Rattle.pardo_text.specs.Nested.{LinesLead, loop_end_told}
 use Rattle.pardo_text.specs.Nested.{EndsAreTied, loops_of}
 use Rattle.pardo_text.proofs.LawTied.{begin_at, end_at, end_push, end_set_other, leads_set}
 use Rattle.pardo_text.proofs.LawTied.{tied_set, end_set, line_there, told, begins_set}
@@ -24,7 +24,7 @@ AreOpen lines bound (block.If ∷ blocks) = AreOpen lines bound blocks
 AreOpen lines bound (block.Else ∷ blocks) = AreOpen lines bound blocks
 
 pub record IsCode (lines : List Line) (blocks : List Block) (nest : ℕ) : Type 0 where
-  pub leads : Leads 0 [] lines blocks
+  pub leads : LinesLead 0 [] lines blocks
   pub tied : EndsAreTied lines
   pub begun : BeginsEnd lines blocks
   pub opened : AreOpen lines (length lines) blocks
@@ -87,7 +87,7 @@ open_set lines i new bound (block.For begin ∷ blocks) few is = (
 -- what is left when a block was closed, and before its `end` is a line
 pub record IsLeft (lines : List Line) (begin : ℕ) (closed : Block) (blocks : List Block) (end : ℕ) :
     Type 0 where
-  pub leads : Leads 0 [] lines (closed ∷ blocks)
+  pub leads : LinesLead 0 [] lines (closed ∷ blocks)
   pub tied : EndsAreTied lines
   pub begun : BeginsLeft lines begin blocks end
   pub opened : AreOpen lines (length lines) blocks
@@ -95,9 +95,9 @@ pub record IsLeft (lines : List Line) (begin : ℕ) (closed : Block) (blocks : L
 
 -- a loop learns the place of its end
 loop_told : (lines : List Line) (begin : ℕ) (closed : Block) (blocks : List Block) (found : Line) →
-    slice_get lines begin ≡ Some found → loop_end found.statement ≡ Some 0 →
+    slice_get lines begin ≡ Some found → loop_end_told found.statement ≡ Some 0 →
     begin < length lines → end_at lines begin ≡ Some 0 → AreOpen lines begin blocks →
-    Leads 0 [] lines (closed ∷ blocks) → EndsAreTied lines →
+    LinesLead 0 [] lines (closed ∷ blocks) → EndsAreTied lines →
     ((k was : ℕ) → end_at lines k ≡ Some was →
     ((k ≡ begin) ⊎ Among k blocks) ⊎ (begin_at lines was ≡ Some k)) →
     IsLeft (slice_set lines begin (told (length lines) found)) begin closed blocks (length lines)
@@ -119,7 +119,7 @@ loop_told lines begin closed blocks found e says few opening others leads tied b
 
 pub loop_left : (lines : List Line) (begin : ℕ) (closed : Block) (blocks : List Block) →
     begin < length lines → end_at lines begin ≡ Some 0 → AreOpen lines begin blocks →
-    Leads 0 [] lines (closed ∷ blocks) → EndsAreTied lines →
+    LinesLead 0 [] lines (closed ∷ blocks) → EndsAreTied lines →
     ((k was : ℕ) → end_at lines k ≡ Some was →
     ((k ≡ begin) ⊎ Among k blocks) ⊎ (begin_at lines was ≡ Some k)) →
     IsLeft (ended_at begin lines) begin closed blocks (length lines)

@@ -4,7 +4,7 @@ use Rattle.std.proofs.Common.{refl, sym, ap, ◌∙◌, arith, one-add, ⊎_elim
 use Rattle.std.specs.List.{list_all}
 use Rattle.std.proofs.lemmas.Bool.{cases_Bool, and_parts}
 use Rattle.std.proofs.lemmas.List.Folds.{list_all-append}
-use Rattle.pardo_text.specs.Laws.{SayTheSame, CommentsSayNothing, IndentationSaysNothing}
+use Rattle.pardo_text.specs.Laws.{SayTheSame, ProgramCommentsSayNothing, IndentationSaysNothing}
 use Rattle.pardo_text.specs.Laws.{EmptyLinesSayNothing}
 use Rattle.text_lines.specs.Lines.{is_allowed, is_blank, said_in}
 use Rattle.pardo_text.specs.Reading.{with_text_line}
@@ -42,7 +42,7 @@ semicolon_allowed : (comment : List ℕ) → list_all is_allowed comment ≡ tru
 unfolding is_allowed
 semicolon_allowed comment e = e
 
-pub comments_say_nothing : CommentsSayNothing
+pub comments_say_nothing : ProgramCommentsSayNothing
 comments_say_nothing line comment all = says_the_same (line ++ 59 ∷ comment) line
     (list_all-append is_allowed line (59 ∷ comment)
     ∙ and_true (list_all is_allowed line) _ (semicolon_allowed comment all))

@@ -11,12 +11,12 @@ use Rattle.pardo_text.specs.declared.names.Scope.TheVariants.{Fixed}
 use Rattle.pardo_text.specs.declared.operation.Op.{Op}
 use Rattle.pardo_text.specs.Expression.{Tree, number, own, loop, private, place, apply}
 use Rattle.pardo_text.specs.Expressions.{ended, fixed_at, limited, fixed_value, expression_at}
-use Rattle.pardo_text.specs.Expressions.{rest_after}
+use Rattle.pardo_text.specs.Expressions.{rest_after_mark}
 use Rattle.pardo_text.specs.Lawful.{AreNumbers}
 use Rattle.pardo_text.specs.Names.{Names}
 use Rattle.pardo_text.specs.Operations.{is_division}
 use Rattle.pardo_text.specs.Tokens.{Token}
-use Rattle.pardo_text.specs.Values.{most, quotient_of, value_for, values_for, values_in}
+use Rattle.pardo_text.specs.Values.{greatest_value, quotient_of, value_for, values_for, values_in}
 use Rattle.pardo_text.specs.Values.{values_after}
 use Rattle.pardo_text.specs.Values.{values_next, after_dots, filled, start_at}
 use Rattle.pardo_text.proofs.Ifs.{ok_bind, ok_after, ok_if}
@@ -111,15 +111,15 @@ after_kept : (more : List Token → Result (List ℕ × Bool) PardoKind) (value 
     IfOk (values_after more value rest) AreSome
 after_kept more value [] few kept = (omega arith, one_number value few)
 after_kept more value (token ∷ tokens) few kept =
-    ok_after (rest_after mark.Comma (token ∷ tokens)) _ AreSome
+    ok_after (rest_after_mark mark.Comma (token ∷ tokens)) _ AreSome
     (λ rest. next_kept more value rest (after_dots rest) few kept)
 
 in_kept : (names : Names) (turns : ℕ) (tokens : List Token) →
     IfOk (values_in names turns tokens) AreSome
 in_kept names zero tokens = tt
 in_kept names (suc turns) tokens =
-    ok_bind (fixed_at names 0 most tokens) _ (Between 0 most) AreSome
-    (fixed_kept names 0 most tokens)
+    ok_bind (fixed_at names 0 greatest_value tokens) _ (Between 0 greatest_value) AreSome
+    (fixed_kept names 0 greatest_value tokens)
     (λ value p. after_kept (values_in names turns) value.0 value.1 (omega (arith, p.1))
     (in_kept names turns))
 
@@ -146,7 +146,7 @@ unfolding start_at
 starts_kept names places [] =
     (length-replicate places 0, All-replicate (λ v. v < 2 ^ 32) places 0 (omega arith))
 starts_kept names places (token ∷ tokens) =
-    ok_after (rest_after mark.Equals (token ∷ tokens)) _ (AreSoMany places) (λ rest.
+    ok_after (rest_after_mark mark.Equals (token ∷ tokens)) _ (AreSoMany places) (λ rest.
     ok_bind (values_in names (length rest) rest) _ AreSome (AreSoMany places)
     (in_kept names (length rest) rest)
     (λ values p. filled_kept places values.0 values.1 p.0 p.1))

@@ -7,8 +7,9 @@ use Rattle.pardo_text.specs.declared.block.Block.TheVariants as block
 use Rattle.pardo_text.specs.declared.statement.Line.{Line}
 use Rattle.pardo_text.specs.declared.statement.Statement.{Statement}
 use Rattle.pardo_text.specs.declared.statement.Statement.TheVariants as statement
-use Rattle.pardo_text.specs.Drafts.{ending}
-use Rattle.pardo_text.specs.Nested.{Leads, Stands, opened_by, around, loop_end, loop_begin}
+use Rattle.pardo_text.specs.Drafts.{loop_ending_at}
+use Rattle.pardo_text.specs.Nested.{LinesLead, StandsInBlocks, opened_by, around, loop_end_told}
+use Rattle.pardo_text.specs.Nested.{loop_begin}
 use Rattle.pardo_text.specs.Nested.{said_by, EndsAreTied}
 
 -- ---- what a line says
@@ -17,7 +18,7 @@ abbrev pub begin_at : List Line → ℕ → Option ℕ
 begin_at lines k = said_by loop_begin (slice_get lines k)
 
 abbrev pub end_at : List Line → ℕ → Option ℕ
-end_at lines k = said_by loop_end (slice_get lines k)
+end_at lines k = said_by loop_end_told (slice_get lines k)
 
 -- one line more
 pub begin_push : (lines : List Line) (line : Line) (k begin : ℕ) →
@@ -59,7 +60,7 @@ end_set_other (first ∷ lines) (suc i) new (suc k) other =
     end_set_other lines i new k (λ e. other (ap suc e))
 
 pub end_set_same : (lines : List Line) (i end : ℕ) (new : Line) → end_at lines i ≡ Some end →
-    end_at (slice_set lines i new) i ≡ loop_end new.statement
+    end_at (slice_set lines i new) i ≡ loop_end_told new.statement
 end_set_same [] i end new e = absurd (let none : None ≡ Some end = e in cc)
 end_set_same (first ∷ lines) zero end new e = refl
 end_set_same (first ∷ lines) (suc i) end new e = end_set_same lines i end new e
@@ -68,38 +69,38 @@ end_set_same (first ∷ lines) (suc i) end new e = end_set_same lines i end new 
 
 pub leads_push : (at : ℕ) (blocks : List Block) (lines : List Line) (mid : List Block)
     (line : Line) →
-    Leads at blocks lines mid → Stands mid line →
-    Leads at blocks (lines ++ line ∷ [])
+    LinesLead at blocks lines mid → StandsInBlocks mid line →
+    LinesLead at blocks (lines ++ line ∷ [])
     (opened_by (at + length lines) line.statement ++ around line.statement mid)
 leads_push at blocks [] mid line is stands =
     let here : at + 0 ≡ at = omega arith in (
-      subst (λ (opening : List Block). Stands opening line) (sym is) stands,
+      subst (λ (opening : List Block). StandsInBlocks opening line) (sym is) stands,
       ap (λ (opening : List Block). opened_by at line.statement ++ around line.statement opening) is
           ∙ ap (λ (n : ℕ). opened_by n line.statement ++ around line.statement mid) (sym here),
     )
 leads_push at blocks (first ∷ lines) mid line is stands =
     let there : at + 1 + length lines ≡ at + length (first ∷ lines) = omega arith in (
       is.0,
-      subst (λ (n : ℕ). Leads (at + 1)
+      subst (λ (n : ℕ). LinesLead (at + 1)
           (opened_by at first.statement ++ around first.statement blocks)
           (lines ++ line ∷ []) (opened_by n line.statement ++ around line.statement mid)) there
           (leads_push (at + 1) _ lines mid line is.1 stands),
     )
 
 -- from the first line on
-pub leads_last : (lines : List Line) (mid : List Block) (line : Line) → Leads 0 [] lines mid →
-    Stands mid line → Leads 0 [] (lines ++ line ∷ [])
+pub leads_last : (lines : List Line) (mid : List Block) (line : Line) → LinesLead 0 [] lines mid →
+    StandsInBlocks mid line → LinesLead 0 [] (lines ++ line ∷ [])
     (opened_by (length lines) line.statement ++ around line.statement mid)
 leads_last lines mid line is stands =
     let here : 0 + length lines ≡ length lines = omega arith in
-    subst (λ (n : ℕ). Leads 0 [] (lines ++ line ∷ [])
+    subst (λ (n : ℕ). LinesLead 0 [] (lines ++ line ∷ [])
     (opened_by n line.statement ++ around line.statement mid)) here
     (leads_push 0 [] lines mid line is stands)
 
 -- the first line of a loop stands as before when its end is told
 stands_ending : (blocks : List Block) (end : ℕ) (line : Line) (said : Statement) →
-    line.statement ≡ said → Stands blocks (record line { statement = said }) →
-    Stands blocks (record line { statement = ending end said })
+    line.statement ≡ said → StandsInBlocks blocks (record line { statement = said }) →
+    StandsInBlocks blocks (record line { statement = loop_ending_at end said })
 stands_ending blocks end line (statement.Assign to value) e is = is
 stands_ending blocks end line (statement.If condition) e is = is
 stands_ending blocks end line statement.Else e is = is
@@ -111,7 +112,7 @@ stands_ending blocks end line (statement.EndFor begin) e is = is
 
 after_ending : (at : ℕ) (blocks : List Block) (end : ℕ) (said : Statement) →
     opened_by at said ++ around said blocks
-    ≡ opened_by at (ending end said) ++ around (ending end said) blocks
+    ≡ opened_by at (loop_ending_at end said) ++ around (loop_ending_at end said) blocks
 after_ending at blocks end (statement.Assign to value) = refl
 after_ending at blocks end (statement.If condition) = refl
 after_ending at blocks end statement.Else = refl
@@ -122,17 +123,17 @@ after_ending at blocks end (statement.For nest first last up old) = refl
 after_ending at blocks end (statement.EndFor begin) = refl
 
 abbrev pub told : ℕ → Line → Line
-told end line = record line { statement = ending end line.statement }
+told end line = record line { statement = loop_ending_at end line.statement }
 
 pub leads_set : (at : ℕ) (blocks : List Block) (lines : List Line) (last : List Block) (i end : ℕ)
-    (line : Line) → slice_get lines i ≡ Some line → Leads at blocks lines last →
-    Leads at blocks (slice_set lines i (told end line)) last
+    (line : Line) → slice_get lines i ≡ Some line → LinesLead at blocks lines last →
+    LinesLead at blocks (slice_set lines i (told end line)) last
 leads_set at blocks [] last i end line e is = is
 leads_set at blocks (first ∷ lines) last zero end line e is =
     let same : first ≡ line = cc in
-    subst (λ (other : Line). Leads at blocks (told end other ∷ lines) last) same (
+    subst (λ (other : Line). LinesLead at blocks (told end other ∷ lines) last) same (
       stands_ending blocks end first first.statement refl is.0,
-      subst (λ (opening : List Block). Leads (at + 1) opening lines last)
+      subst (λ (opening : List Block). LinesLead (at + 1) opening lines last)
           (after_ending at blocks end first.statement) is.1,
     )
 leads_set at blocks (first ∷ lines) last (suc i) end line e is =
@@ -158,8 +159,8 @@ tied_push lines line is ends k begin e = elim (begin_push lines line k begin e) 
       )
 ]
 
-ending_begins : (end old : ℕ) (said : Statement) → loop_end said ≡ Some old →
-    loop_begin (ending end said) ≡ None
+ending_begins : (end old : ℕ) (said : Statement) → loop_end_told said ≡ Some old →
+    loop_begin (loop_ending_at end said) ≡ None
 ending_begins end old (statement.Assign to value) e = absurd (let none : None ≡ Some old = e in cc)
 ending_begins end old (statement.If condition) e = absurd (let none : None ≡ Some old = e in cc)
 ending_begins end old statement.Else e = absurd (let none : None ≡ Some old = e in cc)
@@ -169,8 +170,8 @@ ending_begins end old (statement.EndWhile begin) e = absurd (let none : None ≡
 ending_begins end old (statement.For nest first last up was) e = refl
 ending_begins end old (statement.EndFor begin) e = absurd (let none : None ≡ Some old = e in cc)
 
-ending_ends : (end old : ℕ) (said : Statement) → loop_end said ≡ Some old →
-    loop_end (ending end said) ≡ Some end
+ending_ends : (end old : ℕ) (said : Statement) → loop_end_told said ≡ Some old →
+    loop_end_told (loop_ending_at end said) ≡ Some end
 ending_ends end old (statement.Assign to value) e = absurd (let none : None ≡ Some old = e in cc)
 ending_ends end old (statement.If condition) e = absurd (let none : None ≡ Some old = e in cc)
 ending_ends end old statement.Else e = absurd (let none : None ≡ Some old = e in cc)
@@ -181,13 +182,13 @@ ending_ends end old (statement.For nest first last up was) e = refl
 ending_ends end old (statement.EndFor begin) e = absurd (let none : None ≡ Some old = e in cc)
 
 -- the line of a loop is there
-pub line_there : (found : Option Line) (end : ℕ) → said_by loop_end found ≡ Some end →
-    (line : Line) × (found ≡ Some line) × (loop_end line.statement ≡ Some end)
+pub line_there : (found : Option Line) (end : ℕ) → said_by loop_end_told found ≡ Some end →
+    (line : Line) × (found ≡ Some line) × (loop_end_told line.statement ≡ Some end)
 line_there None end e = absurd (let none : None ≡ Some end = e in cc)
 line_there (Some line) end e = (line, refl, e)
 
 pub tied_set : (lines : List Line) (i end : ℕ) (line : Line) → end_at lines i ≡ Some 0 →
-    loop_end line.statement ≡ Some 0 → EndsAreTied lines →
+    loop_end_told line.statement ≡ Some 0 → EndsAreTied lines →
     EndsAreTied (slice_set lines i (told end line))
 tied_set lines i end line opening says is k begin e =
     let old = is k begin
@@ -198,7 +199,7 @@ tied_set lines i end line opening says is k begin e =
     (old.0, end_set_other lines i (told end line) begin other ∙ old.1)
 
 pub end_set : (lines : List Line) (i end : ℕ) (line : Line) → end_at lines i ≡ Some 0 →
-    loop_end line.statement ≡ Some 0 →
+    loop_end_told line.statement ≡ Some 0 →
     end_at (slice_set lines i (told end line)) i ≡ Some end
 end_set lines i end line opening says =
     end_set_same lines i 0 (told end line) opening ∙ ending_ends end 0 line.statement says
@@ -227,7 +228,7 @@ begin_set_other (first ∷ lines) (suc i) new (suc k) other =
     begin_set_other lines i new k (λ e. other (ap suc e))
 
 -- a line does not both begin a loop and end one
-not_both : (said : Statement) (begin end : ℕ) → loop_end said ≡ Some end →
+not_both : (said : Statement) (begin end : ℕ) → loop_end_told said ≡ Some end →
     loop_begin said ≡ Some begin → ⊥
 not_both (statement.Assign to value) begin end e f = let none : None ≡ Some end = e in cc
 not_both (statement.If condition) begin end e f = let none : None ≡ Some end = e in cc
@@ -239,14 +240,14 @@ not_both (statement.For nest first last up was) begin end e f =
     let none : None ≡ Some begin = f in cc
 not_both (statement.EndFor first) begin end e f = let none : None ≡ Some end = e in cc
 
-pub not_both_at : (found : Option Line) (begin end : ℕ) → said_by loop_end found ≡ Some end →
+pub not_both_at : (found : Option Line) (begin end : ℕ) → said_by loop_end_told found ≡ Some end →
     said_by loop_begin found ≡ Some begin → ⊥
 not_both_at None begin end e f = let none : None ≡ Some end = e in cc
 not_both_at (Some line) begin end e f = not_both line.statement begin end e f
 
 pub end_cases : (lines : List Line) (line : Line) (k end : ℕ) →
     end_at (lines ++ line ∷ []) k ≡ Some end →
-    (end_at lines k ≡ Some end) ⊎ ((k ≡ length lines) × (loop_end line.statement ≡ Some end))
+    (end_at lines k ≡ Some end) ⊎ ((k ≡ length lines) × (loop_end_told line.statement ≡ Some end))
 end_cases [] line zero end e = inr (refl, e)
 end_cases [] line (suc k) end e = absurd (let none : None ≡ Some end = e in cc)
 end_cases (first ∷ lines) line zero end e = inl e
@@ -269,7 +270,7 @@ BeginsEnd lines blocks = (begin end : ℕ) → end_at lines begin ≡ Some end �
 -- one line more, which begins no loop or one of the blocks
 pub begins_push : (lines : List Line) (line : Line) (blocks new : List Block) →
     ((begin : ℕ) → Among begin blocks → Among begin new) →
-    ((end : ℕ) → loop_end line.statement ≡ Some end → Among (length lines) new) →
+    ((end : ℕ) → loop_end_told line.statement ≡ Some end → Among (length lines) new) →
     BeginsEnd lines blocks → BeginsEnd (lines ++ line ∷ []) new
 begins_push lines line blocks new more begins is begin end e =
     elim (end_cases lines line begin end e) [
@@ -283,7 +284,7 @@ begins_push lines line blocks new more begins is begin end e =
 
 pub end_set_cases : (lines : List Line) (i : ℕ) (new : Line) (k end : ℕ) →
     end_at (slice_set lines i new) k ≡ Some end →
-    ((k ≢ i) × (end_at lines k ≡ Some end)) ⊎ ((k ≡ i) × (loop_end new.statement ≡ Some end))
+    ((k ≢ i) × (end_at lines k ≡ Some end)) ⊎ ((k ≡ i) × (loop_end_told new.statement ≡ Some end))
 end_set_cases [] i new k end e = absurd (let none : None ≡ Some end = e in cc)
 end_set_cases (first ∷ lines) zero new zero end e = inr (refl, e)
 end_set_cases (first ∷ lines) zero new (suc k) end e = inl (λ same. omega arith, e)
@@ -299,7 +300,7 @@ BeginsLeft lines here blocks end = (begin was : ℕ) → end_at lines begin ≡ 
     (Among begin blocks ⊎ (begin_at lines was ≡ Some begin)) ⊎ ((begin ≡ here) × (was ≡ end))
 
 pub begins_set : (lines : List Line) (here end : ℕ) (found : Line) (blocks : List Block) →
-    end_at lines here ≡ Some 0 → loop_end found.statement ≡ Some 0 →
+    end_at lines here ≡ Some 0 → loop_end_told found.statement ≡ Some 0 →
     ((begin was : ℕ) → end_at lines begin ≡ Some was →
     ((begin ≡ here) ⊎ Among begin blocks) ⊎ (begin_at lines was ≡ Some begin)) →
     BeginsLeft (slice_set lines here (told end found)) here blocks end
@@ -323,7 +324,7 @@ begins_set lines here end found blocks first says is begin was e =
 
 pub begins_last : (lines : List Line) (line : Line) (here end : ℕ) (blocks : List Block) →
     BeginsLeft lines here blocks end → length lines ≡ end → loop_begin line.statement ≡ Some here →
-    loop_end line.statement ≡ None → BeginsEnd (lines ++ line ∷ []) blocks
+    loop_end_told line.statement ≡ None → BeginsEnd (lines ++ line ∷ []) blocks
 begins_last lines line here end blocks is many ends plain begin was e =
     elim (end_cases lines line begin was e) [
       | inr last ↦ absurd (let none : None ≡ Some was = sym plain ∙ last.1 in cc)

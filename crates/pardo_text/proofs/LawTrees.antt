@@ -11,7 +11,7 @@ use Rattle.pardo_text.specs.declared.names.Scope.TheVariants.{Fixed}
 use Rattle.pardo_text.specs.declared.operation.Op.{Op}
 use Rattle.pardo_text.specs.declared.symbol.Symbol.TheVariants as the
 use Rattle.pardo_text.specs.Expression.{Tree, number, place}
-use Rattle.pardo_text.specs.Expressions.{Read, Inner, rest_after}
+use Rattle.pardo_text.specs.Expressions.{Read, Inner, rest_after_mark}
 use Rattle.pardo_text.specs.Expressions.{indexed, applied, joined}
 use Rattle.pardo_text.specs.Expressions.{pair_at, used_at, place_at}
 use Rattle.pardo_text.specs.Expressions.{named_at, operand_at, operator_at, chained, turns_at}
@@ -19,7 +19,7 @@ use Rattle.pardo_text.specs.Expressions.{level_at, within_at, expression_at, log
 use Rattle.text_lines.specs.Lines.{Word}
 use Rattle.pardo_text.specs.Names.{Names, admits, tree_from}
 use Rattle.pardo_text.specs.Operations.{level_of, loosest}
-use Rattle.pardo_text.specs.Reads.{◌>>=◌}
+use Rattle.text_lines.specs.Reads.{◌>>=◌}
 use Rattle.pardo_text.specs.Tokens.{Token, name, number as literal, symbol}
 use Rattle.pardo_text.proofs.Ifs.{ok_bind, ok_after, ok_if}
 use Rattle.pardo_text.specs.declared.part.Mark.TheVariants as mark
@@ -58,7 +58,7 @@ module _ (names : Names) (scope : Scope) (P : Tree → Type 0) (keeps : Keeps na
   placed_at inner word array None kept e f = tt
   placed_at inner word array (Some tokens) kept e f =
       ok_bind (inner scope tokens) _ Kept Kept (kept tokens) (λ index p.
-      ok_after (rest_after mark.CloseIndex index.1) _ Kept
+      ok_after (rest_after_mark mark.CloseIndex index.1) _ Kept
       (λ rest. keeps.placed word array index.0 e f p))
 
   bare_at : (word : Word) (found : Named) (tokens : List Token) → names word ≡ Some found →
@@ -90,11 +90,11 @@ module _ (names : Names) (scope : Scope) (P : Tree → Type 0) (keeps : Keeps na
   pair : (inner : Inner) (op : Op) (tokens : List Token) → KeptIn (inner scope) →
       level_of op ≡ 0 → IfOk (pair_at inner scope op tokens) Kept
   pair inner op tokens kept e =
-      ok_after (rest_after mark.Open tokens) _ Kept (λ opened.
+      ok_after (rest_after_mark mark.Open tokens) _ Kept (λ opened.
       ok_bind (inner scope opened) _ Kept Kept (kept opened) (λ first p.
-      ok_after (rest_after mark.Comma first.1) _ Kept (λ between.
+      ok_after (rest_after_mark mark.Comma first.1) _ Kept (λ between.
       ok_bind (inner scope between) _ Kept Kept (kept between) (λ second q.
-      ok_after (rest_after mark.Close second.1) _ Kept
+      ok_after (rest_after_mark mark.Close second.1) _ Kept
       (λ rest. keeps.pairs op first.0 second.0 e p q)))))
 
   operand : (inner : Inner) → KeptIn (inner scope) → KeptIn (operand_at names inner scope)
@@ -107,11 +107,11 @@ module _ (names : Names) (scope : Scope) (P : Tree → Type 0) (keeps : Keeps na
   operand inner kept (name word ∷ rest) = named inner word (names word) rest kept refl
   operand inner kept (symbol the.Open ∷ rest) =
       ok_bind (inner scope rest) _ Kept Kept (kept rest)
-      (λ tree p. ok_after (rest_after mark.Close tree.1) _ Kept (λ _. p))
+      (λ tree p. ok_after (rest_after_mark mark.Close tree.1) _ Kept (λ _. p))
   operand inner kept (symbol the.Lg ∷ rest) =
-      ok_after (rest_after mark.Open rest) _ Kept (λ opened.
+      ok_after (rest_after_mark mark.Open rest) _ Kept (λ opened.
       ok_after (inner Fixed opened) _ Kept (λ tree.
-      ok_after (rest_after mark.Close tree.1) _ Kept (λ _.
+      ok_after (rest_after_mark mark.Close tree.1) _ Kept (λ _.
       keeps.numbers (log_of (fixed_value tree.0)) (log_small (fixed_value tree.0)))))
   operand inner kept (symbol (the.Operator op) ∷ rest) =
       ok_if (level_of op == 0) _ _ Kept

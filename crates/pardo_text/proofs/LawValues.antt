@@ -8,7 +8,7 @@ use Rattle.pardo_text.specs.declared.operation.Op.{Op}
 use Rattle.pardo_text.specs.declared.operation.Op.TheVariants.{Add, Sub, Mul, Div, Rem, Shl, Shr}
 use Rattle.pardo_text.specs.declared.operation.Op.TheVariants.{BitAnd, BitOr, BitXor, Eq, Ne}
 use Rattle.pardo_text.specs.declared.operation.Op.TheVariants.{Lt, Le, Gt, Ge, And, Or, Min, Max}
-use Rattle.pardo_text.specs.Operations.{value_of, bit}
+use Rattle.pardo_text.specs.Operations.{operation_value, bit}
 
 bit_small : (test : Bool) → bit test < 2 ^ 32
 bit_small true = omega arith
@@ -30,8 +30,8 @@ small_remainder a b p = grind (arith, common_steps)
 small_and : (a b : ℕ) → a < 2 ^ 32 → bit_and a b < 2 ^ 32
 small_and a b p = omega (arith, and_le_l a b)
 
-pub value_small : (op : Op) (a b : ℕ) → a < 2 ^ 32 → b < 2 ^ 32 → value_of op a b < 2 ^ 32
-unfolding value_of
+pub value_small : (op : Op) (a b : ℕ) → a < 2 ^ 32 → b < 2 ^ 32 → operation_value op a b < 2 ^ 32
+unfolding operation_value
 value_small Add a b p q = omega arith
 value_small Sub a b p q = omega arith
 value_small Mul a b p q = small_rest (a * b)

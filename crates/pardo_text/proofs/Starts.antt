@@ -4,12 +4,13 @@ use Rattle.std.proofs.Common.{◌∷◌, ◌++◌, length, is_some, unwrap_or, O
 use Rattle.std.proofs.Common.{Err, refl, sym, ap, ◌∙◌, arith, append_assoc}
 use Rattle.pardo_text.specs.declared.fault.PardoKind.{PardoKind}
 use Rattle.pardo_text.specs.declared.fault.PardoKind.TheVariants.{BadLine}
-use Rattle.pardo_text.specs.Expressions.{ended, fixed_at, rest_after}
+use Rattle.pardo_text.specs.Expressions.{ended, fixed_at, rest_after_mark}
 use Rattle.pardo_text.specs.Inner.Values.{after_values}
 use Rattle.pardo_text.specs.Names.{Names}
-use Rattle.pardo_text.specs.Reads.{◌>>=◌}
+use Rattle.text_lines.specs.Reads.{◌>>=◌}
 use Rattle.pardo_text.specs.Tokens.{Token}
-use Rattle.pardo_text.specs.Values.{most, values_in, values_after, values_next, after_dots}
+use Rattle.pardo_text.specs.Values.{greatest_value, values_in, values_after, values_next}
+use Rattle.pardo_text.specs.Values.{after_dots}
 use Rattle.pardo_text.specs.Values.{filled, start_at}
 use Rattle.pardo_text.specs.declared.part.Mark.TheVariants as mark
 
@@ -42,7 +43,7 @@ ended-err value (token ∷ tokens) kind e = let same : kind ≡ BadLine = cc in 
 -- ---- one value
 
 value_first : (names : Names) (n i : ℕ) (tokens : List Token) → i < n →
-    values_in names (n - i) tokens ≡ (fixed_at names 0 most tokens >>= λ value.
+    values_in names (n - i) tokens ≡ (fixed_at names 0 greatest_value tokens >>= λ value.
     values_after (values_in names (n - (i + 1))) value.0 value.1)
 value_first names n i tokens lt =
     let more : n - i ≡ suc (n - (i + 1)) = omega arith in rw more refl
@@ -54,7 +55,7 @@ value_alone more value (token ∷ tokens) e = absurd (omega arith)
 
 value_comma : (more : List Token → Result (List ℕ × Bool) PardoKind) (value : ℕ)
     (rest : List Token) → 0 < length rest → values_after more value rest
-    ≡ (rest_after mark.Comma rest >>= λ after. values_next more value after (after_dots after))
+    ≡ (rest_after_mark mark.Comma rest >>= λ after. values_next more value after (after_dots after))
 value_comma more value [] lt = absurd (omega arith)
 value_comma more value (token ∷ tokens) lt = refl
 
@@ -66,13 +67,13 @@ pub take_begins : (names : Names) (n m : ℕ) (front : List ℕ) (tokens : List 
 take_begins names n m front tokens e = let same : n - 0 ≡ m = omega arith in rw same refl
 
 pub take_fault : (names : Names) (n i : ℕ) (front : List ℕ) (tokens : List Token)
-    (kind : PardoKind) → i < n → fixed_at names 0 most tokens ≡ Err kind →
+    (kind : PardoKind) → i < n → fixed_at names 0 greatest_value tokens ≡ Err kind →
     after_values front (values_in names (n - i) tokens) ≡ Err kind
 take_fault names n i front tokens kind lt e =
     rw (value_first names n i tokens lt, e) refl
 
 pub take_last : (names : Names) (n i value : ℕ) (front new : List ℕ) (tokens rest : List Token) →
-    i < n → fixed_at names 0 most tokens ≡ Ok (value, rest) → length rest ≡ 0 →
+    i < n → fixed_at names 0 greatest_value tokens ≡ Ok (value, rest) → length rest ≡ 0 →
     new ≡ front ++ value ∷ [] →
     after_values front (values_in names (n - i) tokens) ≡ Ok (new, false)
 take_last names n i value front new tokens rest lt e f g =
@@ -80,16 +81,16 @@ take_last names n i value front new tokens rest lt e f g =
     (ap (λ all. Ok (all, false)) (sym g))
 
 pub take_comma : (names : Names) (n i value : ℕ) (front : List ℕ) (tokens rest : List Token)
-    (kind : PardoKind) → i < n → fixed_at names 0 most tokens ≡ Ok (value, rest) →
-    0 < length rest → rest_after mark.Comma rest ≡ Err kind →
+    (kind : PardoKind) → i < n → fixed_at names 0 greatest_value tokens ≡ Ok (value, rest) →
+    0 < length rest → rest_after_mark mark.Comma rest ≡ Err kind →
     after_values front (values_in names (n - i) tokens) ≡ Err kind
 take_comma names n i value front tokens rest kind lt e f g =
     rw (value_first names n i tokens lt, e, value_comma _ value rest f, g) refl
 
 pub take_end : (names : Names) (n i value : ℕ) (front new : List ℕ)
     (tokens rest after end : List Token) → i < n →
-    fixed_at names 0 most tokens ≡ Ok (value, rest) → 0 < length rest →
-    rest_after mark.Comma rest ≡ Ok after → after_dots after ≡ Some end → Ok (tt {0}) ≡
+    fixed_at names 0 greatest_value tokens ≡ Ok (value, rest) → 0 < length rest →
+    rest_after_mark mark.Comma rest ≡ Ok after → after_dots after ≡ Some end → Ok (tt {0}) ≡
     ended (tt {0}) end →
     new ≡ front ++ value ∷ [] →
     after_values front (values_in names (n - i) tokens) ≡ Ok (new, true)
@@ -100,8 +101,8 @@ take_end names n i value front new tokens rest after end lt e f g h k new_is =
 
 pub take_left : (names : Names) (n i value : ℕ) (front : List ℕ)
     (tokens rest after end : List Token) (kind : PardoKind) → i < n →
-    fixed_at names 0 most tokens ≡ Ok (value, rest) → 0 < length rest →
-    rest_after mark.Comma rest ≡ Ok after → after_dots after ≡ Some end → Err kind ≡
+    fixed_at names 0 greatest_value tokens ≡ Ok (value, rest) → 0 < length rest →
+    rest_after_mark mark.Comma rest ≡ Ok after → after_dots after ≡ Some end → Err kind ≡
     ended (tt {0}) end →
     after_values front (values_in names (n - i) tokens) ≡ Err kind
 take_left names n i value front tokens rest after end kind lt e f g h k =
@@ -118,8 +119,8 @@ after_values-onto front new value (Err kind) e = refl
 
 pub take_more : (names : Names) (n i value : ℕ) (front new : List ℕ)
     (tokens rest after end : List Token) → i < n →
-    fixed_at names 0 most tokens ≡ Ok (value, rest) → 0 < length rest →
-    rest_after mark.Comma rest ≡ Ok after → after_dots after ≡ None → end ≡ after →
+    fixed_at names 0 greatest_value tokens ≡ Ok (value, rest) → 0 < length rest →
+    rest_after_mark mark.Comma rest ≡ Ok after → after_dots after ≡ None → end ≡ after →
     new ≡ front ++ value ∷ [] → after_values front (values_in names (n - i) tokens)
     ≡ after_values new (values_in names (n - (i + 1)) end)
 take_more names n i value front new tokens rest after end lt e f g h same new_is =
@@ -140,7 +141,7 @@ of_none front (Err kind) x none e = absurd (cc e)
 
 -- Start values are filled up from those that are given.
 pub start_given : (names : Names) (places n : ℕ) (tokens rest : List Token) (front values : List ℕ)
-    (fills : Bool) → n ≡ length tokens → n ≢ 0 → rest_after mark.Equals tokens ≡ Ok rest →
+    (fills : Bool) → n ≡ length tokens → n ≢ 0 → rest_after_mark mark.Equals tokens ≡ Ok rest →
     front ≡ [] → after_values front (values_in names (length rest) rest) ≡ Ok (values, fills) →
     start_at names places tokens ≡ filled places values fills
 unfolding start_at

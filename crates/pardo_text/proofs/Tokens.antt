@@ -2,7 +2,8 @@
 use Rattle.std.proofs.Common.{◌≡◌, ℕ, ◌≤◌, Bool, true, false, if◌then◌else◌, List, [], ◌∷◌}
 use Rattle.std.proofs.Common.{length, take, drop, get_or, Some, refl, sym, ◌∙◌, arith}
 use Rattle.std.specs.Char.{is_ascii_digit}
-use Rattle.pardo_text.specs.Tokens.{Token, number, begins_name, is_of_name, keywords, number_of}
+use Rattle.pardo_text.specs.Tokens.{Token, number, begins_name, is_of_name, keywords}
+use Rattle.pardo_text.specs.Tokens.{number_spelled}
 use Rattle.pardo_text.specs.Tokens.{run_len, token_at, word_by}
 
 if_true : {A : Type 0} (test : Bool) (x y : A) → test ≡ true → (if test then x else y) ≡ x
@@ -26,7 +27,7 @@ token_word (first ∷ rest) front back d n token some begins is f b t =
 pub token_number : (line front back : List ℕ) (d n value : ℕ) → 1 ≤ length line →
     begins_name (get_or line 0 d) ≡ false → is_ascii_digit (get_or line 0 d) ≡ true →
     n ≡ run_len is_ascii_digit line → front ≡ take n line → back ≡ drop n line →
-    value ≡ number_of front → Some (number value, back) ≡ token_at line
+    value ≡ number_spelled front → Some (number value, back) ≡ token_at line
 unfolding token_at
 token_number [] front back d n value some other begins is f b v = absurd (omega arith)
 token_number (first ∷ rest) front back d n value some other begins is f b v =

@@ -10,6 +10,7 @@ is_choice block.Else = true
 is_choice _ = false
 
 -- how many of the open blocks are
-abbrev pub depth_of : List Block → ℕ
-depth_of [] = 0
-depth_of (block ∷ blocks) = if is_choice block then depth_of blocks + 1 else depth_of blocks
+abbrev pub choice_depth : List Block → ℕ
+choice_depth [] = 0
+choice_depth (block ∷ blocks) =
+    if is_choice block then choice_depth blocks + 1 else choice_depth blocks

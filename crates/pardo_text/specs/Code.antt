@@ -18,11 +18,11 @@ use Rattle.pardo_text.specs.declared.symbol.Symbol.TheVariants as the
 use Rattle.pardo_text.specs.Drafts.{Draft, fitting, with_line, with_block, with_loop, without}
 use Rattle.pardo_text.specs.Drafts.{with_end}
 use Rattle.pardo_text.specs.Expression.{Tree, number as constant}
-use Rattle.pardo_text.specs.Expressions.{Read, rest_after}
+use Rattle.pardo_text.specs.Expressions.{Read, rest_after_mark}
 use Rattle.pardo_text.specs.Expressions.{indexed, ended, new_name, expression_at}
 use Rattle.text_lines.specs.Lines.{Word}
 use Rattle.pardo_text.specs.Names.{Names}
-use Rattle.pardo_text.specs.Reads.{◌>>=◌}
+use Rattle.text_lines.specs.Reads.{◌>>=◌}
 use Rattle.pardo_text.specs.Tokens.{Token, name, symbol}
 use Rattle.pardo_text.specs.declared.part.Mark.TheVariants as mark
 
@@ -34,11 +34,11 @@ whole_at names scope tokens = do
 
 -- ---- assignments
 
-abbrev pub place_of : Names → ℕ → Option (List Token) → Read Target
-place_of names array None = Err WrongKind
-place_of names array (Some inside) = do
+abbrev pub array_place : Names → ℕ → Option (List Token) → Read Target
+array_place names array None = Err WrongKind
+array_place names array (Some inside) = do
   index ← expression_at names Any inside
-  rest ← rest_after mark.CloseIndex index.1
+  rest ← rest_after_mark mark.CloseIndex index.1
   Ok (target.Array array index.0, rest)
 
 -- a target without an index
@@ -46,19 +46,19 @@ abbrev pub bare_target : Target → List Token → Read Target
 bare_target place tokens = if is_some (indexed tokens) then Err WrongKind else Ok (place, tokens)
 
 -- what an assignment to this name goes to
-abbrev pub target_of : Names → Option Named → List Token → Read Target
-target_of names None tokens = Err UnknownName
-target_of names (Some (thing.Array array)) tokens = place_of names array (indexed tokens)
-target_of names (Some (thing.Scalar array)) tokens =
+abbrev pub assignment_target : Names → Option Named → List Token → Read Target
+assignment_target names None tokens = Err UnknownName
+assignment_target names (Some (thing.Array array)) tokens = array_place names array (indexed tokens)
+assignment_target names (Some (thing.Scalar array)) tokens =
     bare_target (target.Array array (constant 0)) tokens
-target_of names (Some (thing.Private x)) tokens = bare_target (target.Private x) tokens
-target_of names (Some other) tokens = Err WrongKind
+assignment_target names (Some (thing.Private x)) tokens = bare_target (target.Private x) tokens
+assignment_target names (Some other) tokens = Err WrongKind
 
 -- what follows the name of a target
 unfoldable pub assignment_at : Names → Word → List Token → Result Statement PardoKind
 assignment_at names word tokens = do
-  place ← target_of names (names word) tokens
-  after ← rest_after mark.Assign place.1
+  place ← assignment_target names (names word) tokens
+  after ← rest_after_mark mark.Assign place.1
   value ← whole_at names Any after
   Ok (statement.Assign place.0 value)
 
@@ -87,7 +87,7 @@ way_at _ = Err BadLine
 unfoldable pub for_line : ℕ → Draft → List Token → Result Draft PardoKind
 for_line number draft tokens = do
   word ← new_name draft.names tokens
-  after ← rest_after mark.Equals word.1
+  after ← rest_after_mark mark.Equals word.1
   first ← expression_at draft.names Bound after
   way ← way_at first.1
   last ← whole_at draft.names Bound way.1
@@ -103,15 +103,15 @@ else_of number draft (block.If ∷ blocks) =
 else_of number draft _ = Err BadBlock
 
 -- an `end` belongs to the innermost block
-abbrev pub end_of : ℕ → Draft → List Block → Result Draft PardoKind
-end_of number draft [] = Err BadBlock
-end_of number draft (block.While begin ∷ blocks) =
+abbrev pub end_block : ℕ → Draft → List Block → Result Draft PardoKind
+end_block number draft [] = Err BadBlock
+end_block number draft (block.While begin ∷ blocks) =
     Ok (with_line number (statement.EndWhile begin)
     (with_end begin (record draft { blocks = blocks })))
-end_of number draft (block.For begin ∷ blocks) =
+end_block number draft (block.For begin ∷ blocks) =
     Ok (with_line number (statement.EndFor begin)
     (with_end begin (without draft.loops (record draft { blocks = blocks }))))
-end_of number draft (choice ∷ blocks) =
+end_block number draft (choice ∷ blocks) =
     Ok (with_line number statement.EndIf (record draft { blocks = blocks }))
 
 -- ---- any line
@@ -122,7 +122,7 @@ statement_line number draft (symbol the.If ∷ tokens) = if_line number draft to
 statement_line number draft (symbol the.While ∷ tokens) = while_line number draft tokens
 statement_line number draft (symbol the.For ∷ tokens) = for_line number draft tokens
 statement_line number draft (symbol the.Else ∷ []) = else_of number draft draft.blocks
-statement_line number draft (symbol the.End ∷ []) = end_of number draft draft.blocks
+statement_line number draft (symbol the.End ∷ []) = end_block number draft draft.blocks
 statement_line number draft (name word ∷ tokens) = do
   said ← assignment_at draft.names word tokens
   Ok (with_line number said draft)

@@ -7,8 +7,8 @@ use Rattle.pardo_text.specs.declared.fault.PardoKind.TheVariants.{TooManyCells}
 use Rattle.pardo_text.specs.declared.limits.TheConstants.{MAX_CELLS}
 use Rattle.pardo_text.specs.declared.names.Named.{Named}
 use Rattle.pardo_text.specs.declared.names.Named.TheVariants as thing
-use Rattle.pardo_text.specs.declared.program.Rule.{Rule}
-use Rattle.pardo_text.specs.declared.program.Rule.TheVariants.{Common}
+use Rattle.pram_job.specs.declared.instr.Rule.{Rule}
+use Rattle.pram_job.specs.declared.instr.Rule.TheVariants.{Common}
 use Rattle.pardo_text.specs.declared.block.Block.{Block}
 use Rattle.pardo_text.specs.declared.draft.Stage.{Stage}
 use Rattle.pardo_text.specs.declared.draft.Stage.TheVariants as stage
@@ -16,7 +16,7 @@ use Rattle.pardo_text.specs.declared.statement.Line.{Line}
 use Rattle.pardo_text.specs.declared.statement.Statement.{Statement}
 use Rattle.pardo_text.specs.declared.statement.Statement.TheVariants as statement
 use Rattle.text_lines.specs.Lines.{Word}
-use Rattle.pardo_text.specs.Blocks.{depth_of}
+use Rattle.pardo_text.specs.Blocks.{choice_depth}
 use Rattle.pardo_text.specs.Names.{Names, no_names, named, unnamed}
 use Rattle.pardo_text.specs.Program.{ArrayData, PrivateData, shared_cells, array_after}
 
@@ -58,12 +58,12 @@ with_name word thing draft = record draft { names = named word thing draft.names
 -- ---- cells
 
 -- Each processor has a cell for each private variable, and for each depth of loops and of `if`s.
-abbrev pub cells_of : Draft → ℕ
-cells_of draft = shared_cells draft.arrays
+abbrev pub cells_needed : Draft → ℕ
+cells_needed draft = shared_cells draft.arrays
     + draft.procs * (length draft.privates + draft.most_loops + draft.most_choices)
 
 abbrev pub fitting : Draft → Result Draft PardoKind
-fitting draft = if nat_le (cells_of draft) MAX_CELLS then Ok draft else Err TooManyCells
+fitting draft = if nat_le (cells_needed draft) MAX_CELLS then Ok draft else Err TooManyCells
 
 abbrev pub thing_of : Bool → ℕ → Named
 thing_of true array = thing.Scalar array
@@ -89,14 +89,14 @@ with_private word start draft = record draft {
 abbrev pub with_line : ℕ → Statement → Draft → Draft
 with_line number said draft = record draft {
   lines = draft.lines
-      ++ record { statement = said; depth = depth_of draft.blocks; number = number } ∷ [];
+      ++ record { statement = said; depth = choice_depth draft.blocks; number = number } ∷ [];
 }
 
 -- one open block more
 abbrev pub with_block : Block → Draft → Draft
 with_block opened draft = record draft {
   blocks = opened ∷ draft.blocks;
-  most_choices = max draft.most_choices (depth_of (opened ∷ draft.blocks));
+  most_choices = max draft.most_choices (choice_depth (opened ∷ draft.blocks));
 }
 
 -- one open loop more
@@ -114,16 +114,17 @@ without (name ∷ loops) draft =
     record draft { names = unnamed name draft.names; loops = loops }
 
 -- The opening line of a loop learns the place of its end.
-abbrev pub ending : ℕ → Statement → Statement
-ending end (statement.While condition old) = statement.While condition end
-ending end (statement.For nest first last up old) = statement.For nest first last up end
-ending end other = other
+abbrev pub loop_ending_at : ℕ → Statement → Statement
+loop_ending_at end (statement.While condition old) = statement.While condition end
+loop_ending_at end (statement.For nest first last up old) = statement.For nest first last up end
+loop_ending_at end other = other
 
 abbrev pub ended_at : ℕ → List Line → List Line
 ended_at begin lines = elim (slice_get lines begin) [
   | None ↦ lines
   | Some line ↦
-      slice_set lines begin (record line { statement = ending (length lines) line.statement })
+      slice_set lines begin
+      (record line { statement = loop_ending_at (length lines) line.statement })
 ]
 
 -- the loop whose first line stands here ends at the next line

@@ -17,8 +17,9 @@ use Rattle.pardo_text.specs.declared.symbol.Symbol.TheVariants as the
 use Rattle.pardo_text.specs.Expression.{Tree, number, place, apply}
 use Rattle.text_lines.specs.Lines.{Word}
 use Rattle.pardo_text.specs.Names.{Names, admits, divides, tree_from}
-use Rattle.pardo_text.specs.Operations.{level_of, is_division, value_of, comparisons, loosest}
-use Rattle.pardo_text.specs.Reads.{◌>>=◌}
+use Rattle.pardo_text.specs.Operations.{level_of, is_division, operation_value, comparisons}
+use Rattle.pardo_text.specs.Operations.{loosest}
+use Rattle.text_lines.specs.Reads.{◌>>=◌}
 use Rattle.pardo_text.specs.Tokens.{Token, name, number as literal, symbol}
 use Rattle.pardo_text.specs.declared.part.Mark.{Mark}
 use Rattle.pardo_text.specs.declared.part.Mark.TheVariants as mark
@@ -30,15 +31,15 @@ Read A = Result (A × List Token) PardoKind
 -- ---- single tokens
 
 -- what is after this mark, which has to come next
-abbrev pub rest_after : Mark → List Token → Result (List Token) PardoKind
-rest_after mark.Open (symbol the.Open ∷ rest) = Ok rest
-rest_after mark.Close (symbol the.Close ∷ rest) = Ok rest
-rest_after mark.Comma (symbol the.Comma ∷ rest) = Ok rest
-rest_after mark.CloseIndex (symbol the.CloseIndex ∷ rest) = Ok rest
-rest_after mark.Assign (symbol the.Assign ∷ rest) = Ok rest
-rest_after mark.Equals (symbol (the.Operator op.Eq) ∷ rest) = Ok rest
-rest_after mark.Less (symbol (the.Operator op.Lt) ∷ rest) = Ok rest
-rest_after mark tokens = Err BadLine
+abbrev pub rest_after_mark : Mark → List Token → Result (List Token) PardoKind
+rest_after_mark mark.Open (symbol the.Open ∷ rest) = Ok rest
+rest_after_mark mark.Close (symbol the.Close ∷ rest) = Ok rest
+rest_after_mark mark.Comma (symbol the.Comma ∷ rest) = Ok rest
+rest_after_mark mark.CloseIndex (symbol the.CloseIndex ∷ rest) = Ok rest
+rest_after_mark mark.Assign (symbol the.Assign ∷ rest) = Ok rest
+rest_after_mark mark.Equals (symbol (the.Operator op.Eq) ∷ rest) = Ok rest
+rest_after_mark mark.Less (symbol (the.Operator op.Lt) ∷ rest) = Ok rest
+rest_after_mark mark tokens = Err BadLine
 
 -- what follows the `[` after a name, if one follows
 abbrev pub indexed : List Token → Option (List Token)
@@ -60,7 +61,7 @@ new_name names _ = Err BadLine
 
 -- Of two numbers it makes a number at once.
 abbrev pub applied : Op → Tree → Tree → Tree
-applied op (number first) (number second) = number (value_of op first second)
+applied op (number first) (number second) = number (operation_value op first second)
 applied op first second = apply op first second
 
 -- the number that a tree is, if it is one
@@ -101,25 +102,25 @@ literal_at value rest =
 abbrev pub bracketed_at : Inner → Scope → List Token → Read Tree
 bracketed_at inner scope tokens = do
   tree ← inner scope tokens
-  rest ← rest_after mark.Close tree.1
+  rest ← rest_after_mark mark.Close tree.1
   Ok (tree.0, rest)
 
 -- what follows `min` or `max`
 abbrev pub pair_at : Inner → Scope → Op → List Token → Read Tree
 pair_at inner scope op tokens = do
-  opened ← rest_after mark.Open tokens
+  opened ← rest_after_mark mark.Open tokens
   first ← inner scope opened
-  between ← rest_after mark.Comma first.1
+  between ← rest_after_mark mark.Comma first.1
   second ← inner scope between
-  rest ← rest_after mark.Close second.1
+  rest ← rest_after_mark mark.Close second.1
   Ok (applied op first.0 second.0, rest)
 
 -- what follows `lg`
 abbrev pub log_at : Inner → List Token → Read Tree
 log_at inner tokens = do
-  opened ← rest_after mark.Open tokens
+  opened ← rest_after_mark mark.Open tokens
   tree ← inner Fixed opened
-  rest ← rest_after mark.Close tree.1
+  rest ← rest_after_mark mark.Close tree.1
   Ok (number (log_of (fixed_value tree.0)), rest)
 
 -- what follows the `[` after the name of an array
@@ -127,7 +128,7 @@ abbrev pub place_at : Inner → Scope → ℕ → Option (List Token) → Read T
 place_at inner scope array None = Err WrongKind
 place_at inner scope array (Some tokens) = do
   index ← inner scope tokens
-  rest ← rest_after mark.CloseIndex index.1
+  rest ← rest_after_mark mark.CloseIndex index.1
   Ok (place array index.0, rest)
 
 -- An array has an index, and nothing else has one.

@@ -7,19 +7,19 @@ use Rattle.pardo_text.specs.declared.fault.PardoKind.TheVariants.{BadHeader}
 use Rattle.pardo_text.specs.declared.limits.TheConstants.{MAX_CELLS, MAX_PROCS}
 use Rattle.pardo_text.specs.declared.names.Named.TheVariants as thing
 use Rattle.pardo_text.specs.declared.names.Scope.TheVariants.{Start}
-use Rattle.pardo_text.specs.declared.program.Rule.{Rule}
-use Rattle.pardo_text.specs.declared.program.Rule.TheVariants.{Common, Priority, Crew}
+use Rattle.pram_job.specs.declared.instr.Rule.{Rule}
+use Rattle.pram_job.specs.declared.instr.Rule.TheVariants.{Common, Priority, Crew}
 use Rattle.pardo_text.specs.declared.draft.Stage.TheVariants as stage
 use Rattle.pardo_text.specs.declared.symbol.Symbol.TheVariants as the
 use Rattle.pardo_text.specs.Drafts.{Draft, with_name, with_array, with_private, fitting}
 use Rattle.pardo_text.specs.Expression.{Tree, number}
-use Rattle.pardo_text.specs.Expressions.{Read, rest_after}
+use Rattle.pardo_text.specs.Expressions.{Read, rest_after_mark}
 use Rattle.pardo_text.specs.Expressions.{indexed, ended, new_name, expression_at, fixed_at}
 use Rattle.text_lines.specs.Lines.{Word}
 use Rattle.pardo_text.specs.Names.{Names}
-use Rattle.pardo_text.specs.Reads.{◌>>=◌}
+use Rattle.text_lines.specs.Reads.{◌>>=◌}
 use Rattle.pardo_text.specs.Tokens.{Token, name, number as literal, symbol}
-use Rattle.pardo_text.specs.Values.{most, values_for, start_at}
+use Rattle.pardo_text.specs.Values.{greatest_value, values_for, start_at}
 use Rattle.pardo_text.specs.declared.part.Mark.TheVariants as mark
 
 -- `pardo 1`
@@ -45,8 +45,8 @@ rule_line draft _ = Err BadHeader
 unfoldable pub const_line : Draft → List Token → Result Draft PardoKind
 const_line draft tokens = do
   word ← new_name draft.names tokens
-  after ← rest_after mark.Equals word.1
-  value ← fixed_at draft.names 0 most after
+  after ← rest_after_mark mark.Equals word.1
+  value ← fixed_at draft.names 0 greatest_value after
   ended (with_name word.0 (thing.Constant value.0) draft) value.1
 
 -- what follows `procs`, which stands once
@@ -55,7 +55,7 @@ procs_line draft tokens =
     if draft.procs == 0
     then (do
       word ← new_name draft.names tokens
-      after ← rest_after mark.Less word.1
+      after ← rest_after_mark mark.Less word.1
       procs ← fixed_at draft.names 1 MAX_PROCS after
       ended (with_name word.0 thing.Own (record draft { procs = procs.0 })) procs.1)
     else Err BadHeader
@@ -65,7 +65,7 @@ abbrev pub length_at : Names → List Token → Option (List Token) → Read (Op
 length_at names tokens None = Ok (None, tokens)
 length_at names tokens (Some inside) = do
   places ← fixed_at names 1 MAX_CELLS inside
-  rest ← rest_after mark.CloseIndex places.1
+  rest ← rest_after_mark mark.CloseIndex places.1
   Ok (Some places.0, rest)
 
 -- what follows `shared`
@@ -80,7 +80,7 @@ shared_line draft tokens = do
 unfoldable pub private_start : Names → List Token → Result Tree PardoKind
 private_start names [] = Ok (number 0)
 private_start names (token ∷ tokens) = do
-  after ← rest_after mark.Equals (token ∷ tokens)
+  after ← rest_after_mark mark.Equals (token ∷ tokens)
   tree ← expression_at names Start after
   ended tree.0 tree.1
 

@@ -21,13 +21,14 @@ pub record Bounds : Type 0 where
   pub lines : ℕ
 
 -- An expression in code: it names what is there, its numbers have 32 bits, and it does not divide.
-abbrev pub IsTree : Bounds → Tree → Type 0
-IsTree b (number value) = value < 2 ^ 32
-IsTree b own = Unit {0}
-IsTree b (loop nest) = nest < b.loops
-IsTree b (private x) = x < b.privates
-IsTree b (place array index) = (array < b.arrays) × IsTree b index
-IsTree b (apply op first second) = (is_division op ≡ false) × IsTree b first × IsTree b second
+abbrev pub IsExpression : Bounds → Tree → Type 0
+IsExpression b (number value) = value < 2 ^ 32
+IsExpression b own = Unit {0}
+IsExpression b (loop nest) = nest < b.loops
+IsExpression b (private x) = x < b.privates
+IsExpression b (place array index) = (array < b.arrays) × IsExpression b index
+IsExpression b (apply op first second) = (is_division op ≡ false) × IsExpression b first
+    × IsExpression b second
 
 -- No own number and no private variable stands in it, so its value is one for all processors; and
 -- of arrays only scalars, which have no place but the first, so it has a value.
@@ -41,16 +42,16 @@ IsCommon (apply op first second) = IsCommon first × IsCommon second
 
 -- what a loop depends on
 abbrev pub IsCommonTree : Bounds → Tree → Type 0
-IsCommonTree b tree = IsTree b tree × IsCommon tree
+IsCommonTree b tree = IsExpression b tree × IsCommon tree
 
 abbrev pub IsTarget : Bounds → Target → Type 0
 IsTarget b (target.Private x) = x < b.privates
-IsTarget b (target.Array array index) = (array < b.arrays) × IsTree b index
+IsTarget b (target.Array array index) = (array < b.arrays) × IsExpression b index
 
 -- and the other line of a loop is there
 abbrev pub IsStatement : Bounds → Statement → Type 0
-IsStatement b (statement.Assign to value) = IsTarget b to × IsTree b value
-IsStatement b (statement.If condition) = IsTree b condition
+IsStatement b (statement.Assign to value) = IsTarget b to × IsExpression b value
+IsStatement b (statement.If condition) = IsExpression b condition
 IsStatement b statement.Else = Unit {0}
 IsStatement b statement.EndIf = Unit {0}
 IsStatement b (statement.While condition end) = IsCommonTree b condition × (end < b.lines)

@@ -16,12 +16,12 @@ use Rattle.pardo_text.specs.Names.{Names}
 use Rattle.pardo_text.specs.Nested.{IsNested}
 use Rattle.pardo_text.specs.Program.{ProgramData}
 use Rattle.pardo_text.specs.Reading.{with_text_line, program_in, program_of}
-use Rattle.pardo_text.specs.Reads.{◌>>=◌}
+use Rattle.text_lines.specs.Reads.{◌>>=◌}
 use Rattle.pardo_text.specs.Tokens.{Token, token_at, tokens_of}
 
 -- cells, processors and open brackets
-abbrev pub LimitsAre : Type 0
-LimitsAre = (MAX_CELLS ≡ 65536) × (MAX_PROCS ≡ 1024) × (MAX_OPEN ≡ 32)
+abbrev pub ProgramLimitsAre : Type 0
+ProgramLimitsAre = (MAX_CELLS ≡ 65536) × (MAX_PROCS ≡ 1024) × (MAX_OPEN ≡ 32)
 
 -- ---- tokens
 
@@ -52,8 +52,8 @@ SayTheSame line other = (n : ℕ) (draft : Draft) →
     with_text_line n draft line ≡ with_text_line n draft other
 
 -- A comment goes from its `;` to the end of the line.
-abbrev pub CommentsSayNothing : Type 0
-CommentsSayNothing = (line comment : List ℕ) → IsTrue (list_all is_allowed comment) →
+abbrev pub ProgramCommentsSayNothing : Type 0
+ProgramCommentsSayNothing = (line comment : List ℕ) → IsTrue (list_all is_allowed comment) →
     SayTheSame (line ++ 59 ∷ comment) line
 
 -- blanks before the first token of a line

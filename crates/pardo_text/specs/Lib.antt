@@ -1,6 +1,5 @@
 pub mod Operations
 pub mod Expression
-pub mod Reads
 pub mod Tokens
 pub mod Names
 pub mod Expressions

@@ -6,7 +6,7 @@ use Rattle.pardo_text.specs.declared.block.Block.TheVariants as block
 use Rattle.pardo_text.specs.declared.statement.Line.{Line}
 use Rattle.pardo_text.specs.declared.statement.Statement.{Statement}
 use Rattle.pardo_text.specs.declared.statement.Statement.TheVariants as statement
-use Rattle.pardo_text.specs.Blocks.{depth_of, is_choice}
+use Rattle.pardo_text.specs.Blocks.{choice_depth, is_choice}
 
 -- how many of the open blocks are loops `for`
 abbrev pub loops_of : List Block → ℕ
@@ -42,21 +42,21 @@ Belongs blocks (statement.EndFor begin) =
 Belongs blocks (statement.For nest first last up end) = nest ≡ loops_of blocks
 Belongs blocks _ = Unit {0}
 
-abbrev pub Stands : List Block → Line → Type 0
-Stands blocks line =
-    Belongs blocks line.statement × (line.depth ≡ depth_of (around line.statement blocks))
+abbrev pub StandsInBlocks : List Block → Line → Type 0
+StandsInBlocks blocks line =
+    Belongs blocks line.statement × (line.depth ≡ choice_depth (around line.statement blocks))
 
 -- lines from a place on, from these open blocks to those
-abbrev pub Leads : ℕ → List Block → List Line → List Block → Type 0
-Leads at blocks [] last = blocks ≡ last
-Leads at blocks (line ∷ lines) last = Stands blocks line
-    × Leads (at + 1) (opened_by at line.statement ++ around line.statement blocks) lines last
+abbrev pub LinesLead : ℕ → List Block → List Line → List Block → Type 0
+LinesLead at blocks [] last = blocks ≡ last
+LinesLead at blocks (line ∷ lines) last = StandsInBlocks blocks line
+    × LinesLead (at + 1) (opened_by at line.statement ++ around line.statement blocks) lines last
 
 -- where the first line of a loop says that its end is
-abbrev pub loop_end : Statement → Option ℕ
-loop_end (statement.While condition end) = Some end
-loop_end (statement.For nest first last up end) = Some end
-loop_end _ = None
+abbrev pub loop_end_told : Statement → Option ℕ
+loop_end_told (statement.While condition end) = Some end
+loop_end_told (statement.For nest first last up end) = Some end
+loop_end_told _ = None
 
 -- where the end of a loop says that it begins
 abbrev pub loop_begin : Statement → Option ℕ
@@ -71,13 +71,13 @@ said_by says (Some line) = says line.statement
 -- the end of a loop is where its first line says
 abbrev pub EndsAreTied : List Line → Type 0
 EndsAreTied lines = (at begin : ℕ) → said_by loop_begin (slice_get lines at) ≡ Some begin →
-    (begin < at) × (said_by loop_end (slice_get lines begin) ≡ Some at)
+    (begin < at) × (said_by loop_end_told (slice_get lines begin) ≡ Some at)
 
 -- and there is one
 abbrev pub BeginsAreTied : List Line → Type 0
-BeginsAreTied lines = (begin end : ℕ) → said_by loop_end (slice_get lines begin) ≡ Some end →
+BeginsAreTied lines = (begin end : ℕ) → said_by loop_end_told (slice_get lines begin) ≡ Some end →
     said_by loop_begin (slice_get lines end) ≡ Some begin
 
 -- Each block is closed by its own `end`, and a loop knows it.
 abbrev pub IsNested : List Line → Type 0
-IsNested lines = Leads 0 [] lines [] × EndsAreTied lines × BeginsAreTied lines
+IsNested lines = LinesLead 0 [] lines [] × EndsAreTied lines × BeginsAreTied lines

@@ -46,28 +46,27 @@ is_division _ = false
 
 -- 1 for what is true, and 0 for what is not
 abbrev pub bit : Bool → ℕ
-bit true = 1
-bit false = 0
+bit truth = if truth then 1 else 0
 
 -- The value of an operation; a divisor is not 0.
-unfoldable pub value_of : Op → ℕ → ℕ → ℕ
-value_of Add a b = (a + b) % 2 ^ 32
-value_of Sub a b = (a + (2 ^ 32 - b)) % 2 ^ 32
-value_of Mul a b = (a * b) % 2 ^ 32
-value_of Div a b = a / b
-value_of Rem a b = a % b
-value_of Shl a b = if nat_lt b 32 then (a * 2 ^ b) % 2 ^ 32 else 0
-value_of Shr a b = if nat_lt b 32 then a / 2 ^ b else 0
-value_of BitAnd a b = bit_and a b
-value_of BitOr a b = bit_or a b
-value_of BitXor a b = bit_xor a b
-value_of Eq a b = bit (a == b)
-value_of Ne a b = bit (not (a == b))
-value_of Lt a b = bit (nat_lt a b)
-value_of Le a b = bit (nat_le a b)
-value_of Gt a b = bit (nat_lt b a)
-value_of Ge a b = bit (nat_le b a)
-value_of And a b = bit (not (a == 0) && not (b == 0))
-value_of Or a b = bit (not (a == 0) || not (b == 0))
-value_of Min a b = min a b
-value_of Max a b = max a b
+unfoldable pub operation_value : Op → ℕ → ℕ → ℕ
+operation_value Add a b = (a + b) % 2 ^ 32
+operation_value Sub a b = (a + (2 ^ 32 - b)) % 2 ^ 32
+operation_value Mul a b = (a * b) % 2 ^ 32
+operation_value Div a b = a / b
+operation_value Rem a b = a % b
+operation_value Shl a b = if nat_lt b 32 then (a * 2 ^ b) % 2 ^ 32 else 0
+operation_value Shr a b = if nat_lt b 32 then a / 2 ^ b else 0
+operation_value BitAnd a b = bit_and a b
+operation_value BitOr a b = bit_or a b
+operation_value BitXor a b = bit_xor a b
+operation_value Eq a b = bit (a == b)
+operation_value Ne a b = bit (not (a == b))
+operation_value Lt a b = bit (nat_lt a b)
+operation_value Le a b = bit (nat_le a b)
+operation_value Gt a b = bit (nat_lt b a)
+operation_value Ge a b = bit (nat_le b a)
+operation_value And a b = bit (not (a == 0) && not (b == 0))
+operation_value Or a b = bit (not (a == 0) || not (b == 0))
+operation_value Min a b = min a b
+operation_value Max a b = max a b

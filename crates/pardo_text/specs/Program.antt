@@ -1,6 +1,6 @@
 -- What a program is.
 use Rattle.std.specs.Prelude.{ℕ, Bool, List, length, sum_by}
-use Rattle.pardo_text.specs.declared.program.Rule.{Rule}
+use Rattle.pram_job.specs.declared.instr.Rule.{Rule}
 use Rattle.pardo_text.specs.declared.statement.Line.{Line}
 use Rattle.text_lines.specs.Lines.{Word}
 

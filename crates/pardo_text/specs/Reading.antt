@@ -15,20 +15,20 @@ use Rattle.pardo_text.specs.Drafts.{Draft, empty}
 use Rattle.pardo_text.specs.Header.{version_line, rule_line, header_line}
 use Rattle.text_lines.specs.Lines.{lines_of, said_in, is_allowed}
 use Rattle.pardo_text.specs.Program.{ProgramData}
-use Rattle.pardo_text.specs.Reads.{◌>>=◌}
+use Rattle.text_lines.specs.Reads.{◌>>=◌}
 use Rattle.pardo_text.specs.Tokens.{Token, tokens_of}
 
 -- one line more, by what comes next
-abbrev pub line_at : Stage → ℕ → Draft → List Token → Result Draft PardoKind
-line_at stage.Version number draft tokens = version_line draft tokens
-line_at stage.Rule number draft tokens = rule_line draft tokens
-line_at stage.Header number draft tokens = header_line draft tokens
-line_at stage.Code number draft tokens = statement_line number draft tokens
+abbrev pub line_in_stage : Stage → ℕ → Draft → List Token → Result Draft PardoKind
+line_in_stage stage.Version number draft tokens = version_line draft tokens
+line_in_stage stage.Rule number draft tokens = rule_line draft tokens
+line_in_stage stage.Header number draft tokens = header_line draft tokens
+line_in_stage stage.Code number draft tokens = statement_line number draft tokens
 
 -- A line without a token says nothing.
 abbrev pub with_tokens : ℕ → Draft → List Token → Result Draft PardoKind
 with_tokens number draft [] = Ok draft
-with_tokens number draft (token ∷ tokens) = line_at draft.stage number draft (token ∷ tokens)
+with_tokens number draft (token ∷ tokens) = line_in_stage draft.stage number draft (token ∷ tokens)
 
 -- the draft with the line of this number
 unfoldable pub with_text_line : ℕ → Draft → List ℕ → Result Draft PardoKind
@@ -51,14 +51,14 @@ said_so_far draft = record {
 }
 
 -- the program of a draft whose lines were all read, or what it lacks
-abbrev pub finished : Stage → List Block → List Line → Draft → Result ProgramData PardoKind
-finished stage.Code [] (first ∷ lines) draft = Ok (said_so_far draft)
-finished stage.Code [] [] draft = Err NoCode
-finished stage.Code (block ∷ blocks) lines draft = Err OpenBlock
-finished _ blocks lines draft = Err BadHeader
+abbrev pub finished_draft : Stage → List Block → List Line → Draft → Result ProgramData PardoKind
+finished_draft stage.Code [] (first ∷ lines) draft = Ok (said_so_far draft)
+finished_draft stage.Code [] [] draft = Err NoCode
+finished_draft stage.Code (block ∷ blocks) lines draft = Err OpenBlock
+finished_draft _ blocks lines draft = Err BadHeader
 
 unfoldable pub program_in : Draft → Result ProgramData PardoKind
-program_in draft = finished draft.stage draft.blocks draft.lines draft
+program_in draft = finished_draft draft.stage draft.blocks draft.lines draft
 
 -- a fault of this line
 abbrev pub on_line : {A : Type 0} → ℕ → Result A PardoKind → Result A PardoFault
@@ -84,6 +84,6 @@ unfoldable pub program_of : List ℕ → Result ProgramData PardoFault
 program_of text = program_after empty 0 (lines_of text)
 
 -- A refusal names the fault of the text. Out of memory it says nothing of it, and names line 0.
-abbrev pub IsRefusal : List ℕ → PardoFault → Type 0
-IsRefusal text fault =
+abbrev pub IsReaderRefusal : List ℕ → PardoFault → Type 0
+IsReaderRefusal text fault =
     (fault.kind ≢ Memory → program_of text ≡ Err fault) × (fault.kind ≡ Memory → fault.line ≡ 0)

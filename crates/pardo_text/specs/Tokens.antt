@@ -19,8 +19,8 @@ pub data Token : Type 0 where
   symbol : Symbol → Token
 
 -- the number that digits spell, or the greatest of 64 bits where it is greater
-abbrev pub number_of : Word → ℕ
-number_of digits = min (digits_value 10 digits) (2 ^ 64 - 1)
+abbrev pub number_spelled : Word → ℕ
+number_spelled digits = min (digits_value 10 digits) (2 ^ 64 - 1)
 
 -- the symbols that are spelled like names
 abbrev pub keywords : List (Word × Symbol)
@@ -81,7 +81,7 @@ token_at (first ∷ rest) =
     let digits = run_len is_ascii_digit line in
     if begins_name first then Some (word_by keywords (take word line), drop word line)
     else (if is_ascii_digit first
-    then Some (number (number_of (take digits line)), drop digits line)
+    then Some (number (number_spelled (take digits line)), drop digits line)
     else mark_by marks line)
 
 abbrev pub onto : Token → Result (List Token) PardoKind → Result (List Token) PardoKind

@@ -7,22 +7,23 @@ use Rattle.pardo_text.specs.declared.fault.PardoKind.TheVariants.{BadLine, OutOf
 use Rattle.pardo_text.specs.declared.operation.Op.{Op}
 use Rattle.pardo_text.specs.declared.symbol.Symbol.TheVariants as the
 use Rattle.pardo_text.specs.Expression.{Tree, number, own, loop, private, place, apply}
-use Rattle.pardo_text.specs.Expressions.{ended, fixed_at, rest_after}
+use Rattle.pardo_text.specs.Expressions.{ended, fixed_at, rest_after_mark}
 use Rattle.pardo_text.specs.Names.{Names}
-use Rattle.pardo_text.specs.Operations.{is_division, value_of}
-use Rattle.pardo_text.specs.Reads.{◌>>=◌}
+use Rattle.pardo_text.specs.Operations.{is_division, operation_value}
+use Rattle.text_lines.specs.Reads.{◌>>=◌}
 use Rattle.pardo_text.specs.Tokens.{Token, symbol}
 use Rattle.pardo_text.specs.declared.part.Mark.TheVariants as mark
 
 -- the greatest number of 32 bits
-abbrev pub most : ℕ
-most = 4294967295
+abbrev pub greatest_value : ℕ
+greatest_value = 4294967295
 
 -- ---- of private variables
 
 abbrev pub quotient_of : Op → ℕ → ℕ → Result ℕ PardoKind
 quotient_of op first second =
-    if is_division op && (second == 0) then Err OutOfLimits else Ok (value_of op first second)
+    if is_division op && (second == 0) then Err OutOfLimits else
+    Ok (operation_value op first second)
 
 -- the value for processor i; loops, variables and arrays have none before the program runs
 abbrev pub value_for : ℕ → Tree → Result ℕ PardoKind
@@ -64,14 +65,14 @@ abbrev pub values_after : (List Token → Result (List ℕ × Bool) PardoKind) �
     Result (List ℕ × Bool) PardoKind
 values_after more value [] = Ok (value ∷ [], false)
 values_after more value (token ∷ tokens) = do
-  rest ← rest_after mark.Comma (token ∷ tokens)
+  rest ← rest_after_mark mark.Comma (token ∷ tokens)
   values_next more value rest (after_dots rest)
 
 -- at most so many values to the end of the line, and whether `...` ends them
 abbrev pub values_in : Names → ℕ → List Token → Result (List ℕ × Bool) PardoKind
 values_in names zero tokens = Err BadLine
 values_in names (suc turns) tokens = do
-  value ← fixed_at names 0 most tokens
+  value ← fixed_at names 0 greatest_value tokens
   values_after (values_in names turns) value.0 value.1
 
 -- As many values as places, or fewer and `...`: then the last one fills the rest.
@@ -86,6 +87,6 @@ filled places values fills =
 unfoldable pub start_at : Names → ℕ → List Token → Result (List ℕ) PardoKind
 start_at names places [] = Ok (replicate places 0)
 start_at names places (token ∷ tokens) = do
-  rest ← rest_after mark.Equals (token ∷ tokens)
+  rest ← rest_after_mark mark.Equals (token ∷ tokens)
   values ← values_in names (length rest) rest
   filled places values.0 values.1

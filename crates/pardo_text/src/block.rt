@@ -1,6 +1,6 @@
 //! Blocks of code.
 ghost use Rattle.std.specs.Prelude.{◌≡◌, [], ◌∷◌, ◌==◌, length, IfOk, MatchOption};
-ghost use Rattle.pardo_text.specs.Blocks.{is_choice, depth_of};
+ghost use Rattle.pardo_text.specs.Blocks.{is_choice, choice_depth};
 
 use std::alloc::{AllocError, Global};
 use std::marker::Model;
@@ -34,13 +34,13 @@ pub(crate) struct Blocks {
 impl Model for Blocks {
     ghost use Rattle.std.specs.Prelude.{◌≡◌, List, reverse};
     ghost use Rattle.pardo_text.specs.declared.block.Block.{Block};
-    ghost use Rattle.pardo_text.specs.Blocks.{depth_of};
+    ghost use Rattle.pardo_text.specs.Blocks.{choice_depth};
 
     ghost Value = { List Block };
 
     ghost view = { λ b. reverse b.blocks.items };
 
-    ghost invariant = { λ b. b.depth ≡ depth_of (reverse b.blocks.items) };
+    ghost invariant = { λ b. b.depth ≡ choice_depth (reverse b.blocks.items) };
 }
 
 impl Blocks {
@@ -63,7 +63,7 @@ impl Blocks {
 
     /// How many blocks of an `if` are open.
     pub(crate) fn depth(&self) -> usize
-        ensures { result ≡ depth_of self.now }
+        ensures { result ≡ choice_depth self.now }
     {
         self.depth
     }

@@ -1,8 +1,9 @@
 //! Lines of code.
 ghost use Rattle.std.specs.Prelude.{◌≡◌, ◌∷◌, length, Some};
-ghost use Rattle.pardo_text.specs.Code.{whole_at, way_at, place_of, target_of, assignment_at};
+ghost use Rattle.pardo_text.specs.Code.{whole_at, way_at, array_place, assignment_target};
+ghost use Rattle.pardo_text.specs.Code.{assignment_at};
 ghost use Rattle.pardo_text.specs.Inner.Names.{names_in};
-ghost use Rattle.pardo_text.specs.Inner.Tokens.{Gives};
+ghost use Rattle.pardo_text.specs.Inner.Tokens.{GivesAsRead};
 
 use crate::block::Block;
 use crate::cursor::Cursor;
@@ -32,7 +33,7 @@ impl<'t> Draft<'t> {
         number: u64,
         tokens: &mut Cursor<'t>,
     ) -> Result<(), PardoKind>
-        ensures { Gives (λ _. draft_of self.new) result
+        ensures { GivesAsRead (λ _. draft_of self.new) result
             (statement_line number (draft_of self.old) tokens.old) }
     {
         match tokens.next() {
@@ -49,7 +50,7 @@ impl<'t> Draft<'t> {
     // Reads what follows `if`.
     #[tactic(auto, unfolding(crate::specs::Code::if_line))]
     fn take_if(&mut self, number: u64, tokens: &mut Cursor<'t>) -> Result<(), PardoKind>
-        ensures { Gives (λ _. draft_of self.new) result
+        ensures { GivesAsRead (λ _. draft_of self.new) result
             (if_line number (draft_of self.old) tokens.old) }
     {
         let condition = whole(self.alloc, &self.names, Scope::Any, tokens)?;
@@ -61,7 +62,7 @@ impl<'t> Draft<'t> {
     // Reads what follows `while`.
     #[tactic(auto, unfolding(crate::specs::Code::while_line))]
     fn take_while(&mut self, number: u64, tokens: &mut Cursor<'t>) -> Result<(), PardoKind>
-        ensures { Gives (λ _. draft_of self.new) result
+        ensures { GivesAsRead (λ _. draft_of self.new) result
             (while_line number (draft_of self.old) tokens.old) }
     {
         let condition = whole(self.alloc, &self.names, Scope::Uniform, tokens)?;
@@ -74,7 +75,7 @@ impl<'t> Draft<'t> {
     // Reads what follows `for`.
     #[tactic(auto, unfolding(crate::specs::Code::for_line))]
     fn take_for(&mut self, number: u64, tokens: &mut Cursor<'t>) -> Result<(), PardoKind>
-        ensures { Gives (λ _. draft_of self.new) result
+        ensures { GivesAsRead (λ _. draft_of self.new) result
             (for_line number (draft_of self.old) tokens.old) }
     {
         let name = new_name(&self.names, tokens)?;
@@ -93,7 +94,8 @@ impl<'t> Draft<'t> {
         name: &'t [u8],
         statement: Statement,
     ) -> Result<(), PardoKind>
-        ensures { Gives (λ _. draft_of self.new) result (fitting (with_loop name.now (with_block
+        ensures { GivesAsRead (λ _. draft_of self.new) result
+            (fitting (with_loop name.now (with_block
             (ForBlock (length (draft_of self.old).lines)) (with_line number statement
             (draft_of self.old))))) }
     {
@@ -107,7 +109,7 @@ impl<'t> Draft<'t> {
     // Reads what follows `else`.
     #[tactic(auto, unfolding(crate::specs::Code::statement_line))]
     fn take_else(&mut self, number: u64, tokens: &Cursor<'t>) -> Result<(), PardoKind>
-        ensures { Gives (λ _. draft_of self.new) result
+        ensures { GivesAsRead (λ _. draft_of self.new) result
             (statement_line number (draft_of self.old) (symbol Else ∷ tokens.now)) }
     {
         ended(tokens)?;
@@ -124,7 +126,7 @@ impl<'t> Draft<'t> {
     // Reads what follows `end`.
     #[tactic(auto, unfolding(crate::specs::Code::statement_line))]
     fn take_end(&mut self, number: u64, tokens: &Cursor<'t>) -> Result<(), PardoKind>
-        ensures { Gives (λ _. draft_of self.new) result
+        ensures { GivesAsRead (λ _. draft_of self.new) result
             (statement_line number (draft_of self.old) (symbol End ∷ tokens.now)) }
     {
         ended(tokens)?;
@@ -153,7 +155,7 @@ impl<'t> Draft<'t> {
         name: &[u8],
         tokens: &mut Cursor<'t>,
     ) -> Result<(), PardoKind>
-        ensures { Gives (λ _. draft_of self.new) result
+        ensures { GivesAsRead (λ _. draft_of self.new) result
             (statement_line number (draft_of self.old) (word name.now ∷ tokens.old)) }
     {
         let statement = assignment(self.alloc, &self.names, name, tokens)?;
@@ -170,7 +172,7 @@ fn whole(
     scope: Scope,
     tokens: &mut Cursor<'_>,
 ) -> Result<Expr, PardoKind>
-    ensures { Gives (λ expr. expr) result (whole_at (names_in names.now) scope tokens.old) }
+    ensures { GivesAsRead (λ expr. expr) result (whole_at (names_in names.now) scope tokens.old) }
 {
     let expr = expression(alloc, names, scope, tokens)?;
     ended(tokens)?;
@@ -179,7 +181,7 @@ fn whole(
 
 // Reads whether a loop counts up.
 fn way(tokens: &mut Cursor<'_>) -> Result<bool, PardoKind>
-    ensures { Gives (λ up. (up, tokens.new)) result (way_at tokens.old) }
+    ensures { GivesAsRead (λ up. (up, tokens.new)) result (way_at tokens.old) }
 {
     match tokens.next() {
         Some(Token::Symbol(Symbol::To)) => Ok(true),
@@ -196,7 +198,7 @@ fn assignment(
     name: &[u8],
     tokens: &mut Cursor<'_>,
 ) -> Result<Statement, PardoKind>
-    ensures { Gives (λ said. said) result
+    ensures { GivesAsRead (λ said. said) result
         (assignment_at (names_in names.now) name.now tokens.old) }
 {
     let target = target(alloc, names, names.get(name).copied(), tokens)?;
@@ -212,8 +214,8 @@ fn target(
     thing: Option<Named>,
     tokens: &mut Cursor<'_>,
 ) -> Result<Target, PardoKind>
-    ensures { Gives (λ place. (place, tokens.new)) result
-        (target_of (names_in names.now) thing tokens.old) }
+    ensures { GivesAsRead (λ place. (place, tokens.new)) result
+        (assignment_target (names_in names.now) thing tokens.old) }
 {
     let Some(thing) = thing else {
         return Err(PardoKind::UnknownName);
@@ -233,8 +235,8 @@ fn place(
     array: usize,
     tokens: &mut Cursor<'_>,
 ) -> Result<Target, PardoKind>
-    ensures { Gives (λ place. (place, tokens.new)) result
-        (place_of (names_in names.now) array (Some tokens.old)) }
+    ensures { GivesAsRead (λ place. (place, tokens.new)) result
+        (array_place (names_in names.now) array (Some tokens.old)) }
 {
     let index = expression(alloc, names, Scope::Any, tokens)?;
     expect(Mark::CloseIndex, tokens)?;

@@ -3,7 +3,7 @@
 ghost use Rattle.std.specs.Prelude.{◌≡◌, drop, IfOk};
 ghost use Rattle.pardo_text.specs.Values.{quotient_of, values_for};
 ghost use Rattle.pardo_text.specs.Inner.Columns.{below, columns_in, quotients, top_of, with_column};
-ghost use Rattle.pardo_text.specs.Inner.Tokens.{Gives};
+ghost use Rattle.pardo_text.specs.Inner.Tokens.{GivesAsRead};
 
 use crate::expression::{Expr, Node};
 use crate::fault::PardoKind;
@@ -12,7 +12,7 @@ use std::alloc::{AllocError, Global};
 
 /// The values of an expression for so many processors.
 pub(crate) fn values_for(alloc: Global, procs: u32, expr: &Expr) -> Result<Vec<u32>, PardoKind>
-    ensures { Gives (λ values. values.items) result (values_for procs expr.now) }
+    ensures { GivesAsRead (λ values. values.items) result (values_for procs expr.now) }
 {
     let own = own_numbers(alloc, procs)?;
     let mut columns = Vec::new(alloc);
@@ -41,7 +41,7 @@ fn take_node(
     columns: &mut Vec<Vec<u32>>,
 ) -> Result<(), PardoKind>
     requires { own.now ≡ below procs }
-    ensures { Gives (λ _. columns_in columns.new.items) result
+    ensures { GivesAsRead (λ _. columns_in columns.new.items) result
         (with_column procs node (columns_in columns.old.items)) }
 {
     let alloc = *columns.allocator();
@@ -72,7 +72,7 @@ fn top(columns: &mut Vec<Vec<u32>>) -> Vec<u32>
 // Each value becomes the operation of it and the other in its place, where there is one. The
 // operation is named once more, so that each has a loop of its own.
 fn apply(op: Op, values: &mut [u32], others: &[u32]) -> Result<(), PardoKind>
-    ensures { Gives (λ _. values.new) result (quotients op values.old others.now) }
+    ensures { GivesAsRead (λ _. values.new) result (quotients op values.old others.now) }
 {
     match op {
         Op::Add => apply_each(Op::Add, values, others),
@@ -98,10 +98,11 @@ fn apply(op: Op, values: &mut [u32], others: &[u32]) -> Result<(), PardoKind>
     }
 }
 
-// The same, in the midst of the caller's code.
+// Each value becomes the operation of it and the other in its place, in the midst of the caller's
+// code.
 #[inline(always)]
 fn apply_each(op: Op, values: &mut [u32], others: &[u32]) -> Result<(), PardoKind>
-    ensures { Gives (λ _. values.new) result (quotients op values.old others.now) }
+    ensures { GivesAsRead (λ _. values.new) result (quotients op values.old others.now) }
 {
     for k in 0..values.len().min(others.len()) {
         values[k] = quotient(op, values[k], others[k])?;
@@ -112,7 +113,7 @@ fn apply_each(op: Op, values: &mut [u32], others: &[u32]) -> Result<(), PardoKin
 // The value of an operation, unless it divides by 0.
 #[inline(always)]
 fn quotient(op: Op, a: u32, b: u32) -> Result<u32, PardoKind>
-    ensures { Gives (λ value. value) result (quotient_of op a b) }
+    ensures { GivesAsRead (λ value. value) result (quotient_of op a b) }
 {
     if op.is_division() && b == 0 {
         Err(PardoKind::OutOfLimits)

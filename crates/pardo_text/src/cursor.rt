@@ -29,7 +29,7 @@ impl<'t> Model for Cursor<'t> {
 }
 
 impl<'t> Cursor<'t> {
-    /// So many tokens of a line, which has as many at least.
+    /// The first tokens of a line, as many as `len` says; the line has as many at least.
     pub(crate) fn new(line: &'t [u8], len: usize) -> Self
         requires { length (tokens_cut len line.now) ≡ len }
         ensures { result ≡ tokens_cut len line.now }

@@ -6,8 +6,9 @@ use crate::block::{Block, Blocks};
 use crate::fault::PardoKind;
 use crate::limits::MAX_CELLS;
 use crate::names::{Named, Names};
-use crate::program::{Private, Program, Rule};
+use crate::program::{Private, Program};
 use crate::statement::{Line, Statement};
+use pram_job::Rule;
 use std::alloc::{AllocError, Global};
 use std::collections::BTreeMap;
 
@@ -49,7 +50,7 @@ impl<'t> Draft<'t> {
     ghost use Rattle.pardo_text.specs.Drafts.{with_private, with_line, with_block, with_loop};
     ghost use Rattle.pardo_text.specs.Drafts.{without, with_end};
     ghost use Rattle.pardo_text.specs.Inner.Drafts.{draft_of};
-    ghost use Rattle.pardo_text.specs.Inner.Tokens.{Gives};
+    ghost use Rattle.pardo_text.specs.Inner.Tokens.{GivesAsRead};
     ghost use Rattle.pardo_text.specs.Reading.{program_in};
 
     /// What no line says.
@@ -88,7 +89,7 @@ impl<'t> Draft<'t> {
         is_scalar: bool,
         start: Vec<u32>,
     ) -> Result<(), PardoKind>
-        ensures { Gives (λ _. draft_of self.new) result
+        ensures { GivesAsRead (λ _. draft_of self.new) result
             (fitting (with_array name.now is_scalar start.items (draft_of self.old))) }
     {
         let index = self.arrays.len();
@@ -105,7 +106,7 @@ impl<'t> Draft<'t> {
 
     /// One private variable more, if its cells are within their limit.
     pub(crate) fn add_private(&mut self, name: &'t [u8], start: Vec<u32>) -> Result<(), PardoKind>
-        ensures { Gives (λ _. draft_of self.new) result
+        ensures { GivesAsRead (λ _. draft_of self.new) result
             (fitting (with_private name.now start.items (draft_of self.old))) }
     {
         let index = self.privates.len();
@@ -117,7 +118,7 @@ impl<'t> Draft<'t> {
 
     /// Whether the cells are within their limit.
     pub(crate) fn fit(&self) -> Result<(), PardoKind>
-        ensures { Gives (λ _. draft_of self.now) result (fitting (draft_of self.now)) }
+        ensures { GivesAsRead (λ _. draft_of self.now) result (fitting (draft_of self.now)) }
     {
         let of_each = self
             .privates

@@ -3,7 +3,7 @@ ghost use Rattle.std.specs.Prelude.{◌≡◌};
 ghost use Rattle.pardo_text.specs.Expressions.{indexed};
 ghost use Rattle.pardo_text.specs.Header.{rule_named, length_at, private_start};
 ghost use Rattle.pardo_text.specs.Inner.Names.{names_in};
-ghost use Rattle.pardo_text.specs.Inner.Tokens.{Gives};
+ghost use Rattle.pardo_text.specs.Inner.Tokens.{GivesAsRead};
 
 use crate::column::values_for;
 use crate::cursor::Cursor;
@@ -14,10 +14,10 @@ use crate::limits::{MAX_CELLS, MAX_PROCS};
 use crate::names::{Named, Names, Scope};
 use crate::parse::{expression, fixed};
 use crate::part::{Mark, ended, expect, indexed, new_name};
-use crate::program::Rule;
 use crate::symbol::Symbol;
 use crate::token::Token;
 use crate::value::start_values;
+use pram_job::Rule;
 use std::alloc::Global;
 use text_lines::is_word;
 
@@ -29,7 +29,7 @@ impl<'t> Draft<'t> {
     /// Reads `pardo 1`.
     #[tactic(auto, unfolding(crate::specs::Header::version_line))]
     pub(crate) fn take_version(&mut self, tokens: &mut Cursor<'t>) -> Result<(), PardoKind>
-        ensures { Gives (λ _. draft_of self.new) result
+        ensures { GivesAsRead (λ _. draft_of self.new) result
             (version_line (draft_of self.old) tokens.old) }
     {
         match (tokens.next(), tokens.next(), tokens.next()) {
@@ -44,7 +44,7 @@ impl<'t> Draft<'t> {
     /// Reads a header line after the first two.
     #[tactic(auto, unfolding(crate::specs::Header::header_line))]
     pub(crate) fn take_header(&mut self, tokens: &mut Cursor<'t>) -> Result<(), PardoKind>
-        ensures { Gives (λ _. draft_of self.new) result
+        ensures { GivesAsRead (λ _. draft_of self.new) result
             (header_line (draft_of self.old) tokens.old) }
     {
         match tokens.next() {
@@ -60,7 +60,7 @@ impl<'t> Draft<'t> {
     /// Reads `rule NAME`.
     #[tactic(auto, unfolding(crate::specs::Header::rule_line))]
     pub(crate) fn take_rule(&mut self, tokens: &mut Cursor<'t>) -> Result<(), PardoKind>
-        ensures { Gives (λ _. draft_of self.new) result
+        ensures { GivesAsRead (λ _. draft_of self.new) result
             (rule_line (draft_of self.old) tokens.old) }
     {
         match (tokens.next(), tokens.next(), tokens.next()) {
@@ -76,7 +76,7 @@ impl<'t> Draft<'t> {
     // Reads what follows `const`.
     #[tactic(auto, unfolding(crate::specs::Header::const_line))]
     fn take_const(&mut self, tokens: &mut Cursor<'t>) -> Result<(), PardoKind>
-        ensures { Gives (λ _. draft_of self.new) result
+        ensures { GivesAsRead (λ _. draft_of self.new) result
             (const_line (draft_of self.old) tokens.old) }
     {
         let name = new_name(&self.names, tokens)?;
@@ -90,7 +90,7 @@ impl<'t> Draft<'t> {
     // Reads what follows `procs`, which stands once.
     #[tactic(auto, unfolding(crate::specs::Header::procs_line))]
     fn take_procs(&mut self, tokens: &mut Cursor<'t>) -> Result<(), PardoKind>
-        ensures { Gives (λ _. draft_of self.new) result
+        ensures { GivesAsRead (λ _. draft_of self.new) result
             (procs_line (draft_of self.old) tokens.old) }
     {
         if self.procs != 0 {
@@ -108,7 +108,7 @@ impl<'t> Draft<'t> {
     // Reads what follows `shared`.
     #[tactic(auto, unfolding(crate::specs::Header::shared_line))]
     fn take_shared(&mut self, tokens: &mut Cursor<'t>) -> Result<(), PardoKind>
-        ensures { Gives (λ _. draft_of self.new) result
+        ensures { GivesAsRead (λ _. draft_of self.new) result
             (shared_line (draft_of self.old) tokens.old) }
     {
         let name = new_name(&self.names, tokens)?;
@@ -120,7 +120,7 @@ impl<'t> Draft<'t> {
     // Reads what follows `private`, after the line `procs`.
     #[tactic(auto, unfolding(crate::specs::Header::private_line))]
     fn take_private(&mut self, tokens: &mut Cursor<'t>) -> Result<(), PardoKind>
-        ensures { Gives (λ _. draft_of self.new) result
+        ensures { GivesAsRead (λ _. draft_of self.new) result
             (private_line (draft_of self.old) tokens.old) }
     {
         if self.procs == 0 {
@@ -135,7 +135,7 @@ impl<'t> Draft<'t> {
     // Reads what follows `code`, after the line `procs`.
     #[tactic(auto, unfolding(crate::specs::Header::code_line))]
     fn begin_code(&mut self, tokens: &mut Cursor<'t>) -> Result<(), PardoKind>
-        ensures { Gives (λ _. draft_of self.new) result
+        ensures { GivesAsRead (λ _. draft_of self.new) result
             (code_line (draft_of self.old) tokens.old) }
     {
         if self.procs == 0 || tokens.len() != 0 {
@@ -163,7 +163,7 @@ fn places_of(
     names: &Names<'_>,
     tokens: &mut Cursor<'_>,
 ) -> Result<Option<u32>, PardoKind>
-    ensures { Gives (λ places. (places, tokens.new)) result
+    ensures { GivesAsRead (λ places. (places, tokens.new)) result
         (length_at (names_in names.now) tokens.old (indexed tokens.old)) }
 {
     if !indexed(tokens) {
@@ -181,7 +181,7 @@ fn private_start(
     names: &Names<'_>,
     tokens: &mut Cursor<'_>,
 ) -> Result<Expr, PardoKind>
-    ensures { Gives (λ expr. expr) result (private_start (names_in names.now) tokens.old) }
+    ensures { GivesAsRead (λ expr. expr) result (private_start (names_in names.now) tokens.old) }
 {
     if tokens.len() == 0 {
         return Ok(Expr::number(alloc, 0)?);

@@ -1,15 +1,15 @@
 //! Laws of the text: they show that the definitions mean what is meant.
 //! Nothing happens when they are called.
-ghost use Rattle.pardo_text.specs.Laws.{LimitsAre};
+ghost use Rattle.pardo_text.specs.Laws.{ProgramLimitsAre};
 ghost use Rattle.pardo_text.specs.Laws.{TokensAreLongest, LgIsLeast, ConstantsAreNumbers};
-ghost use Rattle.pardo_text.specs.Laws.{CommentsSayNothing, IndentationSaysNothing};
+ghost use Rattle.pardo_text.specs.Laws.{ProgramCommentsSayNothing, IndentationSaysNothing};
 ghost use Rattle.pardo_text.specs.Laws.{EmptyLinesSayNothing, LinesAreWhatTheySay};
 ghost use Rattle.pardo_text.specs.Laws.{FirstBadLine, AllLinesAreTaken, ProgramsAreLawful};
 ghost use Rattle.pardo_text.specs.Laws.{ProgramsAreNested};
 
 /// The limits by their numbers.
 pub fn limits_are()
-    ensures { LimitsAre }
+    ensures { ProgramLimitsAre }
 {}
 
 /// A line begins with no longer token than the one that is taken.
@@ -29,7 +29,7 @@ pub fn constants_are_numbers()
 
 /// A comment, from its `;` on, changes nothing.
 pub fn comments_say_nothing()
-    ensures { CommentsSayNothing }
+    ensures { ProgramCommentsSayNothing }
 {}
 
 /// Blanks before the first token of a line change nothing.

@@ -27,6 +27,7 @@ pub use arrays::Array;
 pub use expression::{Expr, Node};
 pub use fault::{PardoFault, PardoKind};
 pub use operation::Op;
-pub use program::{Private, Program, Rule};
+pub use pram_job::Rule;
+pub use program::{Private, Program};
 pub use reader::read_program;
 pub use statement::{Line, Statement, Target};

@@ -1,6 +1,6 @@
 //! Operations.
 ghost use Rattle.std.specs.Prelude.{◌≡◌, ◌≢◌, ◌<◌, IsTrue};
-ghost use Rattle.pardo_text.specs.Operations.{level_of, is_division, value_of};
+ghost use Rattle.pardo_text.specs.Operations.{level_of, is_division, operation_value};
 
 /// An operation of two numbers below 2^32.
 #[derive(Clone, Copy, Debug, PartialEq, Eq)]
@@ -74,10 +74,10 @@ impl Op {
 
     /// The value of the operation. Arithmetic is modulo 2^32, and what is true is 1, what is not
     /// true 0.
-    #[tactic(auto, unfolding(crate::specs::Operations::value_of, crate::specs::Operations::is_division))]
+    #[tactic(auto, unfolding(crate::specs::Operations::operation_value, crate::specs::Operations::is_division))]
     pub fn value(self, a: u32, b: u32) -> u32
         requires { IsTrue (is_division self) → b ≢ 0 }
-        ensures { result ≡ value_of self a b }
+        ensures { result ≡ operation_value self a b }
     {
         match self {
             Op::Add => a.wrapping_add(b),

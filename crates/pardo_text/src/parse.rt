@@ -8,7 +8,7 @@ ghost use Rattle.pardo_text.specs.Expressions.{within_at, expression_at, fixed_a
 ghost use Rattle.pardo_text.specs.Operations.{level_of};
 ghost use Rattle.pardo_text.specs.Tokens.{Token as Part};
 ghost use Rattle.pardo_text.specs.Inner.Exprs.{Adds, Joins};
-ghost use Rattle.pardo_text.specs.Inner.Tokens.{Gives};
+ghost use Rattle.pardo_text.specs.Inner.Tokens.{GivesAsRead};
 ghost use Rattle.pardo_text.specs.Inner.Names.{names_in};
 
 use crate::cursor::Cursor;
@@ -47,7 +47,7 @@ pub(crate) fn expression(
     scope: Scope,
     tokens: &mut Cursor<'_>,
 ) -> Result<Expr, PardoKind>
-    ensures { Gives (λ expr. (expr, tokens.new)) result
+    ensures { GivesAsRead (λ expr. (expr, tokens.new)) result
         (expression_at (names_in names.now) scope tokens.old) }
 {
     let around = Around {
@@ -69,7 +69,7 @@ pub(crate) fn fixed(
     high: u32,
     tokens: &mut Cursor<'_>,
 ) -> Result<u32, PardoKind>
-    ensures { Gives (λ value. (value, tokens.new)) result
+    ensures { GivesAsRead (λ value. (value, tokens.new)) result
         (fixed_at (names_in names.now) low high tokens.old) }
 {
     let expr = expression(alloc, names, Scope::Fixed, tokens)?;

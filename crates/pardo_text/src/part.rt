@@ -1,8 +1,8 @@
 //! Single tokens of a line.
 ghost use Rattle.std.specs.Prelude.{◌≡◌, if◌then◌else◌, Ok, drop, is_some, unwrap_or};
-ghost use Rattle.pardo_text.specs.Expressions.{rest_after, indexed, ended, new_name};
+ghost use Rattle.pardo_text.specs.Expressions.{rest_after_mark, indexed, ended, new_name};
 ghost use Rattle.pardo_text.specs.Values.{after_dots};
-ghost use Rattle.pardo_text.specs.Inner.Tokens.{Gives};
+ghost use Rattle.pardo_text.specs.Inner.Tokens.{GivesAsRead};
 ghost use Rattle.pardo_text.specs.Inner.Names.{names_in};
 
 use crate::cursor::Cursor;
@@ -26,7 +26,7 @@ pub(crate) enum Mark {
 
 /// Reads this mark.
 pub(crate) fn expect(mark: Mark, tokens: &mut Cursor<'_>) -> Result<(), PardoKind>
-    ensures { Gives (λ _. tokens.new) result (rest_after mark tokens.old) }
+    ensures { GivesAsRead (λ _. tokens.new) result (rest_after_mark mark tokens.old) }
 {
     match (mark, tokens.next()) {
         (Mark::Open, Some(Token::Symbol(Symbol::Open)))
@@ -84,7 +84,7 @@ pub(crate) fn new_name<'t>(
     names: &Names<'t>,
     tokens: &mut Cursor<'t>,
 ) -> Result<&'t [u8], PardoKind>
-    ensures { Gives (λ name. (name.now, tokens.new)) result
+    ensures { GivesAsRead (λ name. (name.now, tokens.new)) result
         (new_name (names_in names.now) tokens.old) }
 {
     match tokens.next() {

@@ -3,18 +3,8 @@ ghost use Rattle.std.specs.Prelude.{◌≡◌};
 
 use crate::arrays::Array;
 use crate::statement::Line;
+use pram_job::Rule;
 use std::marker::Model;
-
-/// What several processors may write to one place in one line, and what it then holds.
-#[derive(Clone, Copy, Debug, PartialEq, Eq)]
-pub enum Rule {
-    /// Equal values alone.
-    Common,
-    /// Any values: that of the processor with the least number counts.
-    Priority,
-    /// Nothing: one processor alone may write to a place.
-    Crew,
-}
 
 /// A private variable.
 #[derive(Drop)]

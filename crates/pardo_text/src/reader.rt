@@ -1,8 +1,8 @@
 //! Reads a text line by line.
 ghost use Rattle.std.specs.Prelude.{◌≡◌, ◌≢◌, Ok, IfOk, IfErr};
 ghost use Rattle.pardo_text.specs.Inner.Drafts.{draft_of};
-ghost use Rattle.pardo_text.specs.Inner.Tokens.{Gives};
-ghost use Rattle.pardo_text.specs.Reading.{IsRefusal, program_of, with_text_line};
+ghost use Rattle.pardo_text.specs.Inner.Tokens.{GivesAsRead};
+ghost use Rattle.pardo_text.specs.Reading.{IsReaderRefusal, program_of, with_text_line};
 
 use crate::cursor::Cursor;
 use crate::draft::{Draft, Stage};
@@ -19,7 +19,7 @@ use text_lines::{TextLines, is_lawful};
 /// that are known.
 pub fn read_program(alloc: Global, text: &[u8]) -> Result<Program, PardoFault>
     ensures program { IfOk result (λ program. program_of text.now ≡ Ok program) }
-    ensures refused { IfErr result (IsRefusal text.now) }
+    ensures refused { IfErr result (IsReaderRefusal text.now) }
 {
     let mut draft = Draft::new(alloc);
     let mut lines = TextLines::new(text);
@@ -45,7 +45,7 @@ fn refusal(line: u64, kind: PardoKind) -> PardoFault
 // Reads one line more.
 #[tactic(auto, unfolding(crate::specs::Reading::with_text_line))]
 fn take_line<'t>(draft: &mut Draft<'t>, number: u64, line: &'t [u8]) -> Result<(), PardoKind>
-    ensures { Gives (λ _. draft_of draft.new) result
+    ensures { GivesAsRead (λ _. draft_of draft.new) result
         (with_text_line number (draft_of draft.old) line.now) }
 {
     if !is_lawful(line) {

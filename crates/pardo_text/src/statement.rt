@@ -1,6 +1,6 @@
 //! Lines of code.
 ghost use Rattle.std.specs.Prelude.{◌≡◌};
-ghost use Rattle.pardo_text.specs.Drafts.{ending};
+ghost use Rattle.pardo_text.specs.Drafts.{loop_ending_at};
 
 use crate::expression::Expr;
 
@@ -38,7 +38,7 @@ pub enum Statement {
 impl Statement {
     /// The first line of a loop learns the place of its end.
     pub(crate) fn set_end(&mut self, place: usize)
-        ensures { self.new ≡ ending place self.old }
+        ensures { self.new ≡ loop_ending_at place self.old }
     {
         match self {
             Statement::While(_, end) => *end = place,

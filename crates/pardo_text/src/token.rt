@@ -9,7 +9,7 @@ ghost use Rattle.pardo_text.specs.Tokens.{symbol, word_by, mark_by, token_at, to
 ghost use Rattle.pardo_text.specs.Inner.Marks.{spelled_by, header_words, block_words};
 ghost use Rattle.pardo_text.specs.Inner.Marks.{operation_words, long_marks, short_marks, byte_by};
 ghost use Rattle.pardo_text.specs.Inner.Marks.{operation_bytes, other_bytes};
-ghost use Rattle.pardo_text.specs.Inner.Tokens.{plain, after_blanks, tokens_cut, Gives};
+ghost use Rattle.pardo_text.specs.Inner.Tokens.{plain, after_blanks, tokens_cut, GivesAsRead};
 
 use crate::fault::PardoKind;
 use crate::operation::Op;
@@ -237,7 +237,7 @@ fn next_token(line: &[u8]) -> Option<(Token<'_>, &[u8])>
 
 /// How many tokens a line has that has no comment.
 pub(crate) fn count_tokens(line: &[u8]) -> Result<usize, PardoKind>
-    ensures tokens { Gives (λ count. tokens_cut count line.now) result (tokens_of line.now) }
+    ensures tokens { GivesAsRead (λ count. tokens_cut count line.now) result (tokens_of line.now) }
     ensures count { IfOk result (λ count. length (tokens_cut count line.now) ≡ count) }
 {
     let mut rest = line;

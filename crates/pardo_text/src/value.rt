@@ -2,7 +2,7 @@
 ghost use Rattle.std.specs.Prelude.{◌≡◌, ◌<◌, length};
 ghost use Rattle.pardo_text.specs.Values.{filled, start_at, values_in};
 ghost use Rattle.pardo_text.specs.Inner.Names.{names_in};
-ghost use Rattle.pardo_text.specs.Inner.Tokens.{Gives};
+ghost use Rattle.pardo_text.specs.Inner.Tokens.{GivesAsRead};
 ghost use Rattle.pardo_text.specs.Inner.Values.{after_values};
 
 use crate::cursor::Cursor;
@@ -20,7 +20,7 @@ pub(crate) fn start_values(
     names: &Names<'_>,
     tokens: &mut Cursor<'_>,
 ) -> Result<Vec<u32>, PardoKind>
-    ensures { Gives (λ values. values.items) result
+    ensures { GivesAsRead (λ values. values.items) result
         (start_at (names_in names.now) places tokens.old) }
 {
     if tokens.len() == 0 {
@@ -39,7 +39,7 @@ fn take_values(
     tokens: &mut Cursor<'_>,
     values: &mut Vec<u32>,
 ) -> Result<bool, PardoKind>
-    ensures { Gives (λ fills. (values.new.items, fills)) result (after_values values.old.items
+    ensures { GivesAsRead (λ fills. (values.new.items, fills)) result (after_values values.old.items
         (values_in (names_in names.now) (length tokens.old) tokens.old)) }
 {
     for _turn in 0..tokens.len() {
@@ -60,7 +60,7 @@ fn take_values(
 // As many values as places, or fewer if the last one fills the rest.
 fn fill(places: usize, fills: bool, values: &mut Vec<u32>) -> Result<(), PardoKind>
     requires { 0 < length values.old.items }
-    ensures { Gives (λ _. values.new.items) result (filled places values.old.items fills) }
+    ensures { GivesAsRead (λ _. values.new.items) result (filled places values.old.items fills) }
 {
     let len = values.len();
     if len > places || (len < places && !fills) {

@@ -18,8 +18,8 @@ use Rattle.lawful_walk.proofs.Moments.{same, backed_later, backs}
 use Rattle.lawful_walk.proofs.Sounding.{sound_of}
 use Rattle.pram_board.specs.declared.task.Task.{Task}
 use Rattle.pram_board.specs.declared.task.View.{View}
-use Rattle.pram_board.specs.Rules.{idle, opened, united, viewing, Bears, Holds, Heard}
-use Rattle.pram_board.specs.Rules.{Loaded, Stored, Raised, Swapped, May}
+use Rattle.pram_board.specs.Rules.{idle_view, opened, united, viewing, BearsOut, Holds, SeatHeard}
+use Rattle.pram_board.specs.Rules.{Loaded, Stored, RaisedWord, Swapped, May}
 
 abbrev S : Type 0
 S = State (Unit {0}) View
@@ -64,9 +64,9 @@ pub opens : (t : Task) (words : List ℕ) → Stands t.job t.layout words →
 opens t words stands = record { stands = stands; seats = one }
   where
     one : (id : ℕ) (v : View) → get_elem? (opened t ∷ []) id ≡ some v →
-        Bears t (opening words [] (opened t)) v
+        BearsOut t (opening words [] (opened t)) v
     one zero v e =
-        subst (Bears t (opening words [] (opened t))) (some-injective _ _ e) (λ live. (refl, tt))
+        subst (BearsOut t (opening words [] (opened t))) (some-injective _ _ e) (λ live. (refl, tt))
     one (suc id) v e = absurd (some-ne-none v (sym e))
 
 -- ---- one atomic step
@@ -74,7 +74,7 @@ opens t words stands = record { stands = stands; seats = one }
 pub allows : (t : Task) (slots id : ℕ) (me : M)
     (op : Op) (k : ℕ) (f : ℕ → ℕ) (then : ℕ → M → Type 0) → me.0.live ≡ true →
     ((words : List ℕ) → words_after words op ≡ slice_set words k (f (slice_index words k))) →
-    ((words : List ℕ) (now : M) → Heard op (answer words op) me now →
+    ((words : List ℕ) (now : M) → SeatHeard op (answer words op) me now →
     then (slice_index words k) now) →
     ((words : List ℕ) → Stands t.job t.layout words → Backed t.job t.layout me.0.heard words →
     Keeps t.job t.layout op words) → Allows (Holds t) slots id me k f then
@@ -125,10 +125,10 @@ storing t slots id me k value live may =
 
 pub raising : (t : Task) (slots id : ℕ) (me : M) (k value : ℕ) →
     me.0.live ≡ true → May t me.0.heard (Max k value) →
-    Allows (Holds t) slots id me k (λ n. max n value) (Raised (step slots k value 0 none) me)
+    Allows (Holds t) slots id me k (λ n. max n value) (RaisedWord (step slots k value 0 none) me)
 raising t slots id me k value live may =
     allows t slots id me (Max k value) k (λ n. max n value)
-    (Raised (step slots k value 0 none) me) live (λ words. refl) (λ words now h. h) may.1
+    (RaisedWord (step slots k value 0 none) me) live (λ words. refl) (λ words now h. h) may.1
 
 pub swapping : (t : Task) (slots id : ℕ) (me : M) (k old new : ℕ) →
     me.0.live ≡ true → May t me.0.heard (Swap k old new) →
@@ -175,10 +175,10 @@ splitting t id v s holds at =
     mine = holds.seats id v at
 
 pub joining : (t : Task) (id : ℕ) (v : View) (other : ℕ) (w : View) → w.live ≡ true →
-    Joins (Holds t) id v other w (united v w) idle
+    Joins (Holds t) id v other w (united v w) idle_view
 joining t id v other w live s holds at apart there = record {
   stands = holds.stands;
-  seats = set_seats t s.words s.words (set s.views id (united v w)) other idle
+  seats = set_seats t s.words s.words (set s.views id (united v w)) other idle_view
       (set_seats t s.words s.words s.views id (united v w) holds.seats (same t.layout s.words) mine)
       (same t.layout s.words) (λ l. absurd (off l));
 }

@@ -5,7 +5,7 @@ use Rattle.walkx.specs.Doing.{Doing}
 use Rattle.walkx.specs.Doing as doing
 use Rattle.walkx.specs.Walk.{Walking, IsGoing, AsksAdmitted, IsStepOn, ask_of, end_of}
 use Rattle.pram_board.specs.declared.task.Task.{Task}
-use Rattle.pram_board.specs.Inner.Next.{IsNext}
+use Rattle.pram_board.specs.Inner.Next.{IsNextOperation}
 
 pub none_of : (d : Doing) → IsGoing d → end_of d ≡ None
 none_of doing.Back going = refl
@@ -16,8 +16,9 @@ none_of (doing.Over e) going = absurd going
 
 -- so for the task that lies inside the board
 pub is_next : (u t : Task) (w : Walking) (op : Op) → u ≡ t → op ≡ ask_of u.job u.layout w →
-    AsksAdmitted u.job u.layout op → (end_of w.now ≡ None → IsStepOn u.layout op) → IsNext t w op
-is_next u t w op same is admitted step = subst (λ (x : Task). IsNext x w op) same (record {
+    AsksAdmitted u.job u.layout op → (end_of w.now ≡ None → IsStepOn u.layout op) →
+    IsNextOperation t w op
+is_next u t w op same is admitted step = subst (λ (x : Task). IsNextOperation x w op) same (record {
   is = is;
   admitted = admitted;
   step = step;

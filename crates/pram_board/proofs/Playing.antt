@@ -11,7 +11,7 @@ use Rattle.lawful_walk.specs.Moments.{afters}
 use Rattle.walkx.specs.Records.{Record, after}
 use Rattle.pram_board.specs.declared.task.Task.{Task}
 use Rattle.pram_board.specs.Seats.{hears}
-use Rattle.pram_board.specs.Inner.Plays.{AllAnswer, Driving, Plays}
+use Rattle.pram_board.specs.Inner.Plays.{AllAnswer, Driving, PlaysScript}
 
 -- the rest after further answers
 rest_more : (s : Script Then) (more before : List ℕ) → rest s (more ++ before) ≡ rest
@@ -64,7 +64,7 @@ still_count : (m : ℕ) → m % 2 ^ 64 ≡ (m + 0) % 2 ^ 64
 still_count m = omega arith
 
 -- nothing was played yet
-pub still : (t : Task) (s : Script Then) (p : Driving) → Plays t s p s p
+pub still : (t : Task) (s : Script Then) (p : Driving) → PlaysScript t s p s p
 still t s p = record {
   answers = [];
   each = tt;
@@ -79,7 +79,7 @@ still t s p = record {
 -- one step
 pub one_step : (t : Task) (op : Op) (next : ℕ → Script Then) (found : ℕ) (p q : Driving) →
     HearsAdmitted t.job t.layout op found → q.desk ≡ p.desk → q.seat ≡ hears p.seat op found →
-    q.made ≡ (p.made + 1) % 2 ^ 64 → Plays t (asks op next) p (next found) q
+    q.made ≡ (p.made + 1) % 2 ^ 64 → PlaysScript t (asks op next) p (next found) q
 one_step t op next found p q ok desk seat count = record {
   answers = found ∷ [];
   each = ((op, refl), tt);
@@ -93,7 +93,7 @@ one_step t op next found p q ok desk seat count = record {
 
 -- one part after the other
 pub joined : (t : Task) (s u v : Script Then) (a b c : Driving) →
-    Plays t s a u b → Plays t u b v c → Plays t s a v c
+    PlaysScript t s a u b → PlaysScript t u b v c → PlaysScript t s a v c
 joined t s u v a b c first second = record {
   answers = second.answers ++ first.answers;
   each = answer_more s second.answers first.answers first.each

@@ -13,14 +13,13 @@ use Rattle.walkx.specs.Records.{Record, HasBlock}
 use Rattle.walkx.specs.Scripts.{heard_in}
 use Rattle.walkx.specs.Walk.{Walking}
 use Rattle.walkx.proofs.Knowing.{has_left, has_right}
-use Rattle.lawful_walk.specs.Moments.{Sound}
-use Rattle.lawful_walk.specs.Walks.{steps_of}
+use Rattle.lawful_walk.specs.Walks.{steps_heard}
 use Rattle.lawful_walk.specs.Seen.{Heard}
 use Rattle.pram_board.specs.declared.look.Progress.{Progress}
 use Rattle.pram_board.specs.declared.task.Task.{Task}
 use Rattle.pram_board.specs.Seats.{Desk, SeatData, hears_all, unites, HasLoaded}
 use Rattle.pram_board.specs.Seats.{IsLater, KnowsConflict, Progressed, Remembers, StillKnows}
-use Rattle.pram_board.specs.Worked.{Ran}
+use Rattle.pram_board.specs.Inner.Plays.{Ran}
 use Rattle.pram_board.proofs.Begins.{has_afters}
 use Rattle.pram_board.proofs.Looking.{Looks}
 
@@ -50,27 +49,21 @@ pub remembers_loads : (n : ℕ) (p q : SeatData) → HasLoaded n p q → Remembe
 remembers_loads n p q loads = remembers_more p q loads.steps loads.is
 
 pub later_loads : (d : Desk) (n : ℕ) (p q : SeatData) → p.desk ≡ d → HasLoaded n p q →
-    Sound d.task.job d.task.layout q.record_of → IsLater d p q
-later_loads d n p q desk loads sound = record {
+    IsLater d p q
+later_loads d n p q desk loads = record {
   desk = ap (λ (z : SeatData). z.desk) loads.is ∙ desk;
   keeps = remembers_loads n p q loads;
-  knows = still_knows d.task p.record_of q.record_of (remembers_loads n p q loads);
-  sound = sound;
 }
 
 pub remembers_ran : (t : Task) (p : SeatData) (w : Walking) (n : ℕ) (q : SeatData) (now : Walking) →
     Ran t p w n q now → Remembers p.record_of q.record_of
 remembers_ran t p w n q now ran =
-    remembers_more p q (steps_of t.job t.layout w ran.answers) ran.seat
+    remembers_more p q (steps_heard t.job t.layout w ran.answers) ran.seat
 
 pub later_ran : (d : Desk) (p : SeatData) (w : Walking) (n : ℕ) (q : SeatData) (now : Walking) →
-    q.desk ≡ d → Ran d.task p w n q now → Sound d.task.job d.task.layout q.record_of → IsLater d p q
-later_ran d p w n q now desk ran sound = record {
-  desk = desk;
-  keeps = remembers_ran d.task p w n q now ran;
-  knows = still_knows d.task p.record_of q.record_of (remembers_ran d.task p w n q now ran);
-  sound = sound;
-}
+    q.desk ≡ d → Ran d.task p w n q now → IsLater d p q
+later_ran d p w n q now desk ran =
+    record { desk = desk; keeps = remembers_ran d.task p w n q now ran }
 
 pub remembers_first : (p q joined : SeatData) → joined ≡ unites p q →
     Remembers p.record_of joined.record_of

@@ -11,7 +11,7 @@ use Rattle.lawful_walk.specs.Moments.{Sound}
 use Rattle.pram_board.specs.declared.task.Task.{Task}
 use Rattle.pram_board.specs.Rules.{May}
 use Rattle.pram_board.specs.Seats.{SeatData, hears}
-use Rattle.pram_board.specs.Inner.Plays.{Drives, Driving, Walks}
+use Rattle.pram_board.specs.Inner.Plays.{Drives, Driving, IsWalking}
 use Rattle.pram_board.proofs.Due.{due_asks, due_may}
 use Rattle.pram_board.proofs.Playing.{joined, one_step, still}
 use Rattle.pram_board.proofs.Steps.{admits}
@@ -66,7 +66,7 @@ working_script job y number n q (suc rank) = refl
 
 -- nothing was made yet
 pub driver_starts : (t : Task) (d : Driving) (number n q rank : ℕ) →
-    Walks t d (working number n q rank) →
+    IsWalking t d (working number n q rank) →
     Drives t (d, script_at_rank t.job t.layout number n q rank) d
     (script_at_rank t.job t.layout number n q rank)
 driver_starts t d number n q rank walks = record {

@@ -21,11 +21,12 @@ use Rattle.walkx.proofs.Fitting.{fits_told}
 use Rattle.walkx.proofs.Going.{next_of, op_with_first, told_going}
 use Rattle.walkx.proofs.Knowing.{knows_next}
 use Rattle.lawful_walk.specs.Moments.{afters}
-use Rattle.lawful_walk.specs.Walks.{steps_of}
+use Rattle.lawful_walk.specs.Walks.{steps_heard}
 use Rattle.pram_board.specs.declared.task.Task.{Task}
 use Rattle.pram_board.specs.Seats.{SeatData, hears_all}
-use Rattle.pram_board.specs.Worked.{Ran}
-use Rattle.pram_board.specs.Inner.Plays.{AllAnswer, Drives, Driving, IsAt, Led, Plays, Walks, Went}
+use Rattle.pram_board.specs.Inner.Plays.{Ran}
+use Rattle.pram_board.specs.Inner.Plays.{AllAnswer, Drives, Driving, IsAt, Led, PlaysScript}
+use Rattle.pram_board.specs.Inner.Plays.{IsWalking, Went}
 use Rattle.pram_board.specs.Inner.Plays.{led_to, task_at, working_at}
 use Rattle.pram_board.proofs.Due.{hearing}
 use Rattle.pram_board.proofs.Playing.{afters_more, length_more}
@@ -51,7 +52,7 @@ module _ (t : Task) (w : Walking) (fresh : w.heard ≡ []) (going : IsGoing w.no
 
   -- its steps are the script's
   tells_steps : (answers : List ℕ) → AllAnswer (script_of t.job t.layout w) answers →
-      steps_of t.job t.layout w answers ≡ heard_in (script_of t.job t.layout w) answers
+      steps_heard t.job t.layout w answers ≡ heard_in (script_of t.job t.layout w) answers
   tells_steps [] all = refl
   tells_steps (found ∷ earlier) all =
       ap₂ (λ (v : Walking) (es : List (Op × ℕ)). (ask_of t.job t.layout v, found) ∷ es)
@@ -74,20 +75,20 @@ module _ (t : Task) (w : Walking) (fresh : w.heard ≡ []) (going : IsGoing w.no
 
 -- a worker that fits and is known still does with these answers
 told_fits : (t : Task) (w : Walking) (answers : List ℕ) → IsBoard t.job t.layout →
-    Fits t.job t.layout w → AllAdmitted t.job t.layout (steps_of t.job t.layout w answers) →
+    Fits t.job t.layout w → AllAdmitted t.job t.layout (steps_heard t.job t.layout w answers) →
     Fits t.job t.layout (told_all t.job t.layout w answers)
 told_fits t w [] board fits all = fits
 told_fits t w (found ∷ earlier) board fits all = fits_told t.job t.layout
     (told_all t.job t.layout w earlier) found board (told_fits t w earlier board fits all.1) all.0
 
 told_known : (t : Task) (r : Record) (w : Walking) (answers : List ℕ) → IsBoard t.job t.layout →
-    Fits t.job t.layout w → AllAdmitted t.job t.layout (steps_of t.job t.layout w answers) →
+    Fits t.job t.layout w → AllAdmitted t.job t.layout (steps_heard t.job t.layout w answers) →
     Knows t.job t.layout r w →
-    Knows t.job t.layout (afters r (steps_of t.job t.layout w answers))
+    Knows t.job t.layout (afters r (steps_heard t.job t.layout w answers))
     (told_all t.job t.layout w answers)
 told_known t r w [] board fits all knows = knows
 told_known t r w (found ∷ earlier) board fits all knows =
-    knows_next t.job t.layout (afters r (steps_of t.job t.layout w earlier))
+    knows_next t.job t.layout (afters r (steps_heard t.job t.layout w earlier))
     (told_all t.job t.layout w earlier) found (told_fits t w earlier board fits all.1)
     (told_known t r w earlier board fits all.1 knows)
 
@@ -105,13 +106,13 @@ module _ (t : Task) (w : Walking) (p q : Driving) (end : Then) (now : Walking)
   led_by [] all comes ok desk seat count small some leads = absurd (some comes)
   led_by (found ∷ earlier) all comes ok desk seat count small some leads =
       let s = script_of t.job t.layout w in
-      let steps : steps_of t.job t.layout w (found ∷ earlier) ≡ heard_in s (found ∷ earlier) =
+      let steps : steps_heard t.job t.layout w (found ∷ earlier) ≡ heard_in s (found ∷ earlier) =
       tells_steps t w fresh going (found ∷ earlier) all in
       let is : now ≡ told_all t.job t.layout w (found ∷ earlier) =
       sym (leads found earlier) ∙ sym (tells_end t w fresh going found earlier end all comes) in
-      let good : AllAdmitted t.job t.layout (steps_of t.job t.layout w (found ∷ earlier)) =
+      let good : AllAdmitted t.job t.layout (steps_heard t.job t.layout w (found ∷ earlier)) =
       subst (AllAdmitted t.job t.layout) (sym steps) ok in
-      let grown : q.seat ≡ hears_all p.seat (steps_of t.job t.layout w (found ∷ earlier)) =
+      let grown : q.seat ≡ hears_all p.seat (steps_heard t.job t.layout w (found ∷ earlier)) =
       seat ∙ ap (hears_all p.seat) (sym steps) in
       record {
         walks = record {
@@ -134,7 +135,7 @@ module _ (t : Task) (w : Walking) (p q : Driving) (end : Then) (now : Walking)
 
   led : (script_of t.job t.layout w ≡ ends end → ⊥) →
       ((found : ℕ) (earlier : List ℕ) → goes_on (hearing w earlier) found (ends end) ≡ now) →
-      Plays t (script_of t.job t.layout w) p (ends end) q → Led t p w q now
+      PlaysScript t (script_of t.job t.layout w) p (ends end) q → Led t p w q now
   led some leads played =
       led_by played.answers played.each played.comes played.admitted played.desk played.seat
       played.count played.small some leads
@@ -159,7 +160,7 @@ same_rank q (suc rank) some = refl
 
 -- a script leads to another one, or to a begin
 pub led_script : (at : PostData) (p z : Driving) (next : Turned) →
-    Walks (task_at at) p (working_at at) →
+    IsWalking (task_at at) p (working_at at) →
     Drives (task_at at) (p, script_at at) z (ends (leads at next)) →
     Led (task_at at) p (working_at at) z (led_to at next)
 led_script at p z next walks drives = by next played
@@ -167,21 +168,21 @@ led_script at p z next walks drives = by next played
     script : script_of at.job at.layout (working_at at) ≡ script_at at
     script = working_script at.job at.layout at.worker at.node at.phase at.rank
 
-    played : Plays (task_at at) (script_of at.job at.layout (working_at at)) p
+    played : PlaysScript (task_at at) (script_of at.job at.layout (working_at at)) p
         (ends (leads at next)) z
-    played = subst (λ (s : Script Then). Plays (task_at at) s p (ends (leads at next)) z)
+    played = subst (λ (s : Script Then). PlaysScript (task_at at) s p (ends (leads at next)) z)
         (sym script) drives.plays
 
     goes : (end : Then) (now : Walking) →
         ((found : ℕ) (earlier : List ℕ) →
         goes_on (hearing (working_at at) earlier) found (ends end) ≡ now) →
-        Plays (task_at at) (script_of at.job at.layout (working_at at)) p (ends end) z →
+        PlaysScript (task_at at) (script_of at.job at.layout (working_at at)) p (ends end) z →
         Led (task_at at) p (working_at at) z now
     goes end now leads_to plays = led (task_at at) (working_at at) p z end now refl
         (working_goes at.phase at.rank) drives.here walks.fits walks.knows
         (script_asks at.job at.layout at.worker at.node at.phase at.rank end) leads_to plays
 
-    by : (to : Turned) → Plays (task_at at) (script_of at.job at.layout (working_at at)) p
+    by : (to : Turned) → PlaysScript (task_at at) (script_of at.job at.layout (working_at at)) p
         (ends (leads at to)) z → Led (task_at at) p (working_at at) z (led_to at to)
     by turned.Finished plays = goes (begins 1) (beginning at.worker 1) (λ found earlier. refl) plays
     by (turned.To m) plays =
@@ -207,8 +208,8 @@ told_more t w (found ∷ more) before = ap (λ (v : Walking). told t.job t.layou
     (told_more t w more before)
 
 steps_more : (t : Task) (w : Walking) (more before : List ℕ) →
-    steps_of t.job t.layout w (more ++ before) ≡ steps_of t.job t.layout
-    (told_all t.job t.layout w before) more ++ steps_of t.job t.layout w before
+    steps_heard t.job t.layout w (more ++ before) ≡ steps_heard t.job t.layout
+    (told_all t.job t.layout w before) more ++ steps_heard t.job t.layout w before
 steps_more t w [] before = refl
 steps_more t w (found ∷ more) before = ap₂ (λ (v : Walking) (es : List (Op × ℕ)).
     (ask_of t.job t.layout v, found) ∷ es) (told_more t w more before) (steps_more t w more before)
@@ -223,14 +224,15 @@ ran_more t p w n q mid m z now first second = record {
       second.count in omega arith);
   seat =
       second.seat
-      ∙ ap₂ (λ (x : SeatData) (v : Walking). hears_all x (steps_of t.job t.layout v second.answers))
+      ∙ ap₂ (λ (x : SeatData) (v : Walking). hears_all x
+      (steps_heard t.job t.layout v second.answers))
       first.seat first.worker
       ∙ ap (λ (r : Record). record {
         desk = p.desk;
         record_of =
             r;
-      }) (sym (afters_more p.record_of (steps_of t.job t.layout w first.answers)
-      (steps_of t.job t.layout (told_all t.job t.layout w first.answers) second.answers)))
+      }) (sym (afters_more p.record_of (steps_heard t.job t.layout w first.answers)
+      (steps_heard t.job t.layout (told_all t.job t.layout w first.answers) second.answers)))
       ∙ ap (hears_all p) (sym (steps_more t w second.answers first.answers));
   worker = second.worker ∙ ap (λ (v : Walking). told_all t.job t.layout v second.answers)
       first.worker ∙ sym (told_more t w second.answers first.answers);

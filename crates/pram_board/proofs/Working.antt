@@ -15,11 +15,10 @@ use Rattle.lawful_walk.specs.Moments.{Sound}
 use Rattle.pram_board.specs.declared.task.Task.{Task}
 use Rattle.pram_board.specs.Seats.{Desk, SeatData, IsLater}
 use Rattle.pram_board.specs.declared.work.Stay.{Stay}
-use Rattle.pram_board.specs.declared.work.Stay.TheVariants as stay
-use Rattle.pram_board.specs.Worked.{Ran, StaysAs, Ticked, Worked, Works, end_in}
+use Rattle.pram_board.specs.Worked.{StaysAs, Ticked, Worked, Works}
 use Rattle.pram_board.proofs.Remembering.{later_ran}
 use Rattle.pram_board.proofs.Told.{shows_end}
-use Rattle.pram_board.specs.Inner.Plays.{Driving, GoesOn, IsAt, Led, Walks, Went}
+use Rattle.pram_board.specs.Inner.Plays.{Driving, WorkerGoesOn, IsAt, Led, Ran, IsWalking, Went}
 use Rattle.pram_board.specs.Inner.Plays.{led_to, task_at, working_at}
 use Rattle.pram_board.proofs.Telling.{ran_more, went_more}
 use Rattle.pram_board.proofs.Works.{bound_small, fewer, ran_none, ran_on, room}
@@ -49,7 +48,7 @@ module _ (p : SeatData) (w : Walking) (d : Driving) (mid : WorkerData) (e : Driv
       fewer d.desk.task p w d.made d.seat mid.walking begun.board begun.fits begun.knows ran sound
       going
 
-  module _ (limited : Bool) (goes : GoesOn limited d mid e now)
+  module _ (limited : Bool) (goes : WorkerGoesOn limited d mid e now)
       (sound_too : Sound e.desk.task.job e.desk.task.layout e.seat.record_of) where
     all : Ran d.desk.task p w (d.made + goes.went.ticks) e.seat now.walking
     all = ran_more d.desk.task p w d.made d.seat mid.walking goes.went.ticks e.seat now.walking ran
@@ -123,7 +122,7 @@ sound_at t d here sound =
 -- the limit is not passed
 pub within_limit : (limit : Option ℕ) (limited : Bool) (p q : Driving) (w now : WorkerData) →
     limited ≡ is_some limit → option_eq eqb limit (Some p.made) ≡ false →
-    IfSome limit (λ k. p.made ≤ k) → (goes : GoesOn limited p w q now) →
+    IfSome limit (λ k. p.made ≤ k) → (goes : WorkerGoesOn limited p w q now) →
     q.made ≡ p.made + goes.went.ticks → IfSome limit (λ k. q.made ≤ k)
 within_limit None limited p q w now some apart within goes is = tt
 within_limit (Some k) limited p q w now some apart within goes is = elim goes.single [
@@ -134,7 +133,7 @@ within_limit (Some k) limited p q w now some apart within goes is = elim goes.si
 -- one tick goes on in any case, and whole turns where there is no limit
 pub goes_once : (p q : Driving) (w now : WorkerData) →
     Ticked p.desk.task p.seat w.walking q.seat now.walking → Works q.desk q.seat now →
-    q.desk ≡ p.desk → q.made ≡ (p.made + 1) % 2 ^ 64 → GoesOn true p w q now
+    q.desk ≡ p.desk → q.made ≡ (p.made + 1) % 2 ^ 64 → WorkerGoesOn true p w q now
 goes_once p q w now ticked works desk count = record {
   went = record {
     ticks = 1;
@@ -149,8 +148,8 @@ goes_once p q w now ticked works desk count = record {
   works = works;
 }
 
-pub goes_any : (limited : Bool) (p q : Driving) (w now : WorkerData) → GoesOn true p w q now →
-    GoesOn limited p w q now
+pub goes_any : (limited : Bool) (p q : Driving) (w now : WorkerData) → WorkerGoesOn true p w q now →
+    WorkerGoesOn limited p w q now
 goes_any limited p q w now goes =
     record {
       went = goes.went;
@@ -160,14 +159,14 @@ goes_any limited p q w now goes =
     }
 
 pub goes_free : (limited : Bool) (p q : Driving) (w now : WorkerData) → limited ≡ false →
-    GoesOn false p w q now → GoesOn limited p w q now
+    WorkerGoesOn false p w q now → WorkerGoesOn limited p w q now
 goes_free limited p q w now is goes =
-    subst (λ (b : Bool). GoesOn b p w q now) (sym is) goes
+    subst (λ (b : Bool). WorkerGoesOn b p w q now) (sym is) goes
 
 -- whole turns, up to one that has the worker begin
 pub goes_far : (p q : Driving) (w now : WorkerData) →
     Led p.desk.task p w.walking q now.walking → Works q.desk q.seat now →
-    end_of now.walking.now ≡ None → GoesOn false p w q now
+    end_of now.walking.now ≡ None → WorkerGoesOn false p w q now
 goes_far p q w now led works none =
     record { went = led.went; some = led.some; single = inr (refl, none); works = works }
 
@@ -203,9 +202,9 @@ led_on t first at number n q rank m next p z to is_first is led leads =
 pub walks_of : (t : Task) (d : Driving) (w v : Walking) → t ≡ d.desk.task → w ≡ v →
     d.seat.desk ≡ d.desk → IsBoard d.desk.task.job d.desk.task.layout →
     Fits d.desk.task.job d.desk.task.layout w →
-    Knows d.desk.task.job d.desk.task.layout d.seat.record_of w → Walks t d v
+    Knows d.desk.task.job d.desk.task.layout d.seat.record_of w → IsWalking t d v
 walks_of t d w v same is desk board fits knows =
-    subst (λ (x : Task × Walking). Walks x.0 d x.1) (λ i. (sym same i, is i)) (record {
+    subst (λ (x : Task × Walking). IsWalking x.0 d x.1) (λ i. (sym same i, is i)) (record {
       here = record { desk = desk; task = refl; board = board };
       fits = fits;
       knows = knows;
@@ -233,11 +232,6 @@ pub is_limit : (limit : Option ℕ) (n : ℕ) → option_eq eqb limit (Some n) �
 is_limit None n is = absurd (true≢false (sym is))
 is_limit (Some k) n is = ap (λ (m : ℕ). Some m) (eqb-true k n is)
 
-end_as : (limit : Option ℕ) (n : ℕ) (now : Walking) (stay : Stay) → StaysAs limit n now stay →
-    end_in stay ≡ end_of now.now
-end_as limit n now (stay.Ended e) stays = sym stays
-end_as limit n now stay.Stopped stays = sym stays.1
-
 pub record Finished (b : Desk) (p : SeatData) (w : Walking) (limit : Option ℕ) (q : SeatData)
     (now : WorkerData) (stay : Stay) : Type 0 where
   pub worked : Worked b.task p w limit q now.walking stay
@@ -253,14 +247,15 @@ pub finished : (b : Desk) (p : SeatData) (w : Walking) (limit : Option ℕ) (d :
 finished b p w limit d now stay same works sound ran most within stays =
     subst (λ (x : Desk). Finished x p w limit d.seat now stay) same (record {
       worked = record {
-        ticks = d.made;
-        ran = ran;
-        most = most;
-        within = within;
-        stays = stays;
-        shows = shows_end d.desk.task d.seat.record_of now.walking (end_in stay)
-            (end_as limit d.made now.walking stay stays) sound works.serves.fits works.knows;
+        answers = ran.answers;
+        seat = ran.seat;
+        worker = ran.worker;
+        most = subst (λ (n : ℕ). n ≤ most_steps d.desk.task.job) (sym ran.count) most;
+        within = subst (λ (n : ℕ). IfSome limit (λ k. n ≤ k)) (sym ran.count) within;
+        stays = subst (λ (n : ℕ). StaysAs limit n now.walking stay) (sym ran.count) stays;
+        shows = shows_end d.desk.task d.seat.record_of now.walking (end_of now.walking.now) refl
+            sound works.serves.fits works.knows;
       };
-      later = later_ran d.desk p w d.made d.seat now.walking works.desk ran sound;
+      later = later_ran d.desk p w d.made d.seat now.walking works.desk ran;
       works = works;
     })

@@ -9,12 +9,13 @@ use Rattle.walkx.specs.Bound.{told_all, history_of, most_steps}
 use Rattle.walkx.specs.Records.{Has, Knows}
 use Rattle.walkx.specs.Walk.{Walking, Fits, IsBoard, IsGoing, ask_of, told, end_of}
 use Rattle.lawful_walk.specs.Moments.{Sound, afters}
-use Rattle.lawful_walk.specs.Walks.{steps_of}
+use Rattle.lawful_walk.specs.Walks.{steps_heard}
 use Rattle.lawful_walk.proofs.Bounding.{history_known}
 use Rattle.lawful_walk.proofs.Sounding.{sound_steps}
 use Rattle.pram_board.specs.declared.task.Task.{Task}
 use Rattle.pram_board.specs.Seats.{SeatData, hears}
-use Rattle.pram_board.specs.Worked.{Ran, Ticked}
+use Rattle.pram_board.specs.Inner.Plays.{Ran}
+use Rattle.pram_board.specs.Worked.{Ticked}
 use Rattle.pram_board.proofs.Told.{going_of}
 
 pub ran_none : (t : Task) (p : SeatData) (w : Walking) → Ran t p w 0 p w
@@ -40,12 +41,12 @@ pub fewer : (t : Task) (p : SeatData) (w : Walking) (n : ℕ) (q : SeatData) (no
 fewer t p w n q now board fits knows ran sound none =
     let going : IsGoing (told_all t.job t.layout w ran.answers).now =
     subst (λ (v : Walking). IsGoing v.now) ran.worker (going_of now.now none) in
-    let has : Has (afters p.record_of (steps_of t.job t.layout w ran.answers))
+    let has : Has (afters p.record_of (steps_heard t.job t.layout w ran.answers))
     (history_of t.job t.layout w ran.answers) =
     history_known t.job t.layout p.record_of w ran.answers knows in
     subst (λ (k : ℕ). k < most_steps t.job) ran.count
     (sound_steps t.job t.layout
-    (afters p.record_of (steps_of t.job t.layout w ran.answers)) w ran.answers board fits
+    (afters p.record_of (steps_heard t.job t.layout w ran.answers)) w ran.answers board fits
     (subst (λ (z : SeatData). Sound t.job t.layout z.record_of) ran.seat sound) has going)
 
 -- the bound fits 64 bits

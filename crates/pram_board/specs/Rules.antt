@@ -24,8 +24,8 @@ viewing task known = record { live = true; task = task; heard = known }
 abbrev pub no_job : JobData
 no_job = record { rule = Common; cells = 0; procs = 0; steps = 0; init = []; code = [] }
 
-abbrev pub idle : View
-idle = record {
+abbrev pub idle_view : View
+idle_view = record {
   live = false;
   task = record { job = no_job; layout = layout_of no_job Compact 0 };
   heard = empty;
@@ -39,14 +39,14 @@ united first second =
     record { live = first.live; task = first.task; heard = both first.heard second.heard }
 
 -- the words bear out what a seat knows
-abbrev pub Bears : Task → State (Unit {0}) View → View → Type 0
-Bears task state view = view.live ≡ true →
+abbrev pub BearsOut : Task → State (Unit {0}) View → View → Type 0
+BearsOut task state view = view.live ≡ true →
     (view.task ≡ task) × Backed task.job task.layout view.heard state.words
 
 pub record Holds (task : Task) (state : State (Unit {0}) View) : Type 0 where
   pub stands : Stands task.job task.layout state.words
   pub seats : (id : ℕ) (view : View) → get_elem? state.views id ≡ some view →
-      Bears task state view
+      BearsOut task state view
 
 -- ---- what an atomic step may be
 
@@ -60,19 +60,19 @@ May task known op = IsStepOn task.layout op
 -- ---- what an atomic step tells
 
 -- the seat has made this step and heard this answer, which agrees with all that it heard before
-abbrev pub Heard : Op → ℕ → Me (Unit {0}) View → Me (Unit {0}) View → Type 0
-Heard op found me now =
+abbrev pub SeatHeard : Op → ℕ → Me (Unit {0}) View → Me (Unit {0}) View → Type 0
+SeatHeard op found me now =
     (now ≡ (record { live = me.0.live; task = me.0.task; heard = after me.0.heard op found }, me.1))
     × Sound me.0.task.job me.0.task.layout (after me.0.heard op found)
 
 abbrev pub Loaded : Step (Unit {0}) → Me (Unit {0}) View → ℕ → Me (Unit {0}) View → Type 0
-Loaded step me found now = Heard (Load step.word) found me now
+Loaded step me found now = SeatHeard (Load step.word) found me now
 
 abbrev pub Stored : Step (Unit {0}) → Me (Unit {0}) View → ℕ → Me (Unit {0}) View → Type 0
-Stored step me found now = Heard (Store step.word step.first) 0 me now
+Stored step me found now = SeatHeard (Store step.word step.first) 0 me now
 
-abbrev pub Raised : Step (Unit {0}) → Me (Unit {0}) View → ℕ → Me (Unit {0}) View → Type 0
-Raised step me found now = Heard (Max step.word step.first) found me now
+abbrev pub RaisedWord : Step (Unit {0}) → Me (Unit {0}) View → ℕ → Me (Unit {0}) View → Type 0
+RaisedWord step me found now = SeatHeard (Max step.word step.first) found me now
 
 abbrev pub Swapped : Step (Unit {0}) → Me (Unit {0}) View → ℕ → Me (Unit {0}) View → Type 0
-Swapped step me found now = Heard (Swap step.word step.first step.second) found me now
+Swapped step me found now = SeatHeard (Swap step.word step.first step.second) found me now

@@ -16,7 +16,7 @@ use Rattle.walkx.specs.Records.{Record, empty, after, both, Has, Knows}
 use Rattle.walkx.specs.Codes.{coded_record}
 use Rattle.walkx.specs.Scripts.{ends, rest, heard_in}
 use Rattle.walkx.specs.Walk.{Walking}
-use Rattle.lawful_walk.specs.Moments.{Sound, afters}
+use Rattle.lawful_walk.specs.Moments.{afters}
 use Rattle.lawful_walk.specs.Seen.{Heard, KnowsStep}
 use Rattle.lawful_walk.specs.Walks.{IsLawfulRead, ProgressWell}
 use Rattle.pram_board.specs.declared.look.Progress.{Progress}
@@ -57,7 +57,7 @@ hears seat op found = record { desk = seat.desk; record_of = after seat.record_o
 abbrev pub hears_all : SeatData → List (Op × ℕ) → SeatData
 hears_all seat steps = record { desk = seat.desk; record_of = afters seat.record_of steps }
 
--- so many loads more
+-- a load, and a seat that made this many loads more than an earlier one
 abbrev pub IsLoad : Op → Type 0
 IsLoad (Load word) = Unit {0}
 IsLoad _ = ⊥
@@ -73,22 +73,24 @@ abbrev pub unites : SeatData → SeatData → SeatData
 unites first second =
     record { desk = first.desk; record_of = both first.record_of second.record_of }
 
--- the later record has what the earlier one had: each worker that it knew, for one
+-- the later record has what the earlier one had
 abbrev pub Remembers : Record → Record → Type 0
 Remembers before later = (steps : List (Op × ℕ)) → Has before steps → Has later steps
 
--- it still knows each worker that it knew
+-- the later record knows each worker that the earlier one knew
 abbrev pub StillKnows : Task → Record → Record → Type 0
 StillKnows task before later = (walking : Walking) →
     Knows task.job task.layout before walking → Knows task.job task.layout later walking
 
--- the seat later: it is of this board still, has what it had, knows the workers that it knew, and
--- what it heard is sound
+-- a record that remembers another one knows each worker that this one knew
+abbrev pub WorkersStayKnown : Type 0
+WorkersStayKnown =
+    (task : Task) (before later : Record) → Remembers before later → StillKnows task before later
+
+-- the seat later: it is of this board, and remembers what it had heard
 pub record IsLater (board : Desk) (before later : SeatData) : Type 0 where
   pub desk : later.desk ≡ board
-  pub keeps : Remembers before.record_of later.record_of
-  pub knows : StillKnows board.task before.record_of later.record_of
-  pub sound : Sound board.task.job board.task.layout later.record_of
+  pub keeps : (steps : List (Op × ℕ)) → Has before.record_of steps → Has later.record_of steps
 
 -- the record has seen that this step is finished
 pub record HasSeen (layout : LayoutData) (known : Record) (step : ℕ) : Type 0 where

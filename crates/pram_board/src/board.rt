@@ -56,9 +56,10 @@ impl Board {
         Board::of_layout(alloc, job, Layout::new(job, workers))
     }
 
-    /// The same in the wide form, in which workers start far apart and do not share lines of
-    /// memory: it is the faster one with two workers and more. A leaf stands for a block of 64
-    /// processors, or of all where there are fewer.
+    /// A new board for a job and so many workers in the wide form, and a seat that has seen
+    /// nothing. Workers start far apart and do not share lines of memory: this form is the faster
+    /// one with two workers and more. A leaf stands for a block of 64 processors, or of all where
+    /// there are fewer.
     pub fn open_wide(alloc: Global, job: &Job, workers: u32) -> Result<(Board, Seat), AllocError>
         requires some { 1 ≤ workers }
         requires most { workers ≤ 64 }
@@ -67,7 +68,8 @@ impl Board {
         Board::of_layout(alloc, job, Layout::wide(job, workers))
     }
 
-    /// The same in the wide form with blocks of so many processors, a power of two up to 64.
+    /// A new board in the wide form, whose blocks have as many processors as `grain` says, a power
+    /// of two up to 64, and a seat that has seen nothing.
     pub fn open_with_blocks(
         alloc: Global,
         job: &Job,

@@ -42,7 +42,7 @@ impl<'a, G: Gate> Driver<'a, G> {
     ghost use Rattle.lawful_walk.specs.Moments.{Sound};
     ghost use Rattle.pram_board.specs.Rules.{May};
     ghost use Rattle.pram_board.specs.Seats.{IsLater, hears};
-    ghost use Rattle.pram_board.specs.Inner.Plays.{GoesOn, Led, Walks, driving, led_to};
+    ghost use Rattle.pram_board.specs.Inner.Plays.{WorkerGoesOn, Led, IsWalking, driving, led_to};
     ghost use Rattle.pram_board.specs.Inner.Plays.{task_at, working_at};
 
     /// A driver that has made no step.
@@ -125,7 +125,8 @@ impl<'a, G: Gate> Driver<'a, G> {
         requires going { end_of worker.old.walking.now ≡ None }
         requires works { Works self.old.board.now self.old.seat.now worker.old }
         ensures same { self.new.seat.ghost_name ≡ self.old.seat.ghost_name }
-        ensures goes { GoesOn limited (driving self.old) worker.old (driving self.new) worker.new }
+        ensures goes { WorkerGoesOn limited (driving self.old) worker.old (driving self.new)
+            worker.new }
     {
         if limited {
             return self.go_one(worker);
@@ -142,7 +143,8 @@ impl<'a, G: Gate> Driver<'a, G> {
         requires going { end_of worker.old.walking.now ≡ None }
         requires works { Works self.old.board.now self.old.seat.now worker.old }
         ensures same { self.new.seat.ghost_name ≡ self.old.seat.ghost_name }
-        ensures goes { GoesOn true (driving self.old) worker.old (driving self.new) worker.new }
+        ensures goes { WorkerGoesOn true (driving self.old) worker.old (driving self.new)
+            worker.new }
     {
         self.gate.pass(worker.number(), self.made);
         self.made = self.made.wrapping_add(1);
@@ -156,7 +158,8 @@ impl<'a, G: Gate> Driver<'a, G> {
         requires turn { worker.old.walking ≡ turning worker.old.walking.number node phase }
         requires works { Works self.old.board.now self.old.seat.now worker.old }
         ensures same { self.new.seat.ghost_name ≡ self.old.seat.ghost_name }
-        ensures goes { GoesOn false (driving self.old) worker.old (driving self.new) worker.new }
+        ensures goes { WorkerGoesOn false (driving self.old) worker.old (driving self.new)
+            worker.new }
     {
         let board = self.board;
         board.facts();
@@ -170,7 +173,7 @@ impl<'a, G: Gate> Driver<'a, G> {
     #[inline(always)]
     fn turns(&mut self, task: &Task, number: u32, start: u32, phase: u64)
         requires room { self.old.made < 2 ^ 63 }
-        requires walks { Walks task.now (driving self.old) (turning number start phase) }
+        requires walks { IsWalking task.now (driving self.old) (turning number start phase) }
         ensures same { self.new.seat.ghost_name ≡ self.old.seat.ghost_name }
         ensures led { Led task.now (driving self.old) (turning number start phase)
             (driving self.new) (beginning number 1) }
@@ -191,7 +194,7 @@ impl<'a, G: Gate> Driver<'a, G> {
     // A turn, or the task of another processor of a block, and what comes of it.
     #[inline(always)]
     fn script(&mut self, post: &Post) -> Turned
-        requires walks { Walks (task_at post.now) (driving self.old) (working_at post.now) }
+        requires walks { IsWalking (task_at post.now) (driving self.old) (working_at post.now) }
         ensures same { self.new.seat.ghost_name ≡ self.old.seat.ghost_name }
         ensures led { Led (task_at post.now) (driving self.old) (working_at post.now)
             (driving self.new) (led_to post.now result) }

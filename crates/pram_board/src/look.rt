@@ -47,7 +47,6 @@ impl Board {
         ensures later { IsLater self.now seat.old seat.new }
     {
         self.facts();
-        seat.facts();
         let mut reader = Reader::new(cell);
         loop {
             match reader.ask(&self.task.layout) {

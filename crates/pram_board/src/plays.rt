@@ -35,9 +35,9 @@ impl Play<(), View> for Stores {
 pub(crate) struct Raises;
 
 impl Play<(), View> for Raises {
-    ghost use Rattle.pram_board.specs.Rules.{Raised};
+    ghost use Rattle.pram_board.specs.Rules.{RaisedWord};
 
-    ghost then = { Raised };
+    ghost then = { RaisedWord };
 }
 
 /// A swap is in the record.
@@ -62,9 +62,9 @@ impl Split<View> for Shares {
 pub(crate) struct Unites;
 
 impl Join<View> for Unites {
-    ghost use Rattle.pram_board.specs.Rules.{united, idle};
+    ghost use Rattle.pram_board.specs.Rules.{united, idle_view};
 
     ghost both = { united };
 
-    ghost spent = { idle };
+    ghost spent = { idle_view };
 }

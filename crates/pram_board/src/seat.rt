@@ -29,6 +29,7 @@ impl Model for Seat {
 
 impl Seat {
     ghost use Rattle.lawful_walk.specs.Moments.{Sound};
+    ghost use Rattle.pram_board.specs.Seats.{WorkersStayKnown};
 
     /// What the seat has heard is sound: each part of its record agrees with itself and with the
     /// plain machine. The call does nothing.
@@ -38,4 +39,11 @@ impl Seat {
         // A read of the field brings what the type keeps.
         let _ = &self.seat;
     }
+
+    /// A seat that is later than another one knows each worker that this one knew. The call does
+    /// nothing.
+    #[tactic(auto, using(crate::proofs::Remembering::still_knows))]
+    pub fn workers_stay_known()
+        ensures { WorkersStayKnown }
+    {}
 }

@@ -19,7 +19,7 @@ pub enum Stay {
 impl Board {
     ghost use Rattle.std.specs.Prelude.{◌≡◌, None};
     ghost use Rattle.walkx.specs.Walk.{end_of};
-    ghost use Rattle.pram_board.specs.Inner.Next.{IsNext};
+    ghost use Rattle.pram_board.specs.Inner.Next.{IsNextOperation};
     ghost use Rattle.pram_board.specs.Seats.{IsLater};
     ghost use Rattle.pram_board.specs.Worked.{EndShows, IsTick, Ticked, Worked, Works};
 
@@ -41,6 +41,7 @@ impl Board {
         }
         let op = worker.ask(&self.task.job, &self.task.layout);
         self.advance(seat, worker, op);
+        seat.facts();
         worker.ended()
     }
 
@@ -70,7 +71,7 @@ impl Board {
     // One atomic step of a worker, its next operation.
     fn advance(&self, seat: &mut Seat, worker: &mut Worker, op: Op)
         requires works { Works self.now seat.old worker.old }
-        requires next { IsNext self.now.task worker.old.walking op }
+        requires next { IsNextOperation self.now.task worker.old.walking op }
         requires going { end_of worker.old.walking.now ≡ None }
         ensures ticked { Ticked self.now.task seat.old worker.old.walking seat.new
             worker.new.walking }

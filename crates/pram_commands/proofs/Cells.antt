@@ -3,7 +3,7 @@ use Rattle.std.proofs.Common.{◌≡◌, ◌∙◌, ◌⊎◌, ℕ, zero, suc, �
 use Rattle.std.proofs.Common.{Option, None, Some, MatchOption, sym, subst, ap, inl, inr, refl, arith}
 use Rattle.std.proofs.Common.{length, take, get_or}
 use Rattle.std.proofs.lemmas.List.{get_or-take, get_or_default}
-use Rattle.command_data.specs.CellLists.{SpellsCell, cell_of, part_at}
+use Rattle.command_data.specs.CellLists.{SpellsCell, cell_listed, part_at}
 use Rattle.pram_job.specs.Job.{JobData}
 use Rattle.pram_commands.specs.CellLists.{AreCellsOf, HasCell, IsCellOf, IsFirstOutside, IsOutside}
 use Rattle.pram_commands.specs.Names.{NamingData}
@@ -80,7 +80,7 @@ module _ (names : Option NamingData) where
     -- so says the fault
     pub said_outside : (parts : List (List ℕ)) (n : ℕ) (part : List ℕ) (found : CommandFault) →
         IsFirstOutside names job parts n → (n < length parts) × (part ≡ get_or parts n part) →
-        (SpellsCell part × (found ≡ OutsideCell (cell_of part)))
+        (SpellsCell part × (found ≡ OutsideCell (cell_listed part)))
         ⊎ ((¬ SpellsCell part) × (found ≡ OutsidePlace n)) → IsOutside names job parts found
     said_outside parts n part found first turn is =
         let same = turn_at parts n part turn in
@@ -89,7 +89,7 @@ module _ (names : Option NamingData) where
             n,
             first,
             subst (λ (p : List ℕ). SpellsCell p) same spells,
-            ap cell_of same,
+            ap cell_listed same,
           )
           | inr (spells, so) ↦ subst (λ (f : CommandFault). IsOutside names job parts f) (sym so) (
             first,

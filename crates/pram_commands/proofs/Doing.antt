@@ -14,8 +14,8 @@ use Rattle.pram_streams.specs.declared.print.PrintFault.TheVariants as print
 use Rattle.stop_plan.specs.Plan.{PlanData}
 use Rattle.pram_commands.specs.Did.{Command, Did, Given, Showing, Writing}
 use Rattle.pram_commands.specs.Did.{ending, ends_with, tells, tells_status}
-use Rattle.pram_commands.specs.Inner.Puts.{PutBeginning, Puts, printed_as, status_result}
-use Rattle.pram_commands.specs.Inputs.{Taking, missing_step}
+use Rattle.pram_commands.specs.Inner.Puts.{PutBeginning, PutsAnswer, printed_as, status_result}
+use Rattle.pram_commands.specs.Inputs.{Taking}
 use Rattle.pram_commands.specs.Names.{AreNames, NamingData}
 use Rattle.refusals.specs.declared.fault.CommandFault.{CommandFault}
 use Rattle.refusals.specs.declared.fault.CommandFault.TheVariants.{JobDevice, PlanDevice}
@@ -73,12 +73,12 @@ pub put_failed : {A : Type 0} (Comes : List ℕ → Option RunAnswer → Type 0)
     (e : PrintFault) → result ≡ Err e →
     PutBeginning Comes w → (e ≡ print.Memory → w.Unwritten ⊎ InPieces) →
     (IsTrue w.failed ↔ IsErrOf {T = Unit {0}} (Err e) print.Device) →
-    Puts Comes InPieces w Tells result
+    PutsAnswer Comes InPieces w Tells result
 put_failed {A} Comes InPieces w Tells result print.Device is begins memory failed =
-    subst (λ (x : Result A PrintFault). Puts Comes InPieces w Tells x) (sym is)
+    subst (λ (x : Result A PrintFault). PutsAnswer Comes InPieces w Tells x) (sym is)
     (record { done = tt; wrote = begins; failed = ((λ _. refl), (λ _. failed.1 refl)) })
 put_failed {A} Comes InPieces w Tells result print.Memory is begins memory failed =
-    subst (λ (x : Result A PrintFault). Puts Comes InPieces w Tells x) (sym is)
+    subst (λ (x : Result A PrintFault). PutsAnswer Comes InPieces w Tells x) (sym is)
     (record {
       done = tt;
       wrote =
@@ -90,21 +90,21 @@ module _ {A : Type 0} (command : Command) (taken : Taking) (w : Writing)
     (Tells : A → Option RunAnswer → Type 0) where
   -- a command whose last act is to print, where its job and its plan were given
   pub printed_did : (job : JobData) (plan : PlanData) (given : Given command taken.reads job plan) →
-      missing_step job command.first ≡ None → MatchOption command.workers taken.Unread (λ _. ⊤) → (IsTrue taken.reads.job_failed → ⊥) →
+      command.Has job → MatchOption command.workers taken.Unread (λ _. ⊤) → (IsTrue taken.reads.job_failed → ⊥) →
       (IsTrue taken.reads.plan_failed → ⊥) → GivesSome taken.reads.job taken.reads.job' →
       GivesSome taken.reads.plan taken.reads.plan' →
       (put : Result A PrintFault) →
-      Puts (command.Comes given.job_text job plan) command.InPieces w Tells put →
+      PutsAnswer (command.Comes given.job_text job plan) command.InPieces w Tells put →
       (result : Result A CommandFault) → result ≡ printed_as put →
       Did command taken w Tells result
-  printed_did job plan given first alone
+  printed_did job plan given has alone
       job_well plan_well job_reads plan_reads (Ok told) puts result is =
       let all = puts.done in
       subst (λ (x : Result A CommandFault). Did command taken w Tells x) (sym is) (record {
         done = record {
           text = all.text;
           answer = all.answer;
-          work = record { job = job; plan = plan; given = given; first = first; comes = all.comes };
+          work = record { job = job; plan = plan; given = given; has = has; comes = all.comes };
           takes = all.takes;
           is = all.is;
         };
@@ -121,7 +121,7 @@ module _ {A : Type 0} (command : Command) (taken : Taking) (w : Writing)
         job_reads = job_reads;
         plan_reads = plan_reads;
       })
-  printed_did job plan given first alone job_well
+  printed_did job plan given has alone job_well
       plan_well job_reads plan_reads (Err print.Device) puts result is =
       let some = puts.wrote in
       subst (λ (x : Result A CommandFault). Did command taken w Tells x) (sym is) (record {
@@ -130,7 +130,7 @@ module _ {A : Type 0} (command : Command) (taken : Taking) (w : Writing)
         wrote = record {
           text = some.text;
           answer = some.answer;
-          work = record { job = job; plan = plan; given = given; first = first; comes = some.comes };
+          work = record { job = job; plan = plan; given = given; has = has; comes = some.comes };
           takes = some.takes;
         };
         job_first = λ never. absurd never;
@@ -141,7 +141,7 @@ module _ {A : Type 0} (command : Command) (taken : Taking) (w : Writing)
         job_reads = job_reads;
         plan_reads = plan_reads;
       })
-  printed_did job plan given first alone job_well plan_well
+  printed_did job plan given has alone job_well plan_well
       job_reads plan_reads (Err print.Memory) puts result is =
       subst (λ (x : Result A CommandFault). Did command taken w Tells x) (sym is) (record {
         done = tt;
@@ -153,7 +153,7 @@ module _ {A : Type 0} (command : Command) (taken : Taking) (w : Writing)
             record {
               text = some.1.text;
               answer = some.1.answer;
-              work = record { job = job; plan = plan; given = given; first = first; comes = some.1.comes };
+              work = record { job = job; plan = plan; given = given; has = has; comes = some.1.comes };
               takes = some.1.takes;
             },
           )
@@ -269,7 +269,7 @@ module _ (alone : Bool) (Ends : RunAnswer → List ℕ → Type 0) (job_text : L
   pub put_both : (InPieces : Type 0) (steps : ℕ) (between : Option (List ℕ)) → steps ≡ job.steps →
       Appends w.out between front → Appends between w.out' (ending alone names ended steps) →
       (IsTrue w.failed ↔ IsErrOf {T = Unit {0}} (Ok tt) print.Device) →
-      Puts (Showing alone Ends job_text job) InPieces w tells (Ok ended)
+      PutsAnswer (Showing alone Ends job_text job) InPieces w tells (Ok ended)
   put_both InPieces steps between same put takes failed = record {
     done = record {
       text = front ++ ending alone names ended job.steps;

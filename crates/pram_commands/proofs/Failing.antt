@@ -4,10 +4,10 @@ use Rattle.std.proofs.Common.{refl, inl, inr}
 use Rattle.std.specs.Option.{option_map_or}
 use Rattle.std.specs.Prelude.{◌||◌}
 use Rattle.pram_streams.specs.declared.device.Source as a_source
-use Rattle.command_data.specs.Line.{file_of, plan_of}
+use Rattle.command_data.specs.Line.{text_now}
 use Rattle.command_data.specs.declared.line.Line.{Line}
 use Rattle.pram_commands.specs.Did.{Writing}
-use Rattle.pram_commands.specs.Files.{IsPlanOf, MayFail, ServesFiles}
+use Rattle.pram_commands.specs.Files.{ArePlanBytes, MayFail, ServesFiles}
 use Rattle.pram_commands.specs.Inputs.{reading}
 use Rattle.pram_commands.specs.Served.{Served}
 use Rattle.pram_commands.specs.declared.bytes.PlanFile.{PlanFile}
@@ -34,8 +34,9 @@ pub serves : {S : Type 0} (Holds : List ℕ → Option (List ℕ) → Type 0)
     (of_file : a_source.Ghosts S) (line : Line) (writes : Writing) (status : ℕ)
     (before after : Sources S (PlanFile S)) →
     Served line (reading of_file (maybe of_file) before after) writes status →
-    Holds (file_of line) (of_file.remaining before.job) →
-    IsPlanOf Holds (plan_of line) (option_map_or of_file.remaining before.plan.file (Some [])) →
+    Holds line.file.now (of_file.remaining before.job) →
+    ArePlanBytes Holds (text_now line.plan)
+    (option_map_or of_file.remaining before.plan.file (Some [])) →
     ServesFiles Holds (MayFail of_file) line writes status
 serves Holds of_file line writes status before after served job plan = record {
   reads = reading of_file (maybe of_file) before after;

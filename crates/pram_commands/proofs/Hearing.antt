@@ -11,9 +11,9 @@ use Rattle.pram_board.specs.Seats.{Desk, SeatData}
 use Rattle.pram_run.specs.Heard.{Ended, HasRunBeside}
 use Rattle.pram_commands.specs.Did.{Writing, tells}
 use Rattle.pram_commands.specs.Inner.Hearing.{HasToldEnd}
-use Rattle.pram_commands.specs.Inner.Puts.{Puts, outcome}
-use Rattle.pram_commands.specs.Inner.Watching.{HasHeardAlone, Hearing, IsWatchedBy, Reading}
-use Rattle.pram_commands.specs.Threads.{IsEnd, IsNewBoard}
+use Rattle.pram_commands.specs.Inner.Puts.{PutsAnswer, outcome}
+use Rattle.pram_commands.specs.Inner.Watching.{HasHeardAlone, Hearing, IsWatchedBy, CellReading}
+use Rattle.pram_commands.specs.Threads.{SomeRunEndsIn, IsNewBoard}
 use Rattle.pram_commands.specs.Why.{Explaining}
 use Rattle.pram_commands.specs.declared.sources.Inputs.{Inputs}
 use Rattle.pram_run.proofs.Watches.{heard_unread, ran_unread}
@@ -25,15 +25,15 @@ no_device is = cc is
 module _ (why : Bool) (job_text : List ℕ) (job : JobData) (plan : PlanData) (w : Writing) where
   -- what a run comes to whose end was told
   pub puts_heard : (ended : Ended) (put : Result (Unit {0}) PrintFault)
-      (result : Result RunAnswer PrintFault) → IfOk ended (IsEnd job plan) →
+      (result : Result RunAnswer PrintFault) → IfOk ended (SomeRunEndsIn job plan) →
       HasToldEnd why job_text job w ended put →
       (w.Unwritten → IsTrue w.failed → ⊥) → result ≡ outcome put ended →
-      Puts (Explaining why (IsEnd job plan) job_text job) ⊥ w tells result
+      PutsAnswer (Explaining why (SomeRunEndsIn job plan) job_text job) ⊥ w tells result
   puts_heard (Ok answer) put result ends h well is =
-      told_as why (IsEnd job plan) job_text job w answer ends put h result is
+      told_as why (SomeRunEndsIn job plan) job_text job w answer ends put h result is
   puts_heard (Err refused) put result ends h well is =
       subst (λ (x : Result RunAnswer PrintFault).
-      Puts (Explaining why (IsEnd job plan) job_text job) ⊥ w tells x)
+      PutsAnswer (Explaining why (SomeRunEndsIn job plan) job_text job) ⊥ w tells x)
       (sym (is ∙ ap (λ (x : Result (Unit {0}) PrintFault). outcome x (Err refused)) h.0)) (record {
         done = tt;
         wrote = inl h.1;
@@ -43,7 +43,7 @@ module _ (why : Bool) (job_text : List ℕ) (job : JobData) (plan : PlanData) (w
 -- what a run on a new board came to
 ends_heard : (job : JobData) (plan : PlanData) (made : Desk × SeatData) (later : SeatData)
     (ended : Ended) → IsNewBoard job plan made →
-    IfOk ended (HasRunBeside made.0.task plan made.1 later) → IfOk ended (IsEnd job plan)
+    IfOk ended (HasRunBeside made.0.task plan made.1 later) → IfOk ended (SomeRunEndsIn job plan)
 ends_heard job plan made later (Ok answer) opened ran =
     (later, record { made = made; opened = opened; ran = ran })
 ends_heard job plan made later (Err refused) opened ran = tt
@@ -51,23 +51,23 @@ ends_heard job plan made later (Err refused) opened ran = tt
 -- what a run came to whose reader read nothing, and what was heard
 module _ {P H : Type 0} (Hears : Hearing P H) (first : P) (inputs : Inputs) (cells : List ℕ)
     (rounds : ℕ) (ended : Ended × H) where
-  abbrev Nothing : Reading P
+  abbrev Nothing : CellReading P
   Nothing task listed count before after reader = (after ≡ before) × (reader ≡ first)
 
   abbrev Ends : Type 0
-  Ends = IfOk ended.0 (IsEnd inputs.job inputs.plan) × Hears first ended.0 ended.1
+  Ends = IfOk ended.0 (SomeRunEndsIn inputs.spelled.job inputs.plan) × Hears first ended.0 ended.1
 
   pub ends_unread : HasHeardAlone Hears first ended
       ⊎ IsWatchedBy Nothing Hears inputs cells rounds ended → Ends
   ends_unread (inl alone) = (never ended.0 alone.0, alone.1)
     where
-      never : (r : Ended) → OnOk r ⊥ → IfOk r (IsEnd inputs.job inputs.plan)
+      never : (r : Ended) → OnOk r ⊥ → IfOk r (SomeRunEndsIn inputs.spelled.job inputs.plan)
       never (Ok answer) h = absurd h
       never (Err refused) h = tt
   ends_unread (inr by) =
       let task = by.made.0.task in
       let later = by.on.later in (
-        ends_heard inputs.job inputs.plan by.made later ended.0 by.opened
+        ends_heard inputs.spelled.job inputs.plan by.made later ended.0 by.opened
             (ran_unread task inputs.plan by.made.1 later first Hears ended.1 ended.0
             (inr by.on.watched)),
         heard_unread task inputs.plan by.made.1 later first Hears ended.1 ended.0

@@ -9,3 +9,4 @@ pub mod Watching
 pub mod Digits
 pub mod Rows
 pub mod Failing
+pub mod Costed

@@ -11,9 +11,9 @@ use Rattle.pram_streams.specs.declared.print.PrintFault.TheVariants as print
 use Rattle.stop_plan.specs.Plan.{PlanData}
 use Rattle.pram_commands.specs.CellLists.{IsOutside}
 use Rattle.pram_commands.specs.Did.{Command, Did, Explains, Given, Writing, Wrote}
-use Rattle.pram_commands.specs.Inner.Puts.{PutBeginning, Puts}
+use Rattle.pram_commands.specs.Inner.Puts.{PutBeginning, PutsAnswer}
 use Rattle.pram_commands.specs.Inputs.{IsOfJob, Taking}
-use Rattle.pram_commands.specs.Names.{AreNames, NamingData}
+use Rattle.pram_commands.specs.Names.{NamingData}
 use Rattle.refusals.specs.declared.fault.CommandFault.{CommandFault}
 use Rattle.refusals.specs.declared.fault.CommandFault.TheVariants as fault
 use Rattle.pram_commands.proofs.Doing.{err_same}
@@ -50,29 +50,17 @@ module _ (names : Option NamingData) (job : JobData) (parts : List (List ℕ)) w
 module _ {A : Type 0} (command : Command) (taken : Taking) (w : Writing)
     (Tells : A → Option RunAnswer → Type 0) (job : JobData) (plan : PlanData)
     (given : Given command taken.reads job plan) (names : Option NamingData)
-    (are_names : AreNames given.job_text job names) (unwritten : w.Unwritten) where
-  explain : (found : CommandFault) → IsOutside names job command.cells found →
-      Explains command taken.reads w found
-  explain (fault.OutsideCell cell) is = record {
-    job = job;
-    plan = plan;
-    names = names;
-    given = given;
-    are_names = are_names;
-    outside = is;
-  }
-  explain (fault.OutsidePlace at) is = record {
-    job = job;
-    plan = plan;
-    names = names;
-    given = given;
-    are_names = are_names;
-    outside = is;
-  }
-  explain fault.Memory is = tt
-  explain _ is = absurd is
+    (parts : List (List ℕ)) (unwritten : w.Unwritten) where
+  explain : (found : CommandFault) → IsOutside names job parts found →
+      command.Lacks given.job_text job found → Explains command taken.reads w found
+  explain (fault.OutsideCell cell) is lacks =
+      record { job = job; plan = plan; given = given; lacks = lacks }
+  explain (fault.OutsidePlace at) is lacks =
+      record { job = job; plan = plan; given = given; lacks = lacks }
+  explain fault.Memory is lacks = tt
+  explain _ is lacks = absurd is
 
-  wrote : (found : CommandFault) → IsOutside names job command.cells found →
+  wrote : (found : CommandFault) → IsOutside names job parts found →
       Wrote command taken.reads w found
   wrote (fault.OutsideCell cell) is = unwritten
   wrote (fault.OutsidePlace at) is = unwritten
@@ -83,13 +71,13 @@ module _ {A : Type 0} (command : Command) (taken : Taking) (w : Writing)
       (IsTrue taken.reads.job_failed → ⊥) → (IsTrue taken.reads.plan_failed → ⊥) →
       (IsTrue w.failed → ⊥) → GivesSome taken.reads.job taken.reads.job' →
       GivesSome taken.reads.plan taken.reads.plan' → (found : CommandFault) →
-      IsOutside names job command.cells found → (result : Result A CommandFault) →
-      result ≡ Err found → Did command taken w Tells result
-  outside_did alone job_well plan_well out_well job_reads plan_reads found is result same =
-      let other = is_else names job command.cells found is in
+      IsOutside names job parts found → command.Lacks given.job_text job found →
+      (result : Result A CommandFault) → result ≡ Err found → Did command taken w Tells result
+  outside_did alone job_well plan_well out_well job_reads plan_reads found is lacks result same =
+      let other = is_else names job parts found is in
       subst (λ (x : Result A CommandFault). Did command taken w Tells x) (sym same) (record {
         done = tt;
-        explains = explain found is;
+        explains = explain found is lacks;
         wrote = wrote found is;
         job_first = λ of_job. absurd (other.of_job of_job);
         alone = alone;
@@ -115,8 +103,8 @@ module _ {A : Type 0} (Comes Says : List ℕ → Option RunAnswer → Type 0) (I
       takes = some.takes;
     }
 
-    pub puts_as : (result : Result A PrintFault) → Puts Comes InPieces w Tells result →
-        Puts Says InPieces w Tells result
+    pub puts_as : (result : Result A PrintFault) → PutsAnswer Comes InPieces w Tells result →
+        PutsAnswer Says InPieces w Tells result
     puts_as (Ok told) puts =
         let all = puts.done in
         record {

@@ -13,8 +13,8 @@ use Rattle.pram_commands.specs.Costs.{conflict_of}
 use Rattle.pram_commands.specs.Did.{Begins, Command, Did, Explains, Prints, Wrote}
 use Rattle.pram_commands.specs.Did.{Writing, ends_with, tells_status}
 use Rattle.refusals.specs.Faults.{fault_status}
-use Rattle.pram_commands.specs.Inputs.{Reading, Taking}
-use Rattle.pram_commands.specs.Line.{command_of}
+use Rattle.pram_commands.specs.Inputs.{InputsRead, Taking}
+use Rattle.pram_commands.specs.Line.{command_alone, command_of}
 use Rattle.pram_commands.specs.Served.{Served}
 use Rattle.refusals.specs.declared.fault.CommandFault.{CommandFault}
 use Rattle.refusals.specs.declared.fault.CommandFault.TheVariants.{Text, Program, Plan, OutsideCell}
@@ -23,8 +23,12 @@ use Rattle.refusals.specs.declared.fault.CommandFault.TheVariants.{OutsideStep}
 use Rattle.refusals.specs.declared.fault.CommandFault.TheVariants.{JobDevice, PlanDevice}
 use Rattle.refusals.specs.declared.fault.CommandFault.TheVariants.{OutDevice, JobTooLarge}
 use Rattle.refusals.specs.declared.fault.CommandFault.TheVariants.{PlanTooLarge, Memory}
+use Rattle.command_data.specs.declared.line.Ask.{Ask}
+use Rattle.command_data.specs.declared.line.Ask.TheVariants as ask
+use Rattle.command_data.specs.declared.line.AskAlone.{AskAlone}
+use Rattle.command_data.specs.declared.line.AskAlone.TheVariants as alone
+use Rattle.command_data.specs.declared.line.AskOnThreads.TheVariants as on_threads
 use Rattle.command_data.specs.declared.line.Line.{Line}
-use Rattle.command_data.specs.declared.line.Line.TheVariants as line
 use Rattle.pram_commands.proofs.Doing.{err_same, ok_not_err}
 
 -- what was told with another status than 5 is no lack of memory
@@ -111,7 +115,7 @@ ended-cost cost given is = ended cost.conflict is
     ended (Some fault) same three = let status = ap ends_with same in omega (arith, three, status)
 
 -- what a fault wrote with the status of a refused text, and with another
-wrote-none : (command : Command) (r : Reading) (w : Writing) (fault : CommandFault) →
+wrote-none : (command : Command) (r : InputsRead) (w : Writing) (fault : CommandFault) →
     fault_status fault ≡ 2 → Wrote command r w fault → w.Unwritten
 wrote-none command r w OutDevice two wrote = absurd (omega (arith, two))
 wrote-none command r w Memory two wrote = absurd (omega (arith, two))
@@ -126,7 +130,8 @@ wrote-none command r w PlanDevice two wrote = wrote
 wrote-none command r w JobTooLarge two wrote = wrote
 wrote-none command r w PlanTooLarge two wrote = wrote
 
-wrote-some : (command : Command) (r : Reading) (w : Writing) (status : ℕ) (fault : CommandFault) →
+wrote-some : (command : Command) (r : InputsRead) (w : Writing) (status : ℕ)
+    (fault : CommandFault) →
     (status ≡ 5) ⊎ (status ≡ fault_status fault) → Explains command r w fault →
     Wrote command r w fault → w.Unwritten
     ⊎ ((IsTrue w.failed ⊎ ((status ≡ 5) × command.InPieces)) × Begins command r w)
@@ -147,40 +152,45 @@ wrote-some command r w status JobTooLarge is explains wrote = inl wrote
 wrote-some command r w status PlanTooLarge is explains wrote = inl wrote
 
 module _ (taken : Taking) (w : Writing) where
-  -- a line whose command follows no plan ends
-  stops : (l : Line) (status : ℕ) →
-      Prints (command_of l) taken.reads w (tells_status status) → status ≡ 3 →
-      IsTrue (is_some (command_of l).workers)
-  stops (line.Check file) status prints three =
+  -- a command that follows no plan ends
+  stops_alone : (ask : AskAlone) (status : ℕ) →
+      Prints (command_alone ask) taken.reads w (tells_status status) → status ≡ 3 →
+      IsTrue (is_some (command_alone ask).workers)
+  stops_alone alone.Check status prints three =
       let none = ap ends_with prints.work.comes.1 in absurd (omega (arith, prints.is, three, none))
-  stops (line.Compile file) status prints three =
+  stops_alone alone.Compile status prints three =
       let none = ap ends_with prints.work.comes.1 in absurd (omega (arith, prints.is, three, none))
-  stops (line.Plain file why) status prints three =
+  stops_alone (alone.Plain why) status prints three =
       let comes = prints.work.comes in
       absurd (ended-plain prints.work.job comes.ended prints.answer comes.ends
       comes.gives (sym prints.is ∙ three))
-  stops (line.Cost file) status prints three =
+  stops_alone alone.Cost status prints three =
       let comes = prints.work.comes in
       absurd (ended-cost comes.cost prints.answer comes.gives (sym prints.is ∙ three))
-  stops (line.Steps file from to alone) status prints three =
+  stops_alone (alone.Steps from to rows_alone) status prints three =
       let comes = prints.work.comes in
       absurd (ended-plain prints.work.job comes.ended prints.answer comes.ends.answers
       comes.gives (sym prints.is ∙ three))
-  stops (line.Run file name manner why) status prints three = refl
-  stops (line.Watch file name manner cells rounds) status prints three = refl
-  stops (line.Replay file workers name alone) status prints three = refl
+  stops_alone (alone.Replay workers rows_alone) status prints three = refl
+
+  stops : (ask : Ask) (status : ℕ) →
+      Prints (command_of ask) taken.reads w (tells_status status) → status ≡ 3 →
+      IsTrue (is_some (command_of ask).workers)
+  stops (ask.Alone it) status prints three = stops_alone it status prints three
+  stops (ask.OnThreads (on_threads.Run run)) status prints three = refl
+  stops (ask.OnThreads (on_threads.Watch watch)) status prints three = refl
 
   module _ (line : Line) where
     -- a line that was done
     served-done : (status : ℕ) →
-        Did (command_of line) taken w tells_status (Ok status) → Served line taken.reads w status
+        Did (command_of line.ask) taken w tells_status (Ok status) → Served line taken.reads w status
     served-done status did =
         let prints = did.done in
         let ends = subst IsAnswerStatus (sym prints.is) (answer-status prints.answer) in
         record {
           done = λ _. prints;
           most = let most = ends.most in omega (arith, most);
-          stops = stops line status prints;
+          stops = stops line.ask status prints;
           refused = λ two. absurd (ends.other two);
           failed = λ four. let most = ends.most in absurd (omega (arith, most, four));
           job = λ failed. absurd (ok_not_err status JobDevice (did.job_failed.0 failed));
@@ -193,7 +203,7 @@ module _ (taken : Taking) (w : Writing) where
 
     -- one that was not
     served-fault : (fault : CommandFault) (status : ℕ) →
-        Did {A = ℕ} (command_of line) taken w tells_status (Err fault) →
+        Did {A = ℕ} (command_of line.ask) taken w tells_status (Err fault) →
         (status ≡ 5) ⊎ (status ≡ fault_status fault) → Served line taken.reads w status
     served-fault fault status did is =
         let low = told-status fault status is in
@@ -206,7 +216,7 @@ module _ (taken : Taking) (w : Writing) where
           stops = λ three. absurd (low.other three);
           refused = λ two. let same = told status (fault_status fault) 2 is (omega arith) two in (
             (fault, same, did.explains),
-            wrote-none (command_of line) taken.reads w fault same did.wrote,
+            wrote-none (command_of line.ask) taken.reads w fault same did.wrote,
           );
           failed = λ four.
               (fault, told status (fault_status fault) 4 is (omega arith) four, did.explains);
@@ -217,15 +227,25 @@ module _ (taken : Taking) (w : Writing) where
           out = λ failed. told-failed fault status is
               (ap fault_status (err_same fault OutDevice (did.out_failed.0 failed)));
           begins = λ _.
-              wrote-some (command_of line) taken.reads w status fault is did.explains did.wrote;
+              wrote-some (command_of line.ask) taken.reads w status fault is did.explains did.wrote;
           job_reads = did.job_reads;
           plan_reads = did.plan_reads;
         }
 
     pub served : (done : Result ℕ CommandFault) (status : ℕ) →
-        Did (command_of line) taken w tells_status done → IfOk done (λ s. status ≡ s) →
+        Did (command_of line.ask) taken w tells_status done → IfOk done (λ s. status ≡ s) →
         IfErr done (λ fault. (status ≡ 5) ⊎ (status ≡ fault_status fault)) →
         Served line taken.reads w status
     served (Ok s) status did same is =
         subst (λ (n : ℕ). Served line taken.reads w n) (sym same) (served-done s did)
     served (Err fault) status did same is = served-fault fault status did is
+
+-- What was done is of the command of a line that asks for it.
+pub served_as : (taken : Taking) (w : Writing) (line : Line) (asked : Ask) → line.ask ≡ asked →
+    (done : Result ℕ CommandFault) (status : ℕ) →
+    Did (command_of asked) taken w tells_status done → IfOk done (λ s. status ≡ s) →
+    IfErr done (λ fault. (status ≡ 5) ⊎ (status ≡ fault_status fault)) →
+    Served line taken.reads w status
+served_as taken w line asked same done status did =
+    served taken w line done status
+    (subst (λ (a : Ask). Did (command_of a) taken w tells_status done) (sym same) did)

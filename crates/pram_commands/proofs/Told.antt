@@ -6,8 +6,8 @@ use Rattle.pram_step.specs.declared.answer.RunAnswer.{RunAnswer}
 use Rattle.pram_streams.specs.declared.print.PrintFault.{PrintFault}
 use Rattle.pram_streams.specs.declared.print.PrintFault.TheVariants.{Device, Memory}
 use Rattle.pram_commands.specs.Did.{Writing, tells}
-use Rattle.pram_commands.specs.Inner.Puts.{HasTold, PutBeginning, Puts, outcome}
-use Rattle.pram_commands.specs.Names.{AreNames, NamingData, line_at, told}
+use Rattle.pram_commands.specs.Inner.Puts.{HasAnswered, PutBeginning, PutsAnswer, outcome}
+use Rattle.pram_commands.specs.Names.{AreNames, NamingData, line_at, printed_answer}
 use Rattle.pram_commands.specs.Why.{Explaining, Follows}
 use Rattle.pram_commands.proofs.Doing.{ok_not_err, other_fault}
 
@@ -18,7 +18,7 @@ Told why job_text job answer = Explaining why (λ ended. ended ≡ answer) job_t
 pub tells_all : (why : Bool) (job_text : List ℕ) (job : JobData) (names : Option NamingData)
     (answer : RunAnswer) (steps : ℕ) (back bytes : List ℕ) → AreNames job_text job names →
     steps ≡ job.steps → bytes ≡ back → Follows why (line_at job_text names) job answer back →
-    Told why job_text job answer (told names answer steps ++ bytes) (Some answer)
+    Told why job_text job answer (printed_answer names answer steps ++ bytes) (Some answer)
 tells_all why job_text job names answer steps back bytes are_names same is follows = record {
   ended = answer;
   back = back;
@@ -26,7 +26,7 @@ tells_all why job_text job names answer steps back bytes are_names same is follo
   ends = refl;
   are_names = are_names;
   follows = follows;
-  prints = ap₂ (λ (n : ℕ) (b : List ℕ). told names answer n ++ b) same is;
+  prints = ap₂ (λ (n : ℕ) (b : List ℕ). printed_answer names answer n ++ b) same is;
   gives = refl;
 }
 
@@ -57,12 +57,12 @@ module _ (why : Bool) (Ends : RunAnswer → Type 0) (job_text : List ℕ) (job :
     takes = some.takes;
   }
 
-  pub told_as : (put : Result (Unit {0}) PrintFault) → HasTold why job_text job w answer put →
+  pub told_as : (put : Result (Unit {0}) PrintFault) → HasAnswered why job_text job w answer put →
       (result : Result RunAnswer PrintFault) → result ≡ outcome put (Ok answer) →
-      Puts Comes ⊥ w tells result
+      PutsAnswer Comes ⊥ w tells result
   told_as (Ok done) puts result is =
       let all = puts.done in
-      subst (λ (x : Result RunAnswer PrintFault). Puts Comes ⊥ w tells x) (sym is) (record {
+      subst (λ (x : Result RunAnswer PrintFault). PutsAnswer Comes ⊥ w tells x) (sym is) (record {
         done = record {
           text = all.text;
           answer = all.answer;
@@ -77,13 +77,13 @@ module _ (why : Bool) (Ends : RunAnswer → Type 0) (job_text : List ℕ) (job :
         );
       })
   told_as (Err Device) puts result is =
-      subst (λ (x : Result RunAnswer PrintFault). Puts Comes ⊥ w tells x) (sym is) (record {
+      subst (λ (x : Result RunAnswer PrintFault). PutsAnswer Comes ⊥ w tells x) (sym is) (record {
         done = tt;
         wrote = begins_so puts.wrote;
         failed = ((λ _. refl), (λ _. puts.failed.1 refl));
       })
   told_as (Err Memory) puts result is =
-      subst (λ (x : Result RunAnswer PrintFault). Puts Comes ⊥ w tells x) (sym is) (record {
+      subst (λ (x : Result RunAnswer PrintFault). PutsAnswer Comes ⊥ w tells x) (sym is) (record {
         done = tt;
         wrote = elim puts.wrote [ inl unwritten ↦ inl unwritten | inr some ↦ absurd some.0 ];
         failed = (

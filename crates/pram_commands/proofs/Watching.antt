@@ -17,9 +17,9 @@ use Rattle.pram_run.specs.PutReads.{Printing, PutWatch}
 use Rattle.pram_run.specs.Watching.{HasWatchedWith, ReadsAndHears}
 use Rattle.pram_commands.specs.Did.{Answering, tells, writing}
 use Rattle.pram_commands.specs.Inner.Hearing.{HasPrinted}
-use Rattle.pram_commands.specs.Inner.Puts.{Puts, outcome}
-use Rattle.pram_commands.specs.Inner.Watching.{Hearing, HasPrintedAfter, IsWatchedBy}
-use Rattle.pram_commands.specs.Inner.Watching.{Reading}
+use Rattle.pram_commands.specs.Inner.Puts.{PutsAnswer, outcome}
+use Rattle.pram_commands.specs.Inner.Watching.{HasPrintedAfter, Hearing}
+use Rattle.pram_commands.specs.Inner.Watching.{IsWatchedBy, CellReading}
 use Rattle.pram_commands.specs.Names.{AreNames, NamingData}
 use Rattle.pram_commands.specs.Threads.{TellsSights, cell_words}
 use Rattle.pram_commands.specs.declared.sources.Inputs.{Inputs}
@@ -70,20 +70,20 @@ watched_as task plan given later ended heard Reads Hears Reads' Hears' of reads 
     }
 
 -- what a watch tells whose reads were put
-pub told_by : {P H : Type 0} (Reads : Reading P) (Hears : Hearing P H) (inputs : Inputs)
+pub told_by : {P H : Type 0} (Reads : CellReading P) (Hears : Hearing P H) (inputs : Inputs)
     (cells : List ℕ) (rounds : ℕ) (ended : Ended × H) (a b : Option (List ℕ))
     (printed : Printing) (names : Option NamingData) (by : IsWatchedBy Reads Hears inputs cells rounds ended) →
     (put : PutWatch (cell_words names) by.made.0.task cells rounds by.on.watched.ran.beside.before
     by.on.watched.ran.beside.reader a b printed) →
-    TellsSights names inputs.job inputs.plan cells rounds by.on.watched.answer
+    TellsSights names inputs.spelled.job inputs.plan cells rounds by.on.watched.answer
     (sights_text (cell_words names) put.sights)
 told_by Reads Hears inputs cells rounds ended a b printed names by put =
     let all = by.on.watched in
     let beside = all.ran.beside in
     record {
       sights = put.sights;
-      saw = has_sights by.made.0.task inputs.job cells rounds beside.before put.sights beside.reader
-          (job_of inputs.job inputs.plan by.made by.opened) put.watch;
+      saw = has_sights by.made.0.task inputs.spelled.job cells rounds beside.before put.sights beside.reader
+          (job_of inputs.spelled.job inputs.plan by.made by.opened) put.watch;
       ends = record {
         later = by.on.later;
         at_it = record {
@@ -111,12 +111,13 @@ no_answer is = cc is
 
 module _ {O : Type 0} (of_out : a_sink.Ghosts O) (inputs : Inputs) (cells : List ℕ) (rounds : ℕ)
     (before mid last : O) (seen names : Option NamingData)
-    (are_names : AreNames inputs.text.items inputs.job names) where
+    (are_names : AreNames inputs.spelled.text.items inputs.spelled.job names) where
   abbrev Tells : RunAnswer → List ℕ → Type 0
-  Tells = TellsSights seen inputs.job inputs.plan cells rounds
+  Tells = TellsSights seen inputs.spelled.job inputs.plan cells rounds
 
   abbrev Watches : Result RunAnswer PrintFault → Type 0
-  Watches = Puts (Answering Tells inputs.text.items inputs.job) ⊤ (writing of_out before last) tells
+  Watches = PutsAnswer (Answering Tells inputs.spelled.text.items inputs.spelled.job) ⊤
+      (writing of_out before last) tells
 
   -- nothing was read
   pub puts_alone : (steps : ℕ) (ended : Ended) (put : Printing)
@@ -141,9 +142,9 @@ module _ {O : Type 0} (of_out : a_sink.Ghosts O) (inputs : Inputs) (cells : List
       (IsTrue (of_out.has_failed last) ↔ IsErrOf {T = Unit {0}} (Err fault) Device) →
       result ≡ Err fault → Watches result
   stopped answer front fault result told begins unwritten failed is =
-      put_failed (Answering Tells inputs.text.items inputs.job) ⊤ (writing of_out before last) tells
+      put_failed (Answering Tells inputs.spelled.text.items inputs.spelled.job) ⊤ (writing of_out before last) tells
       result fault is
-      (begins_front false Tells inputs.text.items inputs.job (writing of_out before last) answer
+      (begins_front false Tells inputs.spelled.text.items inputs.spelled.job (writing of_out before last) answer
       front told names are_names
       (subst (λ (o : O). AppendsBeginning (of_out.taken before) (of_out.taken o) front)
       (sym unwritten) begins)) (λ e. inr tt) failed
@@ -154,7 +155,7 @@ module _ {O : Type 0} (of_out : a_sink.Ghosts O) (inputs : Inputs) (cells : List
       Tells answer front → IfOk ended (λ found. found ≡ answer) →
       OnOk printed (Appends (of_out.taken before) (of_out.taken mid) front) →
       AppendsBeginning (of_out.taken before) (of_out.taken mid) front →
-      (IsTrue (of_out.has_failed mid) ↔ IsErrOf printed Device) → steps ≡ inputs.job.steps →
+      (IsTrue (of_out.has_failed mid) ↔ IsErrOf printed Device) → steps ≡ inputs.spelled.job.steps →
       HasPrintedAfter printed (writing of_out mid last) names steps ended put →
       result ≡ outcome put ended → Watches result
   puts_read answer front steps (Err fault) ended put result told same all begins failed count h is =
@@ -171,13 +172,13 @@ module _ {O : Type 0} (of_out : a_sink.Ghosts O) (inputs : Inputs) (cells : List
   puts_read answer front steps (Ok done) (Ok found) (Ok ended) result
       told same all begins failed count h is =
       subst Watches (sym is)
-      (put_both false Tells inputs.text.items inputs.job (writing of_out before last) found front
+      (put_both false Tells inputs.spelled.text.items inputs.spelled.job (writing of_out before last) found front
       (subst (λ (a : RunAnswer). Tells a front) (sym same) told) names are_names ⊤ steps
       (of_out.taken mid) count all h.ok h.failed)
   puts_read answer front steps (Ok done) (Ok found) (Err fault) result
       told same all begins failed count h is =
-      put_failed (Answering Tells inputs.text.items inputs.job) ⊤ (writing of_out before last) tells
+      put_failed (Answering Tells inputs.spelled.text.items inputs.spelled.job) ⊤ (writing of_out before last) tells
       result fault is
-      (begins_after false Tells inputs.text.items inputs.job (writing of_out before last) found
+      (begins_after false Tells inputs.spelled.text.items inputs.spelled.job (writing of_out before last) found
       front (subst (λ (a : RunAnswer). Tells a front) (sym same) told) names are_names steps
       (of_out.taken mid) count all h.beginning) (λ e. inr tt) h.failed

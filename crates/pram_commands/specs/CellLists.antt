@@ -1,10 +1,10 @@
 -- The cells that a text names, parted by commas: by their numbers, or as places of a program.
 use Rattle.std.specs.Prelude.{◌≡◌, ◌⊎◌, ◌<◌, ◌≤◌, ℕ, List, [], ◌∷◌, length}
 use Rattle.std.specs.Prelude.{Option, None, Some, ⊤}
-use Rattle.command_data.specs.CellLists.{SpellsCell, cell_of, part_at}
+use Rattle.command_data.specs.CellLists.{SpellsCell, cell_listed, part_at}
 use Rattle.pram_job.specs.Job.{JobData}
 use Rattle.pardo_job.specs.Printed.{cell_text}
-use Rattle.pram_commands.specs.Names.{NamingData}
+use Rattle.pram_commands.specs.Names.{AreNames, NamingData}
 use Rattle.refusals.specs.declared.fault.CommandFault.{CommandFault}
 use Rattle.refusals.specs.declared.fault.CommandFault.TheVariants.{OutsideCell, OutsidePlace}
 use Rattle.refusals.specs.declared.fault.CommandFault.TheVariants.{Memory}
@@ -17,7 +17,7 @@ IsPlaceOf (Some naming) cell part =
 
 -- A number names the cell of that number, and another part the cell whose place it is.
 abbrev pub IsCellOf : Option NamingData → List ℕ → ℕ → Type 0
-IsCellOf names part cell = (SpellsCell part × (cell ≡ cell_of part))
+IsCellOf names part cell = (SpellsCell part × (cell ≡ cell_listed part))
     ⊎ ((¬ SpellsCell part) × IsPlaceOf names cell part)
 
 -- these cells, one for each part
@@ -38,11 +38,19 @@ pub record IsFirstOutside (names : Option NamingData) (job : JobData) (parts : L
   pub before : (k : ℕ) → k < at → HasCell names job (part_at parts k)
   pub here : ¬ HasCell names job (part_at parts at)
 
--- So says the fault: by the number of the cell, or else by that of the part.
+-- The fault names the first of the parts that is no cell of the job: by the number of the cell, or
+-- else by that of the part.
 abbrev pub IsOutside : Option NamingData → JobData → List (List ℕ) → CommandFault → Type 0
 IsOutside names job parts (OutsideCell cell) = (at : ℕ) × IsFirstOutside names job parts at
-    × SpellsCell (part_at parts at) × (cell ≡ cell_of (part_at parts at))
+    × SpellsCell (part_at parts at) × (cell ≡ cell_listed (part_at parts at))
 IsOutside names job parts (OutsidePlace at) =
     IsFirstOutside names job parts at × (¬ SpellsCell (part_at parts at))
 IsOutside names job parts Memory = ⊤
 IsOutside names job parts _ = ⊥
+
+-- The text is told by names by which this fault says the first of the parts that names no cell.
+pub record LacksCell (parts : List (List ℕ)) (job_text : List ℕ) (job : JobData)
+    (fault : CommandFault) : Type 0 where
+  pub names : Option NamingData
+  pub are_names : AreNames job_text job names
+  pub outside : IsOutside names job parts fault

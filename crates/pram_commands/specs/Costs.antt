@@ -6,14 +6,14 @@ use Rattle.pram_job.specs.Job.{JobData}
 use Rattle.pram_step.specs.declared.answer.RunAnswer.{RunAnswer}
 use Rattle.pram_step.specs.declared.answer.RunAnswer.TheVariants.{Conflict}
 use Rattle.pram_cost.specs.Costs.{IsCost}
-use Rattle.pram_cost.specs.Models.{IsNeeded}
+use Rattle.pram_cost.specs.Models.{IsWeakestModel}
 use Rattle.pram_cost.specs.Printed.{CostWords, by_cells, cost_text}
 use Rattle.pram_cost.specs.declared.cost.Cost.{Cost}
 use Rattle.pram_cost.specs.declared.meeting.Meeting.{Meeting}
 use Rattle.pram_cost.specs.declared.pram.Pram.{Pram}
 use Rattle.pardo_job.specs.Printed.{cell_text}
 use Rattle.pram_commands.specs.Did.{Command}
-use Rattle.pram_commands.specs.Names.{AreNames, NamingData, told}
+use Rattle.pram_commands.specs.Names.{AreNames, NamingData, printed_answer}
 use Rattle.pram_commands.specs.Plain.{on_job}
 
 -- the conflict of a run, as its answer; else it gives none
@@ -40,7 +40,7 @@ abbrev pub cost_words : Option NamingData → CostWords
 cost_words None = by_cells
 cost_words (Some naming) = record {
   spot = spot_in naming;
-  conflict = λ fault. told (Some naming) (Conflict fault) 0;
+  conflict = λ fault. printed_answer (Some naming) (Conflict fault) 0;
 }
 
 -- The text says what the run of the job costs, and which model it needs, by the names of its text.
@@ -50,7 +50,7 @@ pub record TellsCost (job_text : List ℕ) (job : JobData) (text : List ℕ)
   pub pram : Pram
   pub names : Option NamingData
   pub costs : IsCost job cost
-  pub needs : IsNeeded job cost.steps pram
+  pub needs : IsWeakestModel job cost.steps pram
   pub are_names : AreNames job_text job names
   pub prints : text ≡ cost_text (cost_words names) cost pram
   pub gives : answer ≡ conflict_of cost

@@ -10,11 +10,10 @@ use Rattle.pram_streams.specs.Transfer.{AppendsBeginning, GivesMoreThan, GivesSo
 use Rattle.pram_streams.specs.declared.device.Sink as a_sink
 use Rattle.pram_streams.specs.declared.transfer.TheConstants.{MOST}
 use Rattle.stop_plan.specs.Plan.{PlanData}
-use Rattle.pram_commands.specs.Inputs.{GivesFault, GivesPlan, GivesPlanFault, GivesText}
-use Rattle.pram_commands.specs.CellLists.{IsOutside}
-use Rattle.pram_commands.specs.Inputs.{GivesSomeJob, IsOfJob, Reading, Taking}
-use Rattle.pram_commands.specs.Inputs.{missing_step}
-use Rattle.pram_commands.specs.Names.{AreNames, NamingData, told}
+use Rattle.stop_plan.specs.declared.plan.PlanKind.{PlanKind}
+use Rattle.pram_commands.specs.Inputs.{GivesFault, GivesSuch, GivesText}
+use Rattle.pram_commands.specs.Inputs.{GivesSomeJob, IsOfJob, InputsRead, Taking}
+use Rattle.pram_commands.specs.Names.{AreNames, NamingData, printed_answer}
 use Rattle.refusals.specs.declared.fault.CommandFault.{CommandFault}
 use Rattle.refusals.specs.declared.fault.CommandFault.TheVariants.{Text, Program, Plan}
 use Rattle.refusals.specs.declared.fault.CommandFault.TheVariants.{OutsideCell, JobDevice}
@@ -39,22 +38,24 @@ writing of_out before after = record {
   Unwritten = after ≡ before;
 }
 
--- What a command is: the workers of the plan that it follows, if it follows one; the parts of a
--- list of cells that the job has to have; the first step that it shows, which the job has to have,
--- or 1; whether it prints in pieces, so that a beginning may stand printed where memory runs out;
--- and what it comes to: on this text, its job and this plan it prints these bytes, and this is the
--- answer, if it gives one.
+-- What a command is: the workers of the plan that it follows, if it follows one; which plan a text
+-- is then, and which fault it has in which row; what the job has to have, and what a fault says
+-- that the job of a text lacks; whether it prints in pieces, so that a beginning may stand printed
+-- where memory runs out; and what it comes to: on this text, its job and this plan it prints these
+-- bytes, and this is the answer, if it gives one.
 pub record Command : Type 1 where
   pub workers : Option ℕ
-  pub cells : List (List ℕ)
-  pub first : ℕ
+  pub IsPlan : List ℕ → PlanData → Type 0
+  pub HasPlanFault : List ℕ → ℕ → PlanKind → Type 0
+  pub Has : JobData → Type 0
+  pub Lacks : List ℕ → JobData → CommandFault → Type 0
   pub InPieces : Type 0
   pub Comes : List ℕ → JobData → PlanData → List ℕ → Option RunAnswer → Type 0
 
 -- what follows the rows of a command: the printed answer, unless they are to stand alone
 abbrev pub ending : Bool → Option NamingData → RunAnswer → ℕ → List ℕ
 ending true names answer steps = []
-ending false names answer steps = told names answer steps
+ending false names answer steps = printed_answer names answer steps
 
 -- What a command comes to that gives an answer: these bytes, and then the ending.
 pub record Showing (alone : Bool) (Ends : RunAnswer → List ℕ → Type 0) (job_text : List ℕ)
@@ -72,24 +73,25 @@ abbrev pub Answering : (RunAnswer → List ℕ → Type 0) → List ℕ → JobD
 Answering = Showing false
 
 -- The sources gave the job, by its text, and where the command follows one, its plan.
-pub record Given (command : Command) (reads : Reading) (job : JobData) (plan : PlanData)
+pub record Given (command : Command) (reads : InputsRead) (job : JobData) (plan : PlanData)
     : Type 0 where
   pub job_text : List ℕ
   pub a_job : GivesText reads.job reads.job' job_text job
-  pub a_plan : IfSome command.workers (λ workers. GivesPlan reads.plan reads.plan' workers plan)
+  pub a_plan : IfSome command.workers
+      (λ workers. GivesSuch reads.plan reads.plan' (λ text. command.IsPlan text plan))
 
--- On what the sources gave, which has the first step that the command shows, the command prints
--- this text, and this is its answer.
-pub record ComesTo (command : Command) (reads : Reading) (text : List ℕ)
+-- On what the sources gave, which has what the command asks for, the command prints this text, and
+-- this is its answer.
+pub record ComesTo (command : Command) (reads : InputsRead) (text : List ℕ)
     (answer : Option RunAnswer) : Type 0 where
   pub job : JobData
   pub plan : PlanData
   pub given : Given command reads job plan
-  pub first : missing_step job command.first ≡ None
+  pub has : command.Has job
   pub comes : command.Comes given.job_text job plan text answer
 
 -- The output took all that the command prints, and what is said holds of its answer.
-pub record Prints (command : Command) (reads : Reading) (writes : Writing)
+pub record Prints (command : Command) (reads : InputsRead) (writes : Writing)
     (Is : Option RunAnswer → Type 0) : Type 0 where
   pub text : List ℕ
   pub answer : Option RunAnswer
@@ -98,7 +100,7 @@ pub record Prints (command : Command) (reads : Reading) (writes : Writing)
   pub is : Is answer
 
 -- The output took a beginning of it.
-pub record Begins (command : Command) (reads : Reading) (writes : Writing) : Type 0 where
+pub record Begins (command : Command) (reads : InputsRead) (writes : Writing) : Type 0 where
   pub text : List ℕ
   pub answer : Option RunAnswer
   pub work : ComesTo command reads text answer
@@ -123,50 +125,41 @@ ends_with (Some answer) = status_of answer
 abbrev pub tells_status : ℕ → Option RunAnswer → Type 0
 tells_status status given = status ≡ ends_with given
 
--- The command follows a plan, the source of the job gave one, and this holds of the plan's workers.
-abbrev pub AfterJob : Option ℕ → Reading → (ℕ → Type 0) → Type 0
+-- The command follows a plan, the source of the job gave one, and this holds.
+abbrev pub AfterJob : Option ℕ → InputsRead → Type 0 → Type 0
 AfterJob None reads Holds = ⊥
-AfterJob (Some workers) reads Holds = GivesSomeJob reads.job reads.job' × Holds workers
+AfterJob (Some workers) reads Holds = GivesSomeJob reads.job reads.job' × Holds
 
--- The sources gave a job, and this fault says the first of the command's cells that it does not
--- have.
-pub record GivesOutside (command : Command) (reads : Reading) (fault : CommandFault) : Type 0 where
-  pub job : JobData
-  pub plan : PlanData
-  pub names : Option NamingData
-  pub given : Given command reads job plan
-  pub are_names : AreNames given.job_text job names
-  pub outside : IsOutside names job command.cells fault
-
--- The sources gave a job, and it does not have the first step that the command shows.
-pub record GivesNoStep (command : Command) (reads : Reading) (step : ℕ) : Type 0 where
+-- The sources gave a job, and this fault says what it lacks.
+pub record GivesLacking (command : Command) (reads : InputsRead) (fault : CommandFault)
+    : Type 0 where
   pub job : JobData
   pub plan : PlanData
   pub given : Given command reads job plan
-  pub missing : missing_step job command.first ≡ Some step
+  pub lacks : command.Lacks given.job_text job fault
 
 -- What a fault says.
-abbrev pub Explains : Command → Reading → Writing → CommandFault → Type 0
+abbrev pub Explains : Command → InputsRead → Writing → CommandFault → Type 0
 Explains command reads writes (Text line kind) = GivesFault reads.job reads.job' (Text line kind)
 Explains command reads writes (Program refusal) = GivesFault reads.job reads.job' (Program refusal)
 Explains command reads writes (Plan row kind) =
     AfterJob command.workers reads
-    (λ workers. GivesPlanFault reads.plan reads.plan' workers row kind)
-Explains command reads writes (OutsideCell cell) = GivesOutside command reads (OutsideCell cell)
-Explains command reads writes (OutsidePlace at) = GivesOutside command reads (OutsidePlace at)
-Explains command reads writes (OutsideStep step) = GivesNoStep command reads step
+    (GivesSuch reads.plan reads.plan' (λ text. command.HasPlanFault text row kind))
+Explains command reads writes (OutsideCell cell) = GivesLacking command reads (OutsideCell cell)
+Explains command reads writes (OutsidePlace at) = GivesLacking command reads (OutsidePlace at)
+Explains command reads writes (OutsideStep step) = GivesLacking command reads (OutsideStep step)
 Explains command reads writes JobDevice = IsTrue reads.job_failed
 Explains command reads writes PlanDevice =
-    AfterJob command.workers reads (λ _. IsTrue reads.plan_failed)
+    AfterJob command.workers reads (IsTrue reads.plan_failed)
 Explains command reads writes OutDevice = IsTrue writes.failed
 Explains command reads writes JobTooLarge = GivesMoreThan MOST reads.job reads.job'
 Explains command reads writes PlanTooLarge =
-    AfterJob command.workers reads (λ _. GivesMoreThan MOST reads.plan reads.plan')
+    AfterJob command.workers reads (GivesMoreThan MOST reads.plan reads.plan')
 Explains command reads writes Memory = ⊤
 
 -- What was written before a fault: where the output failed, a beginning; where memory ran out,
 -- nothing, or a beginning if the command prints in pieces; else nothing.
-abbrev pub Wrote : Command → Reading → Writing → CommandFault → Type 0
+abbrev pub Wrote : Command → InputsRead → Writing → CommandFault → Type 0
 Wrote command reads writes OutDevice = Begins command reads writes
 Wrote command reads writes Memory =
     writes.Unwritten ⊎ (command.InPieces × Begins command reads writes)
@@ -177,7 +170,7 @@ Wrote command reads writes _ = writes.Unwritten
 -- failed is answered truly, and the sources stand after the bytes read so far.
 pub record Did {A : Type 0} (command : Command) (taken : Taking) (writes : Writing)
     (Tells : A → Option RunAnswer → Type 0) (result : Result A CommandFault) : Type 0 where
-  pub done : IfOk result (λ told. Prints command taken.reads writes (Tells told))
+  pub done : IfOk result (λ answer. Prints command taken.reads writes (Tells answer))
   pub explains : IfErr result (Explains command taken.reads writes)
   pub wrote : IfErr result (Wrote command taken.reads writes)
   pub job_first : IfErr result (λ fault. IsOfJob fault → taken.Unread)

@@ -4,3 +4,4 @@ pub mod Refusals
 pub mod Hearing
 pub mod Watching
 pub mod Places
+pub mod Costed

@@ -6,7 +6,7 @@ use Rattle.pram_job.specs.Job.{JobData}
 use Rattle.pram_text.specs.Text.{Bears}
 use Rattle.pram_text.specs.declared.fault.TextKind.TheVariants as text_kind
 use Rattle.pardo_text.specs.declared.fault.PardoKind.TheVariants as pardo_kind
-use Rattle.pardo_job.specs.Refusals.{IsRefusal}
+use Rattle.pardo_job.specs.Refusals.{IsProgramRefusal}
 use Rattle.pardo_job.specs.declared.fault.JobKind.TheVariants as job_kind
 use Rattle.pardo_job.specs.declared.fault.Refusal.{Refusal}
 use Rattle.pardo_job.specs.declared.fault.Refusal.TheVariants as program
@@ -31,7 +31,7 @@ use Rattle.pram_commands.specs.declared.sources.Sources.{Sources}
 
 -- What a call did with its sources: the bytes that the job's and the plan's have before and after,
 -- where they are known, and which of them have failed after it.
-pub record Reading : Type 0 where
+pub record InputsRead : Type 0 where
   pub job : Option (List ℕ)
   pub job' : Option (List ℕ)
   pub plan : Option (List ℕ)
@@ -40,7 +40,7 @@ pub record Reading : Type 0 where
   pub plan_failed : Bool
 
 abbrev pub reading : {J P : Type 0} → a_source.Ghosts J → a_source.Ghosts P
-    → (before after : Sources J P) → Reading
+    → (before after : Sources J P) → InputsRead
 reading of_job of_plan before after = record {
   job = of_job.remaining before.job;
   job' = of_job.remaining after.job;
@@ -50,9 +50,9 @@ reading of_job of_plan before after = record {
   plan_failed = of_plan.has_failed after.plan;
 }
 
--- The same, and that nothing was read of the plan.
+-- What a call did with its sources, and that nothing was read of the plan.
 pub record Taking : Type 1 where
-  pub reads : Reading
+  pub reads : InputsRead
   pub Unread : Type 0
 
 abbrev pub taking : {J P : Type 0} → a_source.Ghosts J → a_source.Ghosts P
@@ -89,14 +89,18 @@ abbrev pub IsBad : List ℕ → CommandFault → Type 0
 IsBad text (Text line kind) =
     (is_program text ≡ false) × Bears text line kind × (kind ≢ text_kind.Memory)
 IsBad text (Program refusal) =
-    (is_program text ≡ true) × IsRefusal text refusal × IsOfText refusal
+    (is_program text ≡ true) × IsProgramRefusal text refusal × IsOfText refusal
 IsBad text _ = ⊥
 
--- The source gave a text with this fault.
-pub record GivesFault (source source' : Option (List ℕ)) (fault : CommandFault) : Type 0 where
+-- The source gave a text of which this holds.
+pub record GivesSuch (source source' : Option (List ℕ)) (Is : List ℕ → Type 0) : Type 0 where
   pub text : List ℕ
   pub gives : Gives source source' text
-  pub bad : IsBad text fault
+  pub is : Is text
+
+-- The source gave a text with this fault.
+abbrev pub GivesFault : Option (List ℕ) → Option (List ℕ) → CommandFault → Type 0
+GivesFault source source' fault = GivesSuch source source' (λ text. IsBad text fault)
 
 -- The source gave a text of a job.
 abbrev pub GivesSomeJob : Option (List ℕ) → Option (List ℕ) → Type 0
@@ -109,21 +113,17 @@ pub record GivesAnswer (source source' : Option (List ℕ)) (answer : RunAnswer)
   pub answers : IsAnswer job answer
 
 -- The source gave a text whose records spell the plan.
-pub record GivesPlan (source source' : Option (List ℕ)) (workers : ℕ) (plan : PlanData)
-    : Type 0 where
-  pub text : List ℕ
-  pub gives : Gives source source' text
-  pub spells : SpellsPlan workers (records_of text) plan
+abbrev pub GivesPlan : Option (List ℕ) → Option (List ℕ) → ℕ → PlanData → Type 0
+GivesPlan source source' workers plan =
+    GivesSuch source source' (λ text. SpellsPlan workers (records_of text) plan)
 
 -- The source gave a text whose records have this first fault.
-pub record GivesPlanFault (source source' : Option (List ℕ)) (workers row : ℕ) (kind : PlanKind)
-    : Type 0 where
-  pub text : List ℕ
-  pub gives : Gives source source' text
-  pub fault : FirstFault workers (records_of text) row kind
+abbrev pub GivesPlanFault : Option (List ℕ) → Option (List ℕ) → ℕ → ℕ → PlanKind → Type 0
+GivesPlanFault source source' workers row kind =
+    GivesSuch source source' (λ text. FirstFault workers (records_of text) row kind)
 
 -- The sources gave the job, by this text, and the plan.
-pub record GivesBoth (reads : Reading) (workers : ℕ) (text : List ℕ) (job : JobData)
+pub record GivesBoth (reads : InputsRead) (workers : ℕ) (text : List ℕ) (job : JobData)
     (plan : PlanData) : Type 0 where
   pub gives_job : GivesText reads.job reads.job' text job
   pub gives_plan : GivesPlan reads.plan reads.plan' workers plan
@@ -155,7 +155,7 @@ IsOfJob JobTooLarge = ⊤
 IsOfJob _ = ⊥
 
 -- What a fault says where a job is read, and then its plan.
-abbrev pub ExplainsBoth : ℕ → Reading → CommandFault → Type 0
+abbrev pub ExplainsBoth : ℕ → InputsRead → CommandFault → Type 0
 ExplainsBoth workers reads (Text line kind) = GivesFault reads.job reads.job' (Text line kind)
 ExplainsBoth workers reads (Program refusal) = GivesFault reads.job reads.job' (Program refusal)
 ExplainsBoth workers reads JobTooLarge = GivesMoreThan MOST reads.job reads.job'
@@ -173,8 +173,8 @@ ExplainsBoth workers reads _ = ⊥
 pub record Took (workers : ℕ) (taken : Taking) (result : Result Inputs CommandFault)
     : Type 0 where
   pub both : IfOk result
-      (λ inputs. GivesBoth taken.reads workers inputs.text.items inputs.job inputs.plan)
-  pub names : IfOk result (λ inputs. AreNames inputs.text.items inputs.job inputs.names)
+      (λ inputs. GivesBoth taken.reads workers inputs.spelled.text.items inputs.spelled.job inputs.plan)
+  pub names : IfOk result (λ inputs. AreNames inputs.spelled.text.items inputs.spelled.job inputs.spelled.names)
   pub explains : IfErr result (ExplainsBoth workers taken.reads)
   pub job_first : IfErr result (λ fault. IsOfJob fault → taken.Unread)
   pub job_failed : IsTrue taken.reads.job_failed ↔ IsErrOf result JobDevice

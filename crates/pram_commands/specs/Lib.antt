@@ -3,6 +3,7 @@ pub mod Costs
 pub mod Did
 pub mod Faults
 pub mod Files
+pub mod Following
 pub mod Inner
 pub mod Inputs
 pub mod Line

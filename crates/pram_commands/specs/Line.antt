@@ -1,4 +1,4 @@
--- The command of a line.
+-- The command that a line asks for.
 use Rattle.command_data.specs.CellLists.{parts_of}
 use Rattle.pram_commands.specs.Costs.{costing}
 use Rattle.pram_commands.specs.Did.{Command}
@@ -7,19 +7,30 @@ use Rattle.pram_commands.specs.Replayed.{replaying}
 use Rattle.pram_commands.specs.Steps.{stepping}
 use Rattle.pram_commands.specs.Texts.{compiling}
 use Rattle.pram_commands.specs.Threads.{running, watching}
-use Rattle.command_data.specs.declared.line.Line.{Line}
-use Rattle.command_data.specs.declared.line.Line.TheVariants.{Check, Compile, Plain, Cost}
-use Rattle.command_data.specs.declared.line.Line.TheVariants.{Steps, Run, Watch, Replay}
+use Rattle.command_data.specs.declared.line.Ask.{Ask}
+use Rattle.command_data.specs.declared.line.Ask.TheVariants.{Alone, OnThreads}
+use Rattle.command_data.specs.declared.line.AskAlone.{AskAlone}
+use Rattle.command_data.specs.declared.line.AskAlone.TheVariants.{Check, Compile, Plain, Cost}
+use Rattle.command_data.specs.declared.line.AskAlone.TheVariants.{Steps, Replay}
+use Rattle.command_data.specs.declared.line.AskOnThreads.{AskOnThreads}
+use Rattle.command_data.specs.declared.line.AskOnThreads.TheVariants.{Run, Watch}
 
--- what the line comes to: its command says which bytes it prints on a job and a plan, and how it
--- ends
-abbrev pub command_of : Line → Command
-command_of (Check file) = checking
-command_of (Compile file) = compiling
-command_of (Plain file why) = plainly why
-command_of (Cost file) = costing
-command_of (Steps file from to alone) = stepping alone (record { from = from; to = to })
-command_of (Run file plan manner why) = running why manner.workers.count
-command_of (Watch file plan manner cells rounds) =
-    watching manner.workers.count (parts_of cells.text.now) rounds
-command_of (Replay file workers plan alone) = replaying alone workers.count
+-- what the thread that calls is asked alone: the command says which bytes it prints on a job and a
+-- plan, and how it ends
+abbrev pub command_alone : AskAlone → Command
+command_alone Check = checking
+command_alone Compile = compiling
+command_alone (Plain why) = plainly why
+command_alone Cost = costing
+command_alone (Steps from to alone) = stepping alone (record { from = from; to = to })
+command_alone (Replay workers alone) = replaying alone workers.count
+
+-- what threads are asked, so
+abbrev pub command_on_threads : AskOnThreads → Command
+command_on_threads (Run run) = running run.why run.manner.workers.count
+command_on_threads (Watch watch) =
+    watching watch.manner.workers.count (parts_of watch.cells.text.now) watch.rounds
+
+abbrev pub command_of : Ask → Command
+command_of (Alone ask) = command_alone ask
+command_of (OnThreads ask) = command_on_threads ask

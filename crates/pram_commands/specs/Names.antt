@@ -8,10 +8,10 @@ use Rattle.pram_streams.specs.Printed.{printed}
 use Rattle.pardo_text.specs.Program.{ProgramData}
 use Rattle.pardo_text.specs.Reading.{program_of}
 use Rattle.pardo_job.specs.Compiled.{IsCompiled}
-use Rattle.pardo_answers.specs.Ends.{HasEnded}
+use Rattle.pardo_job.specs.Ends.{HasEnded}
 use Rattle.pardo_answers.specs.Language.{is_program}
-use Rattle.pardo_answers.specs.Named.{named}
-use Rattle.pardo_answers.specs.declared.ended.Ended.{Ended}
+use Rattle.pardo_answers.specs.Named.{named_answer}
+use Rattle.pardo_job.specs.declared.ended.Ended.{Ended}
 
 -- What the answers of a program are told by: the program, the numbers of the lines that its job's
 -- instructions came from, and how the job ends, and in which lines.
@@ -42,9 +42,10 @@ abbrev pub Means : List ℕ → JobData → Type 0
 Means text job = (names : Option NamingData) × AreNames text job names
 
 -- the printed answer of a job of so many steps
-abbrev pub told : Option NamingData → RunAnswer → ℕ → List ℕ
-told None answer steps = printed answer steps
-told (Some naming) answer steps = named naming.program steps naming.ended.lines answer
+abbrev pub printed_answer : Option NamingData → RunAnswer → ℕ → List ℕ
+printed_answer None answer steps = printed answer steps
+printed_answer (Some naming) answer steps =
+    named_answer naming.program steps naming.ended.lines answer
 
 -- the number of the line that an instruction came from
 abbrev pub line_at : List ℕ → Option NamingData → ℕ → ℕ

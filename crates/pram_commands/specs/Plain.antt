@@ -1,5 +1,5 @@
 -- What the commands come to that run a job on the plain machine, or only judge it.
-use Rattle.std.specs.Prelude.{◌≡◌, ℕ, Bool, List, [], Option, None}
+use Rattle.std.specs.Prelude.{◌≡◌, ℕ, Bool, List, [], Option, None, ⊤}
 use Rattle.pram_job.specs.Job.{JobData}
 use Rattle.pram_step.specs.Runs.{IsAnswer}
 use Rattle.pram_step.specs.declared.answer.RunAnswer.{RunAnswer}
@@ -16,15 +16,21 @@ no_plan = record { workers = 0; rows = [] }
 abbrev pub on_job : (List ℕ → JobData → List ℕ → Option RunAnswer → Type 0) → Command
 on_job Comes = record {
   workers = None;
-  cells = [];
-  first = 1;
+  IsPlan = λ text plan. ⊥;
+  HasPlanFault = λ text row kind. ⊥;
+  Has = λ job. ⊤;
+  Lacks = λ job_text job fault. ⊥;
   InPieces = ⊥;
   Comes = λ job_text job plan. Comes job_text job;
 }
 
+-- the text is the summary of the job, and no answer is given
+abbrev pub TellsSummary : JobData → List ℕ → Option RunAnswer → Type 0
+TellsSummary job text answer = (text ≡ summary job) × (answer ≡ None)
+
 -- it prints the summary of the job
 abbrev pub checking : Command
-checking = on_job (λ job_text job text answer. (text ≡ summary job) × (answer ≡ None))
+checking = on_job (λ job_text. TellsSummary)
 
 -- it prints the answer of the job, and if it is asked for what became of the processors
 abbrev pub plainly : Bool → Command

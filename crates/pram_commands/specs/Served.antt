@@ -3,14 +3,14 @@ use Rattle.std.specs.Prelude.{◌≡◌, ◌⊎◌, ◌≤◌, ◌<◌, ℕ, IsT
 use Rattle.pram_streams.specs.Transfer.{GivesSome}
 use Rattle.pram_commands.specs.Did.{Begins, Command, Explains, Prints, Writing, tells_status}
 use Rattle.refusals.specs.Faults.{fault_status}
-use Rattle.pram_commands.specs.Inputs.{Reading}
+use Rattle.pram_commands.specs.Inputs.{InputsRead}
 use Rattle.pram_commands.specs.Line.{command_of}
 use Rattle.refusals.specs.declared.fault.CommandFault.{CommandFault}
 use Rattle.command_data.specs.declared.line.Line.{Line}
 use Rattle.refusals.specs.declared.refusal.TheConstants.{REFUSED, UNFINISHED, FAILED, MEMORY}
 
 -- There is a fault with this status, of which all is true that a fault says.
-abbrev pub HasFault : Command → Reading → Writing → ℕ → Type 0
+abbrev pub HasFault : Command → InputsRead → Writing → ℕ → Type 0
 HasFault command reads writes status =
     (fault : CommandFault) × (fault_status fault ≡ status) × Explains command reads writes fault
 
@@ -19,19 +19,19 @@ HasFault command reads writes status =
 -- too large; 4 or more wherever one failed. With 4 or more nothing was written; or, where the
 -- output failed, or memory ran out and the command prints in pieces, a beginning of what the line
 -- prints. The sources stand after the bytes read so far.
-pub record Served (line : Line) (reads : Reading) (writes : Writing) (status : ℕ) : Type 0 where
+pub record Served (line : Line) (reads : InputsRead) (writes : Writing) (status : ℕ) : Type 0 where
   pub done : (status < REFUSED) ⊎ (status ≡ UNFINISHED)
-      → Prints (command_of line) reads writes (tells_status status)
+      → Prints (command_of line.ask) reads writes (tells_status status)
   pub most : status ≤ MEMORY
-  pub stops : status ≡ UNFINISHED → IsTrue (is_some (command_of line).workers)
+  pub stops : status ≡ UNFINISHED → IsTrue (is_some (command_of line.ask).workers)
   pub refused : status ≡ REFUSED
-      → HasFault (command_of line) reads writes REFUSED × writes.Unwritten
-  pub failed : status ≡ FAILED → HasFault (command_of line) reads writes FAILED
+      → HasFault (command_of line.ask) reads writes REFUSED × writes.Unwritten
+  pub failed : status ≡ FAILED → HasFault (command_of line.ask) reads writes FAILED
   pub job : IsTrue reads.job_failed → FAILED ≤ status
   pub plan : IsTrue reads.plan_failed → FAILED ≤ status
   pub out : IsTrue writes.failed → FAILED ≤ status
   pub begins : FAILED ≤ status → writes.Unwritten ⊎ ((IsTrue writes.failed
-      ⊎ ((status ≡ MEMORY) × (command_of line).InPieces))
-      × Begins (command_of line) reads writes)
+      ⊎ ((status ≡ MEMORY) × (command_of line.ask).InPieces))
+      × Begins (command_of line.ask) reads writes)
   pub job_reads : GivesSome reads.job reads.job'
   pub plan_reads : GivesSome reads.plan reads.plan'

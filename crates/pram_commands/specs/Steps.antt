@@ -1,5 +1,5 @@
 -- What the command comes to that prints the steps of a window.
-use Rattle.std.specs.Prelude.{◌≡◌, ℕ, Bool, List, [], Option, Some, None, ⊤}
+use Rattle.std.specs.Prelude.{◌≡◌, ℕ, Bool, List, Option, Some, None, ⊤}
 use Rattle.pram_job.specs.Job.{JobData}
 use Rattle.pram_step.specs.Runs.{IsAnswer}
 use Rattle.pram_step.specs.declared.answer.RunAnswer.{RunAnswer}
@@ -7,12 +7,15 @@ use Rattle.pram_rows.specs.Rows.{rows_text}
 use Rattle.pram_rows.specs.Shown.{last_step}
 use Rattle.pram_rows.specs.declared.window.Window.{Window}
 use Rattle.pram_commands.specs.Did.{Command, Showing}
+use Rattle.pram_commands.specs.Inputs.{missing_step}
 use Rattle.pram_commands.specs.Names.{AreNames, NamingData}
+use Rattle.refusals.specs.declared.fault.CommandFault.{CommandFault}
+use Rattle.refusals.specs.declared.fault.CommandFault.TheVariants.{OutsideStep}
 
 -- the numbers of the lines that rows tell: of a program those that its job's instructions came from
-abbrev pub lines_of : Option NamingData → Option (List ℕ)
-lines_of None = None
-lines_of (Some naming) = Some naming.numbers
+abbrev pub numbers_told : Option NamingData → Option (List ℕ)
+numbers_told None = None
+numbers_told (Some naming) = Some naming.numbers
 
 -- This is the answer of the job of a text, and these bytes are the rows of its window, with their
 -- lines where the text is a program.
@@ -21,15 +24,22 @@ pub record TellsSteps (job_text : List ℕ) (job : JobData) (window : Window) (a
   pub answers : IsAnswer job answer
   pub names : Option NamingData
   pub are_names : AreNames job_text job names
-  pub rows : front ≡ rows_text (lines_of names) job window.from window.to (last_step job answer)
+  pub rows : front ≡ rows_text (numbers_told names) job window.from window.to (last_step job answer)
+
+-- a fault says which step of a window's first one the job does not have
+abbrev pub LacksStep : ℕ → List ℕ → JobData → CommandFault → Type 0
+LacksStep first job_text job (OutsideStep step) = missing_step job first ≡ Some step
+LacksStep first job_text job _ = ⊥
 
 -- it prints the rows of the window, which begins with a step of the job, and then the answer,
 -- unless the rows are to stand alone
 abbrev pub stepping : Bool → Window → Command
 stepping alone window = record {
   workers = None;
-  cells = [];
-  first = window.from;
+  IsPlan = λ text plan. ⊥;
+  HasPlanFault = λ text row kind. ⊥;
+  Has = λ job. missing_step job window.from ≡ None;
+  Lacks = LacksStep window.from;
   InPieces = ⊤;
   Comes = λ job_text job plan. Showing alone (TellsSteps job_text job window) job_text job;
 }

@@ -15,8 +15,9 @@ use Rattle.pram_run.specs.Printed.{CellWords, by_numbers, sights_text}
 use Rattle.pardo_job.specs.Printed.{cell_text}
 use Rattle.pram_run.specs.Watching.{HasReadBeside, IsWatch}
 use Rattle.pram_run.specs.declared.sight.Sight.{Sight}
-use Rattle.pram_commands.specs.CellLists.{AreCellsOf}
+use Rattle.pram_commands.specs.CellLists.{AreCellsOf, LacksCell}
 use Rattle.pram_commands.specs.Did.{Answering, Command}
+use Rattle.pram_commands.specs.Following.{LacksNone, following}
 use Rattle.pram_commands.specs.Names.{AreNames, NamingData}
 use Rattle.pram_commands.specs.Why.{Explaining}
 use Rattle.command_data.specs.Manner.{size_of}
@@ -40,26 +41,22 @@ pub record EndsAt (job : JobData) (plan : PlanData) (later : SeatData) (answer :
   pub ran : HasRunBeside made.0.task plan made.1 later answer
 
 -- some run came to the answer
-abbrev pub IsEnd : JobData → PlanData → RunAnswer → Type 0
-IsEnd job plan answer = (later : SeatData) × EndsAt job plan later answer
+abbrev pub SomeRunEndsIn : JobData → PlanData → RunAnswer → Type 0
+SomeRunEndsIn job plan answer = (later : SeatData) × EndsAt job plan later answer
 
 -- it prints the answer of a run of the job under the plan, and if it is asked for what became of
 -- the processors
 abbrev pub running : Bool → ℕ → Command
-running why workers = record {
-  workers = Some workers;
-  cells = [];
-  first = 1;
-  InPieces = ⊥;
-  Comes = λ job_text job plan. Explaining why (IsEnd job plan) job_text job;
-}
+running why workers = following workers LacksNone ⊥
+    (λ job_text job plan. Explaining why (SomeRunEndsIn job plan) job_text job)
 
 -- what the cell holds after the step, which is reached
 pub record IsTrueOf (job : JobData) (sight : Sight) : Type 0 where
   pub reached : IsReached job sight.step
   pub value : sight.value ≡ slice_index (state_after job sight.step) sight.cell
 
--- So many rounds through the cells, in order: each sight is true, and the steps never fall.
+-- The sights of a number of rounds through the cells, in order: each sight is true, and the steps
+-- never fall.
 pub record HasSights (job : JobData) (cells : List ℕ) (rounds : ℕ) (sights : List Sight)
     : Type 0 where
   pub listed : map (λ sight. sight.cell) sights ≡ repeat rounds cells
@@ -114,10 +111,5 @@ pub record TellsWatch (parts : List (List ℕ)) (rounds : ℕ) (job_text : List 
 
 -- it prints the sights of a watch of the job under the plan, and then the answer
 abbrev pub watching : ℕ → List (List ℕ) → ℕ → Command
-watching workers parts rounds = record {
-  workers = Some workers;
-  cells = parts;
-  first = 1;
-  InPieces = ⊤;
-  Comes = TellsWatch parts rounds;
-}
+watching workers parts rounds =
+    following workers (LacksCell parts) ⊤ (TellsWatch parts rounds)

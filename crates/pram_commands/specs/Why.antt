@@ -6,7 +6,7 @@ use Rattle.pram_step.specs.declared.answer.RunAnswer.TheVariants.{Final, Conflic
 use Rattle.pram_fates.specs.Fates.{AreFates}
 use Rattle.pram_fates.specs.Told.{fates_text}
 use Rattle.pram_fates.specs.declared.fates.Fates.{Fates}
-use Rattle.pram_commands.specs.Names.{AreNames, NamingData, line_at, told}
+use Rattle.pram_commands.specs.Names.{AreNames, NamingData, line_at, printed_answer}
 
 -- the steps that an answer speaks of: all of the job's, or those that an unfinished run made
 abbrev pub told_steps : JobData → RunAnswer → ℕ
@@ -30,5 +30,5 @@ pub record Explaining (why : Bool) (Ends : RunAnswer → Type 0) (job_text : Lis
   pub ends : Ends ended
   pub are_names : AreNames job_text job names
   pub follows : Follows why (line_at job_text names) job ended back
-  pub prints : text ≡ told names ended job.steps ++ back
+  pub prints : text ≡ printed_answer names ended job.steps ++ back
   pub gives : answer ≡ Some ended

@@ -1,4 +1,4 @@
-//! The commands, and which of them a line asks for.
+//! The commands, and which of them is asked for.
 ghost use Rattle.std.specs.Prelude.{◌≡◌, ◌↔◌, false, OnOk, IsErrOf, IsTrue};
 ghost use Rattle.std.specs.Io.KnownBytes.{Appends};
 ghost use Rattle.pram_streams.specs.Transfer.{AppendsBeginning};
@@ -6,17 +6,16 @@ ghost use Rattle.pram_commands.specs.Costs.{conflict_of};
 ghost use Rattle.pram_commands.specs.Did.{Did, ending, ends_with, status_of, tells_status, writing};
 ghost use Rattle.pram_commands.specs.Inner.Puts.{printed_as, status_result};
 ghost use Rattle.pram_commands.specs.Inputs.{AreReady, taking};
-ghost use Rattle.command_data.specs.Line.{StartsNoThread};
-ghost use Rattle.pram_commands.specs.Line.{command_of};
+ghost use Rattle.pram_commands.specs.Line.{command_alone, command_on_threads};
 
 mod alone;
 mod on_threads;
 
-use crate::names::{Words, print_told};
-use crate::sources::Sources;
+use crate::names::print_told;
+use crate::sources::{Sources, Spelled};
 pub use alone::{check, compile, cost, plain, replay, steps, take_answer};
-use command_data::Line;
-pub use on_threads::{Reads, Wanted, run, watch};
+use command_data::{AskAlone, AskOnThreads};
+pub use on_threads::{run, watch};
 use pram_cost::Cost;
 use pram_rows::Window;
 use pram_step::RunAnswer;
@@ -27,44 +26,41 @@ use std::rt::Clock;
 use std::sync::Wait;
 use std::thread::Threads;
 
-/// Does what a line that starts no thread asks, and answers the status of its answer.
+/// Does what the thread that calls is asked alone, and answers the status of its answer.
 pub fn do_alone<J: Source, P: Source, O: Sink>(
     alloc: Global,
-    line: &Line<'_>,
+    ask: AskAlone,
     sources: &mut Sources<J, P>,
     out: &mut O,
 ) -> Result<u8, CommandFault>
-    requires alone { StartsNoThread line.now }
-    requires ready { AreReady J.Source P.Source O.Sink sources.old out.old }
-    ensures { Did (command_of line.now) (taking J.Source P.Source sources.old sources.new)
+    requires { AreReady J.Source P.Source O.Sink sources.old out.old }
+    ensures { Did (command_alone ask) (taking J.Source P.Source sources.old sources.new)
         (writing O.Sink out.old out.new) tells_status result }
 {
-    match *line {
-        Line::Check { .. } => {
+    match ask {
+        AskAlone::Check => {
             check(alloc, sources, out)?;
             Ok(DONE)
         }
-        Line::Compile { .. } => {
+        AskAlone::Compile => {
             compile(alloc, sources, out)?;
             Ok(DONE)
         }
-        Line::Plain { why, .. } => ended(plain(alloc, why, sources, out)),
-        Line::Cost { .. } => {
+        AskAlone::Plain { why } => ended(plain(alloc, why, sources, out)),
+        AskAlone::Cost => {
             let cost = cost(alloc, sources, out)?;
             Ok(cost_status(&cost))
         }
-        Line::Steps {
-            from,
-            to,
-            alone,
-            ..
-        } => ended(steps(alloc, Window { from, to }, alone, sources, out)),
-        Line::Replay { workers, alone, .. } => ended(replay(alloc, workers, alone, sources, out)),
-        Line::Run { .. } | Line::Watch { .. } => unreachable!(),
+        AskAlone::Steps { from, to, alone } => {
+            ended(steps(alloc, Window { from, to }, alone, sources, out))
+        }
+        AskAlone::Replay { workers, alone } => {
+            ended(replay(alloc, workers, alone, sources, out))
+        }
     }
 }
 
-/// The same for a line that starts threads.
+/// Does what is asked on threads, and answers the status of its answer.
 pub(crate) fn do_on_threads<
     R: Threads + Wait + Clock + Eprint + Sync,
     J: Source,
@@ -73,33 +69,17 @@ pub(crate) fn do_on_threads<
 >(
     rt: &R,
     alloc: Global,
-    line: &Line<'_>,
+    ask: AskOnThreads<'_>,
     sources: &mut Sources<J, P>,
     out: &mut O,
 ) -> Result<u8, CommandFault>
-    requires threads { ¬ StartsNoThread line.now }
-    requires ready { AreReady J.Source P.Source O.Sink sources.old out.old }
-    ensures { Did (command_of line.now) (taking J.Source P.Source sources.old sources.new)
+    requires { AreReady J.Source P.Source O.Sink sources.old out.old }
+    ensures { Did (command_on_threads ask.entry) (taking J.Source P.Source sources.old sources.new)
         (writing O.Sink out.old out.new) tells_status result }
 {
-    match *line {
-        Line::Run { manner, why, .. } => {
-            ended(run(rt, alloc, Wanted { manner, why }, sources, out))
-        }
-        Line::Watch {
-            manner,
-            cells,
-            rounds,
-            ..
-        } => {
-            let reads = Reads {
-                manner,
-                cells,
-                rounds,
-            };
-            ended(watch(rt, alloc, reads, sources, out))
-        }
-        _ => unreachable!(),
+    match ask {
+        AskOnThreads::Run(ask) => ended(run(rt, alloc, ask, sources, out)),
+        AskOnThreads::Watch(ask) => ended(watch(rt, alloc, ask, sources, out)),
     }
 }
 
@@ -136,21 +116,21 @@ fn cost_status(cost: &Cost) -> u8
 fn print_ending<O: Sink>(
     alloc: Global,
     out: &mut O,
-    words: &Words<'_>,
+    spelled: &Spelled,
     answer: &RunAnswer,
     alone: bool,
 ) -> Result<(), PrintFault>
     requires { O.has_failed out.old ≡ false }
     ensures ok { OnOk result (Appends (O.taken out.old) (O.taken out.new)
-        (ending alone words.now.names.now answer.now words.now.steps)) }
+        (ending alone spelled.now.names answer.now spelled.now.job.steps)) }
     ensures beginning { AppendsBeginning (O.taken out.old) (O.taken out.new)
-        (ending alone words.now.names.now answer.now words.now.steps) }
+        (ending alone spelled.now.names answer.now spelled.now.job.steps) }
     ensures failed { IsTrue (O.has_failed out.new) ↔ IsErrOf result PrintFault.Device }
 {
     if alone {
         return Ok(());
     }
-    print_told(alloc, out, words, answer)
+    print_told(alloc, out, spelled, answer)
 }
 
 // What a command answers that prints as its last act.

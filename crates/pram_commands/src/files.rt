@@ -1,14 +1,15 @@
 //! A line served from the files that it names.
 ghost use Rattle.std.specs.Prelude.{◌≡◌, ℕ, false, List, [], Option, Some};
 ghost use Rattle.std.specs.Option.{option_map_or};
-ghost use Rattle.command_data.specs.Line.{StartsNoThread, file_of, plan_of};
+ghost use Rattle.command_data.specs.Line.{text_now};
+ghost use Rattle.command_data.specs.declared.line.Ask.TheVariants.{Alone};
 ghost use Rattle.pram_commands.specs.Did.{writing};
-ghost use Rattle.pram_commands.specs.Files.{IsPlanOf, MayFail, ServesFiles};
+ghost use Rattle.pram_commands.specs.Files.{ArePlanBytes, MayFail, ServesFiles};
 
 use crate::bytes::PlanFile;
 use crate::server::{serve, serve_alone};
 use crate::sources::{Console, Sources};
-use command_data::Line;
+use command_data::{AskAlone, Line};
 use pram_streams::{Sink, Source};
 use std::alloc::Global;
 use std::rt::Clock;
@@ -45,32 +46,33 @@ pub fn serve_files<R: Threads + Wait + Clock + Eprint + Sync, F: Folder, O: Sink
     serve(rt, alloc, line, &mut sources_of(folder, line), console)
 }
 
-/// Does what `serve_files` does for a line that starts no thread, and always returns.
+/// Does what `serve_files` does where the thread that calls is asked alone, and always returns.
 pub fn serve_files_alone<F: Folder, O: Sink, E: Sink>(
     alloc: Global,
     folder: &F,
     line: &Line<'_>,
+    ask: AskAlone,
     console: &mut Console<O, E>,
 ) -> u8
-    requires alone { StartsNoThread line.now }
+    requires alone { line.now.ask ≡ Alone ask }
     requires out { O.has_failed console.old.out ≡ false }
     requires err { E.has_failed console.old.err ≡ false }
     ensures { ServesFiles (F.holds folder.now) (MayFail F.File.Source) line.now
         (writing O.Sink console.old.out console.new.out) result }
 {
-    serve_alone(alloc, line, &mut sources_of(folder, line), console)
+    serve_alone(alloc, line, ask, &mut sources_of(folder, line), console)
 }
 
 // The files that the line names, as they are opened.
 fn sources_of<F: Folder>(folder: &F, line: &Line<'_>) -> Sources<F::File, PlanFile<F::File>>
     ensures job_failed { F.File.has_failed result.job ≡ false }
     ensures plan_failed { option_map_or F.File.has_failed result.plan.file false ≡ false }
-    ensures job { F.holds folder.now (file_of line.now) (F.File.remaining result.job) }
-    ensures plan { IsPlanOf (F.holds folder.now) (plan_of line.now)
+    ensures job { F.holds folder.now line.now.file.now (F.File.remaining result.job) }
+    ensures plan { ArePlanBytes (F.holds folder.now) (text_now line.now.plan)
         (option_map_or F.File.remaining result.plan.file (Some [])) }
 {
-    let job = folder.open(line.file());
-    let file = match line.plan() {
+    let job = folder.open(line.file);
+    let file = match line.plan {
         Some(name) => Some(folder.open(name)),
         None => None,
     };

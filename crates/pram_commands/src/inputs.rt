@@ -4,26 +4,20 @@ ghost use Rattle.pram_streams.specs.Transfer.{GivesSome};
 ghost use Rattle.pram_commands.specs.Faults.{fault_of_job_source, fault_of_plan_source};
 ghost use Rattle.pram_commands.specs.Inputs.{ExplainsJob, ExplainsPlan, GivesJob, GivesPlan};
 ghost use Rattle.pram_commands.specs.Inputs.{GivesText, Took, taking};
+ghost use Rattle.pram_commands.specs.Inner.Costed.{IsCosted};
 ghost use Rattle.pram_commands.specs.Names.{AreNames};
 ghost use Rattle.refusals.specs.declared.fault.CommandFault.TheVariants.{JobDevice};
 ghost use Rattle.stop_plan.specs.Records.{FirstFault, SpellsPlan, no_memory, records_of};
 
-use crate::names::{Naming, read_text};
-use crate::sources::{Inputs, Sources};
+use crate::names::{read_costed, read_text};
+use crate::sources::{Inputs, Sources, Spelled};
 use command_data::Workers;
+use pram_cost::Cost;
 use pram_job::Job;
 use pram_streams::{Source, TakeFault, take};
 use refusals::CommandFault;
 use std::alloc::Global;
 use stop_plan::{Plan, PlanFault, PlanKind, read_plan};
-
-/// A text, its job, and what its answers are told by if it is a program.
-#[derive(Drop)]
-pub(crate) struct Spelled {
-    pub text: Vec<u8>,
-    pub job: Job,
-    pub names: Option<Naming>,
-}
 
 /// The job of the text that a source gives, and then the plan that the bytes of another spell.
 /// Where the job is refused, nothing is read of the plan.
@@ -36,14 +30,9 @@ pub fn take_inputs<J: Source, P: Source>(
     requires plan { P.has_failed sources.old.plan ≡ false }
     ensures { Took workers.count (taking J.Source P.Source sources.old sources.new) result }
 {
-    let Spelled { text, job, names } = take_text(alloc, &mut sources.job)?;
+    let spelled = take_text(alloc, &mut sources.job)?;
     let plan = take_plan(alloc, &mut sources.plan, workers)?;
-    Ok(Inputs {
-        text,
-        job,
-        names,
-        plan,
-    })
+    Ok(Inputs { spelled, plan })
 }
 
 /// The job of the text that a source gives.
@@ -58,7 +47,7 @@ pub fn take_job<J: Source>(alloc: Global, source: &mut J) -> Result<Job, Command
     Ok(take_text(alloc, source)?.job)
 }
 
-/// The same, with the text, and what its answers are told by.
+/// The job of the text that a source gives, the text itself, and what its answers are told by.
 pub(crate) fn take_text<J: Source>(alloc: Global, source: &mut J) -> Result<Spelled, CommandFault>
     requires { J.has_failed source.old ≡ false }
     ensures names { IfOk result (λ read. AreNames read.text.items read.job read.names) }
@@ -72,6 +61,25 @@ pub(crate) fn take_text<J: Source>(alloc: Global, source: &mut J) -> Result<Spel
     let text = take(alloc, source).map_err(job_fault)?;
     let (job, names) = read_text(alloc, text.as_slice())?;
     Ok(Spelled { text, job, names })
+}
+
+/// The same, and what the run of the job costs.
+pub(crate) fn take_costed<J: Source>(
+    alloc: Global,
+    source: &mut J,
+) -> Result<(Spelled, Cost), CommandFault>
+    requires { J.has_failed source.old ≡ false }
+    ensures costs { IfOk result (λ read. IsCosted read.0 read.1) }
+    ensures ok { IfOk result (λ read. GivesText (J.remaining source.old)
+        (J.remaining source.new) read.0.text.items read.0.job) }
+    ensures explains { IfErr result (ExplainsJob (J.remaining source.old)
+        (J.remaining source.new)) }
+    ensures failed { IsTrue (J.has_failed source.new) ↔ IsErrOf result JobDevice }
+    ensures reads { GivesSome (J.remaining source.old) (J.remaining source.new) }
+{
+    let text = take(alloc, source).map_err(job_fault)?;
+    let (job, names, cost) = read_costed(alloc, text.as_slice())?;
+    Ok((Spelled { text, job, names }, cost))
 }
 
 /// The plan for so many workers that the bytes of a source spell.

@@ -17,10 +17,10 @@ mod threads;
 mod why;
 
 pub use bytes::Bytes;
-pub use command_data::{Block, CellList, Line, Manner, Telling, Workers};
-pub use commands::{
-    Reads, Wanted, check, compile, cost, do_alone, plain, replay, run, steps, take_answer, watch,
+pub use command_data::{
+    Ask, AskAlone, AskOnThreads, AskRun, AskWatch, Block, CellList, Line, Manner, Telling, Workers,
 };
+pub use commands::{check, compile, cost, do_alone, plain, replay, run, steps, take_answer, watch};
 pub use files::{Folder, serve_files, serve_files_alone};
 pub use inputs::{take_inputs, take_job, take_plan};
 pub use names::Naming;
@@ -30,4 +30,4 @@ pub use refusals::{
     UNFINISHED, tell,
 };
 pub use server::{serve, serve_alone};
-pub use sources::{Console, Inputs, Sources};
+pub use sources::{Console, Inputs, Sources, Spelled};

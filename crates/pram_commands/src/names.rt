@@ -3,23 +3,28 @@ ghost use Rattle.std.specs.Prelude.{◌≡◌, ◌<◌, ◌++◌, ℕ, true, fal
 ghost use Rattle.std.specs.Option.{option_copied};
 ghost use Rattle.std.specs.Prelude.{MatchOption};
 ghost use Rattle.pardo_text.specs.Lawful.{AreArrays};
+ghost use Rattle.pardo_job.specs.Compiled.{IsWhole};
 ghost use Rattle.pardo_job.specs.Printed.{cell_text};
 ghost use Rattle.pardo_answers.specs.Language.{is_program};
+ghost use Rattle.pram_cost.specs.Costs.{IsCost, IsLength};
 ghost use Rattle.pram_fates.specs.Told.{line_in};
+ghost use Rattle.pram_job.specs.Job.{JobData};
+ghost use Rattle.pram_step.specs.Runs.{IsAnswer};
 ghost use Rattle.pram_commands.specs.Did.{writing};
 ghost use Rattle.pram_commands.specs.Inner.Hearing.{PutText};
 ghost use Rattle.pram_commands.specs.Inner.Refusals.{IsBadOrMemory, IsFaultOf};
 ghost use Rattle.pram_commands.specs.CellLists.{IsPlaceOf};
 ghost use Rattle.pram_commands.specs.Costs.{cost_words, spot_in};
-ghost use Rattle.pram_commands.specs.Names.{AreNames, IsMachines, line_at, told};
-ghost use Rattle.pram_commands.specs.Steps.{lines_of};
+ghost use Rattle.pram_commands.specs.Names.{AreNames, IsMachines, line_at, printed_answer};
+ghost use Rattle.pram_commands.specs.Steps.{numbers_told};
 ghost use Rattle.pram_commands.specs.Threads.{cell_words, or_number};
 
 use crate::places::{cell_at, place_text, push_told};
-use pardo_answers::{Ended, Names, is_program, plain_end, print_named, push_conflict};
-use pardo_job::{JobFault, JobKind, Refusal as ProgramRefusal, compile};
+use crate::sources::Spelled;
+use pardo_answers::{Names, is_program, print_named, push_conflict};
+use pardo_job::{Ended, JobFault, JobKind, Refusal as ProgramRefusal, compile, draft_in, finish};
 use pardo_text::{Array, PardoFault, PardoKind, Program};
-use pram_cost::{ByCells, CostNames, Meeting};
+use pram_cost::{ByCells, Cost, CostNames, Meeting, Tally, cost_of};
 use pram_fates::Origin;
 use pram_job::Job;
 use pram_run::{CellNames, Numbers};
@@ -46,7 +51,7 @@ impl Model for Naming {
 
     ghost use Rattle.std.specs.Coded.{codes};
     ghost use Rattle.pardo_text.specs.contracts.program.Program as a_program;
-    ghost use Rattle.pardo_answers.specs.contracts.ended.Ended as an_end;
+    ghost use Rattle.pardo_job.specs.contracts.ended.Ended as an_end;
 
     ghost coded = { Prim.hlevel (codes, a_program.the_row.coded, an_end.the_row.coded) };
 
@@ -81,33 +86,26 @@ impl Naming {
     }
 }
 
-/// What the answer of a job of so many steps is told by: by a program's names, or by cells.
-#[derive(Clone, Copy)]
-pub(crate) struct Words<'a> {
-    pub names: &'a Option<Naming>,
-    pub steps: u32,
-}
-
-impl CellNames for Words<'_> {
-    ghost words = { λ w. cell_words w.names.now };
+impl CellNames for Spelled {
+    ghost words = { λ spelled. cell_words spelled.names };
 
     fn header(&self) -> &str {
-        match self.names {
+        match &self.names {
             None => Numbers.header(),
             Some(_) => "step,place,value\n",
         }
     }
 
     fn push_cell(&self, text: &mut Vec<u8>, cell: u32) -> Result<(), AllocError> {
-        match self.names {
+        match &self.names {
             None => Numbers.push_cell(text, cell),
             Some(naming) => push_place(text, naming.program.arrays(), cell),
         }
     }
 }
 
-impl CostNames for Words<'_> {
-    ghost words = { λ w. cost_words w.names.now };
+impl CostNames for Spelled {
+    ghost words = { λ spelled. cost_words spelled.names };
 
     fn push_spot(
         &self,
@@ -115,19 +113,19 @@ impl CostNames for Words<'_> {
         text: &mut Vec<u8>,
         meeting: Meeting,
     ) -> Result<(), AllocError> {
-        match self.names {
+        match &self.names {
             None => ByCells.push_spot(alloc, text, meeting),
             Some(naming) => push_spot(alloc, text, naming, meeting),
         }
     }
 
     fn push_conflict(&self, text: &mut Vec<u8>, fault: Fault) -> Result<(), AllocError> {
-        match self.names {
+        match &self.names {
             None => ByCells.push_conflict(text, fault),
             Some(naming) => {
                 let names = Names {
                     program: &naming.program,
-                    steps: self.steps,
+                    steps: self.job.steps(),
                     lines: &naming.ended.lines,
                 };
                 push_conflict(text, &names, &fault)
@@ -188,7 +186,7 @@ pub(crate) fn read_text(alloc: Global, text: &[u8]) -> Result<(Job, Option<Namin
     }
 }
 
-// The same of a program.
+// The job of a program's text, and what its answers are told by.
 fn read_program(alloc: Global, text: &[u8]) -> Result<(Job, Naming), CommandFault>
     requires { is_program text.now ≡ true }
     ensures read { IfOk result (λ read. AreNames text.now read.0 (Some read.1)) }
@@ -198,8 +196,7 @@ fn read_program(alloc: Global, text: &[u8]) -> Result<(Job, Naming), CommandFaul
         Ok(given) => given,
         Err(refusal) => return Err(fault_of(refusal)),
     };
-    let (job, numbers) = compiled.into_parts();
-    let ended = plain_end(alloc, &job, numbers.as_slice())?;
+    let (job, numbers, ended) = compiled.into_parts();
     let naming = Naming {
         program,
         numbers,
@@ -208,7 +205,7 @@ fn read_program(alloc: Global, text: &[u8]) -> Result<(Job, Naming), CommandFaul
     Ok((job, naming))
 }
 
-// The same of a text of the machine.
+// The job of a text in the machine's language.
 fn read_machine(alloc: Global, text: &[u8]) -> Result<Job, CommandFault>
     requires { is_program text.now ≡ false }
     ensures read { IfOk result (IsMachines text.now) }
@@ -223,6 +220,64 @@ fn read_machine(alloc: Global, text: &[u8]) -> Result<Job, CommandFault>
             },
         ) => Err(CommandFault::Memory),
         Err(TextFault { line, kind }) => Err(CommandFault::Text { line, kind }),
+    }
+}
+
+/// The job of a text, what its answers are told by if it is a program, and what its run costs. A
+/// program is run once for all of it.
+pub(crate) fn read_costed(
+    alloc: Global,
+    text: &[u8],
+) -> Result<(Job, Option<Naming>, Cost), CommandFault>
+    ensures read { IfOk result (λ read. AreNames text.now read.0 read.1) }
+    ensures costs { IfOk result (λ read. IsCost read.0 read.2) }
+    ensures bad { IfErr result (IsBadOrMemory text.now) }
+{
+    if is_program(text) {
+        let (job, naming, cost) = cost_program(alloc, text)?;
+        Ok((job, Some(naming), cost))
+    } else {
+        let job = read_machine(alloc, text)?;
+        let cost = cost_of(alloc, &job)?;
+        Ok((job, None, cost))
+    }
+}
+
+// A program's job, what its answers are told by, and what its run costs.
+fn cost_program(alloc: Global, text: &[u8]) -> Result<(Job, Naming, Cost), CommandFault>
+    requires { is_program text.now ≡ true }
+    ensures read { IfOk result (λ read. AreNames text.now read.0 (Some read.1)) }
+    ensures costs { IfOk result (λ read. IsCost read.0 read.2) }
+    ensures bad { IfErr result (IsBadOrMemory text.now) }
+{
+    let draft = match draft_in(alloc, text) {
+        Ok(draft) => draft,
+        Err(refusal) => return Err(fault_of(refusal)),
+    };
+    let tally = Tally::new(alloc, &draft.job)?;
+    let (program, compiled, tally) = match finish(alloc, draft, tally) {
+        Ok(given) => given,
+        Err(fault) => return Err(fault_of(ProgramRefusal::Job(fault))),
+    };
+    let (job, numbers, ended) = compiled.into_parts();
+    let cost = tally.into_cost(conflict_of(&ended.answer));
+    let naming = Naming {
+        program,
+        numbers,
+        ended,
+    };
+    Ok((job, naming, cost))
+}
+
+// The conflict in which a job ends that has as many steps as it needs.
+fn conflict_of(answer: &RunAnswer) -> Option<Fault>
+    ensures { (job : JobData) → IsAnswer job answer.now → IsWhole job →
+        IsLength job job.steps result }
+{
+    match answer {
+        RunAnswer::Final(_) => None,
+        RunAnswer::Conflict(fault) => Some(*fault),
+        RunAnswer::Unfinished { .. } => None,
     }
 }
 
@@ -265,19 +320,34 @@ fn copy_of(alloc: Global, answer: &RunAnswer) -> Result<RunAnswer, AllocError>
 pub(crate) fn print_told<O: Sink>(
     alloc: Global,
     out: &mut O,
-    words: &Words<'_>,
+    spelled: &Spelled,
     answer: &RunAnswer,
 ) -> Result<(), PrintFault>
     requires { O.has_failed out.old ≡ false }
     ensures { PutText (writing O.Sink out.old out.new)
-        (told words.now.names.now answer.now words.now.steps) result }
+        (printed_answer spelled.now.names answer.now spelled.now.job.steps) result }
 {
-    match words.names {
-        None => print_answer(alloc, out, answer, words.steps),
+    print_by(alloc, out, &spelled.names, spelled.job.steps(), answer)
+}
+
+// Prints the answer of a job of so many steps by these names.
+fn print_by<O: Sink>(
+    alloc: Global,
+    out: &mut O,
+    names: &Option<Naming>,
+    steps: u32,
+    answer: &RunAnswer,
+) -> Result<(), PrintFault>
+    requires { O.has_failed out.old ≡ false }
+    ensures { PutText (writing O.Sink out.old out.new) (printed_answer names.now answer.now steps)
+        result }
+{
+    match names {
+        None => print_answer(alloc, out, answer, steps),
         Some(naming) => {
             let names = Names {
                 program: &naming.program,
-                steps: words.steps,
+                steps,
                 lines: &naming.ended.lines,
             };
             print_named(alloc, out, &names, answer)
@@ -296,9 +366,9 @@ pub(crate) fn origin_of<'a>(text: &'a [u8], names: &'a Option<Naming>) -> Origin
 }
 
 /// The numbers of the lines that the instructions of a program's job came from.
-pub(crate) fn lines_of(names: &Option<Naming>) -> Option<&[u64]>
-    ensures { option_copied result ≡ lines_of names.now }
+pub(crate) fn lines_of(spelled: &Spelled) -> Option<&[u64]>
+    ensures { option_copied result ≡ numbers_told spelled.now.names }
 {
-    let naming = names.as_ref()?;
+    let naming = spelled.names.as_ref()?;
     Some(naming.numbers.as_slice())
 }

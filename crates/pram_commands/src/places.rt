@@ -3,7 +3,7 @@ ghost use Rattle.std.specs.Prelude.{◌≡◌, ◌≢◌, ◌+◌, ◌<◌, ◌�
 ghost use Rattle.std.specs.Prelude.{codes, decimal, length, IfOk, OnOk, IsTrue, MatchOption};
 ghost use Rattle.pardo_text.specs.Lawful.{AreArrays};
 ghost use Rattle.pardo_job.specs.Printed.{cell_text, has_cell, place_text};
-ghost use Rattle.pram_commands.specs.Inner.Places.{IsTold, read_on, with_digit};
+ghost use Rattle.pram_commands.specs.Inner.Places.{IsPlaceText, read_on, with_digit};
 
 use pardo_answers::push_cell;
 use pardo_text::Array;
@@ -72,8 +72,8 @@ pub(crate) fn cell_at(
 ) -> Result<Option<u32>, AllocError>
     requires { AreArrays arrays.now 0 }
     ensures { IfOk result (λ found. MatchOption found
-        ((cell : ℕ) → cell < count → ¬ IsTold arrays.now place.now cell)
-        (λ cell. (cell < count) × IsTold arrays.now place.now cell)) }
+        ((cell : ℕ) → cell < count → ¬ IsPlaceText arrays.now place.now cell)
+        (λ cell. (cell < count) × IsPlaceText arrays.now place.now cell)) }
 {
     if place.is_empty() {
         return Ok(None);
@@ -86,7 +86,7 @@ pub(crate) fn cell_at(
     Ok(None)
 }
 
-// The same of the cells of one array.
+// The first cell of one array, below the count, whose place is told by this text.
 fn cell_of(
     alloc: Global,
     arrays: &[Array],

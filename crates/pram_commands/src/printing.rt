@@ -9,8 +9,9 @@ ghost use Rattle.pram_commands.specs.Inner.Watching.{HasPrintedAfter};
 ghost use Rattle.pram_commands.specs.Names.{AreNames};
 ghost use Rattle.pram_commands.specs.Threads.{cell_words};
 
-use crate::names::{Words, print_told};
-use crate::why::{Question, put_told};
+use crate::names::print_told;
+use crate::sources::Spelled;
+use crate::why::put_told;
 use pram_board::Seat;
 use pram_run::{Listener, Observation, Reads, Sight, print_reads};
 use pram_step::RunAnswer;
@@ -18,11 +19,13 @@ use pram_streams::{PrintFault, Sink};
 use std::alloc::{AllocError, Global};
 use stop_plan::Gate;
 
-/// Prints the answer to a question to an output, which it hands back with what came of that.
+/// Prints the answer of a job to an output, and if it is asked for what became of the processors. It
+/// hands the output back with what came of that.
 #[derive(Drop)]
 pub(crate) struct Printing<'a, O> {
     pub alloc: Global,
-    pub question: Question<'a>,
+    pub why: bool,
+    pub spelled: &'a Spelled,
     pub out: &'a mut O,
 }
 
@@ -30,32 +33,32 @@ impl<'a, O: Sink> Listener for Printing<'a, O> {
     type Heard = (&'a mut O, Result<(), PrintFault>);
 
     ghost can_hear = { λ p. (O.has_failed p.out.now ≡ false)
-        × AreNames p.question.text.now p.question.job.now p.question.names.now };
+        × AreNames p.spelled.now.text.items p.spelled.now.job p.spelled.now.names };
 
     ghost hears = { λ p ended heard. (heard.0.ghost_name ≡ p.out.ghost_name)
-        × HasToldEnd p.question.why p.question.text.now p.question.job.now
+        × HasToldEnd p.why p.spelled.now.text.items p.spelled.now.job
         (writing O.Sink p.out.now heard.0.now) ended heard.1 };
 
     fn hear(self, ended: &Result<RunAnswer, AllocError>) -> (&'a mut O, Result<(), PrintFault>) {
         let Printing {
             alloc,
-            question,
+            why,
+            spelled,
             out,
         } = self;
         let printed = match ended {
-            Ok(answer) => put_told(alloc, out, &question, answer),
+            Ok(answer) => put_told(alloc, out, why, spelled, answer),
             Err(AllocError) => Err(PrintFault::Memory),
         };
         (out, printed)
     }
 }
 
-/// Prints what a reader reads, and then the answer of a job in these words, unless printing has
-/// failed.
+/// Prints what a reader reads, and then the answer of a job, unless printing has failed.
 #[derive(Drop)]
 pub(crate) struct PrintingReads<'a, O> {
     pub alloc: Global,
-    pub words: Words<'a>,
+    pub spelled: &'a Spelled,
     pub out: &'a mut O,
     pub printed: Result<(), PrintFault>,
 }
@@ -66,18 +69,18 @@ impl<'a, O: Sink> Listener for PrintingReads<'a, O> {
     ghost can_hear = { λ p. IsTrue (O.has_failed p.out.now) ↔ IsErrOf p.printed Device };
 
     ghost hears = { λ p ended heard. (heard.0.ghost_name ≡ p.out.ghost_name)
-        × HasPrintedAfter p.printed (writing O.Sink p.out.now heard.0.now) p.words.names.now
-        p.words.steps ended heard.1 };
+        × HasPrintedAfter p.printed (writing O.Sink p.out.now heard.0.now) p.spelled.now.names
+        p.spelled.now.job.steps ended heard.1 };
 
     fn hear(self, ended: &Result<RunAnswer, AllocError>) -> (&'a mut O, Result<(), PrintFault>) {
         let PrintingReads {
             alloc,
-            words,
+            spelled,
             out,
             printed,
         } = self;
         let printed = match printed {
-            Ok(()) => print_end(alloc, out, &words, ended),
+            Ok(()) => print_end(alloc, out, spelled, ended),
             Err(fault) => Err(fault),
         };
         (out, printed)
@@ -88,8 +91,8 @@ impl<O: Sink> Reads for PrintingReads<'_, O> {
     ghost can_read = { λ p. O.has_failed p.out.now ≡ false };
 
     ghost reads = { λ p task cells rounds given later after.
-        (after.out.ghost_name ≡ p.out.ghost_name) × (after.words ≡ p.words)
-        × PutWatch (cell_words p.words.names.now) task cells rounds given later
+        (after.out.ghost_name ≡ p.out.ghost_name) × (after.spelled ≡ p.spelled)
+        × PutWatch (cell_words p.spelled.now.names) task cells rounds given later
         (O.taken p.out.now) (O.taken after.out.now) after.printed
         × (IsTrue (O.has_failed after.out.now) ↔ IsErrOf after.printed Device) };
 
@@ -101,33 +104,33 @@ impl<O: Sink> Reads for PrintingReads<'_, O> {
     ) -> Self {
         let PrintingReads {
             alloc,
-            words,
+            spelled,
             out,
             ..
         } = self;
-        let printed = print_reads(observation, seat, sights, out, &words);
+        let printed = print_reads(observation, seat, sights, out, spelled);
         PrintingReads {
             alloc,
-            words,
+            spelled,
             out,
             printed,
         }
     }
 }
 
-// Prints the answer of a job in these words.
+// Prints the answer of a job.
 fn print_end<O: Sink>(
     alloc: Global,
     out: &mut O,
-    words: &Words<'_>,
+    spelled: &Spelled,
     ended: &Result<RunAnswer, AllocError>,
 ) -> Result<(), PrintFault>
     requires { O.has_failed out.old ≡ false }
-    ensures { HasPrinted (writing O.Sink out.old out.new) words.now.names.now words.now.steps
+    ensures { HasPrinted (writing O.Sink out.old out.new) spelled.now.names spelled.now.job.steps
         ended.now result }
 {
     match ended {
-        Ok(answer) => print_told(alloc, out, words, answer),
+        Ok(answer) => print_told(alloc, out, spelled, answer),
         Err(AllocError) => Err(PrintFault::Memory),
     }
 }

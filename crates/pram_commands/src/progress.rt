@@ -34,7 +34,7 @@ impl fmt::Display for ProgressLine {
     }
 }
 
-/// The same line over the one before it.
+/// A line of progress that is written over the one before it.
 #[derive(Clone, Copy, Debug, PartialEq, Eq)]
 struct Rewritten(ProgressLine);
 
@@ -76,8 +76,8 @@ impl Teller {
         self.done.store(true, Ordering::SeqCst);
     }
 
-    /// The same, before an answer is printed: a line that is rewritten has to be wiped first. It
-    /// waits for that a fifth of a second at most, since standard error may be held up.
+    /// The work is done, and an answer is printed next: a line that is rewritten has to be wiped
+    /// first. It waits for that a fifth of a second at most, since standard error may be held up.
     pub fn end<R: Clock>(&self, rt: &R) {
         self.stop();
         if self.telling != Telling::OneLine {

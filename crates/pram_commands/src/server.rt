@@ -3,12 +3,12 @@ ghost use Rattle.std.specs.Prelude.{◌≡◌, ◌⊎◌, false, IfOk, IfErr};
 ghost use Rattle.pram_commands.specs.Did.{writing};
 ghost use Rattle.refusals.specs.Faults.{fault_status};
 ghost use Rattle.pram_commands.specs.Inputs.{AreReady, reading};
-ghost use Rattle.command_data.specs.Line.{StartsNoThread};
+ghost use Rattle.command_data.specs.declared.line.Ask.TheVariants.{Alone};
 ghost use Rattle.pram_commands.specs.Served.{Served};
 
 use crate::commands::{do_alone, do_on_threads};
 use crate::sources::{Console, Sources};
-use command_data::Line;
+use command_data::{Ask, AskAlone, Line};
 use pram_streams::{Sink, Source};
 use refusals::{CommandFault, Explanation, MEMORY, Reasons, tell_fault};
 use std::alloc::Global;
@@ -33,27 +33,30 @@ pub fn serve<R: Threads + Wait + Clock + Eprint + Sync, J: Source, P: Source, O:
     ensures { Served line.now (reading J.Source P.Source sources.old sources.new)
         (writing O.Sink console.old.out console.new.out) result }
 {
-    if line.starts_no_thread() {
-        return serve_alone(alloc, line, sources, console);
+    match line.ask {
+        Ask::Alone(ask) => serve_alone(alloc, line, ask, sources, console),
+        Ask::OnThreads(ask) => {
+            let done = do_on_threads(rt, alloc, ask, sources, &mut console.out);
+            status_after(alloc, line, done, reasons_of(sources), console)
+        }
     }
-    let done = do_on_threads(rt, alloc, line, sources, &mut console.out);
-    status_after(alloc, line, done, reasons_of(sources), console)
 }
 
-/// Does what `serve` does for a line that starts no thread, and always returns.
+/// Does what `serve` does where the thread that calls is asked alone, and always returns.
 pub fn serve_alone<J: Source, P: Source, O: Sink, E: Sink>(
     alloc: Global,
     line: &Line<'_>,
+    ask: AskAlone,
     sources: &mut Sources<J, P>,
     console: &mut Console<O, E>,
 ) -> u8
-    requires alone { StartsNoThread line.now }
+    requires alone { line.now.ask ≡ Alone ask }
     requires ready { AreReady J.Source P.Source O.Sink sources.old console.old.out }
     requires err { E.has_failed console.old.err ≡ false }
     ensures { Served line.now (reading J.Source P.Source sources.old sources.new)
         (writing O.Sink console.old.out console.new.out) result }
 {
-    let done = do_alone(alloc, line, sources, &mut console.out);
+    let done = do_alone(alloc, ask, sources, &mut console.out);
     status_after(alloc, line, done, reasons_of(sources), console)
 }
 

@@ -12,13 +12,18 @@ pub struct Sources<J, P> {
     pub plan: P,
 }
 
-/// A job with its text, what its answers are told by where that is a program, and a plan for its
-/// workers.
+/// A text with its job, and what the job's answers are told by where the text is a program.
 #[derive(Drop)]
-pub struct Inputs {
+pub struct Spelled {
     pub text: Vec<u8>,
     pub job: Job,
     pub names: Option<Naming>,
+}
+
+/// A text with its job, and a plan for workers.
+#[derive(Drop)]
+pub struct Inputs {
+    pub spelled: Spelled,
     pub plan: Plan,
     pub ghost some: { 1 ≤ plan.workers },
     pub ghost most: { plan.workers ≤ 64 },

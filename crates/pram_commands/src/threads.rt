@@ -27,7 +27,7 @@ pub(crate) struct Watched<'a> {
     pub inputs: &'a Inputs,
     pub cells: &'a [u32],
     pub rounds: u32,
-    pub ghost within: { All (λ cell. cell < inputs.now.job.cells) cells.now },
+    pub ghost within: { All (λ cell. cell < inputs.now.spelled.job.cells) cells.now },
 }
 
 // The gate whose passes each take so many microseconds.
@@ -39,14 +39,14 @@ fn paced<R: Clock>(rt: &R, micros: u32) -> Paced<'_, R>
 
 // A new board with blocks of this size, or of the size that the board chooses.
 fn open(alloc: Global, inputs: &Inputs, block: Option<Block>) -> Result<(Board, Seat), AllocError>
-    ensures { IfOk result (IsOpened inputs.now.job
-        (Wide (grain_by block inputs.now.job.procs))
+    ensures { IfOk result (IsOpened inputs.now.spelled.job
+        (Wide (grain_by block inputs.now.spelled.job.procs))
         inputs.now.plan.workers) }
 {
     let workers = inputs.plan.workers();
     match block {
-        Some(block) => Board::open_with_blocks(alloc, &inputs.job, workers, block.size()),
-        None => Board::open_wide(alloc, &inputs.job, workers),
+        Some(block) => Board::open_with_blocks(alloc, &inputs.spelled.job, workers, block.size()),
+        None => Board::open_wide(alloc, &inputs.spelled.job, workers),
     }
 }
 
@@ -70,7 +70,7 @@ pub(crate) fn run_job<R: Threads + Wait + Clock + Eprint + Sync, H, P: Reads<Hea
         let heard = reader.hear(&Err(AllocError));
         return (Err(AllocError), heard);
     };
-    let teller = Teller::new(manner.progress, inputs.job.steps());
+    let teller = Teller::new(manner.progress, inputs.spelled.job.steps());
     let execution = Execution {
         alloc,
         inputs,
@@ -105,13 +105,13 @@ struct Execution<'a> {
     cells: &'a [u32],
     rounds: u32,
     piece: usize,
-    ghost opened: { board.now.task.job ≡ inputs.now.job },
+    ghost opened: { board.now.task.job ≡ inputs.now.spelled.job },
     ghost workers: { board.now.task.layout.workers ≡ inputs.now.plan.workers },
     ghost steps: { teller.now.steps ≡ board.now.task.job.steps },
-    ghost within: { All (λ cell. cell < inputs.now.job.cells) cells.now },
+    ghost within: { All (λ cell. cell < inputs.now.spelled.job.cells) cells.now },
 }
 
-// The same on a new board, past a gate, beside its teller.
+// Runs the plan's workers on a new board, past a gate, beside the teller and the reader.
 fn run_past<R: Threads + Wait + Clock + Eprint + Sync, G: Gate + Sync, H, P: Reads<Heard = H>>(
     rt: &R,
     execution: &Execution<'_>,
@@ -119,7 +119,7 @@ fn run_past<R: Threads + Wait + Clock + Eprint + Sync, G: Gate + Sync, H, P: Rea
     seat: Seat,
     reader: P,
 ) -> (Result<RunAnswer, AllocError>, H)
-    requires opened { IsNewBoard execution.now.inputs.now.job execution.now.inputs.now.plan
+    requires opened { IsNewBoard execution.now.inputs.now.spelled.job execution.now.inputs.now.plan
         (execution.now.board.now, seat) }
     requires reader { P.can_read reader }
     requires listener { P.can_hear reader }
@@ -130,7 +130,7 @@ fn run_past<R: Threads + Wait + Clock + Eprint + Sync, G: Gate + Sync, H, P: Rea
         thread::scope_env(),
         rt,
         |scope| -> (Result<RunAnswer, AllocError>, H)
-            requires opened { IsNewBoard execution.now.inputs.now.job
+            requires opened { IsNewBoard execution.now.inputs.now.spelled.job
                 execution.now.inputs.now.plan (execution.now.board.now, seat) }
             requires reader { P.can_read reader }
             requires listener { P.can_hear reader }
@@ -141,7 +141,7 @@ fn run_past<R: Threads + Wait + Clock + Eprint + Sync, G: Gate + Sync, H, P: Rea
             let (board, teller) = (execution.board, execution.teller);
             let observation = Observation {
                 assignment: Assignment {
-                    job: &execution.inputs.job,
+                    job: &execution.inputs.spelled.job,
                     board,
                     plan: &execution.inputs.plan,
                     gate,

@@ -13,7 +13,8 @@ use Rattle.pram_job.specs.Job.{JobData}
 use Rattle.pram_cost.specs.declared.meeting.Sharing.{Sharing}
 use Rattle.pram_cost.specs.declared.meeting.Sharing.TheVariants.{SameRead, SameWrite, OtherValue}
 use Rattle.pram_machine.specs.declared.requests.Request.{Request}
-use Rattle.pram_cost.specs.Accesses.{is_running, cell_by, put_to_cell, write_by}
+use Rattle.pram_cost.specs.Accesses.{cell_by, put_to_cell, write_by}
+use Rattle.pram_step.specs.Running.{is_running}
 use Rattle.pram_cost.specs.declared.found.Access.{Access}
 use Rattle.pram_cost.specs.Costs.{has_access}
 use Rattle.pram_cost.specs.Inner.Found.{access_at, AreAccesses}

@@ -1,62 +1,44 @@
 -- What a run costs, when it ends.
-use Rattle.std.proofs.Common.{◌≡◌, ℕ, ◌+◌, ◌<◌, Option, Some, None, sym, subst}
-use Rattle.std.proofs.Common.{◌∙◌, arith}
-use Rattle.std.specs.Prelude.{IsNone}
+use Rattle.std.proofs.Common.{◌≡◌, ℕ, Option, Some, None, refl, sym, subst}
 use Rattle.pram_job.specs.Job.{JobData}
 use Rattle.pram_step.specs.declared.answer.Fault.{Fault}
-use Rattle.pram_step.specs.Arrivals.{IsStepMade}
 use Rattle.pram_machine.specs.Machine.{State}
-use Rattle.pram_step.specs.Runs.{IsFirstConflict, IsReached, IsStateAfter}
+use Rattle.pram_step.specs.declared.walks.Walked.{Walked}
+use Rattle.pram_step.specs.declared.walks.Walked.TheVariants.{Through, Disputed}
+use Rattle.pram_step.specs.Walks.{IsWalked, begun}
 use Rattle.pram_cost.specs.declared.cost.Cost.{Cost}
+use Rattle.pram_cost.specs.declared.cost.Tally.{Tally}
 use Rattle.pram_cost.specs.Costs.{IsCostOf, IsLength, IsCost}
-use Rattle.pram_cost.specs.Inner.Repeats.{AllStay}
-use Rattle.pram_cost.proofs.Staying.{stay_later}
+use Rattle.pram_cost.specs.Tallies.{HasCounted}
+use Rattle.pram_cost.proofs.Sized.{cost_same}
 
-length_done : (job : JobData) (n : ℕ) (conflict : Option Fault) → IsNone conflict →
-    n ≡ job.steps → IsReached job n → IsLength job n conflict
-length_done job n None none is reached = (is, reached)
-length_done job n (Some fault) none is reached = absurd (cc)
-
--- of all its steps
-pub cost_done : (job : JobData) (n : ℕ) (cost : Cost) → IsCostOf job n cost →
-    IsNone cost.conflict → n ≡ job.steps → IsReached job n → IsCost job cost
-cost_done job n cost is none all reached =
-    let e = sym is.steps_are in
+-- by what was counted on a job with some number of steps
+pub counted_cost : (tally : Tally) (conflict : Option Fault) (job : JobData) (n steps : ℕ) →
+    HasCounted (record job { steps = n }) steps tally → IsLength job steps conflict →
+    IsCost job (record tally.cost { conflict = conflict })
+counted_cost tally conflict job n steps counted length =
+    let is = cost_same job n steps tally.cost counted.cost in
     record {
-      length_is = length_done job cost.steps cost.conflict none (is.steps_are ∙ all)
-          (subst (λ (k : ℕ). IsReached job k) e reached);
-      cost_is = subst (λ (k : ℕ). IsCostOf job k cost) e is;
+      length_is = subst (λ (k : ℕ). IsLength job k conflict) (sym is.steps_are) length;
+      cost_is = subst (λ (k : ℕ). IsCostOf job k (record tally.cost { conflict = conflict }))
+          (sym is.steps_are) (record {
+            steps_are = is.steps_are;
+            procs_are = is.procs_are;
+            work_is = is.work_is;
+            first_are = is.first_are;
+          });
     }
 
--- the rest of them changing nothing
-pub cost_stays : (job : JobData) (t times : ℕ) (s : State) (cost : Cost) →
-    IsStateAfter job t s → AllStay job s → IsCostOf job (t + times) cost → IsNone cost.conflict →
-    t + times ≡ job.steps → IsCost job cost
-cost_stays job t times s cost after stay is none all =
-    cost_done job (t + times) cost is none all (stay_later job t times s after stay).reached
+-- where a walk came through all its steps, and where to a conflict
+pub length_through : (job : JobData) (walked : Walked) (state : State) → walked ≡ Through state →
+    IsWalked job job.steps walked → IsLength job (begun job.steps walked) None
+length_through job walked state is walk =
+    subst (λ w. IsLength job (begun job.steps w) None) (sym is)
+    (refl, (subst (IsWalked job job.steps) is walk).reached)
 
--- up to a conflict
-pub cost_disputed : (job : JobData) (t : ℕ) (cost : Cost) (fault : Fault) →
-    IsCostOf job (t + 1) cost → IsFirstConflict job fault → fault.step ≡ t + 1 → t < job.steps →
-    IsCost job (record cost { conflict = Some fault })
-cost_disputed job t cost fault is first step within = record {
-  length_is = (is.steps_are ∙ sym step, record { first = first; within = omega arith });
-  cost_is = subst (λ (k : ℕ). IsCostOf job k (record cost { conflict = Some fault }))
-      (sym is.steps_are) (record {
-        steps_are = is.steps_are;
-        procs_are = is.procs_are;
-        work_is = is.work_is;
-        first_are = is.first_are;
-      });
-}
-
-pub disputed : (job : JobData) (t : ℕ) (s : State) (made : Option Fault) (fault : Fault) →
-    made ≡ Some fault → IsStepMade job t s made →
-    IsFirstConflict job fault × (fault.step ≡ t + 1)
-disputed job t s made fault is = subst (λ (o : Option Fault). IsStepMade job t s o →
-    IsFirstConflict job fault × (fault.step ≡ t + 1)) (sym is) (λ step. step)
-
-pub undisputed : (job : JobData) (t : ℕ) (s : State) (made : Option Fault) → made ≡ None →
-    IsStepMade job t s made → IsStateAfter job (t + 1) s
-undisputed job t s made is = subst (λ (o : Option Fault). IsStepMade job t s o →
-    IsStateAfter job (t + 1) s) (sym is) (λ after. after)
+pub length_disputed : (job : JobData) (walked : Walked) (fault : Fault) → walked ≡ Disputed fault →
+    IsWalked job job.steps walked → IsLength job (begun job.steps walked) (Some fault)
+length_disputed job walked fault is walk =
+    let found = subst (IsWalked job job.steps) is walk in
+    subst (λ w. IsLength job (begun job.steps w) (Some fault)) (sym is)
+    (refl, record { first = found.0; within = found.1 })

@@ -15,7 +15,7 @@ use Rattle.pram_cost.specs.declared.found.Access.{Access}
 use Rattle.pram_cost.specs.declared.found.Accesses.{Accesses}
 use Rattle.pram_cost.specs.declared.meeting.Sharing.{Sharing}
 use Rattle.pram_cost.specs.declared.meeting.Sharing.TheVariants.{SameRead, SameWrite, OtherValue}
-use Rattle.pram_cost.specs.Accesses.{is_running}
+use Rattle.pram_step.specs.Running.{is_running}
 use Rattle.pram_cost.specs.Inner.Found.{IsAccess, AreAccesses, AreFound, IsVisit, of_kind}
 use Rattle.pram_cost.specs.Meetings.{access_by}
 use Rattle.pram_cost.proofs.Accessing.{idle_access}

@@ -13,7 +13,8 @@ use Rattle.std.proofs.Math.Nat.{mul-le-mul_left}
 use Rattle.pram_job.specs.Job.{JobData, IsJob}
 use Rattle.pram_cost.specs.declared.meeting.Sharing.{Sharing}
 use Rattle.pram_cost.specs.declared.pram.Pram.TheVariants.{Erew}
-use Rattle.pram_cost.specs.Accesses.{is_running, running_in}
+use Rattle.pram_cost.specs.Accesses.{running_in}
+use Rattle.pram_step.specs.Running.{is_running}
 use Rattle.pram_cost.specs.Costs.{at_work, has_access, first_states, executed, steps_with}
 use Rattle.pram_machine.specs.Machine.{AllStopped}
 use Rattle.pram_machine.specs.Machine.{State, counter, halted}
@@ -47,17 +48,16 @@ steps_within sharing job n = omega (
 
 -- so their number fits, with those of some more equal steps
 pub executed_fits : (job : JobData) (s : State) (n times : ℕ) → IsJob job →
-    n + times ≤ job.steps → executed job n + times * at_work job s < 2 ^ 64
+    n + times < 2 ^ 32 → executed job n + times * at_work job s < 2 ^ 64
 executed_fits job s n times is_job within =
     let few = is_job.procs.1 in
-    let short = is_job.steps in
     let before = within_product job n in
     let each = mul-le-mul_left times (at_most_all job s) in
     let whole = mul-le (n + times) job.procs (2 ^ 32) 1024 (omega arith) (omega arith) in
     omega (arith, before, each, whole)
 
 pub work_fits : (job : JobData) (s : State) (n times times' running before : ℕ) → IsJob job →
-    n + times ≤ job.steps → times' ≡ times → running ≡ at_work job s → before ≡ executed job n →
+    n + times < 2 ^ 32 → times' ≡ times → running ≡ at_work job s → before ≡ executed job n →
     before + times' * running < 2 ^ 64
 work_fits job s n times times' running before is_job within same runs is =
     let fits = executed_fits job s n times is_job within in
@@ -65,14 +65,12 @@ work_fits job s n times times' running before is_job within same runs is =
     omega (arith, fits, e, is)
 
 pub count_fits : (sharing : Sharing) (job : JobData) (n times before more : ℕ) (b : Bool) →
-    IsJob job → n + times ≤ job.steps → before ≡ steps_with sharing job n →
+    n + times < 2 ^ 32 → before ≡ steps_with sharing job n →
     more ≡ cond b times 0 → before + more < 2 ^ 32
-count_fits sharing job n times before more true is_job within is all =
-    let few = steps_within sharing job n in
-    let short = is_job.steps in omega arith
-count_fits sharing job n times before more false is_job within is none =
-    let few = steps_within sharing job n in
-    let short = is_job.steps in omega arith
+count_fits sharing job n times before more true within is all =
+    let few = steps_within sharing job n in omega arith
+count_fits sharing job n times before more false within is none =
+    let few = steps_within sharing job n in omega arith
 
 -- ---- a stopped machine
 

@@ -13,9 +13,10 @@ use Rattle.pram_cost.specs.Accesses.{write_by}
 use Rattle.pram_machine.specs.Instructions.{request_in, requests_in}
 use Rattle.pram_machine.specs.Machine.{State}
 use Rattle.pram_cost.specs.Meetings.{MeetIn}
-use Rattle.pram_cost.specs.Models.{strength, Accepts, AcceptsSteps, IsNeeded}
+use Rattle.pram_cost.specs.Models.{strength, Accepts, AcceptsSteps, IsWeakestModel}
 use Rattle.pram_step.specs.Runs.{IsReached, state_after}
-use Rattle.pram_step.specs.Steps.{Writes, Forbids, Clashes, Agrees}
+use Rattle.pram_step.specs.Disputes.{Forbids}
+use Rattle.pram_step.specs.Steps.{Writes, Clashes, Agrees}
 use Rattle.pram_cost.proofs.Accessing.{write_is, write_from}
 use Rattle.pram_step.proofs.LawPlaces.{writer_is}
 use Rattle.pram_step.proofs.LawRules.{asked_same, writes_same}
@@ -45,8 +46,8 @@ same_strength CommonCrcw CommonCrcw e = refl
 same_strength PriorityCrcw PriorityCrcw e = refl
 same_strength _ _ e = absurd (omega arith)
 
-pub one_model : (job : JobData) (n : ℕ) (pram other : Pram) → IsNeeded job n pram →
-    IsNeeded job n other → pram ≡ other
+pub one_model : (job : JobData) (n : ℕ) (pram other : Pram) → IsWeakestModel job n pram →
+    IsWeakestModel job n other → pram ≡ other
 one_model job n pram other a b =
     let le = a.weakest other b.accepts in
     let ge = b.weakest pram a.accepts in
@@ -90,9 +91,8 @@ clash_of_met job r s cell i j v w lt lt' a b forbidden =
     record {
       value = v;
       other = w;
-      is_cell = first.0;
-      writes = first.1;
-      writes_too = second.1;
+      writes = first;
+      writes_too = second;
       forbidden = forbidden;
     }
 
@@ -101,8 +101,8 @@ clash_of_met job r s cell i j v w lt lt' a b forbidden =
 crew_agrees_of : (job : JobData) (s : State) → Accepts Crew job s →
     Agrees (record job { rule = rule.Crew }) (requests_in job s)
 crew_agrees_of job s accepts cell i j c =
-    let a = write_of_writes job rule.Crew s cell i c.value c.is_cell c.writes in
-    let b = write_of_writes job rule.Crew s cell j c.other c.is_cell c.writes_too in
+    let a = write_of_writes job rule.Crew s cell i c.value c.writes.0 c.writes.1 in
+    let b = write_of_writes job rule.Crew s cell j c.other c.writes_too.0 c.writes_too.1 in
     let met : MeetIn SameWrite job s cell i j = record {
       value = c.value;
       other = c.other;
@@ -132,8 +132,8 @@ crew_accepts_of job s agrees OtherValue cell i j met =
 common_agrees_of : (job : JobData) (s : State) → Accepts CommonCrcw job s →
     Agrees (record job { rule = rule.Common }) (requests_in job s)
 common_agrees_of job s accepts cell i j c =
-    let a = write_of_writes job rule.Common s cell i c.value c.is_cell c.writes in
-    let b = write_of_writes job rule.Common s cell j c.other c.is_cell c.writes_too in
+    let a = write_of_writes job rule.Common s cell i c.value c.writes.0 c.writes.1 in
+    let b = write_of_writes job rule.Common s cell j c.other c.writes_too.0 c.writes_too.1 in
     let met : MeetIn OtherValue job s cell i j = record {
       value = c.value;
       other = c.other;

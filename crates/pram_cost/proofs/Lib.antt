@@ -3,7 +3,6 @@ pub mod Accessing
 pub mod Visiting
 pub mod Finding
 pub mod Searching
-pub mod Staying
 pub mod Meets
 pub mod Repeated
 pub mod LawModels
@@ -11,3 +10,4 @@ pub mod LawCosts
 pub mod LawOne
 pub mod Needed
 pub mod Ending
+pub mod Sized

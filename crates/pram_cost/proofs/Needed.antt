@@ -10,7 +10,7 @@ use Rattle.pram_cost.specs.declared.pram.Pram.{Pram}
 use Rattle.pram_cost.specs.declared.pram.Pram.TheVariants.{Erew, Crew, CommonCrcw, PriorityCrcw}
 use Rattle.pram_cost.specs.Costs.{AreFirst}
 use Rattle.pram_cost.specs.Meetings.{IsFirstOrNone, NoneMeetIn}
-use Rattle.pram_cost.specs.Models.{strength, weakest_for, AcceptsSteps, IsNeeded}
+use Rattle.pram_cost.specs.Models.{strength, weakest_for, AcceptsSteps, IsWeakestModel}
 use Rattle.pram_step.specs.Runs.{state_after}
 use Rattle.pram_cost.proofs.LawModels.{priority_accepts}
 
@@ -31,7 +31,7 @@ module _ (job : JobData) (n : ℕ) (sharing : Sharing) where
   none_meet (Some meeting) none is = absurd (cc)
 
 module _ (job : JobData) (n : ℕ) (meetings : Meetings) (first : AreFirst job n meetings) where
-  pub needs_priority : is_some meetings.other_value ≡ true → IsNeeded job n PriorityCrcw
+  pub needs_priority : is_some meetings.other_value ≡ true → IsWeakestModel job n PriorityCrcw
   needs_priority values = record {
     accepts = λ t lt. priority_accepts job (state_after job t);
     weakest = rules_out job n OtherValue meetings.other_value values first.other_value;
@@ -46,7 +46,7 @@ module _ (job : JobData) (n : ℕ) (meetings : Meetings) (first : AreFirst job n
     common_accepts t lt SameWrite cell i j met = omega arith
     common_accepts t lt OtherValue cell i j met = absurd (no_values t lt cell i j met)
 
-    pub needs_common : is_some meetings.same_write ≡ true → IsNeeded job n CommonCrcw
+    pub needs_common : is_some meetings.same_write ≡ true → IsWeakestModel job n CommonCrcw
     needs_common writes = record {
       accepts = common_accepts;
       weakest = rules_out job n SameWrite meetings.same_write writes first.same_write;
@@ -61,7 +61,7 @@ module _ (job : JobData) (n : ℕ) (meetings : Meetings) (first : AreFirst job n
       crew_accepts t lt SameWrite cell i j met = absurd (no_writes t lt cell i j met)
       crew_accepts t lt OtherValue cell i j met = absurd (no_values t lt cell i j met)
 
-      pub needs_crew : is_some meetings.same_read ≡ true → IsNeeded job n Crew
+      pub needs_crew : is_some meetings.same_read ≡ true → IsWeakestModel job n Crew
       needs_crew reads = record {
         accepts = crew_accepts;
         weakest = rules_out job n SameRead meetings.same_read reads first.same_read;
@@ -73,6 +73,6 @@ module _ (job : JobData) (n : ℕ) (meetings : Meetings) (first : AreFirst job n
       erew_accepts reads t lt SameWrite cell i j met = absurd (no_writes t lt cell i j met)
       erew_accepts reads t lt OtherValue cell i j met = absurd (no_values t lt cell i j met)
 
-      pub needs_erew : is_some meetings.same_read ≡ false → IsNeeded job n Erew
+      pub needs_erew : is_some meetings.same_read ≡ false → IsWeakestModel job n Erew
       needs_erew reads =
           record { accepts = erew_accepts reads; weakest = λ other accepts. omega arith }

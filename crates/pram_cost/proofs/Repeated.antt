@@ -14,7 +14,7 @@ use Rattle.pram_cost.specs.declared.work.Work.{Work}
 use Rattle.pram_cost.specs.Accesses.{write_by}
 use Rattle.pram_cost.specs.Costs.{at_work, has_access, executed, steps_with, first_states}
 use Rattle.pram_cost.specs.Costs.{IsMost, IsWork}
-use Rattle.pram_cost.specs.Inner.Repeats.{Repeats}
+use Rattle.pram_step.specs.Running.{Repeats}
 use Rattle.pram_cost.specs.Inner.Seen.{IsOfStep}
 use Rattle.pram_machine.specs.Machine.{State, counter}
 use Rattle.pram_cost.specs.Meetings.{access_by, NoneMeetIn, IsLeastOrNone}

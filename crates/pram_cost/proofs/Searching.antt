@@ -13,7 +13,7 @@ use Rattle.pram_cost.specs.declared.found.Access.{Access}
 use Rattle.pram_cost.specs.declared.meeting.Meeting.{Meeting}
 use Rattle.pram_cost.specs.declared.meeting.Sharing.{Sharing}
 use Rattle.pram_cost.specs.Inner.Found.{access_at, AreAccesses}
-use Rattle.pram_cost.specs.Inner.Seen.{GoesBefore, goer, HasLooked, HasSearched, MarkLeast}
+use Rattle.pram_cost.specs.Inner.Seen.{GoesBefore, goer, HasLookedAt, HasSearched, MarkLeast}
 use Rattle.pram_cost.specs.Meetings.{access_by, Differ, IsLeastOrNone}
 use Rattle.pram_cost.proofs.Meets.{least_past, marked_past, least_of_none, marked_of_none}
 use Rattle.pram_cost.proofs.Meets.{least_first_there, marked_first_there, marked_lost}
@@ -140,8 +140,8 @@ module _ (sharing : Sharing) (job : JobData) (s : State) (step : ℕ) (list : Li
     (are : AreAccesses job.cells (access_by sharing job s) job.procs list) where
   -- one more processor goes to no cell
   looked_idle : (marks : List ℕ) (found : Option Meeting) (i : ℕ) → i < job.procs →
-      access_by sharing job s i ≡ None → HasLooked sharing job s step i marks found →
-      HasLooked sharing job s step (i + 1) marks found
+      access_by sharing job s i ≡ None → HasLookedAt sharing job s step i marks found →
+      HasLookedAt sharing job s step (i + 1) marks found
   looked_idle marks found i low none looked =
       let access = access_by sharing job s in
       let idle : (j : ℕ) → i ≤ j → j < i + 1 → access j ≡ None = λ j from below.
@@ -158,7 +158,7 @@ module _ (sharing : Sharing) (job : JobData) (s : State) (step : ℕ) (list : Li
       let marks' = map (goer job.procs list) marks in
       let none : (i : ℕ) → 0 ≤ i → i < 0 → access i ≡ None = λ i from below. absurd (omega arith) in
       search_first job.cells job.procs access list are
-      (λ n. HasLooked sharing job s step n marks' None) (looked_idle marks' None)
+      (λ n. HasLookedAt sharing job s step n marks' None) (looked_idle marks' None)
       (record {
         marked = marked_of_none sharing access 0 marks' none;
         least = least_of_none sharing access 0 none;
@@ -185,11 +185,11 @@ module _ (sharing : Sharing) (job : JobData) (s : State) (step : ℕ) (list : Li
     mark = get_or marks here.cell 0
 
     searched_next : (marks' : List ℕ) (found' : Option Meeting) →
-        HasLooked sharing job s step (goers k + 1) (map goers marks') found' →
+        HasLookedAt sharing job s step (goers k + 1) (map goers marks') found' →
         HasSearched sharing job s step list (k + 1) marks' found'
     searched_next marks' found' after =
         search_next job.cells job.procs (access_by sharing job s) list are
-        (λ n. HasLooked sharing job s step n (map goers marks') found')
+        (λ n. HasLookedAt sharing job s step n (map goers marks') found')
         (looked_idle (map goers marks') found') k inside after
 
     goes_here : access_by sharing job s (goers k) ≡ Some (here.cell, here.value)

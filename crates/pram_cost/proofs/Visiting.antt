@@ -20,7 +20,8 @@ use Rattle.pram_machine.specs.Turns.{put_of, IsSorted}
 use Rattle.pram_machine.proofs.Shapes.{request_by}
 use Rattle.pram_cost.specs.declared.access.Visit.TheVariants.{Stopped, Elsewhere, Reads, Writes}
 use Rattle.pram_cost.specs.declared.meeting.Sharing.TheVariants.{SameRead, SameWrite}
-use Rattle.pram_cost.specs.Accesses.{is_running, cell_by, put_to_cell, read_by, write_by}
+use Rattle.pram_cost.specs.Accesses.{cell_by, put_to_cell, cell_read_by, write_by}
+use Rattle.pram_step.specs.Running.{is_running}
 use Rattle.pram_cost.specs.Inner.Found.{IsVisit}
 use Rattle.pram_cost.specs.Meetings.{access_by}
 use Rattle.pram_cost.proofs.Accessing.{idle_access}
@@ -91,7 +92,7 @@ module _ (job : JobData) (s : State) (i : ℕ) (instr : Instr)
   runs_there =
       lt-ltb (counter job s i) (halted job) (slice_get_within job.code (counter job s i) instr at)
 
-  no_read : ((r : ℕ) (place : Place) → instr ≡ Ld r place → ⊥) → read_by job s i ≡ None
+  no_read : ((r : ℕ) (place : Place) → instr ≡ Ld r place → ⊥) → cell_read_by job s i ≡ None
   no_read other = ap (cell_by job s i) at
       ∙ reads_by_load job instr (operand_held job s i instr 0) other
 
@@ -102,11 +103,11 @@ module _ (job : JobData) (s : State) (i : ℕ) (instr : Instr)
       other place value (same_Some instr found (sym at ∙ is) ∙ store)))
 
   -- what it reads, as an access
-  read_access : (o : Option ℕ) → read_by job s i ≡ o → access_by SameRead job s i ≡ as_access o
+  read_access : (o : Option ℕ) → cell_read_by job s i ≡ o → access_by SameRead job s i ≡ as_access o
   read_access o is = ap as_access is
 
   pub visit_reads : (r : ℕ) (place : Place) → instr ≡ Ld r place → (cell : ℕ) →
-      read_by job s i ≡ Some cell → cell < job.cells → IsVisit job s i (Reads cell)
+      cell_read_by job s i ≡ Some cell → cell < job.cells → IsVisit job s i (Reads cell)
   visit_reads r place is cell reads low = record {
     runs = runs_there;
     reads = read_access (Some cell) reads;
@@ -114,7 +115,7 @@ module _ (job : JobData) (s : State) (i : ℕ) (instr : Instr)
     inside = low;
   }
 
-  pub visit_no_read : (r : ℕ) (place : Place) → instr ≡ Ld r place → read_by job s i ≡ None →
+  pub visit_no_read : (r : ℕ) (place : Place) → instr ≡ Ld r place → cell_read_by job s i ≡ None →
       IsVisit job s i Elsewhere
   visit_no_read r place is none = record {
     runs = runs_there;

@@ -1,15 +1,12 @@
 -- Which processors run in a state, and which cells they read and write in the step after it.
-use Rattle.std.specs.Prelude.{ℕ, Bool, nat_lt, if◌then◌else◌, List, slice_get}
+use Rattle.std.specs.Prelude.{ℕ, nat_lt, if◌then◌else◌, List, slice_get}
 use Rattle.std.specs.Prelude.{filter, Option, Some, None}
 use Rattle.std.specs.List.{range_with_len}
 use Rattle.pram_job.specs.declared.instr.Instr.{Instr}
 use Rattle.pram_job.specs.Job.{JobData}
-use Rattle.pram_machine.specs.Machine.{State, counter, halted}
+use Rattle.pram_machine.specs.Machine.{State, counter}
 use Rattle.pram_machine.specs.Instructions.{cell_read, operand_held, request_in}
-
--- processor i runs: its counter is an instruction's index, and it executes that one in the step
-abbrev pub is_running : JobData → State → ℕ → Bool
-is_running job state i = nat_lt (counter job state i) (halted job)
+use Rattle.pram_step.specs.Running.{is_running}
 
 -- the processors that run, in order
 abbrev pub running_in : JobData → State → List ℕ
@@ -21,8 +18,8 @@ cell_by job state i None = None
 cell_by job state i (Some instr) = cell_read job instr (operand_held job state i instr 0)
 
 -- the cell that it reads
-abbrev pub read_by : JobData → State → ℕ → Option ℕ
-read_by job state i = cell_by job state i (slice_get job.code (counter job state i))
+abbrev pub cell_read_by : JobData → State → ℕ → Option ℕ
+cell_read_by job state i = cell_by job state i (slice_get job.code (counter job state i))
 
 -- of what is put, what goes to a cell; a register is none
 abbrev pub put_to_cell : JobData → Option (ℕ × ℕ) → Option (ℕ × ℕ)

@@ -1,4 +1,3 @@
 -- What private contracts alone cite.
 pub mod Found
-pub mod Repeats
 pub mod Seen

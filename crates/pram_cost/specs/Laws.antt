@@ -10,7 +10,7 @@ use Rattle.pram_cost.specs.Costs.{at_work, has_access, executed, steps_with, IsC
 use Rattle.pram_machine.specs.Instructions.{requests_in}
 use Rattle.pram_machine.specs.Machine.{AllStopped}
 use Rattle.pram_machine.specs.Machine.{State}
-use Rattle.pram_cost.specs.Models.{strength, Accepts, AcceptsSteps, IsNeeded}
+use Rattle.pram_cost.specs.Models.{strength, Accepts, AcceptsSteps, IsWeakestModel}
 use Rattle.pram_step.specs.Runs.{IsReached}
 use Rattle.pram_step.specs.Steps.{Agrees}
 
@@ -30,7 +30,8 @@ PriorityAcceptsAll = (job : JobData) (state : State) → Accepts PriorityCrcw jo
 
 abbrev pub OneModelIsNeeded : Type 0
 OneModelIsNeeded =
-    (job : JobData) (n : ℕ) (pram other : Pram) → IsNeeded job n pram → IsNeeded job n other →
+    (job : JobData) (n : ℕ) (pram other : Pram) → IsWeakestModel job n pram →
+    IsWeakestModel job n other →
     pram ≡ other
 
 -- CREW, and CRCW common, accept exactly the steps that agree with the rule of that name
@@ -44,7 +45,7 @@ CommonIsTheRule =
     (job : JobData) (state : State) → Accepts CommonCrcw job state
     ↔ Agrees (record job { rule = rule.Common }) (requests_in job state)
 
--- so n steps that CREW accepts are made under rule crew, too
+-- n steps that CREW accepts are made under rule crew, too
 abbrev pub CrewRunsAreReached : Type 0
 CrewRunsAreReached =
     (job : JobData) (n : ℕ) →

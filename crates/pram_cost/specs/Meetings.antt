@@ -7,12 +7,12 @@ use Rattle.pram_cost.specs.declared.meeting.Meeting.{Meeting}
 use Rattle.pram_cost.specs.declared.meeting.Sharing.{Sharing}
 use Rattle.pram_cost.specs.declared.meeting.Sharing.TheVariants.{SameRead, SameWrite, OtherValue}
 use Rattle.pram_machine.specs.Machine.{State, counter}
-use Rattle.pram_cost.specs.Accesses.{read_by, write_by}
+use Rattle.pram_cost.specs.Accesses.{cell_read_by, write_by}
 use Rattle.pram_step.specs.Runs.{state_after}
 
 -- the cell that processor i goes to, and the value that it writes there; of a read that is 0
 abbrev pub access_by : Sharing → JobData → State → ℕ → Option (ℕ × ℕ)
-access_by SameRead job state i = option_map (λ cell. (cell, 0)) (read_by job state i)
+access_by SameRead job state i = option_map (λ cell. (cell, 0)) (cell_read_by job state i)
 access_by SameWrite job state i = write_by job state i
 access_by OtherValue job state i = write_by job state i
 

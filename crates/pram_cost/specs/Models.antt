@@ -33,6 +33,6 @@ abbrev pub AcceptsSteps : Pram → JobData → ℕ → Type 0
 AcceptsSteps pram job n = (t : ℕ) → t < n → Accepts pram job (state_after job t)
 
 -- the weakest model that accepts the first n steps
-pub record IsNeeded (job : JobData) (n : ℕ) (pram : Pram) : Type 0 where
+pub record IsWeakestModel (job : JobData) (n : ℕ) (pram : Pram) : Type 0 where
   pub accepts : AcceptsSteps pram job n
   pub weakest : (other : Pram) → AcceptsSteps other job n → strength pram ≤ strength other

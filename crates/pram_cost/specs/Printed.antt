@@ -55,13 +55,13 @@ meetings_text words meetings =
     ++ codes "\nother value " ++ meeting_text words meetings.other_value ++ codes "\n"
 
 -- how the run of so many steps ended
-abbrev pub end_line : CostWords → ℕ → Option Fault → List ℕ
-end_line words steps None = codes "done steps=" ++ decimal steps ++ codes "\n"
-end_line words steps (Some fault) = words.conflict fault
+abbrev pub run_end_line : CostWords → ℕ → Option Fault → List ℕ
+run_end_line words steps None = codes "done steps=" ++ decimal steps ++ codes "\n"
+run_end_line words steps (Some fault) = words.conflict fault
 
 -- what the run costs, the model that it needs, and how it ended
 abbrev pub cost_text : CostWords → Cost → Pram → List ℕ
 cost_text words cost pram =
     codes "cost of this input\n" ++ size_text cost ++ work_text cost.work ++ codes "needs "
     ++ name_of pram ++ codes "\n" ++ meetings_text words cost.meetings
-    ++ end_line words cost.steps cost.conflict
+    ++ run_end_line words cost.steps cost.conflict

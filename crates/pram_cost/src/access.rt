@@ -1,6 +1,7 @@
 //! Which processors run in a state, and which cells they read and write in the step after it.
 ghost use Rattle.std.specs.Prelude.{◌≡◌, ◌<◌, length, IfSome};
-ghost use Rattle.pram_cost.specs.Accesses.{is_running, read_by, write_by};
+ghost use Rattle.pram_cost.specs.Accesses.{cell_read_by, write_by};
+ghost use Rattle.pram_step.specs.Running.{is_running};
 ghost use Rattle.pram_cost.specs.Inner.Found.{IsVisit};
 ghost use Rattle.pram_machine.specs.Machine.{counter as counter_of, place_count};
 
@@ -22,7 +23,7 @@ pub fn is_running(job: &Job, state: &State, processor: u32) -> bool
 pub fn read_of(job: &Job, state: &State, processor: u32) -> Option<u32>
     requires processor { processor < job.now.procs }
     requires places { length state.now ≡ place_count job.now }
-    ensures value { result ≡ read_by job.now state.now processor }
+    ensures value { result ≡ cell_read_by job.now state.now processor }
     ensures within { IfSome result (λ cell. cell < job.now.cells) }
 {
     let instr = *job.code().get(counter(job, state, processor) as usize)?;

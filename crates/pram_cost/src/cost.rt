@@ -1,21 +1,18 @@
 //! What a run costs.
-ghost use Rattle.std.specs.Prelude.{◌≡◌, ℕ, ◌+◌, ◌*◌, ◌<◌, ◌≤◌, ◌↔◌, length, IfOk, IsNone, IsTrue};
-ghost use Rattle.std.specs.List.{range_with_len};
-ghost use Rattle.pram_cost.specs.Costs.{IsCost, IsCostOf};
-ghost use Rattle.pram_cost.specs.Inner.Repeats.{AllStay, Repeats, Stays};
-ghost use Rattle.pram_machine.specs.Machine.{place_count};
-ghost use Rattle.pram_cost.specs.Models.{IsNeeded};
-ghost use Rattle.pram_step.specs.Inner.Passes.{AreRunning};
+ghost use Rattle.std.specs.Prelude.{◌≡◌, ℕ, ◌+◌, ◌*◌, length, IfOk};
+ghost use Rattle.pram_cost.specs.Costs.{IsCost, IsCostOf, IsLength};
+ghost use Rattle.pram_cost.specs.Tallies.{HasCounted};
+ghost use Rattle.pram_cost.specs.Models.{IsWeakestModel};
 ghost use Rattle.pram_job.specs.Job.{JobData};
+ghost use Rattle.pram_step.specs.Walks.{IsWalked, begun};
 
-use crate::access::is_running;
 use crate::found::Accesses;
 use crate::meeting::Meetings;
 use crate::moment::Moment;
 use crate::pram::Pram;
 use crate::work::Work;
 use pram_job::Job;
-use pram_step::{Fault, State, counter, laws, make_step, request_after};
+use pram_step::{Fault, Observer, Sight, Walked, walk};
 use std::alloc::{AllocError, Global};
 
 /// What a run costs: all steps of a job, or those up to its first conflict, that one counted too.
@@ -43,7 +40,7 @@ impl Cost {
 
     /// The weakest model of the PRAM that accepts all steps of the run.
     pub fn needs(&self) -> Pram
-        ensures { (job : JobData) → IsCost job self.now → IsNeeded job self.now.steps result }
+        ensures { (job : JobData) → IsCost job self.now → IsWeakestModel job self.now.steps result }
     {
         if self.meetings.other_value.is_some() {
             Pram::PriorityCrcw
@@ -58,8 +55,7 @@ impl Cost {
 
     // That of no step.
     fn of_no_step(job: &Job) -> Cost
-        ensures cost { IsCostOf job.now 0 result }
-        ensures agrees { IsNone result.conflict }
+        ensures { IsCostOf job.now 0 result }
     {
         Cost {
             steps: 0,
@@ -70,22 +66,18 @@ impl Cost {
         }
     }
 
-    // That after so many more steps, each of which the machine begins in this state.
-    fn after(self, moment: &Moment<'_>, marks: &mut [u32], times: u32) -> Cost
-        requires cost { IsCostOf moment.now.job.now moment.now.made self }
-        requires marks { length marks.old ≡ moment.now.job.now.cells }
-        requires some { 0 < times }
-        requires fits { moment.now.made + times ≤ moment.now.job.now.steps }
-        requires repeats { Repeats moment.now.job.now moment.now.made times moment.now.state.now }
-        ensures cost { IsCostOf moment.now.job.now (moment.now.made + times) result }
-        ensures agrees { IsNone result.conflict }
+    // That after the steps that come next.
+    fn after(self, moment: &Moment<'_>, marks: &mut [u32]) -> Cost
+        requires cost { IsCostOf moment.now.sight.job.now moment.now.sight.made self }
+        requires marks { length marks.old ≡ moment.now.sight.job.now.cells }
+        ensures { IsCostOf moment.now.sight.job.now
+            (moment.now.sight.made + moment.now.sight.times) result }
     {
-        moment.job.limits_hold();
         Cost {
-            steps: self.steps + times,
+            steps: self.steps + moment.sight.times,
             procs: self.procs,
-            work: self.work.after(moment, times),
-            meetings: self.meetings.after(moment, marks, times),
+            work: self.work.after(moment),
+            meetings: self.meetings.after(moment, marks),
             conflict: None,
         }
     }
@@ -94,85 +86,71 @@ impl Cost {
 /// What the run of a job costs.
 ///
 /// It takes time in the number of processors that run in each step, beside the steps themselves,
-/// and once a step changes nothing the cost is there at once, whatever number of steps is left.
+/// and soon after a step that changes nothing the cost is there, whatever number of steps is left.
 /// Memory is taken for the cells and the processors alone.
 pub fn cost_of(alloc: Global, job: &Job) -> Result<Cost, AllocError>
     ensures { IfOk result (IsCost job.now) }
 {
-    laws::start_is_a_state();
-    laws::states_have_all_places();
-    job.limits_hold();
-    let mut state = State::start(alloc, job)?;
-    let mut listed = all_processors(alloc, job)?;
-    let mut accesses = Accesses::new(alloc);
-    let mut marks = vec![in alloc; 0; job.cells() as usize]?;
-    let mut cost = Cost::of_no_step(job);
-    for made in 0..job.steps() {
-        accesses.find(job, &state, listed.as_slice())?;
-        keep_running(job, &state, &accesses, &mut listed);
+    let mut tally = Tally::new(alloc, job)?;
+    let walked = walk(alloc, job, job.steps(), &mut tally)?;
+    Ok(tally.into_cost(conflict_of(&walked)))
+}
+
+// The conflict to which all steps of a job come, if they do.
+fn conflict_of(walked: &Walked) -> Option<Fault>
+    ensures { (job : JobData) → IsWalked job job.steps walked.now →
+        IsLength job (begun job.steps walked.now) result }
+{
+    match walked {
+        Walked::Through(_) => None,
+        Walked::Disputed(fault) => Some(*fault),
+    }
+}
+
+/// One who counts what the steps of a job cost.
+#[derive(Drop)]
+pub struct Tally {
+    cost: Cost,
+    accesses: Accesses,
+    marks: Vec<u32>,
+}
+
+impl Tally {
+    /// No step was counted.
+    pub fn new(alloc: Global, job: &Job) -> Result<Self, AllocError>
+        ensures { IfOk result (HasCounted job.now 0) }
+    {
+        let marks = vec![in alloc; 0; job.cells() as usize]?;
+        Ok(Tally {
+            cost: Cost::of_no_step(job),
+            accesses: Accesses::new(alloc),
+            marks,
+        })
+    }
+
+    /// What a run costs, where all its steps were counted, on the job or on one that differs from
+    /// it in the number of steps alone. The conflict is that of the run, if it has one.
+    pub fn into_cost(self, conflict: Option<Fault>) -> Cost
+        ensures { (job : JobData) (n steps : ℕ) → HasCounted (record job { steps = n }) steps self →
+            IsLength job steps conflict → IsCost job result }
+    {
+        Cost {
+            conflict,
+            ..self.cost
+        }
+    }
+}
+
+impl Observer for Tally {
+    ghost has_seen = { HasCounted };
+
+    fn look(&mut self, sight: &Sight<'_>) -> Result<(), AllocError> {
+        self.accesses.find(sight)?;
         let moment = Moment {
-            job,
-            state: &state,
-            accesses: &accesses,
-            made,
+            sight: *sight,
+            accesses: &self.accesses,
         };
-        if all_stay(&moment, listed.as_slice()) {
-            return Ok(cost.after(&moment, &mut marks, job.steps() - made));
-        }
-        cost = cost.after(&moment, &mut marks, 1);
-        if let Some(fault) = make_step(alloc, job, &mut state, made)? {
-            return Ok(Cost {
-                conflict: Some(fault),
-                ..cost
-            });
-        }
+        self.cost = self.cost.after(&moment, &mut self.marks);
+        Ok(())
     }
-    Ok(cost)
-}
-
-// All processors, in order.
-fn all_processors(alloc: Global, job: &Job) -> Result<Vec<u32>, AllocError>
-    ensures { IfOk result (λ listed. listed.items ≡ range_with_len 0 job.now.procs) }
-{
-    let mut listed = Vec::with_capacity(alloc, job.procs() as usize)?;
-    for processor in 0..job.procs() {
-        listed.push(processor)?;
-    }
-    Ok(listed)
-}
-
-// Leaves out those that have stopped, where fewer run than are listed.
-fn keep_running(job: &Job, state: &State, accesses: &Accesses, listed: &mut Vec<u32>)
-    requires places { length state.now ≡ place_count job.now }
-    requires listed { AreRunning job.now state.now listed.old.items }
-    ensures { AreRunning job.now state.now listed.new.items }
-{
-    if (accesses.running as usize) < listed.len() {
-        listed.retain(|processor| *processor < job.procs() && is_running(job, state, *processor));
-    }
-}
-
-// Whether each processor asks for nothing but its counter, so that the step changes nothing.
-fn all_stay(moment: &Moment<'_>, listed: &[u32]) -> bool
-    requires { AreRunning moment.now.job.now moment.now.state.now listed.now }
-    ensures { IsTrue result ↔ AllStay moment.now.job.now moment.now.state.now }
-{
-    for processor in listed {
-        if !stays(moment, *processor) {
-            return false;
-        }
-    }
-    true
-}
-
-// Whether a processor asks for nothing but its counter.
-fn stays(moment: &Moment<'_>, processor: u32) -> bool
-    requires { processor < moment.now.job.now.procs }
-    ensures { IsTrue result ↔ Stays moment.now.job.now moment.now.state.now processor }
-{
-    laws::states_have_all_places();
-    moment.job.limits_hold();
-    let request = request_after(moment.job, moment.state, processor);
-    let counter = counter(moment.job, moment.state, processor);
-    request.put.is_none() && request.next == counter
 }

@@ -2,12 +2,12 @@
 ghost use Rattle.std.specs.Prelude.{◌≡◌, ◌+◌, ◌<◌, length, OnOk};
 ghost use Rattle.pram_cost.specs.Inner.Found.{AreFound, of_kind};
 ghost use Rattle.pram_machine.specs.Machine.{place_count};
-ghost use Rattle.pram_step.specs.Inner.Passes.{AreRunning};
+ghost use Rattle.pram_step.specs.Walks.{IsSight};
 
 use crate::access::{Visit, visit_of};
 use crate::meeting::Sharing;
 use pram_job::Job;
-use pram_step::State;
+use pram_step::{Sight, State, laws};
 use std::alloc::{AllocError, Global};
 
 /// A processor, the cell that it goes to, and the value that it writes there; of a read that is 0.
@@ -36,23 +36,20 @@ impl Accesses {
         }
     }
 
-    /// Finds those of the step after a state, where all that run are listed. Memory is taken only
-    /// where a step has more accesses than each before it.
-    pub(crate) fn find(
-        &mut self,
-        job: &Job,
-        state: &State,
-        listed: &[u32],
-    ) -> Result<(), AllocError>
-        requires places { length state.now ≡ place_count job.now }
-        requires listed { AreRunning job.now state.now listed.now }
-        ensures { OnOk result (AreFound job.now state.now job.now.procs self.new) }
+    /// Finds those of each of the steps that come next. Memory is taken only where a step has more
+    /// accesses than each before it.
+    pub(crate) fn find(&mut self, sight: &Sight<'_>) -> Result<(), AllocError>
+        requires { IsSight sight.now }
+        ensures { OnOk result (AreFound sight.now.job.now sight.now.state.now
+            sight.now.job.now.procs self.new) }
     {
+        laws::states_have_all_places();
+        sight.job.limits_hold();
         self.running = 0;
         self.reads.clear();
         self.writes.clear();
-        for processor in listed {
-            self.take_up(job, state, *processor)?;
+        for processor in sight.running {
+            self.take_up(sight.job, sight.state, *processor)?;
         }
         Ok(())
     }

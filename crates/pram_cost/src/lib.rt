@@ -13,7 +13,7 @@ mod print;
 mod work;
 
 pub use access::{is_running, read_of, write_of};
-pub use cost::{Cost, cost_of};
+pub use cost::{Cost, Tally, cost_of};
 pub use cost_names::{ByCells, CostNames};
 pub use meeting::{Meeting, Meetings, Sharing};
 pub use pram::Pram;

@@ -1,8 +1,7 @@
 //! Where processors first meet at a cell.
 ghost use Rattle.std.specs.Prelude.{◌≡◌, ◌≢◌, ℕ, ◌+◌, ◌<◌, length, MatchBool, IfSome};
 ghost use Rattle.pram_cost.specs.Costs.{AreFirst};
-ghost use Rattle.pram_cost.specs.Inner.Found.{of_kind, TellsFirst};
-ghost use Rattle.pram_cost.specs.Inner.Repeats.{Repeats};
+ghost use Rattle.pram_cost.specs.Inner.Found.{of_kind, NamesFirst};
 ghost use Rattle.pram_cost.specs.Inner.Seen.{HasSearched, IsOfStep};
 ghost use Rattle.pram_cost.specs.Meetings.{access_by, Differ, IsLeastOrNone, IsFirstOrNone};
 ghost use Rattle.pram_cost.specs.declared.meeting.Sharing.TheVariants.{SameWrite, OtherValue};
@@ -53,14 +52,12 @@ impl Meetings {
         other_value: None,
     };
 
-    /// Those after so many more steps, each of which the machine begins in this state. The old
-    /// marks may be anything.
-    pub(crate) fn after(self, moment: &Moment<'_>, marks: &mut [u32], times: u32) -> Meetings
-        requires first { AreFirst moment.now.job.now moment.now.made self }
-        requires marks { length marks.old ≡ moment.now.job.now.cells }
-        requires some { 0 < times }
-        requires repeats { Repeats moment.now.job.now moment.now.made times moment.now.state.now }
-        ensures { AreFirst moment.now.job.now (moment.now.made + times) result }
+    /// Those after the steps that come next. The old marks may be anything.
+    pub(crate) fn after(self, moment: &Moment<'_>, marks: &mut [u32]) -> Meetings
+        requires first { AreFirst moment.now.sight.job.now moment.now.sight.made self }
+        requires marks { length marks.old ≡ moment.now.sight.job.now.cells }
+        ensures { AreFirst moment.now.sight.job.now
+            (moment.now.sight.made + moment.now.sight.times) result }
     {
         let same_read = next(Sharing::SameRead, moment, marks, self.same_read);
         let same_write = next(Sharing::SameWrite, moment, marks, self.same_write);
@@ -81,10 +78,10 @@ fn next_other(
     same_write: Option<Meeting>,
     found: Option<Meeting>,
 ) -> Option<Meeting>
-    requires marks { length marks.old ≡ moment.now.job.now.cells }
-    requires write { IsFirstOrNone SameWrite moment.now.job.now (moment.now.made + 1) same_write }
-    requires found { IsFirstOrNone OtherValue moment.now.job.now moment.now.made found }
-    ensures { IsFirstOrNone OtherValue moment.now.job.now (moment.now.made + 1) result }
+    requires marks { length marks.old ≡ moment.now.sight.job.now.cells }
+    requires write { IsFirstOrNone SameWrite moment.now.sight.job.now (moment.now.sight.made + 1) same_write }
+    requires found { IsFirstOrNone OtherValue moment.now.sight.job.now moment.now.sight.made found }
+    ensures { IsFirstOrNone OtherValue moment.now.sight.job.now (moment.now.sight.made + 1) result }
 {
     match same_write {
         None => None,
@@ -99,9 +96,9 @@ fn next(
     marks: &mut [u32],
     found: Option<Meeting>,
 ) -> Option<Meeting>
-    requires marks { length marks.old ≡ moment.now.job.now.cells }
-    requires found { IsFirstOrNone sharing moment.now.job.now moment.now.made found }
-    ensures { IsFirstOrNone sharing moment.now.job.now (moment.now.made + 1) result }
+    requires marks { length marks.old ≡ moment.now.sight.job.now.cells }
+    requires found { IsFirstOrNone sharing moment.now.sight.job.now moment.now.sight.made found }
+    ensures { IsFirstOrNone sharing moment.now.sight.job.now (moment.now.sight.made + 1) result }
 {
     match found {
         Some(_) => found,
@@ -111,13 +108,13 @@ fn next(
 
 // The least meeting in the next step. It costs time in the number of its accesses.
 fn least(sharing: Sharing, moment: &Moment<'_>, marks: &mut [u32]) -> Option<Meeting>
-    requires { length marks.old ≡ moment.now.job.now.cells }
-    ensures least { IsLeastOrNone sharing (access_by sharing moment.now.job.now
-        moment.now.state.now) moment.now.job.now.procs result }
-    ensures step { IfSome result (IsOfStep moment.now.job.now moment.now.state.now
-        (moment.now.made + 1)) }
+    requires { length marks.old ≡ moment.now.sight.job.now.cells }
+    ensures least { IsLeastOrNone sharing (access_by sharing moment.now.sight.job.now
+        moment.now.sight.state.now) moment.now.sight.job.now.procs result }
+    ensures step { IfSome result (IsOfStep moment.now.sight.job.now moment.now.sight.state.now
+        (moment.now.sight.made + 1)) }
 {
-    moment.job.limits_hold();
+    moment.sight.job.limits_hold();
     let count = moment.accesses.of_kind(sharing).len() as u32;
     let mut found = None;
     for k in 0..count {
@@ -136,14 +133,14 @@ fn look(
     found: Option<Meeting>,
 ) -> Option<Meeting>
     requires access { k < length (of_kind sharing moment.now.accesses.now) }
-    requires marks { length marks.old ≡ moment.now.job.now.cells }
-    requires looked { HasSearched sharing moment.now.job.now moment.now.state.now
-        (moment.now.made + 1) (of_kind sharing moment.now.accesses.now) k marks.old found }
-    ensures { HasSearched sharing moment.now.job.now moment.now.state.now
-        (moment.now.made + 1) (of_kind sharing moment.now.accesses.now) (k + 1) marks.new result }
+    requires marks { length marks.old ≡ moment.now.sight.job.now.cells }
+    requires looked { HasSearched sharing moment.now.sight.job.now moment.now.sight.state.now
+        (moment.now.sight.made + 1) (of_kind sharing moment.now.accesses.now) k marks.old found }
+    ensures { HasSearched sharing moment.now.sight.job.now moment.now.sight.state.now
+        (moment.now.sight.made + 1) (of_kind sharing moment.now.accesses.now) (k + 1) marks.new result }
 {
     laws::states_have_all_places();
-    moment.job.limits_hold();
+    moment.sight.job.limits_hold();
     let accesses = moment.accesses.of_kind(sharing);
     let access = accesses[k as usize];
     let cell = access.cell;
@@ -157,11 +154,11 @@ fn look(
     match found {
         Some(meeting) if meeting.cell <= cell => found,
         _ => Some(Meeting {
-            step: moment.made + 1,
+            step: moment.sight.made + 1,
             cell,
             first: first.processor,
             second: access.processor,
-            counter: counter(moment.job, moment.state, first.processor),
+            counter: counter(moment.sight.job, moment.sight.state, first.processor),
         }),
     }
 }
@@ -170,7 +167,7 @@ fn look(
 #[inline(always)]
 fn first_to(accesses: &[Access], mark: u32, k: u32) -> Option<Access>
     requires { k < length accesses.now }
-    ensures { TellsFirst accesses.now mark k result }
+    ensures { NamesFirst accesses.now mark k result }
 {
     if mark >= k {
         return None;

@@ -1,20 +1,20 @@
-//! Where a job is after some of its steps.
-ghost use Rattle.std.specs.Prelude.{◌≡◌, ◌<◌};
+//! The steps that come next, and what they access.
+ghost use Rattle.std.specs.Prelude.{◌≡◌, ◌+◌, ◌<◌, ◌^◌};
 ghost use Rattle.pram_cost.specs.Inner.Found.{AreFound};
+ghost use Rattle.pram_step.specs.Running.{Repeats};
 ghost use Rattle.pram_step.specs.Runs.{IsStateAfter};
 
 use crate::found::Accesses;
-use pram_job::Job;
-use pram_step::State;
+use pram_step::Sight;
 
-/// A job in the state after so many steps, and the accesses of the next step.
+/// What is seen before some steps, and the accesses of each of them.
 #[derive(Drop)]
 pub(crate) struct Moment<'a> {
-    pub job: &'a Job,
-    pub state: &'a State,
+    pub sight: Sight<'a>,
     pub accesses: &'a Accesses,
-    pub made: u32,
-    pub ghost after: { IsStateAfter job.now made state.now },
-    pub ghost found: { AreFound job.now state.now job.now.procs accesses.now },
-    pub ghost within: { made < job.now.steps },
+    pub ghost after: { IsStateAfter sight.job.now sight.made sight.state.now },
+    pub ghost some: { 0 < sight.times },
+    pub ghost fits: { sight.made + sight.times < 2 ^ 32 },
+    pub ghost repeats: { Repeats sight.job.now sight.made sight.times sight.state.now },
+    pub ghost found: { AreFound sight.job.now sight.state.now sight.job.now.procs accesses.now },
 }

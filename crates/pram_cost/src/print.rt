@@ -2,16 +2,16 @@
 ghost use Rattle.std.specs.Prelude.{◌≡◌, ◌++◌, ◌↔◌, false, string_bytes};
 ghost use Rattle.std.specs.Prelude.{IfOk, OnOk, IsErrOf, IsTrue};
 ghost use Rattle.std.specs.Io.KnownBytes.{Appends};
-ghost use Rattle.pram_cost.specs.Printed.{cost_text, end_line, meeting_text, meetings_text};
+ghost use Rattle.pram_cost.specs.Printed.{cost_text, run_end_line, meeting_text, meetings_text};
 ghost use Rattle.pram_cost.specs.Printed.{size_text, work_text};
 ghost use Rattle.pram_streams.specs.Transfer.{AppendsBeginning};
 
 use crate::cost::Cost;
-use crate::cost_names::{CostNames, push_labelled};
+use crate::cost_names::CostNames;
 use crate::meeting::{Meeting, Meetings};
 use crate::pram::Pram;
 use crate::work::Work;
-use pram_streams::{PrintFault, Sink, put};
+use pram_streams::{PrintFault, Sink, push_labelled, put};
 use std::alloc::{AllocError, Global};
 
 /// Prints what a run costs, the model that it needs, and by these names where processors met, or a
@@ -107,20 +107,20 @@ fn push_meeting<C: CostNames>(
     let Some(meeting) = found else {
         return text.extend_from_slice(b"none");
     };
-    push_labelled(text, b"step=", meeting.step)?;
+    push_labelled(text, b"step=", u64::from(meeting.step))?;
     names.push_spot(alloc, text, meeting)?;
-    push_labelled(text, b" processors=", meeting.first)?;
-    push_labelled(text, b",", meeting.second)
+    push_labelled(text, b" processors=", u64::from(meeting.first))?;
+    push_labelled(text, b",", u64::from(meeting.second))
 }
 
 fn push_end<C: CostNames>(text: &mut Vec<u8>, cost: &Cost, names: &C) -> Result<(), AllocError>
     ensures { OnOk result (text.new.items
-        ≡ text.old.items ++ end_line (C.words names.now) cost.now.steps cost.now.conflict) }
+        ≡ text.old.items ++ run_end_line (C.words names.now) cost.now.steps cost.now.conflict) }
 {
     match cost.conflict {
         Some(fault) => names.push_conflict(text, fault),
         None => {
-            push_labelled(text, b"done steps=", cost.steps)?;
+            push_labelled(text, b"done steps=", u64::from(cost.steps))?;
             text.push(b'\n')?;
             Ok(())
         }

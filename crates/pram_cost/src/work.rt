@@ -1,7 +1,6 @@
 //! What the steps of a run do.
-ghost use Rattle.std.specs.Prelude.{◌≡◌, ◌+◌, ◌<◌, ◌≤◌, if◌then◌else◌};
+ghost use Rattle.std.specs.Prelude.{◌≡◌, ◌+◌, if◌then◌else◌};
 ghost use Rattle.pram_cost.specs.Costs.{IsWork, has_access};
-ghost use Rattle.pram_cost.specs.Inner.Repeats.{Repeats};
 
 use crate::meeting::Sharing;
 use crate::moment::Moment;
@@ -28,20 +27,18 @@ impl Work {
         writing: 0,
     };
 
-    /// That after so many more steps, each of which the machine begins in this state.
-    pub(crate) fn after(self, moment: &Moment<'_>, times: u32) -> Work
-        requires work { IsWork moment.now.job.now moment.now.made self }
-        requires some { 0 < times }
-        requires fits { moment.now.made + times ≤ moment.now.job.now.steps }
-        requires repeats { Repeats moment.now.job.now moment.now.made times moment.now.state.now }
-        ensures { IsWork moment.now.job.now (moment.now.made + times) result }
+    /// That after the steps that come next.
+    pub(crate) fn after(self, moment: &Moment<'_>) -> Work
+        requires { IsWork moment.now.sight.job.now moment.now.sight.made self }
+        ensures { IsWork moment.now.sight.job.now
+            (moment.now.sight.made + moment.now.sight.times) result }
     {
-        moment.job.limits_hold();
+        moment.sight.job.limits_hold();
         let running = moment.accesses.running;
-        let reading = steps_with(Sharing::SameRead, moment, times);
-        let writing = steps_with(Sharing::SameWrite, moment, times);
+        let reading = steps_with(Sharing::SameRead, moment);
+        let writing = steps_with(Sharing::SameWrite, moment);
         Work {
-            executed: self.executed + u64::from(times) * u64::from(running),
+            executed: self.executed + u64::from(moment.sight.times) * u64::from(running),
             most: self.most.max(running),
             reading: self.reading + reading,
             writing: self.writing + writing,
@@ -49,14 +46,14 @@ impl Work {
     }
 }
 
-// How many of so many equal steps have such an access: all or none.
-fn steps_with(sharing: Sharing, moment: &Moment<'_>, times: u32) -> u32
-    ensures { result ≡ (if has_access sharing moment.now.job.now moment.now.state.now
-        then times else 0) }
+// How many of the steps that come next have such an access: all or none.
+fn steps_with(sharing: Sharing, moment: &Moment<'_>) -> u32
+    ensures { result ≡ (if has_access sharing moment.now.sight.job.now moment.now.sight.state.now
+        then moment.now.sight.times else 0) }
 {
     if moment.accesses.of_kind(sharing).is_empty() {
         0
     } else {
-        times
+        moment.sight.times
     }
 }

@@ -4,15 +4,16 @@ use Rattle.std.proofs.Common.{◌∙◌, inl, inr, arith}
 use Rattle.std.specs.Prelude.{MatchOption}
 use Rattle.std.proofs.lemmas.Bool.{cases_lt}
 use Rattle.pram_job.specs.Job.{JobData}
-use Rattle.pram_machine.specs.Machine.{State, counter}
+use Rattle.pram_machine.specs.Machine.{State, AllStopped, counter}
+use Rattle.pram_step.specs.Running.{IsStop}
 use Rattle.pram_step.specs.Runs.{IsReached, state_after}
 use Rattle.pram_step.proofs.LawFixed.{reached_down}
 use Rattle.pram_step.proofs.LawStopped.{stopped_later}
 use Rattle.pram_fates.specs.declared.fates.End.{End}
 use Rattle.pram_fates.specs.declared.fates.End.TheVariants.{Running, Stopped}
 use Rattle.pram_fates.specs.declared.fates.Lost.{Lost}
-use Rattle.pram_fates.specs.Fates.{AreMade, AreRunning, HaveStopped, IsEnd, IsFirstLost}
-use Rattle.pram_fates.specs.Fates.{IsFirstLostOrNone, IsFirstNaming, IsFirstRunning, NoneRuns}
+use Rattle.pram_fates.specs.Fates.{AreMade, SomeRun, IsEnd, IsFirstLost}
+use Rattle.pram_fates.specs.Fates.{IsFirstLostOrNone, IsFirstNaming, IsFirstRunning}
 use Rattle.pram_fates.specs.Laws.{OneFates}
 
 made_within : (job : JobData) (n a b : ℕ) → AreMade job n a → AreMade job n b → b ≤ a
@@ -36,8 +37,8 @@ first_within job s i j is other = elim (cases_lt i j) [
   | inr more ↦ more
 ]
 
-one_running : (job : JobData) (s : State) (c d i j x y : ℕ) → AreRunning job s c i x →
-    AreRunning job s d j y → Running c i x ≡ Running d j y
+one_running : (job : JobData) (s : State) (c d i j x y : ℕ) → SomeRun job s c i x →
+    SomeRun job s d j y → Running c i x ≡ Running d j y
 one_running job s c d i j x y is other =
     let le = first_within job s i j is.first_is other.first_is in
     let ge = first_within job s j i other.first_is is.first_is in
@@ -46,30 +47,28 @@ one_running job s c d i j x y is other =
     let index : x ≡ y = is.index_is ∙ ap (counter job s) first ∙ sym other.index_is in
     λ k. Running (count k) (first k) (index k)
 
-stopping_within : (job : JobData) (n a b : ℕ) → HaveStopped job n a → HaveStopped job n b → b ≤ a
-stopping_within job n a b is other = elim (cases_lt a b) [
-  | inl less ↦ absurd (other.not_before a less is.stopped)
+stop_within : (job : JobData) (a b : ℕ) → IsStop job a → IsStop job b → b ≤ a
+stop_within job a b is other = elim (cases_lt a b) [
+  | inl less ↦ absurd (other.runs a less is.stopped)
   | inr more ↦ more
 ]
 
-one_stopping : (job : JobData) (n a b : ℕ) → HaveStopped job n a → HaveStopped job n b →
-    Stopped a ≡ Stopped b
-one_stopping job n a b is other =
-    let le = stopping_within job n a b is other in
-    let ge = stopping_within job n b a other is in
+one_stop : (job : JobData) (a b : ℕ) → IsStop job a → IsStop job b → Stopped a ≡ Stopped b
+one_stop job a b is other =
+    let le = stop_within job a b is other in
+    let ge = stop_within job b a other is in
     let same : a ≡ b = omega arith in
     ap (λ (step : ℕ). Stopped step) same
 
 -- who has stopped does not run later
 never_both : (job : JobData) (n c i x step : ℕ) → IsReached job n →
-    AreRunning job (state_after job n) c i x → HaveStopped job n step → ⊥
-never_both job n c i x step reached runs stop =
-    let within = stop.within in
+    SomeRun job (state_after job n) c i x → step ≤ n → IsStop job step → ⊥
+never_both job n c i x step reached runs within stop =
     let later = stopped_later job step (n - step) (state_after job step)
     (record { reached = reached_down job step n within reached; state = refl }) stop.stopped in
     let e : step + (n - step) ≡ n = omega arith in
     let same : state_after job step ≡ state_after job n = later.state ∙ ap (state_after job) e in
-    let stopped = subst (λ (s : State). NoneRuns job s) same stop.stopped i runs.first_is.within in
+    let stopped = subst (λ (s : State). AllStopped job s) same stop.stopped i runs.first_is.within in
     let running = runs.first_is.runs in
     omega arith
 
@@ -78,10 +77,10 @@ one_end : (job : JobData) (n : ℕ) → IsReached job n → (end other : End) �
 one_end job n reached (Running c i x) (Running d j y) is of_other =
     one_running job (state_after job n) c d i j x y is of_other
 one_end job n reached (Running c i x) (Stopped b) is of_other =
-    absurd (never_both job n c i x b reached is of_other)
+    absurd (never_both job n c i x b reached is of_other.0 of_other.1)
 one_end job n reached (Stopped a) (Running d j y) is of_other =
-    absurd (never_both job n d j y a reached of_other is)
-one_end job n reached (Stopped a) (Stopped b) is of_other = one_stopping job n a b is of_other
+    absurd (never_both job n d j y a reached of_other is.0 is.1)
+one_end job n reached (Stopped a) (Stopped b) is of_other = one_stop job a b is.1 of_other.1
 
 -- the end, if all steps are made
 abbrev IsEndIf : JobData → ℕ → ℕ → Option End → Type 0

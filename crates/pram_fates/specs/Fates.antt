@@ -1,9 +1,10 @@
 -- What becomes of the processors in the steps of a job.
-use Rattle.std.specs.Prelude.{◌≡◌, ℕ, ◌+◌, ◌<◌, ◌≤◌, Bool, nat_lt, count_by, Option, MatchOption}
+use Rattle.std.specs.Prelude.{◌≡◌, ℕ, ◌+◌, ◌<◌, ◌≤◌, count_by, Option, MatchOption}
 use Rattle.std.specs.List.{range_with_len}
 use Rattle.pram_job.specs.Job.{JobData}
 use Rattle.pram_machine.specs.Instructions.{request_in}
 use Rattle.pram_machine.specs.Machine.{State, counter, halted, out_of_range, IsStopped}
+use Rattle.pram_step.specs.Running.{is_running, IsStop}
 use Rattle.pram_step.specs.Runs.{AgreesAfter, IsReached, state_after}
 use Rattle.pram_fates.specs.declared.fates.End.{End}
 use Rattle.pram_fates.specs.declared.fates.End.TheVariants.{Running, Stopped}
@@ -12,36 +13,23 @@ use Rattle.pram_fates.specs.declared.fates.Lost.{Lost}
 
 -- ---- where they are after some steps
 
--- processor i runs: its counter is an instruction's index
-abbrev pub is_running : JobData → State → ℕ → Bool
-is_running job state i = nat_lt (counter job state i) (halted job)
-
 -- the least processor that runs
 pub record IsFirstRunning (job : JobData) (state : State) (i : ℕ) : Type 0 where
   pub within : i < job.procs
   pub runs : counter job state i < halted job
   pub least : (j : ℕ) → j < i → IsStopped job state j
 
--- So many run; the least of them is this one, and this is the instruction that it stands at.
-pub record AreRunning (job : JobData) (state : State) (count first index : ℕ) : Type 0 where
+-- How many run, the least of them, and the instruction that it stands at.
+pub record SomeRun (job : JobData) (state : State) (count first index : ℕ) : Type 0 where
   pub count_is : count ≡ count_by (is_running job state) (range_with_len 0 job.procs)
   pub first_is : IsFirstRunning job state first
   pub index_is : index ≡ counter job state first
 
--- none does
-abbrev pub NoneRuns : JobData → State → Type 0
-NoneRuns job state = (i : ℕ) → i < job.procs → IsStopped job state i
-
--- all have stopped after this step, which is one of the first n or none, and not after fewer
-pub record HaveStopped (job : JobData) (n step : ℕ) : Type 0 where
-  pub within : step ≤ n
-  pub stopped : NoneRuns job (state_after job step)
-  pub not_before : (t : ℕ) → t < step → NoneRuns job (state_after job t) → ⊥
-
--- how they are after n steps
+-- How they are after n steps: some run, or all have stopped after so many of them, and not after
+-- fewer.
 abbrev pub IsEnd : JobData → ℕ → End → Type 0
-IsEnd job n (Running count first index) = AreRunning job (state_after job n) count first index
-IsEnd job n (Stopped step) = HaveStopped job n step
+IsEnd job n (Running count first index) = SomeRun job (state_after job n) count first index
+IsEnd job n (Stopped step) = (step ≤ n) × IsStop job step
 
 -- ---- who names a cell that there is not
 
@@ -61,7 +49,8 @@ pub record IsFirstNaming (job : JobData) (state : State) (i : ℕ) : Type 0 wher
   pub names_none : NamesNone job state i
   pub least : (j : ℕ) → NamesNone job state j → i ≤ j
 
--- The first of n steps in which one does, the least one that does in it, and the instruction.
+-- A processor that names a cell that there is not is *lost*. The first of n steps in which one is,
+-- the least one that is lost in it, and the instruction.
 pub record IsFirstLost (job : JobData) (n : ℕ) (lost : Lost) : Type 0 where
   pub before : ℕ
   pub within : before < n

@@ -6,7 +6,7 @@ use Rattle.pram_step.specs.Runs.{state_after}
 use Rattle.pram_fates.specs.declared.fates.Fates.{Fates}
 use Rattle.pram_fates.specs.Fates.{AreFates, NamesNone}
 
--- so many steps make one thing of the processors
+-- what becomes of the processors in a number of steps is one thing
 abbrev pub OneFates : Type 0
 OneFates =
     (job : JobData) (n : ℕ) (fates other : Fates) → AreFates job n fates → AreFates job n other →

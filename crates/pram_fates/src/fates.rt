@@ -1,13 +1,14 @@
 //! What becomes of the processors of a job.
-ghost use Rattle.std.specs.Prelude.{IfOk};
-ghost use Rattle.pram_fates.specs.Fates.{AreFates, HaveStopped, IsEnd, IsFirstLostOrNone};
-ghost use Rattle.pram_fates.specs.Fates.{NoneRuns};
-ghost use Rattle.pram_machine.specs.Machine.{start};
+ghost use Rattle.std.specs.Prelude.{◌≡◌, ◌≤◌, IfOk};
+ghost use Rattle.pram_fates.specs.Fates.{AreFates, IsEnd, IsFirstLostOrNone};
+ghost use Rattle.pram_fates.specs.Inner.Losses.{earlier, if_before};
+ghost use Rattle.pram_machine.specs.Machine.{AllStopped};
+ghost use Rattle.pram_step.specs.Running.{IsStop};
 ghost use Rattle.pram_step.specs.Runs.{state_after};
 
-use crate::looks::{count_running, counter_in, first_naming_none, first_running, some_is_lost};
+use crate::looks::{Standing, count_running, counter_in, first_running, out_of_range};
 use pram_job::Job;
-use pram_step::{Arrival, Moment, State, go_on, go_to, laws, state_after};
+use pram_step::{LastRow, LastRows, Span, State, laws, walk_in};
 use std::alloc::{AllocError, Global};
 
 /// What became of the processors.
@@ -22,7 +23,8 @@ pub struct Fates {
 /// How the processors are after all steps.
 #[derive(Clone, Copy, Debug, PartialEq, Eq)]
 pub enum End {
-    /// So many still run; the least of them, and the index of the instruction that it stands at.
+    /// Some still run: how many, the least of them, and the index of the instruction that it stands
+    /// at.
     Running { count: u32, first: u32, index: u32 },
     /// All had stopped after this step, and not before it.
     Stopped { step: u32 },
@@ -39,89 +41,115 @@ pub struct Lost {
 
 /// What becomes of the processors of a job in so many steps, or in those before its first conflict.
 ///
-/// It takes the time of the steps on the plain machine. Only where all processors have stopped, or
-/// one named a cell that there is not, the steps up to that are made once more for each, and each
-/// of these takes time in the number of all processors.
+/// It takes the time of the steps on the plain machine, and of a look at each processor that runs
+/// in each.
 pub fn fates_after(alloc: Global, job: &Job, steps: u32) -> Result<Fates, AllocError>
     ensures { IfOk result (AreFates job.now steps) }
 {
-    match go_to(alloc, job, steps, steps)? {
-        Arrival::Reached(state) => {
-            let moment = Moment::new(job, &state, steps);
-            let end = end_of(alloc, &moment)?;
-            let lost = first_lost(alloc, &moment)?;
+    laws::start_is_a_state();
+    laws::states_have_all_places();
+    job.limits_hold();
+    let mut state = State::start(alloc, job)?;
+    let mut last = LastRows::new(alloc, job)?;
+    let span = Span { from: 0, to: steps };
+    match walk_in(alloc, job, &mut state, span, &mut last)? {
+        None => {
+            let standing = Standing {
+                job,
+                state: &state,
+                steps,
+                last: last.rows.as_slice(),
+            };
             Ok(Fates {
-                end: Some(end),
-                lost,
+                end: Some(end_of(&standing)),
+                lost: first_lost(&standing),
             })
         }
-        Arrival::Disputed(fault) => {
-            let made = fault.step - 1;
-            let state = state_after(alloc, job, made)?;
-            let moment = Moment::new(job, &state, made);
-            let lost = first_lost(alloc, &moment)?;
-            Ok(Fates { end: None, lost })
+        Some(fault) => {
+            let standing = Standing {
+                job,
+                state: &state,
+                steps: fault.step,
+                last: last.rows.as_slice(),
+            };
+            Ok(Fates {
+                end: None,
+                lost: if_before(first_lost(&standing), fault.step),
+            })
         }
-        Arrival::TooFar => unreachable!(),
     }
 }
 
-// How the processors are at a moment.
-fn end_of(alloc: Global, moment: &Moment<'_>) -> Result<End, AllocError>
-    ensures { IfOk result (IsEnd moment.now.job.now moment.now.made) }
+// How the processors are.
+fn end_of(standing: &Standing<'_>) -> End
+    ensures { IsEnd standing.now.job.now standing.now.steps result }
 {
-    match first_running(moment) {
-        Some(first) => Ok(End::Running {
-            count: count_running(moment),
+    match first_running(standing) {
+        Some(first) => End::Running {
+            count: count_running(standing),
             first,
-            index: counter_in(moment, first),
-        }),
-        None => {
-            let step = stopping_step(alloc, moment)?;
-            Ok(End::Stopped { step })
-        }
+            index: counter_in(standing, first),
+        },
+        None => End::Stopped {
+            step: last_step(standing),
+        },
     }
 }
 
-// The first step after which all processors have stopped, where they have at this moment.
-fn stopping_step(alloc: Global, last: &Moment<'_>) -> Result<u32, AllocError>
-    requires { NoneRuns last.now.job.now (state_after last.now.job.now last.now.made) }
-    ensures { IfOk result (HaveStopped last.now.job.now last.now.made) }
+// The last step that some processor executed, where all have stopped.
+fn last_step(standing: &Standing<'_>) -> u32
+    requires { AllStopped standing.now.job.now
+        (state_after standing.now.job.now standing.now.steps) }
+    ensures within { result ≤ standing.now.steps }
+    ensures stop { IsStop standing.now.job.now result }
 {
-    laws::start_is_a_state();
-    let job = last.job;
-    let mut state = State::start(alloc, job)?;
-    for made in 0..last.made {
-        let moment = Moment::new(job, &state, made);
-        if first_running(&moment).is_none() {
-            return Ok(made);
-        }
-        go_on(alloc, job, &mut state, made, last.made)?;
+    standing.job.limits_hold();
+    let mut step = 0;
+    for processor in 0..standing.job.procs() {
+        step = step.max(standing.last[processor as usize].step);
     }
-    Ok(last.made)
+    step
 }
 
-// The first processor that named a cell that there is not before this moment.
-fn first_lost(alloc: Global, last: &Moment<'_>) -> Result<Option<Lost>, AllocError>
-    ensures { IfOk result (IsFirstLostOrNone last.now.job.now last.now.made) }
+// The first processor that named a cell that there is not.
+fn first_lost(standing: &Standing<'_>) -> Option<Lost>
+    ensures { IsFirstLostOrNone standing.now.job.now standing.now.steps result }
 {
-    laws::start_is_a_state();
-    let job = last.job;
-    job.limits_hold();
-    if !some_is_lost(last) {
-        return Ok(None);
-    }
-    let mut state = State::start(alloc, job)?;
-    for made in 0..last.made {
-        let moment = Moment::new(job, &state, made);
-        if let Some(processor) = first_naming_none(&moment) {
-            return Ok(Some(Lost {
-                step: made + 1,
-                processor,
-                index: counter_in(&moment, processor),
-            }));
+    standing.job.limits_hold();
+    let outside = out_of_range(standing);
+    let mut lost = None;
+    for processor in 0..standing.job.procs() {
+        if counter_in(standing, processor) == outside {
+            let LastRow { step, index } = standing.last[processor as usize];
+            lost = earlier(
+                lost,
+                Lost {
+                    step,
+                    processor,
+                    index,
+                },
+            );
         }
-        go_on(alloc, job, &mut state, made, last.made)?;
     }
-    Ok(None)
+    lost
+}
+
+// That one, or the other if that is of an earlier step.
+fn earlier(found: Option<Lost>, other: Lost) -> Option<Lost>
+    ensures { result ≡ earlier found other }
+{
+    match found {
+        Some(first) if first.step <= other.step => found,
+        _ => Some(other),
+    }
+}
+
+// That one, if it is of a step before this one.
+fn if_before(found: Option<Lost>, step: u32) -> Option<Lost>
+    ensures { result ≡ if_before found step }
+{
+    match found {
+        Some(lost) if lost.step < step => found,
+        _ => None,
+    }
 }

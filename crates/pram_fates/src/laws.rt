@@ -2,7 +2,7 @@
 //! law.
 ghost use Rattle.pram_fates.specs.Laws.{LostStaysLost, OneFates};
 
-/// So many steps make one thing of the processors.
+/// What becomes of the processors in a number of steps is one thing.
 pub fn one_fates()
     ensures { OneFates }
 {}

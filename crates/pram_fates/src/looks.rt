@@ -1,43 +1,53 @@
 //! A look over the processors.
-ghost use Rattle.std.specs.Prelude.{◌≡◌, ◌<◌, ◌↔◌, count_by, IsTrue, MatchOption};
+ghost use Rattle.std.specs.Prelude.{◌≡◌, ◌<◌, count_by, MatchOption};
 ghost use Rattle.std.specs.List.{range_with_len};
-ghost use Rattle.pram_fates.specs.Fates.{AllName, IsFirstNaming, IsFirstRunning, NamesNone};
-ghost use Rattle.pram_fates.specs.Fates.{NoneRuns, is_running};
-ghost use Rattle.pram_fates.specs.Inner.Losses.{SomeIsLost};
-ghost use Rattle.pram_machine.specs.Machine.{out_of_range, counter as counter_of};
+ghost use Rattle.pram_fates.specs.Fates.{IsFirstRunning};
+ghost use Rattle.pram_machine.specs.Machine.{AllStopped, out_of_range, counter as counter_of};
+ghost use Rattle.pram_step.specs.Last.{AreLast};
+ghost use Rattle.pram_step.specs.Running.{SameCounters, is_running};
 ghost use Rattle.pram_step.specs.Runs.{state_after};
 
-use pram_step::{Moment, counter, laws, request_after};
+use pram_job::Job;
+use pram_step::{LastRow, State, counter};
+
+/// Where the processors of a job stand after so many steps, and what each executed last.
+#[derive(Drop)]
+pub(crate) struct Standing<'a> {
+    pub job: &'a Job,
+    pub state: &'a State,
+    pub steps: u32,
+    pub last: &'a [LastRow],
+    pub ghost counters: { SameCounters job.now (state_after job.now steps) state.now },
+    pub ghost rows: { AreLast job.now steps last.now },
+}
 
 /// The counter of a processor.
-pub(crate) fn counter_in(moment: &Moment<'_>, processor: u32) -> u32
-    requires { processor < moment.now.job.now.procs }
-    ensures { result ≡ counter_of moment.now.job.now
-        (state_after moment.now.job.now moment.now.made) processor }
+pub(crate) fn counter_in(standing: &Standing<'_>, processor: u32) -> u32
+    requires { processor < standing.now.job.now.procs }
+    ensures { result ≡ counter_of standing.now.job.now
+        (state_after standing.now.job.now standing.now.steps) processor }
 {
-    laws::states_have_all_places();
-    moment.job.limits_hold();
-    counter(moment.job, moment.state, processor)
+    counter(standing.job, standing.state, processor)
 }
 
 /// Whether a processor runs.
-fn is_running(moment: &Moment<'_>, processor: u32) -> bool
-    requires { processor < moment.now.job.now.procs }
-    ensures { result ≡ is_running moment.now.job.now
-        (state_after moment.now.job.now moment.now.made) processor }
+fn is_running(standing: &Standing<'_>, processor: u32) -> bool
+    requires { processor < standing.now.job.now.procs }
+    ensures { result ≡ is_running standing.now.job.now
+        (state_after standing.now.job.now standing.now.steps) processor }
 {
-    (counter_in(moment, processor) as usize) < moment.job.code().len()
+    (counter_in(standing, processor) as usize) < standing.job.code().len()
 }
 
 /// How many processors run.
-pub(crate) fn count_running(moment: &Moment<'_>) -> u32
-    ensures { result ≡ count_by (is_running moment.now.job.now
-        (state_after moment.now.job.now moment.now.made))
-        (range_with_len 0 moment.now.job.now.procs) }
+pub(crate) fn count_running(standing: &Standing<'_>) -> u32
+    ensures { result ≡ count_by (is_running standing.now.job.now
+        (state_after standing.now.job.now standing.now.steps))
+        (range_with_len 0 standing.now.job.now.procs) }
 {
     let mut count = 0;
-    for processor in 0..moment.job.procs() {
-        if is_running(moment, processor) {
+    for processor in 0..standing.job.procs() {
+        if is_running(standing, processor) {
             count += 1;
         }
     }
@@ -45,63 +55,23 @@ pub(crate) fn count_running(moment: &Moment<'_>) -> u32
 }
 
 /// The least processor that runs.
-pub(crate) fn first_running(moment: &Moment<'_>) -> Option<u32>
+pub(crate) fn first_running(standing: &Standing<'_>) -> Option<u32>
     ensures { MatchOption result
-        (NoneRuns moment.now.job.now (state_after moment.now.job.now moment.now.made))
-        (IsFirstRunning moment.now.job.now (state_after moment.now.job.now moment.now.made)) }
+        (AllStopped standing.now.job.now (state_after standing.now.job.now standing.now.steps))
+        (IsFirstRunning standing.now.job.now (state_after standing.now.job.now standing.now.steps)) }
 {
-    for processor in 0..moment.job.procs() {
-        if is_running(moment, processor) {
+    for processor in 0..standing.job.procs() {
+        if is_running(standing, processor) {
             return Some(processor);
         }
     }
     None
 }
 
-/// Whether the counter of some processor says that its address was out of range.
-pub(crate) fn some_is_lost(moment: &Moment<'_>) -> bool
-    ensures { IsTrue result ↔ SomeIsLost moment.now.job.now
-        (state_after moment.now.job.now moment.now.made) }
+/// The counter that says that an address was out of range.
+pub(crate) fn out_of_range(standing: &Standing<'_>) -> u32
+    ensures { result ≡ out_of_range standing.now.job.now }
 {
-    for processor in 0..moment.job.procs() {
-        if counter_in(moment, processor) == out_of_range(moment) {
-            return true;
-        }
-    }
-    false
-}
-
-/// The least processor that names a cell that there is not in the step after the moment.
-pub(crate) fn first_naming_none(moment: &Moment<'_>) -> Option<u32>
-    ensures { MatchOption result
-        (AllName moment.now.job.now (state_after moment.now.job.now moment.now.made))
-        (IsFirstNaming moment.now.job.now (state_after moment.now.job.now moment.now.made)) }
-{
-    let outside = out_of_range(moment);
-    for processor in 0..moment.job.procs() {
-        if names_none(moment, processor, outside) {
-            return Some(processor);
-        }
-    }
-    None
-}
-
-// Whether a processor names a cell that there is not in the step after the moment: its counter is
-// then this one.
-fn names_none(moment: &Moment<'_>, processor: u32, outside: u32) -> bool
-    requires processor { processor < moment.now.job.now.procs }
-    requires outside { outside ≡ out_of_range moment.now.job.now }
-    ensures { IsTrue result ↔ NamesNone moment.now.job.now
-        (state_after moment.now.job.now moment.now.made) processor }
-{
-    is_running(moment, processor)
-        && request_after(moment.job, moment.state, processor).next == outside
-}
-
-// The counter that says that an address was out of range.
-fn out_of_range(moment: &Moment<'_>) -> u32
-    ensures { result ≡ out_of_range moment.now.job.now }
-{
-    moment.job.limits_hold();
-    moment.job.code().len() as u32 + 1
+    standing.job.limits_hold();
+    standing.job.code().len() as u32 + 1
 }

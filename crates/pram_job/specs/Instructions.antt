@@ -1,5 +1,7 @@
 -- The table of instructions: what a text calls each of them, and what it has after the name.
 use Rattle.std.specs.Prelude.{ℕ, ◌+◌, ◌<◌, ◌≤◌, ◌^◌, Bool, if◌then◌else◌, List, [], ◌∷◌, codes}
+use Rattle.std.specs.Prelude.{Option, Some, None}
+use Rattle.std.specs.Str.{bytes_eq}
 use Rattle.pram_job.specs.declared.instr.Array.{Array}
 use Rattle.pram_job.specs.declared.instr.Instr.{Instr}
 use Rattle.pram_job.specs.declared.instr.Instr.TheVariants.{Set, Pid, Add, Sub, Mul, And, Or, Xor}
@@ -49,8 +51,9 @@ pub data Form : Type 0 where
   register_index : (ℕ → ℕ → Instr) → Form
   only_index : (ℕ → Instr) → Form
 
-abbrev pub shifts : List (List ℕ × Form)
-shifts =
+-- the rows that version 3 brought
+abbrev pub later_rows : List (List ℕ × Form)
+later_rows =
     (codes "shl", target_two (λ target first second. Shl target first second))
     ∷ (codes "shr", target_two (λ target first second. Shr target first second))
     ∷ []
@@ -73,7 +76,24 @@ table later =
     ∷ (codes "jz", register_index (λ register index. Jz register index))
     ∷ (codes "jmp", only_index (λ index. Jmp index))
     ∷ (codes "halt", bare Halt)
-    ∷ (if later then shifts else [])
+    ∷ (if later then later_rows else [])
+
+-- the first row of this name says what the operands are
+abbrev pub form_named : List (List ℕ × Form) → List ℕ → Option Form
+form_named [] name = None
+form_named (row ∷ rows) name = if bytes_eq name row.0 then Some row.1 else form_named rows name
+
+-- the instruction that operands make, where they are those of the form
+abbrev pub made_with : Form → Operands → Option Instr
+made_with (bare instr) Bare = Some instr
+made_with (only_target make) (Target target) = Some (make target)
+made_with (target_number make) (TargetNumber target number) = Some (make target number)
+made_with (target_place make) (TargetPlace target place) = Some (make target place)
+made_with (target_two make) (TargetTwo target first second) = Some (make target first second)
+made_with (place_value make) (PlaceValue place value) = Some (make place value)
+made_with (register_index make) (RegisterIndex register index) = Some (make register index)
+made_with (only_index make) (Index index) = Some (make index)
+made_with _ _ = None
 
 -- ---- what operands there are
 

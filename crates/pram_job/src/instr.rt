@@ -1,4 +1,4 @@
-//! The table of the seventeen instructions, and the rules of writing.
+//! The table of instructions, and the rules of writing.
 ghost use Rattle.std.specs.Prelude.{◌≡◌};
 ghost use Rattle.pram_job.specs.Instructions.{row_of};
 

@@ -44,7 +44,7 @@ impl Job {
         }
     }
 
-    /// The same job, which ends after so many steps.
+    /// This job, ending after another number of steps.
     pub fn with_steps(self, steps: u32) -> Self
         ensures { result ≡ record self { steps = steps } }
     {

@@ -12,19 +12,23 @@ use Rattle.std.proofs.Math.Nat.{div-le_self}
 use Rattle.std.proofs.lemmas.Option.{none-some, same_Some, some_pair_parts, slice_get_within}
 use Rattle.std.proofs.lemmas.Option.{slice_get-get_or, get_or_from_slice_get}
 use Rattle.pram_job.specs.declared.instr.Instr.{Instr}
-use Rattle.pram_job.specs.declared.instr.Instr.TheVariants.{Set, Pid, And, Or, Xor, Lt}
-use Rattle.pram_job.specs.declared.instr.Instr.TheVariants.{Eq, Shl, Shr, Ld, St, Jz, Jmp, Halt}
+use Rattle.pram_job.specs.declared.instr.Instr.TheVariants.{And, Or, Xor, Lt, Eq, Shl, Shr}
 use Rattle.pram_job.specs.declared.instr.Operand.{Operand}
 use Rattle.pram_job.specs.declared.instr.Operand.TheVariants.{Register, Number}
+use Rattle.pram_job.specs.declared.instr.Operands.{Operands}
+use Rattle.pram_job.specs.declared.instr.Operands.TheVariants.{Bare, Target, TargetNumber}
+use Rattle.pram_job.specs.declared.instr.Operands.TheVariants.{TargetPlace, TargetTwo, PlaceValue}
+use Rattle.pram_job.specs.declared.instr.Operands.TheVariants.{RegisterIndex, Index}
 use Rattle.pram_job.specs.declared.instr.Place.{Place}
 use Rattle.pram_job.specs.declared.instr.Place.TheVariants.{Cell, Named}
-use Rattle.pram_job.specs.Instructions.{IsOperand, IsPlace}
+use Rattle.pram_job.specs.Instructions.{IsOperand, IsPlace, AreOperands, row_of}
 use Rattle.pram_job.specs.Job.{JobData, IsJob, IsInstr}
 use Rattle.pram_machine.specs.declared.requests.Request.{Request}
 use Rattle.pram_machine.specs.Machine.{State, IsDataPlace, register_place}
 use Rattle.pram_machine.specs.Machine.{counter_place, register, counter, out_of_range}
 use Rattle.pram_machine.specs.Instructions.{value_of, held_after, index_of, reached, cell_of}
 use Rattle.pram_machine.specs.Instructions.{sources_of, cell_read, gives, goes_to, within, shifted}
+use Rattle.pram_machine.specs.Instructions.{computed, request_with}
 use Rattle.pram_machine.specs.Instructions.{decided, HasShape, operand_held, decided_in, request_in}
 use Rattle.pram_machine.specs.Instructions.{requests_in}
 
@@ -103,6 +107,24 @@ reached_below job (Named array _) index cell is =
     tested (nat_lt index array.len) (array.base + index) cell job.cells
     (λ low. omega (arith, ltb-true index array.len low, is.0.1))
 
+-- ---- what is computed is below 2^32
+
+shifted_fits : (by n : ℕ) → n < 2 ^ 32 → shifted by n < 2 ^ 32
+shifted_fits by n low = either (λ n. n < 2 ^ 32) (nat_lt by 32) n 0 low (omega arith)
+
+computed_fits : (instr : Instr) (a b : ℕ) → a < 2 ^ 32 → b < 2 ^ 32 → computed instr a b < 2 ^ 32
+computed_fits (And _ _ _) a b fits fits_too = omega (arith, and_le_l a b)
+computed_fits (Or _ _ _) a b fits fits_too = or_lt 32 a b fits fits_too
+computed_fits (Xor _ _ _) a b fits fits_too = xor_lt 32 a b fits fits_too
+computed_fits (Lt _ _ _) a b fits fits_too =
+    either (λ n. n < 2 ^ 32) (nat_lt a b) 1 0 (omega arith) (omega arith)
+computed_fits (Eq _ _ _) a b fits fits_too =
+    either (λ n. n < 2 ^ 32) (a == b) 1 0 (omega arith) (omega arith)
+computed_fits (Shl _ _ _) a b fits fits_too = shifted_fits b _ (omega arith)
+computed_fits (Shr _ _ _) a b fits fits_too =
+    shifted_fits b _ (omega (arith, div-le_self a (2 ^ b)))
+computed_fits _ a b fits fits_too = omega arith
+
 -- ---- what an instruction may ask for
 
 module _ (job : JobData) (i counter a b v : ℕ) where
@@ -130,19 +152,25 @@ module _ (job : JobData) (i counter a b v : ℕ) where
   to_none : GoesWell (goes_to 0)
   to_none place v h = absurd (none-some (place, v) h)
 
+  asked_place : (computes : ℕ → ℕ → ℕ) (operands : Operands) →
+      AreOperands job.cells (length job.code) operands →
+      GoesWell (request_with job i counter computes operands a b v)
+  asked_place computes Bare is = to_none
+  asked_place computes (Target r) is = to_register r i is
+  asked_place computes (TargetNumber r k) is = to_register r k is.0
+  asked_place computes (TargetPlace r place) is = by_cell GoesWell (cell_of job place a) _ to_none
+      (λ cell e. to_register r v is.0)
+  asked_place computes (TargetTwo r _ c) is = to_register r _ is.0
+  asked_place computes (PlaceValue place _) is = by_cell GoesWell (cell_of job place a) _ to_none
+      (λ cell e. to_cell cell _ (reached_below job place _ cell is.0 e))
+  asked_place computes (RegisterIndex _ index) is = to_none
+  asked_place computes (Index index) is = to_none
+
   pub decided_place : (instr : Instr) → IsInstr job.cells (length job.code) instr →
       (place value : ℕ) → (decided job i counter instr a b v).put ≡ Some (place, value) →
       IsDataPlace job i place
   unfolding decided
-  decided_place (Pid r) is = to_register r i is
-  decided_place (Ld r place) is = by_cell GoesWell (cell_of job place a) _ to_none
-      (λ cell e. to_register r v is.0)
-  decided_place (St place _) is = by_cell GoesWell (cell_of job place a) _ to_none
-      (λ cell e. to_cell cell _ (reached_below job place _ cell is.0 e))
-  decided_place (Jz r place) is = to_none
-  decided_place (Jmp place) is = to_none
-  decided_place Halt is = to_none
-  decided_place _ is = to_register _ _ is.0
+  decided_place instr is = asked_place (computed instr) (row_of instr).1 is
 
   -- its value is below 2^32
   abbrev HasValue : Request → Type 0
@@ -154,69 +182,69 @@ module _ (job : JobData) (i counter a b v : ℕ) where
   of_none : HasValue (goes_to 0)
   of_none place v h = absurd (none-some (place, v) h)
 
-  shifted_fits : (by n : ℕ) → n < 2 ^ 32 → shifted by n < 2 ^ 32
-  shifted_fits by n low = either (λ n. n < 2 ^ 32) (nat_lt by 32) n 0 low (omega arith)
+  asked_value : (computes : ℕ → ℕ → ℕ) (operands : Operands) →
+      ((x y : ℕ) → x < 2 ^ 32 → y < 2 ^ 32 → computes x y < 2 ^ 32) →
+      AreOperands job.cells (length job.code) operands →
+      i < 2 ^ 32 → a < 2 ^ 32 → b < 2 ^ 32 → v < 2 ^ 32 →
+      HasValue (request_with job i counter computes operands a b v)
+  asked_value computes Bare small is low fits fits_too held = of_none
+  asked_value computes (Target r) small is low fits fits_too held = of_value _ _ low
+  asked_value computes (TargetNumber r k) small is low fits fits_too held = of_value _ _ is.1
+  asked_value computes (TargetPlace r place) small is low fits fits_too held =
+      by_cell HasValue (cell_of job place a) _ of_none (λ cell e. of_value _ _ held)
+  asked_value computes (TargetTwo r _ c) small is low fits fits_too held =
+      of_value _ _ (small a (value_of c b) fits (value_fits c b is.2 fits_too))
+  asked_value computes (PlaceValue place c) small is low fits fits_too held =
+      by_cell HasValue (cell_of job place a) _ of_none (λ cell e. of_value _ _
+      (value_fits c (held_after (index_of place) a b) is.1
+      (held_fits (index_of place) a b fits fits_too)))
+  asked_value computes (RegisterIndex _ index) small is low fits fits_too held = of_none
+  asked_value computes (Index index) small is low fits fits_too held = of_none
 
   pub decided_value : (instr : Instr) → IsInstr job.cells (length job.code) instr →
       i < 2 ^ 32 → a < 2 ^ 32 → b < 2 ^ 32 → v < 2 ^ 32 → (place value : ℕ) →
       (decided job i counter instr a b v).put ≡ Some (place, value) → value < 2 ^ 32
   unfolding decided
-  decided_value (Set r k) is low fits fits_too held = of_value _ _ is.1
-  decided_value (Pid r) is low fits fits_too held = of_value _ _ low
-  decided_value (And r _ c) is low fits fits_too held =
-      of_value _ _ (omega (arith, and_le_l a (value_of c b)))
-  decided_value (Or r _ c) is low fits fits_too held =
-      of_value _ _ (or_lt 32 a (value_of c b) fits (value_fits c b is.2 fits_too))
-  decided_value (Xor r _ c) is low fits fits_too held =
-      of_value _ _ (xor_lt 32 a (value_of c b) fits (value_fits c b is.2 fits_too))
-  decided_value (Lt r _ c) is low fits fits_too held =
-      of_value _ _ (either (λ n. n < 2 ^ 32) (nat_lt a (value_of c b)) 1 0 (omega arith)
-      (omega arith))
-  decided_value (Eq r _ c) is low fits fits_too held =
-      of_value _ _ (either (λ n. n < 2 ^ 32) (a == value_of c b) 1 0 (omega arith) (omega arith))
-  decided_value (Shl r _ c) is low fits fits_too held =
-      of_value _ _ (shifted_fits (value_of c b) _ (omega arith))
-  decided_value (Shr r _ c) is low fits fits_too held =
-      of_value _ _ (shifted_fits (value_of c b) _
-      (omega (arith, div-le_self a (2 ^ value_of c b))))
-  decided_value (Ld r place) is low fits fits_too held =
-      by_cell HasValue (cell_of job place a) _ of_none (λ cell e. of_value _ _ held)
-  decided_value (St place c) is low fits fits_too held =
-      by_cell HasValue (cell_of job place a) _ of_none (λ cell e. of_value _ _
-      (value_fits c (held_after (index_of place) a b) is.1
-      (held_fits (index_of place) a b fits fits_too)))
-  decided_value (Jz r place) is low fits fits_too held = of_none
-  decided_value (Jmp place) is low fits fits_too held = of_none
-  decided_value Halt is low fits fits_too held = of_none
-  decided_value _ is low fits fits_too held = of_value _ _ (omega arith)
+  decided_value instr is low fits fits_too held =
+      asked_value (computed instr) (row_of instr).1 (computed_fits instr) is low fits fits_too held
+
+  asked_next : (computes : ℕ → ℕ → ℕ) (operands : Operands) →
+      AreOperands job.cells (length job.code) operands → counter < length job.code →
+      (request_with job i counter computes operands a b v).next ≤ out_of_range job
+  asked_next computes (TargetPlace r place) is low = by_cell (λ r. r.next ≤ out_of_range job)
+      (cell_of job place a) _ (omega arith) (λ cell e. omega arith)
+  asked_next computes (PlaceValue place _) is low = by_cell (λ r. r.next ≤ out_of_range job)
+      (cell_of job place a) _ (omega arith) (λ cell e. omega arith)
+  asked_next computes (RegisterIndex r index) is low =
+      either (λ n. n ≤ out_of_range job) (a == 0) index (counter + 1)
+      (omega (arith, is.1)) (omega arith)
+  asked_next computes (Index index) is low = omega (arith, is)
+  asked_next computes _ is low = omega arith
 
   pub decided_next : (instr : Instr) → IsInstr job.cells (length job.code) instr →
       counter < length job.code → (decided job i counter instr a b v).next ≤ out_of_range job
   unfolding decided
-  decided_next (Ld r place) is low = by_cell (λ r. r.next ≤ out_of_range job)
-      (cell_of job place a) _ (omega arith) (λ cell e. omega arith)
-  decided_next (St place _) is low = by_cell (λ r. r.next ≤ out_of_range job)
-      (cell_of job place a) _ (omega arith) (λ cell e. omega arith)
-  decided_next (Jz r place) is low = either (λ n. n ≤ out_of_range job) (a == 0) place (counter + 1)
-      (omega (arith, is.1)) (omega arith)
-  decided_next (Jmp place) is low = omega (arith, is)
-  decided_next _ is low = omega arith
+  decided_next instr is low = asked_next (computed instr) (row_of instr).1 is low
 
   -- where it leaves the counter as it is, it asks for no data
   abbrev Stays : Request → Type 0
   Stays r = r.next ≡ counter → r ≡ goes_to counter
 
+  asked_idle : (computes : ℕ → ℕ → ℕ) (operands : Operands) →
+      Stays (request_with job i counter computes operands a b v)
+  asked_idle computes (TargetPlace r place) = by_cell Stays (cell_of job place a) _
+      (λ e. ap goes_to e) (λ cell is (e : counter + 1 ≡ counter). absurd (omega arith))
+  asked_idle computes (PlaceValue place _) = by_cell Stays (cell_of job place a) _
+      (λ e. ap goes_to e) (λ cell is (e : counter + 1 ≡ counter). absurd (omega arith))
+  asked_idle computes (RegisterIndex r index) = λ e. ap goes_to e
+  asked_idle computes (Index index) = λ e. ap goes_to e
+  asked_idle computes Bare = λ e. ap goes_to e
+  asked_idle computes _ = λ (e : counter + 1 ≡ counter). absurd (omega arith)
+
   pub decided_idle : (instr : Instr) → (decided job i counter instr a b v).next ≡ counter →
       decided job i counter instr a b v ≡ goes_to counter
   unfolding decided
-  decided_idle (Ld r place) = by_cell Stays (cell_of job place a) _ (λ e. ap goes_to e)
-      (λ cell is (e : counter + 1 ≡ counter). absurd (omega arith))
-  decided_idle (St place _) = by_cell Stays (cell_of job place a) _ (λ e. ap goes_to e)
-      (λ cell is (e : counter + 1 ≡ counter). absurd (omega arith))
-  decided_idle (Jz r place) = λ e. ap goes_to e
-  decided_idle (Jmp place) = λ e. ap goes_to e
-  decided_idle Halt = λ e. ap goes_to e
-  decided_idle _ = λ (e : counter + 1 ≡ counter). absurd (omega arith)
+  decided_idle instr = asked_idle (computed instr) (row_of instr).1
 
   pub decided_shape : (instr : Instr) → IsInstr job.cells (length job.code) instr →
       i < 2 ^ 32 → a < 2 ^ 32 → b < 2 ^ 32 → v < 2 ^ 32 → counter < length job.code →

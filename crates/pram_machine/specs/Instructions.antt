@@ -1,4 +1,4 @@
--- The table of the seventeen instructions, and what a processor asks for in a state.
+-- The table of instructions, and what a processor asks for in a state.
 use Rattle.std.specs.Prelude.{◌≡◌, ℕ, zero, suc, ◌+◌, ◌-◌, ◌*◌, ◌/◌, ◌%◌, ◌^◌}
 use Rattle.std.specs.Prelude.{◌<◌, ◌≤◌, ◌==◌, nat_lt, if◌then◌else◌, List, [], ◌∷◌, ◌++◌, map}
 use Rattle.std.specs.Prelude.{slice_get, slice_index, Option, Some, None, bit_and, bit_or, bit_xor}
@@ -50,7 +50,7 @@ reached job (Cell _) index = if nat_lt index job.cells then Some index else None
 reached job (Named array _) index =
     if nat_lt index array.len then Some (array.base + index) else None
 
--- the same, where the register of its index holds this
+-- the cell of a place, where the register of its index holds this
 abbrev pub cell_of : JobData → Place → ℕ → Option ℕ
 cell_of job place held = reached job place (value_of (index_of place) held)
 
@@ -70,10 +70,19 @@ read_by (Index index) = []
 abbrev pub sources_of : Instr → List ℕ
 sources_of instr = read_by (row_of instr).1
 
--- the cell that an instruction reads, where the first register that it reads holds this
+-- the cell that is read, where the first register that is read holds this
+abbrev pub read_at : JobData → Operands → ℕ → Option ℕ
+read_at job Bare first = None
+read_at job (Target target) first = None
+read_at job (TargetNumber target number) first = None
+read_at job (TargetPlace target place) first = cell_of job place first
+read_at job (TargetTwo target a b) first = None
+read_at job (PlaceValue place value) first = None
+read_at job (RegisterIndex register index) first = None
+read_at job (Index index) first = None
+
 abbrev pub cell_read : JobData → Instr → ℕ → Option ℕ
-cell_read job (Ld target place) first = cell_of job place first
-cell_read job _ first = None
+cell_read job instr first = read_at job (row_of instr).1 first
 
 -- a register takes a value
 abbrev pub gives : JobData → ℕ → ℕ → ℕ → ℕ → Request
@@ -93,43 +102,52 @@ within (Some cell) otherwise asks = asks cell
 abbrev pub shifted : ℕ → ℕ → ℕ
 shifted by value = if nat_lt by 32 then value else 0
 
--- What processor i asks for by the instruction at its counter, where the first and the second
--- register that it reads hold these, and the cell that it reads holds this value.
-unfoldable pub decided : JobData → ℕ → ℕ → Instr → ℕ → ℕ → ℕ → Request
-decided job i counter (Set target number) first second value = gives job i counter target number
-decided job i counter (Pid target) first second value = gives job i counter target i
-decided job i counter (Add target _ b) first second value =
-    gives job i counter target ((first + value_of b second) % 2 ^ 32)
-decided job i counter (Sub target _ b) first second value =
-    gives job i counter target ((first + (2 ^ 32 - value_of b second)) % 2 ^ 32)
-decided job i counter (Mul target _ b) first second value =
-    gives job i counter target ((first * value_of b second) % 2 ^ 32)
-decided job i counter (And target _ b) first second value =
-    gives job i counter target (bit_and first (value_of b second))
-decided job i counter (Or target _ b) first second value =
-    gives job i counter target (bit_or first (value_of b second))
-decided job i counter (Xor target _ b) first second value =
-    gives job i counter target (bit_xor first (value_of b second))
-decided job i counter (Lt target _ b) first second value =
-    gives job i counter target (if nat_lt first (value_of b second) then 1 else 0)
-decided job i counter (Eq target _ b) first second value =
-    gives job i counter target (if first == value_of b second then 1 else 0)
-decided job i counter (Shl target _ b) first second value =
-    gives job i counter target
-    (shifted (value_of b second) ((first * 2 ^ value_of b second) % 2 ^ 32))
-decided job i counter (Shr target _ b) first second value =
-    gives job i counter target (shifted (value_of b second) (first / 2 ^ value_of b second))
-decided job i counter (Ld target place) first second value =
+-- What an instruction computes of two numbers. Only those with a target and two operands compute:
+-- for the others this is 0.
+abbrev pub computed : Instr → ℕ → ℕ → ℕ
+computed (Add _ _ _) a b = (a + b) % 2 ^ 32
+computed (Sub _ _ _) a b = (a + (2 ^ 32 - b)) % 2 ^ 32
+computed (Mul _ _ _) a b = (a * b) % 2 ^ 32
+computed (And _ _ _) a b = bit_and a b
+computed (Or _ _ _) a b = bit_or a b
+computed (Xor _ _ _) a b = bit_xor a b
+computed (Lt _ _ _) a b = if nat_lt a b then 1 else 0
+computed (Eq _ _ _) a b = if a == b then 1 else 0
+computed (Shl _ _ _) a b = shifted b ((a * 2 ^ b) % 2 ^ 32)
+computed (Shr _ _ _) a b = shifted b (a / 2 ^ b)
+computed (Set _ _) a b = 0
+computed (Pid _) a b = 0
+computed (Ld _ _) a b = 0
+computed (St _ _) a b = 0
+computed (Jz _ _) a b = 0
+computed (Jmp _) a b = 0
+computed Halt a b = 0
+
+-- What processor i asks for by an instruction at its counter that has these operands, and computes
+-- this of two numbers. The first and the second register that it reads hold these, and the cell
+-- that it reads holds this value.
+abbrev pub request_with : JobData → ℕ → ℕ → (ℕ → ℕ → ℕ) → Operands → ℕ → ℕ → ℕ → Request
+request_with job i counter computes Bare first second value = goes_to (halted job)
+request_with job i counter computes (Target target) first second value = gives job i counter target i
+request_with job i counter computes (TargetNumber target number) first second value =
+    gives job i counter target number
+request_with job i counter computes (TargetPlace target place) first second value =
     within (cell_of job place first) (out_of_range job) (λ cell. gives job i counter target value)
-decided job i counter (St place b) first second value =
+request_with job i counter computes (TargetTwo target _ b) first second value =
+    gives job i counter target (computes first (value_of b second))
+request_with job i counter computes (PlaceValue place b) first second value =
     within (cell_of job place first) (out_of_range job) (λ cell. record {
       put = Some (cell, value_of b (held_after (index_of place) first second));
       next = counter + 1;
     })
-decided job i counter (Jz _ index) first second value =
+request_with job i counter computes (RegisterIndex _ index) first second value =
     goes_to (if first == 0 then index else counter + 1)
-decided job i counter (Jmp index) first second value = goes_to index
-decided job i counter Halt first second value = goes_to (halted job)
+request_with job i counter computes (Index index) first second value = goes_to index
+
+-- what processor i asks for by the instruction at its counter
+unfoldable pub decided : JobData → ℕ → ℕ → Instr → ℕ → ℕ → ℕ → Request
+decided job i counter instr first second value =
+    request_with job i counter (computed instr) (row_of instr).1 first second value
 
 -- ---- in code, and in words
 

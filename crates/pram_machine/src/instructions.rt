@@ -1,4 +1,4 @@
-//! The table of the seventeen instructions: what each reads, and what it asks for.
+//! The table of instructions: what each reads, and what it asks for.
 ghost use Rattle.std.specs.Prelude.{◌≡◌, ℕ, ◌+◌, ◌^◌, ◌<◌, List, [], ◌∷◌, length, slice_index};
 ghost use Rattle.std.specs.Prelude.{◌++◌, All, IfSome, Option, Some};
 ghost use Rattle.pram_job.specs.Instructions.{IsOperand, IsPlace};
@@ -6,8 +6,8 @@ ghost use Rattle.pram_job.specs.Job.{IsInstr};
 ghost use Rattle.pram_machine.specs.Machine.{out_of_range, register_place};
 ghost use Rattle.pram_machine.specs.Instructions.{registers_in, value_of, held_after, index_of};
 ghost use Rattle.pram_machine.specs.Instructions.{reached, sources_of, listed, cell_read};
-ghost use Rattle.pram_machine.specs.Instructions.{goes_to, decided, cell_of, HasShape};
-ghost use Rattle.pram_machine.specs.Turns.{IsTurnOf, computed};
+ghost use Rattle.pram_machine.specs.Instructions.{goes_to, computed, decided, cell_of, HasShape};
+ghost use Rattle.pram_machine.specs.Turns.{IsTurnOf};
 ghost use Rattle.pram_machine.specs.declared.turn.Put.TheVariants.{Nothing, Register, Cell};
 
 use crate::requests::Request;
@@ -198,7 +198,6 @@ pub(crate) fn decide<H: Held>(
 
 // What an instruction that computes makes of two numbers.
 #[inline(always)]
-#[tactic(auto, unfolding(crate::specs::Turns::computed))]
 fn computed(instr: &Instr, a: u32, b: u32) -> u32
     ensures { result ≡ computed instr.now a b }
 {
@@ -213,7 +212,8 @@ fn computed(instr: &Instr, a: u32, b: u32) -> u32
         Instr::Eq(..) => u32::from(a == b),
         Instr::Shl(..) => a.checked_shl(b).unwrap_or(0),
         Instr::Shr(..) => a.checked_shr(b).unwrap_or(0),
-        _ => 0,
+        Instr::Set(..) | Instr::Pid(..) | Instr::Ld(..) | Instr::St(..) => 0,
+        Instr::Jz(..) | Instr::Jmp(..) | Instr::Halt => 0,
     }
 }
 

@@ -1,4 +1,4 @@
-//! What a processor of the machine asks for in a step: the table of the seventeen instructions.
+//! What a processor of the machine asks for in a step: the table of instructions.
 #![tactic(auto)]
 
 mod instructions;

@@ -91,7 +91,7 @@ impl<'m> Fetched<'m> {
         })
     }
 
-    /// The same instruction, by a name that tells its form.
+    /// This instruction, by a name that tells its form.
     #[inline(always)]
     pub fn with(self, instr: &'m Instr) -> Self
         requires { instr.now ≡ self.instr.now }

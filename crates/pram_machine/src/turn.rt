@@ -38,7 +38,7 @@ pub struct Turn {
 }
 
 impl Turn {
-    /// The same as a request.
+    /// What the turn asks for, as a request.
     #[inline(always)]
     pub fn request(self) -> Request
         ensures { result ≡ request_of self }

@@ -1,6 +1,4 @@
 //! Calls about a text of the machine: its job, its answer, its moments.
-ghost use Rattle.std.specs.Prelude.{◌≢◌};
-ghost use Rattle.page_core.specs.declared.codes.TheConstants.{MEMORY};
 ghost use Rattle.page_core.specs.Findings.{IsKeptBehind, IsToldOf, told_written};
 ghost use Rattle.page_core.specs.Moments.{IsAnswerFound, IsStateFound};
 ghost use Rattle.page_core.specs.Requests.{AreRequestsFound};
@@ -55,8 +53,7 @@ pub extern "C" fn pram_page_moment(
     ensures state { IsToldOf (IsStateFound text.now step most places.old places.new) state.new }
     ensures places { IsKeptBehind (told_written state.new) places.old places.new }
     ensures asked { IsToldOf (AreRequestsFound text.now step most rows.old rows.new) asked.new }
-    ensures rows { asked.new.status.code ≢ MEMORY
-        → IsKeptBehind (told_written asked.new) rows.old rows.new }
+    ensures rows { IsKeptBehind (told_written asked.new) rows.old rows.new }
 {
     match go(alloc, text, step, most) {
         Ok(reached) => {

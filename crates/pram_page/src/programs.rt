@@ -1,7 +1,8 @@
 //! Calls about a program of `pardo`.
 ghost use Rattle.std.specs.Prelude.{[]};
 ghost use Rattle.page_core.specs.Findings.{IsKeptBehind};
-ghost use Rattle.page_core.specs.Programs.{AreLinesOf, AreNamesOf, AreToldOf, IsJobOf, IsNoProgram};
+ghost use Rattle.page_core.specs.Programs.{AreLinesOf, AreNamesOf, AreToldOf, IsCompiledJobOf};
+ghost use Rattle.page_core.specs.Programs.{IsNoProgram};
 ghost use Rattle.page_core.specs.Programs.{bytes_told, rows_told};
 
 use page_core::names::{CellsRow, take_names};
@@ -18,7 +19,8 @@ pub extern "C" fn pram_page_compile(
     lines: &mut [u64],
     told: &mut ProgramTold,
 )
-    ensures told { AreToldOf (IsNoProgram text.now) (IsJobOf text.now) job.old lines.old job.new
+    ensures told { AreToldOf (IsNoProgram text.now) (IsCompiledJobOf text.now) job.old lines.old
+        job.new
         lines.new told.new }
     ensures job { IsKeptBehind (bytes_told told.new) job.old job.new }
     ensures lines { IsKeptBehind (rows_told told.new) lines.old lines.new }

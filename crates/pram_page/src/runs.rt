@@ -1,6 +1,4 @@
 //! Calls about a whole run.
-ghost use Rattle.std.specs.Prelude.{◌≢◌};
-ghost use Rattle.page_core.specs.declared.codes.TheConstants.{MEMORY};
 ghost use Rattle.page_core.specs.Costs.{IsCostTold};
 ghost use Rattle.page_core.specs.Fates.{AreFatesTold};
 ghost use Rattle.page_core.specs.Findings.{IsKeptBehind, IsToldOf, told_written};
@@ -14,8 +12,8 @@ use page_core::last::{LastRow, last};
 use page_core::steps::{StepRow, steps};
 use std::alloc::Global;
 
-/// Tells what became of the processors in all steps of a text's job. It makes them up to three
-/// times, and none after one that changes nothing.
+/// Tells what became of the processors in all steps of a text's job. None is made after one that
+/// changes nothing.
 #[unsafe(no_mangle)]
 pub extern "C" fn pram_page_fates(alloc: Global, text: &[u8], told: &mut FatesTold)
     ensures { AreFatesTold text.now told.new }
@@ -44,8 +42,7 @@ pub extern "C" fn pram_page_steps(
     told: &mut Told,
 )
     ensures told { IsToldOf (AreStepsFound text.now from most rows.old rows.new) told.new }
-    ensures behind { told.new.status.code ≢ MEMORY
-        → IsKeptBehind (told_written told.new) rows.old rows.new }
+    ensures behind { IsKeptBehind (told_written told.new) rows.old rows.new }
 {
     *told = tell(steps(alloc, text, from, most, rows));
 }
@@ -62,8 +59,7 @@ pub extern "C" fn pram_page_last(
     told: &mut Told,
 )
     ensures told { IsToldOf (AreLastFound text.now step most rows.old rows.new) told.new }
-    ensures behind { told.new.status.code ≢ MEMORY
-        → IsKeptBehind (told_written told.new) rows.old rows.new }
+    ensures behind { IsKeptBehind (told_written told.new) rows.old rows.new }
 {
     *told = tell(last(alloc, text, step, most, rows));
 }

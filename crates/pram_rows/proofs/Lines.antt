@@ -10,7 +10,7 @@ use Rattle.pram_job.specs.Job.{JobData}
 use Rattle.pram_streams.specs.Transfer.{AppendsBeginning}
 use Rattle.pram_streams.proofs.Beginnings.{beginning-after, beginning-longer}
 use Rattle.pram_rows.specs.Inner.Printing.{TakesBut}
-use Rattle.pram_rows.specs.Rows.{lines_after, step_lines}
+use Rattle.pram_rows.specs.Rows.{rows_after, step_lines}
 
 -- so many numbers, and then more
 range_more : (t m n k u : ℕ) → k ≡ m + n → u ≡ t + m →
@@ -39,8 +39,8 @@ pieces-more text f t m k u count place =
 
 -- the rows of more steps begin with those of fewer
 pub lines-longer : (lines : Option (List ℕ)) (job : JobData) (t m n : ℕ) → m ≤ n →
-    lines_after lines job t n
-    ≡ lines_after lines job t m ++ lines_after lines job (t + m) (n - m)
+    rows_after lines job t n
+    ≡ rows_after lines job t m ++ rows_after lines job (t + m) (n - m)
 lines-longer lines job t m n few =
     flat_map-range (step_lines lines job) t m (n - m) n (t + m) (omega arith) refl
 
@@ -81,27 +81,27 @@ module _ (a b : Option (List ℕ)) (rest text : List ℕ) (takes : TakesBut a b 
 
 -- before the first row
 pub no-rows : (lines : Option (List ℕ)) (job : JobData) (a : Option (List ℕ)) (t m : ℕ)
-    (rest : List ℕ) → rest ≡ [] → m ≡ 0 → TakesBut a a rest (lines_after lines job t m)
+    (rest : List ℕ) → rest ≡ [] → m ≡ 0 → TakesBut a a rest (rows_after lines job t m)
 no-rows lines job a t m rest none zero_rows = record {
   front = [];
   put = Appends-nil a;
-  text_is = none ∙ sym (ap (λ n. lines_after lines job t n) zero_rows);
+  text_is = none ∙ sym (ap (λ n. rows_after lines job t n) zero_rows);
 }
 
 module _ (lines : Option (List ℕ)) (job : JobData) (a b : Option (List ℕ)) (t m k u : ℕ)
-    (rest : List ℕ) (takes : TakesBut a b rest (lines_after lines job t m))
+    (rest : List ℕ) (takes : TakesBut a b rest (rows_after lines job t m))
     (count : k ≡ m + 1) (place : u ≡ t + m) where
   pub row-begins : (c : Option (List ℕ)) → AppendsBeginning b c (rest ++ step_lines lines job u) →
-      AppendsBeginning a c (lines_after lines job t k)
+      AppendsBeginning a c (rows_after lines job t k)
   row-begins c begins =
       subst (λ l. AppendsBeginning a c l)
       (pieces-more [] (step_lines lines job) t m k u count place)
-      (more-begins a b rest (lines_after lines job t m) takes c (step_lines lines job u) begins)
+      (more-begins a b rest (rows_after lines job t m) takes c (step_lines lines job u) begins)
 
   pub row-taken : (c : Option (List ℕ)) (left : List ℕ) →
       TakesBut b c left (rest ++ step_lines lines job u) →
-      TakesBut a c left (lines_after lines job t k)
+      TakesBut a c left (rows_after lines job t k)
   row-taken c left taken =
       subst (λ l. TakesBut a c left l)
       (pieces-more [] (step_lines lines job) t m k u count place)
-      (more-taken a b rest (lines_after lines job t m) takes c left (step_lines lines job u) taken)
+      (more-taken a b rest (rows_after lines job t m) takes c left (step_lines lines job u) taken)

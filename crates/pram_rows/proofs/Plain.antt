@@ -2,17 +2,12 @@
 use Rattle.std.proofs.Common.{◌≡◌, ◌∙◌, ◌==◌, ◌++◌, ◌+◌, ◌-◌, ◌<◌, ◌^◌, ◌∷◌, [], ℕ, List}
 use Rattle.std.proofs.Common.{Option, Some, None, Bool, true, false, cond, refl}
 use Rattle.std.proofs.Common.{sym, subst, append_assoc, arith, length, inl, inr}
-use Rattle.std.proofs.lemmas.Bool.{ne_eqb}
-use Rattle.std.proofs.lemmas.Fmt.{decimal_is_IsNumeral}
 use Rattle.std.proofs.lemmas.List.Folds.{list_any-append}
 use Rattle.std.proofs.lemmas.Option.{slice_get_within, get_or_from_slice_get}
-use Rattle.std.proofs.lemmas.Str.Parse.{digit_at}
 use Rattle.std.specs.Prelude.{codes, decimal, slice_get, nat_lt, IfSome}
-use Rattle.std.specs.Char.{digit_value}
 use Rattle.std.specs.Option.{is_some}
-use Rattle.std.specs.Str.Parse.{AllDigits}
-use Rattle.csv.specs.Writing.{default_writer, field_text, fields_text}
-use Rattle.csv.specs.Writing.{is_blank, needs_byte, needs_quotes, row_text}
+use Rattle.csv.specs.Writing.{default_writer, fields_text}
+use Rattle.csv.specs.Writing.{is_blank, needs_byte, row_text}
 use Rattle.pram_job.specs.Job.{JobData, IsInstr, IsJob}
 use Rattle.pram_job.specs.declared.instr.Instr.{Instr}
 use Rattle.pram_job.specs.declared.instr.Operands.{Operands}
@@ -26,40 +21,13 @@ use Rattle.pram_job.specs.declared.instr.Place.TheVariants.{Cell, Named}
 use Rattle.pram_job.specs.Instructions.{IsOperand, IsPlace, AreOperands, row_of}
 use Rattle.pram_machine.specs.Instructions.{request_in}
 use Rattle.pram_machine.specs.Machine.{IsDataPlace, State, counter, halted, register_place}
+use Rattle.pram_streams.proofs.Plain.{IsPlain, IsUnquoted, decimal-unquoted, plain}
 use Rattle.pram_rows.specs.Inner.Printing.{told_fields}
-use Rattle.pram_rows.specs.Instructions.{operand_text, array_text, place_text, and_then}
-use Rattle.pram_rows.specs.Instructions.{instruction_text, one_register, register_number, spelled}
+use Rattle.pram_rows.specs.Instructions.{operand_text, array_text, address_text, then_word}
+use Rattle.pram_rows.specs.Instructions.{instruction_text, one_register_text, register_number_text}
+use Rattle.pram_rows.specs.Instructions.{spelled}
 use Rattle.pram_rows.specs.Rows.{instruction_at, instruction_or_stop}
-use Rattle.pram_rows.specs.Rows.{line_text, row_line, target_text, value_text}
-
--- no byte of the field calls for quotes
-abbrev pub IsUnquoted : List ℕ → Type 0
-IsUnquoted field = needs_quotes default_writer field ≡ false
-
--- csv writes the field as it is
-abbrev pub IsPlain : List ℕ → Type 0
-IsPlain field = field_text default_writer field ≡ field
-
-pub plain : (field : List ℕ) → IsUnquoted field → IsPlain field
-plain field unquoted = rw unquoted refl
-
-digit-unquoted : (byte : ℕ) → digit_value byte < 10 → needs_byte default_writer byte ≡ false
-digit-unquoted byte digit =
-    let within = digit_at (byte ∷ []) 0 (digit, tt) (omega arith) in
-    rw (
-      ne_eqb byte 44 (λ is. omega (arith, is, within)),
-      ne_eqb byte 34 (λ is. omega (arith, is, within)),
-      ne_eqb byte 13 (λ is. omega (arith, is, within)),
-      ne_eqb byte 10 (λ is. omega (arith, is, within)),
-    ) refl
-
-digits-unquoted : (digits : List ℕ) → AllDigits 10 digits → IsUnquoted digits
-digits-unquoted [] all = refl
-digits-unquoted (digit ∷ digits) (first, all) =
-    rw (digit-unquoted digit first) (digits-unquoted digits all)
-
-pub decimal-unquoted : (n : ℕ) → n < 2 ^ 64 → IsUnquoted (decimal n)
-decimal-unquoted n fits = digits-unquoted (decimal n) (decimal_is_IsNumeral n fits).0.1
+use Rattle.pram_rows.specs.Rows.{line_number_text, row_line, target_text, value_text}
 
 append-unquoted : (a b : List ℕ) → IsUnquoted a → IsUnquoted b → IsUnquoted (a ++ b)
 append-unquoted a b first second =
@@ -73,7 +41,7 @@ number-unquoted text between n first second fits = append-unquoted (text ++ betw
 
 -- a text, a blank, and another text
 and_then-unquoted : (before after : List ℕ) → IsUnquoted before → IsUnquoted after →
-    IsUnquoted (and_then before after)
+    IsUnquoted (then_word before after)
 and_then-unquoted before after first second = append-unquoted (before ++ codes " ") after
     (append-unquoted before (codes " ") first refl) second
 
@@ -86,7 +54,7 @@ operand-unquoted (Register r) is = register-unquoted r is
 operand-unquoted (Number n) is = decimal-unquoted n (omega arith)
 
 place-unquoted : (cells : ℕ) (place : Place) → cells < 2 ^ 32 → IsPlace cells place →
-    IsUnquoted (place_text place)
+    IsUnquoted (address_text place)
 place-unquoted cells (Cell index) short is = operand-unquoted index is
 place-unquoted cells (Named array index) short (fits, is) =
     and_then-unquoted (array_text array) (operand_text index)
@@ -94,13 +62,14 @@ place-unquoted cells (Named array index) short (fits, is) =
     (decimal-unquoted array.base (omega (arith, fits.1))) refl (omega (arith, fits.1)))
     (operand-unquoted index is)
 
-one-unquoted : (name : List ℕ) (r : ℕ) → IsUnquoted name → r < 4 → IsUnquoted (one_register name r)
+one-unquoted : (name : List ℕ) (r : ℕ) → IsUnquoted name → r < 4 →
+    IsUnquoted (one_register_text name r)
 one-unquoted name r named low =
     and_then-unquoted name (operand_text (Register r)) named (register-unquoted r low)
 
 register_number-unquoted : (name : List ℕ) (r k : ℕ) → IsUnquoted name → r < 4 → k < 2 ^ 64 →
-    IsUnquoted (register_number name r k)
-register_number-unquoted name r k named low fits = and_then-unquoted (one_register name r)
+    IsUnquoted (register_number_text name r k)
+register_number-unquoted name r k named low fits = and_then-unquoted (one_register_text name r)
     (decimal k) (one-unquoted name r named low) (decimal-unquoted k fits)
 
 name-unquoted : (instr : Instr) → IsUnquoted (row_of instr).0
@@ -114,15 +83,16 @@ spelled-unquoted cells len name (Target r) few short named are = one-unquoted na
 spelled-unquoted cells len name (TargetNumber r k) few short named (register, fits) =
     register_number-unquoted name r k named register (omega arith)
 spelled-unquoted cells len name (TargetPlace r place) few short named (register, is) =
-    and_then-unquoted (one_register name r) (place_text place) (one-unquoted name r named register)
+    and_then-unquoted (one_register_text name r) (address_text place)
+    (one-unquoted name r named register)
     (place-unquoted cells place few is)
 spelled-unquoted cells len name (TargetTwo r a b) few short named (target, first, second) =
-    and_then-unquoted (and_then (one_register name r) (operand_text (Register a)))
-    (operand_text b) (and_then-unquoted (one_register name r) (operand_text (Register a))
+    and_then-unquoted (then_word (one_register_text name r) (operand_text (Register a)))
+    (operand_text b) (and_then-unquoted (one_register_text name r) (operand_text (Register a))
     (one-unquoted name r named target) (register-unquoted a first)) (operand-unquoted b second)
 spelled-unquoted cells len name (PlaceValue place b) few short named (is, value) =
-    and_then-unquoted (and_then name (place_text place)) (operand_text b)
-    (and_then-unquoted name (place_text place) named (place-unquoted cells place few is))
+    and_then-unquoted (then_word name (address_text place)) (operand_text b)
+    (and_then-unquoted name (address_text place) named (place-unquoted cells place few is))
     (operand-unquoted b value)
 spelled-unquoted cells len name (RegisterIndex r index) few short named (register, within) =
     register_number-unquoted name r index named register (omega arith)
@@ -219,7 +189,7 @@ pub record AreFields (lines : Option (List ℕ)) (job : JobData) (s : State) (n 
   pub target_is : target ≡ target_text job i (request_in job s i).put
   pub value_is : value ≡ value_text (request_in job s i).put
   pub next_is : next ≡ decimal (request_in job s i).next
-  pub line_is : IfSome lines (λ numbers. line ≡ line_text numbers job (counter job s i))
+  pub line_is : IfSome lines (λ numbers. line ≡ line_number_text numbers job (counter job s i))
   pub steps : IsPlain step
   pub processors : IsPlain processor
   pub indices : IsPlain index

@@ -14,7 +14,7 @@ use Rattle.pram_streams.specs.Transfer.{AppendsBeginning}
 use Rattle.pram_streams.proofs.Beginnings.{beginning-after, beginning-longer}
 use Rattle.pram_rows.specs.Inner.Printing.{TakesBut}
 use Rattle.pram_rows.specs.Inner.Spans.{OfAnswers}
-use Rattle.pram_rows.specs.Rows.{header, lines_after}
+use Rattle.pram_rows.specs.Rows.{header, rows_after}
 use Rattle.pram_rows.specs.Shown.{BeginsSteps, TakesSteps, last_step, steps_text}
 use Rattle.pram_rows.specs.declared.window.Shown.{Shown}
 use Rattle.pram_rows.specs.declared.window.Span.{Span}
@@ -46,17 +46,17 @@ module _ (span : Span) where
   pub rows-all : (Holds : List ℕ → Type 0) (made : ℕ) →
       ((answer : RunAnswer) → IsAnswer span.job.now answer →
       min span.end (last_step span.job.now answer) ≡ made) →
-      Holds (lines_after (option_copied span.lines) span.job.now span.first (made - span.first)) →
+      Holds (rows_after (option_copied span.lines) span.job.now span.first (made - span.first)) →
       OfAnswers span Holds
   rows-all Holds made all holds = λ answer is. subst (λ (n : ℕ).
-      Holds (lines_after (option_copied span.lines) span.job.now span.first (n - span.first)))
+      Holds (rows_after (option_copied span.lines) span.job.now span.first (n - span.first)))
       (sym (all answer is)) holds
 
   -- the rows of some steps are a beginning, where the job has these steps
   pub rows-begin : (a b : Option (List ℕ)) (made : ℕ) →
       ((answer : RunAnswer) → IsAnswer span.job.now answer →
       made ≤ min span.end (last_step span.job.now answer)) →
-      AppendsBeginning a b (lines_after (option_copied span.lines) span.job.now span.first
+      AppendsBeginning a b (rows_after (option_copied span.lines) span.job.now span.first
       (made - span.first)) → OfAnswers span (AppendsBeginning a b)
   rows-begin a b made had begins = λ answer is.
       let lines = option_copied span.lines in
@@ -66,8 +66,8 @@ module _ (span : Span) where
       let has = had answer is in
       subst (λ l. AppendsBeginning a b l)
       (sym (lines-longer lines job span.first m n (omega (arith, has))))
-      (beginning-longer a b (lines_after lines job span.first m)
-      (lines_after lines job (span.first + m) (n - m)) begins)
+      (beginning-longer a b (rows_after lines job span.first m)
+      (rows_after lines job (span.first + m) (n - m)) begins)
 
   -- where so many steps agree, the job has one more
   pub has-next : (made : ℕ) → IsReached span.job.now made → made < span.end →
@@ -103,23 +103,23 @@ module _ (span : Span) where
 
 -- rows of no steps are alike wherever they begin
 same-lines : (lines : Option (List ℕ)) (job : JobData) (t u m n : ℕ) → m ≡ 0 → n ≡ 0 →
-    lines_after lines job t m ≡ lines_after lines job u n
-same-lines lines job t u m n none nothing = ap (λ k. lines_after lines job t k) none
-    ∙ sym (ap (λ k. lines_after lines job u k) nothing)
+    rows_after lines job t m ≡ rows_after lines job u n
+same-lines lines job t u m n none nothing = ap (λ k. rows_after lines job t k) none
+    ∙ sym (ap (λ k. rows_after lines job u k) nothing)
 
 module _ (lines : Option (List ℕ)) (job : JobData) (from to first end : ℕ)
     (last : end ≡ min to job.steps) (start : first ≡ min (from - 1) end) where
   -- the rows of a span are those of its window
   lines-are : (steps : ℕ) → steps ≤ job.steps →
-      lines_after lines job first (min end steps - first)
-      ≡ lines_after lines job (from - 1) (min to steps - (from - 1))
+      rows_after lines job first (min end steps - first)
+      ≡ rows_after lines job (from - 1) (min to steps - (from - 1))
   lines-are steps within = elim (cases_lt end (from - 1)) [
     | inl past ↦ same-lines lines job first (from - 1) _ _ (omega (arith, last, start, past, within))
         (omega (arith, last, start, past, within))
     | inr begun ↦
         let same : first ≡ from - 1 = omega (arith, start, begun) in
         let few : min end steps ≡ min to steps = omega (arith, last, within) in
-        ap₂ (λ t n. lines_after lines job t (n - t)) same few
+        ap₂ (λ t n. rows_after lines job t (n - t)) same few
   ]
 
 -- what was taken is a beginning of itself
@@ -141,7 +141,7 @@ header-begins job shown a b answer is some =
       answer = answer;
       answers = is;
       prints = beginning-longer a b (header (option_copied shown.lines))
-          (lines_after (option_copied shown.lines) job from
+          (rows_after (option_copied shown.lines) job from
           (min shown.window.to (last_step job answer) - from)) some;
     }
 
@@ -150,13 +150,13 @@ module _ (job : JobData) (shown : Shown) (first end : ℕ)
     (last : end ≡ min shown.window.to job.steps) (start : first ≡ min (shown.window.from - 1) end)
     (a b c : Option (List ℕ)) (put : Appends a b (header (option_copied shown.lines)))
     (answer : RunAnswer) (is : IsAnswer job answer) where
-  same : lines_after (option_copied shown.lines) job first (min end (last_step job answer) - first)
-      ≡ lines_after (option_copied shown.lines) job (shown.window.from - 1)
+  same : rows_after (option_copied shown.lines) job first (min end (last_step job answer) - first)
+      ≡ rows_after (option_copied shown.lines) job (shown.window.from - 1)
       (min shown.window.to (last_step job answer) - (shown.window.from - 1))
   same = lines-are (option_copied shown.lines) job shown.window.from shown.window.to first end
       last start (last_step job answer) (last-within job answer is)
 
-  pub takes-steps : Appends b c (lines_after (option_copied shown.lines) job first
+  pub takes-steps : Appends b c (rows_after (option_copied shown.lines) job first
       (min end (last_step job answer) - first)) → TakesSteps job shown a c answer
   takes-steps rows = record {
     answers = is;
@@ -164,7 +164,7 @@ module _ (job : JobData) (shown : Shown) (first end : ℕ)
         (subst (λ l. Appends b c l) same rows);
   }
 
-  pub begins-steps : AppendsBeginning b c (lines_after (option_copied shown.lines) job first
+  pub begins-steps : AppendsBeginning b c (rows_after (option_copied shown.lines) job first
       (min end (last_step job answer) - first)) → BeginsSteps job shown a c
   begins-steps rows = record {
     answer = answer;

@@ -23,34 +23,36 @@ abbrev pub array_text : Array → List ℕ
 array_text array =
     (decimal array.base ++ codes "..") ++ decimal (array.base + array.len - 1)
 
-abbrev pub place_text : Place → List ℕ
-place_text (Cell index) = operand_text index
-place_text (Named array index) = (array_text array ++ codes " ") ++ operand_text index
+abbrev pub address_text : Place → List ℕ
+address_text (Cell index) = operand_text index
+address_text (Named array index) = (array_text array ++ codes " ") ++ operand_text index
 
 -- what stands before, and after a blank what follows it
-abbrev pub and_then : List ℕ → List ℕ → List ℕ
-and_then before after = (before ++ codes " ") ++ after
+abbrev pub then_word : List ℕ → List ℕ → List ℕ
+then_word before after = (before ++ codes " ") ++ after
 
 -- a name, and a register or a number after it
-abbrev pub one_register : List ℕ → ℕ → List ℕ
-one_register name register = and_then name (operand_text (Register register))
+abbrev pub one_register_text : List ℕ → ℕ → List ℕ
+one_register_text name register = then_word name (operand_text (Register register))
 
-abbrev pub register_number : List ℕ → ℕ → ℕ → List ℕ
-register_number name register number = and_then (one_register name register) (decimal number)
+abbrev pub register_number_text : List ℕ → ℕ → ℕ → List ℕ
+register_number_text name register number =
+    then_word (one_register_text name register) (decimal number)
 
 -- a name, and the operands after it
 abbrev pub spelled : List ℕ → Operands → List ℕ
 spelled name Bare = name
-spelled name (Target target) = one_register name target
-spelled name (TargetNumber target number) = register_number name target number
-spelled name (TargetPlace target place) = and_then (one_register name target) (place_text place)
+spelled name (Target target) = one_register_text name target
+spelled name (TargetNumber target number) = register_number_text name target number
+spelled name (TargetPlace target place) =
+    then_word (one_register_text name target) (address_text place)
 spelled name (TargetTwo target first second) =
-    and_then (and_then (one_register name target) (operand_text (Register first)))
+    then_word (then_word (one_register_text name target) (operand_text (Register first)))
     (operand_text second)
 spelled name (PlaceValue place value) =
-    and_then (and_then name (place_text place)) (operand_text value)
-spelled name (RegisterIndex register index) = register_number name register index
-spelled name (Index index) = and_then name (decimal index)
+    then_word (then_word name (address_text place)) (operand_text value)
+spelled name (RegisterIndex register index) = register_number_text name register index
+spelled name (Index index) = then_word name (decimal index)
 
 abbrev pub instruction_text : Instr → List ℕ
 instruction_text instr = spelled (row_of instr).0 (row_of instr).1

@@ -36,15 +36,15 @@ value_text (Some write) = decimal write.1
 
 -- the line that the instruction at a counter came from; nothing where there is no instruction, or
 -- it came from no line, which has the number 0
-abbrev pub line_text : List ℕ → JobData → ℕ → List ℕ
-line_text lines job counter =
+abbrev pub line_number_text : List ℕ → JobData → ℕ → List ℕ
+line_number_text lines job counter =
     if nat_lt counter (halted job) && nat_lt 0 (slice_index lines counter)
     then decimal (slice_index lines counter) else []
 
 -- what ends a row: its line, where the lines of the job's instructions are told
 abbrev pub row_end : Option (List ℕ) → JobData → ℕ → List ℕ
 row_end None job counter = codes "\n"
-row_end (Some lines) job counter = codes "," ++ line_text lines job counter ++ codes "\n"
+row_end (Some lines) job counter = codes "," ++ line_number_text lines job counter ++ codes "\n"
 
 -- the row of processor i in this step, which is made in the state
 unfoldable pub row_line : Option (List ℕ) → JobData → State → ℕ → ℕ → List ℕ
@@ -65,8 +65,8 @@ abbrev pub step_lines : Option (List ℕ) → JobData → ℕ → List ℕ
 step_lines lines job t = rows_in lines job (state_after job t) (t + 1)
 
 -- the rows of so many steps after t steps
-abbrev pub lines_after : Option (List ℕ) → JobData → ℕ → ℕ → List ℕ
-lines_after lines job t count = flat_map (step_lines lines job) (range_with_len t count)
+abbrev pub rows_after : Option (List ℕ) → JobData → ℕ → ℕ → List ℕ
+rows_after lines job t count = flat_map (step_lines lines job) (range_with_len t count)
 
 abbrev pub header : Option (List ℕ) → List ℕ
 header None = codes "step,processor,place,instruction,writes,value,next\n"
@@ -76,4 +76,4 @@ header (Some lines) = codes "step,processor,place,instruction,writes,value,next,
 -- is `last`; with the lines that the job's instructions came from, where these are told
 abbrev pub rows_text : Option (List ℕ) → JobData → ℕ → ℕ → ℕ → List ℕ
 rows_text lines job from to last =
-    header lines ++ lines_after lines job (from - 1) (min to last - (from - 1))
+    header lines ++ rows_after lines job (from - 1) (min to last - (from - 1))

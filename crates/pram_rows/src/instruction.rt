@@ -2,8 +2,8 @@
 ghost use Rattle.std.specs.Prelude.{◌≡◌, string_bytes, IfOk};
 ghost use Rattle.pram_job.specs.declared.instr.Operand.TheVariants.{Register};
 ghost use Rattle.pram_rows.specs.Instructions.{instruction_text, operand_text, array_text};
-ghost use Rattle.pram_rows.specs.Instructions.{place_text, and_then, one_register};
-ghost use Rattle.pram_rows.specs.Instructions.{register_number};
+ghost use Rattle.pram_rows.specs.Instructions.{address_text, then_word, one_register_text};
+ghost use Rattle.pram_rows.specs.Instructions.{register_number_text};
 
 use pram_job::{Array, Instr, Operand, Operands, Place};
 use std::alloc::{AllocError, Global};
@@ -47,7 +47,7 @@ fn operand_text(alloc: Global, operand: Operand) -> Result<String, AllocError>
 }
 
 fn place_text(alloc: Global, place: Place) -> Result<String, AllocError>
-    ensures { IfOk result (λ text. string_bytes text ≡ place_text place) }
+    ensures { IfOk result (λ text. string_bytes text ≡ address_text place) }
 {
     match place {
         Place::Cell(index) => operand_text(alloc, index),
@@ -59,7 +59,7 @@ fn place_text(alloc: Global, place: Place) -> Result<String, AllocError>
 }
 
 fn in_array(alloc: Global, array: Array, index: &str) -> Result<String, AllocError>
-    ensures { IfOk result (λ text. string_bytes text ≡ and_then (array_text array) index.now) }
+    ensures { IfOk result (λ text. string_bytes text ≡ then_word (array_text array) index.now) }
 {
     let first = u64::from(array.base);
     let last = (first + u64::from(array.len)).saturating_sub(1);
@@ -67,28 +67,29 @@ fn in_array(alloc: Global, array: Array, index: &str) -> Result<String, AllocErr
 }
 
 fn numbered(alloc: Global, name: &str, r: u8, number: u32) -> Result<String, AllocError>
-    ensures { IfOk result (λ text. string_bytes text ≡ register_number name.now r number) }
+    ensures { IfOk result (λ text. string_bytes text ≡ register_number_text name.now r number) }
 {
     format!(in alloc; "{name} r{r} {number}")
 }
 
 fn two(alloc: Global, name: &str, r: u8, last: &str) -> Result<String, AllocError>
     ensures { IfOk result (λ text. string_bytes text
-        ≡ and_then (one_register name.now r) last.now) }
+        ≡ then_word (one_register_text name.now r) last.now) }
 {
     format!(in alloc; "{name} r{r} {last}")
 }
 
 fn three(alloc: Global, name: &str, r: u8, a: u8, last: &str) -> Result<String, AllocError>
     ensures { IfOk result (λ text. string_bytes text
-        ≡ and_then (and_then (one_register name.now r) (operand_text (Register a))) last.now) }
+        ≡ then_word (then_word (one_register_text name.now r) (operand_text (Register a)))
+        last.now) }
 {
     format!(in alloc; "{name} r{r} r{a} {last}")
 }
 
 fn joined(alloc: Global, name: &str, first: &str, last: &str) -> Result<String, AllocError>
     ensures { IfOk result (λ text. string_bytes text
-        ≡ and_then (and_then name.now first.now) last.now) }
+        ≡ then_word (then_word name.now first.now) last.now) }
 {
     format!(in alloc; "{name} {first} {last}")
 }

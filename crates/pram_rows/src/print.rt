@@ -21,7 +21,7 @@ use std::alloc::{AllocError, Global};
 /// The fields of a row.
 const HEADER: &str = "step,processor,place,instruction,writes,value,next\n";
 
-/// The same where lines are told.
+/// The fields of a row where lines are told, too.
 const HEADER_WITH_LINES: &str = "step,processor,place,instruction,writes,value,next,line\n";
 
 /// Once so many bytes of rows stand in memory, they are put into the sink.
@@ -89,7 +89,8 @@ fn print_span<W: Sink>(alloc: Global, sink: &mut W, span: &Span<'_>) -> Result<A
     }
 }
 
-// The same from the state before the span.
+// Prints the rows of the span, from the state before it, up to the step of a conflict, and says
+// what is there after it.
 fn print_from<W: Sink>(
     alloc: Global,
     sink: &mut W,
@@ -110,7 +111,8 @@ fn print_from<W: Sink>(
     Ok(arrival)
 }
 
-// The same. What is not put into the sink is given back.
+// Shows the rows of the span, from the state before it, up to the step of a conflict, and says what
+// is there after it. What is not put into the sink is given back.
 fn show_span<W: Sink>(
     alloc: Global,
     sink: &mut W,
@@ -188,7 +190,8 @@ fn answer_after(alloc: Global, span: &Span<'_>, arrival: Arrival) -> Result<RunA
     }
 }
 
-// The same by the state after so many steps. Where there are more, the job is run from its start.
+// The job's answer, by the state after so many steps. Where there are more, the job is run from its
+// start.
 fn answer_from(alloc: Global, job: &Job, state: State, made: u32) -> Result<RunAnswer, AllocError>
     requires { IsStateAfter job.now made state }
     ensures { IfOk result (IsAnswer job.now) }

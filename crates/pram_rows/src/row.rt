@@ -5,8 +5,9 @@ ghost use Rattle.std.specs.Io.KnownBytes.{Appends};
 ghost use Rattle.std.specs.Option.{option_copied};
 ghost use Rattle.csv.specs.Writing.{default_writer, field_text, row_text, text_written};
 ghost use Rattle.pram_machine.specs.Machine.{IsDataPlace};
-ghost use Rattle.pram_rows.specs.Inner.Printing.{IsBetweenRecords, told_fields};
-ghost use Rattle.pram_rows.specs.Rows.{instruction_at, line_text, row_line, rows_in};
+ghost use Rattle.pram_streams.specs.Records.{IsBetweenRecords};
+ghost use Rattle.pram_rows.specs.Inner.Printing.{told_fields};
+ghost use Rattle.pram_rows.specs.Rows.{instruction_at, line_number_text, row_line, rows_in};
 ghost use Rattle.pram_rows.specs.Rows.{stop_word, target_text, value_text};
 
 use crate::instruction::instruction_text;
@@ -14,6 +15,7 @@ use csv::{Error, Writer};
 use itoa::Buffer;
 use pram_job::Job;
 use pram_step::{Moment, counter, laws, request_after};
+use pram_streams::number_text;
 use std::alloc::{AllocError, Global};
 use std::io::Write;
 
@@ -153,7 +155,7 @@ fn value_in(buffer: &mut Buffer, put: Option<(u32, u32)>) -> &[u8]
 
 // The line that the instruction at a counter came from, if it came from one.
 fn line_in<'b>(buffer: &'b mut Buffer, job: &Job, lines: &[u64], counter: u32) -> &'b [u8]
-    ensures text { result.now ≡ line_text lines.now job.now counter }
+    ensures text { result.now ≡ line_number_text lines.now job.now counter }
     ensures plain { field_text default_writer result.now ≡ result.now }
 {
     let line = lines.get(counter as usize).copied().unwrap_or(0);
@@ -162,11 +164,4 @@ fn line_in<'b>(buffer: &'b mut Buffer, job: &Job, lines: &[u64], counter: u32) -
     } else {
         &[]
     }
-}
-
-fn number_text(buffer: &mut Buffer, number: u64) -> &[u8]
-    ensures text { result.now ≡ decimal number }
-    ensures plain { field_text default_writer result.now ≡ result.now }
-{
-    buffer.format(number).as_bytes()
 }

@@ -12,13 +12,13 @@ use Rattle.stop_plan.specs.Schedule.{after_turns, events_of_act, events_of_rows}
 use Rattle.walkx.specs.Bound.{most_steps}
 use Rattle.pram_world.specs.declared.event.Event.{Event}
 use Rattle.pram_world.specs.declared.event.Event.TheVariants.{Go}
-use Rattle.pram_world.specs.Worlds.{WorldData, run, start, going}
+use Rattle.pram_world.specs.Worlds.{WorldData, run, start_compact, going}
 use Rattle.pram_run.specs.declared.schedule.Replaying.{Replaying}
 use Rattle.pram_run.specs.declared.trace.TraceRow.{TraceRow}
-use Rattle.pram_run.specs.Inner.Progress.{IsAfter}
-use Rattle.pram_run.specs.Inner.Underway.{AreMade, Further, HasCome, ahead}
+use Rattle.pram_run.specs.Inner.Progress.{IsAfterEvents}
+use Rattle.pram_run.specs.Inner.Underway.{AreEventsMade, Further, HasCome, ahead}
 use Rattle.pram_run.specs.Inner.Underway.{row_parts, with_rounds}
-use Rattle.pram_run.specs.Replays.{running, world_events}
+use Rattle.pram_run.specs.Replays.{still_runs, world_events}
 use Rattle.pram_run.proofs.After.{rounds_more}
 use Rattle.pram_run.proofs.Rounds.{rounds_fewer}
 use Rattle.pram_run.proofs.Whole.{made_over}
@@ -39,7 +39,7 @@ no_rows (row ∷ rows) none = absurd (omega (arith, none))
 
 -- while rows are left, all events so far are theirs
 of_rows : (job : JobData) (plan : PlanData) (now : Replaying) (made : List Event) →
-    (now.ticks ≡ 0 → now.rows.now ≡ [] → ⊥) → AreMade job plan now made →
+    (now.ticks ≡ 0 → now.rows.now ≡ [] → ⊥) → AreEventsMade job plan now made →
     (now.rounds ≡ 0) × (made ++ ahead now ≡ events_of_rows world_events plan.rows)
 of_rows job plan now made left (inl are) = are
 of_rows job plan now made left (inr are) = absurd (left are.0 are.1)
@@ -49,7 +49,7 @@ module _ (job : JobData) (plan : PlanData) (now next : Replaying) (rows later : 
     (come : HasCome job plan now rows) (left : now.ticks ≡ 0 → now.rows.now ≡ [] → ⊥)
     (workers : next.workers ≡ now.workers) (rounds : next.rounds ≡ now.rounds) where
   pub made_more : (events : List Event) → ahead now ≡ events ++ ahead next →
-      IsAfter job plan.workers (come.made ++ events) next.world later →
+      IsAfterEvents job plan.workers (come.made ++ events) next.world later →
       HasCome job plan next later
   made_more events is after =
       let are = of_rows job plan now come.made left come.are in
@@ -86,7 +86,7 @@ module _ (job : JobData) (plan : PlanData) (now next : Replaying) (rows later : 
   left none empty = absurd (omega (arith, some, none))
 
   further : (events : List Event) → next.ticks < now.ticks → ahead now ≡ events ++ ahead next →
-      IsAfter job plan.workers (come.made ++ events) next.world later →
+      IsAfterEvents job plan.workers (come.made ++ events) next.world later →
       Further job plan now next later true
   further events less is after = record {
     come = made_more job plan now next rows later come left workers rounds events is after;
@@ -100,7 +100,8 @@ module _ (job : JobData) (plan : PlanData) (now next : Replaying) (rows later : 
 
   -- its worker goes on
   pub part_made : (part : ℕ) → 0 < part → part ≤ now.ticks → next.ticks ≡ now.ticks - part →
-      IsAfter job plan.workers (come.made ++ replicate part (Go now.worker)) next.world later →
+      IsAfterEvents job plan.workers (come.made ++ replicate part (Go now.worker)) next.world
+      later →
       Further job plan now next later true
   part_made part few within ticks after =
       let after_it = ahead_by next (now.ticks - part) now.worker now.rows.now ticks worker same in
@@ -110,7 +111,8 @@ module _ (job : JobData) (plan : PlanData) (now next : Replaying) (rows later : 
 
   -- its worker does not go on, so the steps that are left are none
   pub row_over : next.ticks ≡ 0 →
-      IsAfter job plan.workers (come.made ++ replicate now.ticks (Go now.worker)) next.world later →
+      IsAfterEvents job plan.workers (come.made ++ replicate now.ticks (Go now.worker)) next.world
+      later →
       Further job plan now next later true
   row_over ticks after =
       let after_it = ahead_by next 0 now.worker now.rows.now ticks worker same in
@@ -134,7 +136,7 @@ module _ (job : JobData) (plan : PlanData) (now next : Replaying) (rows : List T
 
   pub row_begun : (events : List Event) → next.ticks ≤ row.ticks →
       ahead now ≡ events ++ ahead next →
-      IsAfter job plan.workers (come.made ++ events) next.world rows →
+      IsAfterEvents job plan.workers (come.made ++ events) next.world rows →
       Further job plan now next rows true
   row_begun events few is after = record {
     come = made_more job plan now next rows rows come left_row workers rounds events is after;
@@ -157,14 +159,15 @@ module _ (job : JobData) (plan : PlanData) (now next : Replaying) (rows : List T
       ++ events_of_rows world_events rest) go in
       let after_it = ahead_by next row.ticks row.worker rest ticks worker later in
       row_begun [] (omega (arith, ticks)) (is ∙ sym after_it)
-      (subst (λ (w : WorldData). IsAfter job plan.workers (come.made ++ []) w rows) (sym world)
-      (subst (λ (es : List Event). IsAfter job plan.workers es now.world rows)
+      (subst (λ (w : WorldData). IsAfterEvents job plan.workers (come.made ++ []) w rows)
+      (sym world)
+      (subst (λ (es : List Event). IsAfterEvents job plan.workers es now.world rows)
       (sym (append-nil come.made)) come.after))
 
   -- all that it asks is done
   pub begun_done : (events : List Event) → next.ticks ≡ 0 →
       events_of_act world_events row.worker row.ticks row.act ≡ events →
-      IsAfter job plan.workers (come.made ++ events) next.world rows →
+      IsAfterEvents job plan.workers (come.made ++ events) next.world rows →
       Further job plan now next rows true
   begun_done events ticks asks after =
       let after_it = ahead_by next 0 next.worker rest ticks refl later in
@@ -182,8 +185,8 @@ module _ (job : JobData) (plan : PlanData) (now : Replaying) (rows : List TraceR
   pub round_left : (b : ℕ) → b < now.workers → going now.world b ≡ true →
       now.rounds < most_steps job
   round_left b below goes =
-      let runs : running job plan.workers (with_rounds job plan now.rounds) b ≡ true =
-      ap (λ (es : List Event). going (run (start job plan.workers) es) b) (sym made_all)
+      let runs : still_runs job plan.workers (with_rounds job plan now.rounds) b ≡ true =
+      ap (λ (es : List Event). going (run (start_compact job plan.workers) es) b) (sym made_all)
       ∙ ap (λ (w : WorldData). going w b) (sym come.after.world) ∙ goes in
       rounds_fewer job plan.workers b now.rounds (events_of_rows world_events plan.rows)
       come.limits come.some come.most (omega (arith, below, come.workers)) runs
@@ -191,14 +194,14 @@ module _ (job : JobData) (plan : PlanData) (now : Replaying) (rows : List TraceR
   pub round_made : (next : Replaying) (later : List TraceRow) → now.rounds < most_steps job →
       next.rounds ≡ now.rounds + 1 → next.ticks ≡ now.ticks → next.rows.now ≡ now.rows.now →
       next.workers ≡ now.workers →
-      IsAfter job plan.workers
-      (after_turns world_events (running job plan.workers) 0 now.workers come.made)
+      IsAfterEvents job plan.workers
+      (after_turns world_events (still_runs job plan.workers) 0 now.workers come.made)
       next.world later →
       Further job plan now next later true
   round_made next later less rounds same rest workers after =
-      let made : after_turns world_events (running job plan.workers) 0 now.workers come.made
+      let made : after_turns world_events (still_runs job plan.workers) 0 now.workers come.made
       ≡ with_rounds job plan next.rounds =
-      ap₂ (λ n es. after_turns world_events (running job plan.workers) 0 n es)
+      ap₂ (λ n es. after_turns world_events (still_runs job plan.workers) 0 n es)
       (sym come.workers) made_all
       ∙ sym (rounds_more job plan.workers now.rounds (events_of_rows world_events plan.rows))
       ∙ ap (λ n. with_rounds job plan n) (sym rounds) in
@@ -208,7 +211,7 @@ module _ (job : JobData) (plan : PlanData) (now : Replaying) (rows : List TraceR
           some = come.some;
           most = come.most;
           workers = come.workers ∙ sym workers;
-          made = after_turns world_events (running job plan.workers) 0 now.workers come.made;
+          made = after_turns world_events (still_runs job plan.workers) 0 now.workers come.made;
           are = inr (same ∙ ticks, rest ∙ none, made);
           after = after;
           rounds = omega (arith, less, rounds);
@@ -233,7 +236,7 @@ module _ (job : JobData) (plan : PlanData) (now : Replaying) (rows : List TraceR
 pub starts : (job : JobData) (plan : PlanData) (now : Replaying) → IsJob job →
     1 ≤ plan.workers → plan.workers ≤ 64 → plan.workers ≡ now.workers → now.ticks ≡ 0 →
     now.rounds ≡ 0 → now.rows.now ≡ plan.rows →
-    IsAfter job plan.workers [] now.world [] → HasCome job plan now []
+    IsAfterEvents job plan.workers [] now.world [] → HasCome job plan now []
 starts job plan now limits some most workers ticks rounds rows after = record {
   limits = limits;
   some = some;

@@ -14,8 +14,6 @@ use Rattle.pram_step.specs.Runs.{IsAnswer, IsFault, state_after}
 use Rattle.pram_step.proofs.LawAnswer.{one_conflict}
 use Rattle.pram_words.specs.declared.words.Word.TheVariants.{Conflict, Node}
 use Rattle.pram_words.specs.Words.{LayoutData, number_of}
-use Rattle.walkx.specs.declared.operation.Ended.{Ended}
-use Rattle.walkx.specs.declared.operation.Ended.TheVariants as ended
 use Rattle.walkx.specs.declared.operation.Op.{Op}
 use Rattle.walkx.specs.declared.operation.Op.TheVariants.{Load}
 use Rattle.walkx.specs.Records.{Record, Has, after, both}
@@ -23,7 +21,7 @@ use Rattle.walkx.specs.Walk.{Walking}
 use Rattle.lawful_walk.specs.Moments.{Sound, afters}
 use Rattle.lawful_walk.specs.Seen.{Heard, Shows, BeginsWith}
 use Rattle.lawful_walk.proofs.Knowing.{conflict_now}
-use Rattle.lawful_walk.specs.Walks.{IsConflict, steps_of}
+use Rattle.lawful_walk.specs.Walks.{steps_heard}
 use Rattle.stop_plan.specs.declared.plan.Act.{Act}
 use Rattle.stop_plan.specs.declared.plan.Act.TheVariants as act
 use Rattle.stop_plan.specs.declared.plan.Row.{Row}
@@ -33,10 +31,9 @@ use Rattle.pram_run.specs.Running.{ShowsEnd, Tells, IsUnfinished}
 use Rattle.pram_board.specs.declared.look.Progress.{Progress}
 use Rattle.pram_board.specs.declared.task.Task.{Task}
 use Rattle.pram_board.specs.declared.work.Stay.{Stay}
-use Rattle.pram_board.specs.declared.work.Stay.TheVariants as stay
 use Rattle.pram_board.specs.Seats.{Desk, SeatData, Progressed, HasLoaded}
 use Rattle.pram_board.specs.Seats.{IsLoad, KnowsConflict, hears_all, unites}
-use Rattle.pram_board.specs.Worked.{EndShows, Worked, end_in}
+use Rattle.pram_board.specs.Worked.{Worked}
 use Rattle.pram_run.specs.Inner.Hearing.{HasTold}
 use Rattle.pram_run.specs.Inner.Obeying.{AllEndOrStop, AllWorked, EndsOrStops, GoesOn}
 use Rattle.pram_run.proofs.Records.{HasAll, begins_self, begins_trans, begins_afters, begins_all}
@@ -70,23 +67,16 @@ goes_united first p q later is h k = record {
 
 -- ---- the end
 
+-- what the type of a seat keeps, of the board that it is of
+pub sound_at : (d : Desk) (p : SeatData) → p.desk ≡ d →
+    Sound p.desk.task.job p.desk.task.layout p.record_of →
+    Sound d.task.job d.task.layout p.record_of
+sound_at d p is sound =
+    subst (λ (x : Desk). Sound x.task.job x.task.layout p.record_of) is sound
+
 pub end_all : (t : Task) (r later : Record) → HasAll r later → ShowsEnd t r → ShowsEnd t later
 end_all t r later all (inl s) = inl (shows_all t.layout r later t.job.steps all s)
 end_all t r later all (inr s) = inr (s.0, s.1, heard_all t.layout r later Conflict s.0 all s.2)
-
-not_zero : (job : JobData) (u : ℕ) → IsConflict job u → u ≢ 0
-not_zero job u c = λ e. absurd (omega (arith, c.is.first.step, c.step))
-
-end_shown : (t : Task) (r : Record) (e : Ended) → EndShows t r (Some e) → ShowsEnd t r
-end_shown t r ended.Done h = inl h.shows
-end_shown t r (ended.Conflict u) h = inr (u, not_zero t.job u h.1, h.0)
-
--- work without a limit ends with the worker
-pub unlimited_ends : (t : Task) (p : SeatData) (w : Walking)
-    (q : SeatData) (now : Walking) (stay : Stay) → Worked t p w None q now stay →
-    EndShows t q.record_of (end_in stay) → ShowsEnd t q.record_of
-unlimited_ends t p w q now (stay.Ended e) worked shows = end_shown t q.record_of e shows
-unlimited_ends t p w q now stay.Stopped worked shows = absurd (let e = worked.stays.0 in cc)
 
 -- ---- joined seats
 
@@ -180,7 +170,7 @@ unended t p q progress h sound none low (inr s) =
 pub worked_goes : (t : Task) (p : SeatData) (w : Walking) (limit : Option ℕ) (q : SeatData)
     (now : Walking) (stay : Stay) → Worked t p w limit q now stay → GoesOn p q
 worked_goes t p w limit q now stay h =
-    goes_all p q (steps_of t.job t.layout w h.ran.answers) h.ran.seat
+    goes_all p q (steps_heard t.job t.layout w h.answers) h.seat
 
 pub loads_go : (n : ℕ) (p q : SeatData) → HasLoaded n p q → GoesOn p q
 loads_go n p q h = goes_all p q h.steps h.is

@@ -11,7 +11,7 @@ use Rattle.stop_plan.specs.Plan.{PlanData}
 use Rattle.pram_board.specs.declared.task.Task.{Task}
 use Rattle.pram_board.specs.Seats.{Desk, SeatData, unites}
 use Rattle.pram_run.specs.Heard.{Ended, HasRunWith}
-use Rattle.pram_run.specs.Inner.Hearing.{HasEnded, HasTold, IsJoined, TellsEnd, ToldEnd}
+use Rattle.pram_run.specs.Inner.Hearing.{RunHasEnded, HasTold, IsJoined, TellsEnd, ToldEnd}
 use Rattle.pram_run.specs.Inner.Obeying.{GoesOn}
 use Rattle.pram_run.specs.Obeyed.{HasLooked, IsAnswered, LooksFor}
 use Rattle.pram_run.specs.Running.{IsRun, IsUnfinished, Tells}
@@ -113,7 +113,7 @@ module _ (t : Task) (plan : PlanData) (given before looker : SeatData) (n : ℕ)
 
   -- the end was told before the threads were joined
   pub ended_early : (r : Ended) → TellsEnd r → IfOk r (Tells t looker.record_of) →
-      HasEnded t plan given n before joined r
+      RunHasEnded t plan given n before joined r
   ended_early (Ok a) end h = record {
     answer = a;
     ran = ran_so joined a (ends_all (Ok a) (n ≡ plan.workers) end)
@@ -126,7 +126,7 @@ module _ (t : Task) (plan : PlanData) (given before looker : SeatData) (n : ℕ)
   pub ended_late : (later : SeatData) (r : Ended) → given.desk.task ≡ t →
       (n ≡ plan.workers) ⊎ ToldEnd t before.record_of → IfOk r (HasTold t joined later) →
       IfOk r (λ a. IsUnfinished a → n ≡ plan.workers) →
-      (a : RunAnswer) × HasTold t joined later a → HasEnded t plan given n before later r
+      (a : RunAnswer) × HasTold t joined later a → RunHasEnded t plan given n before later r
   ended_late later (Ok a) task which h all some = record {
     answer = a;
     ran = ran_so later a all

@@ -3,7 +3,6 @@ use Rattle.std.proofs.Common.{◌≡◌, ℕ, suc, ◌<◌, ◌+◌, List, [], �
 use Rattle.std.proofs.Common.{sym, ap, ◌∙◌, subst, arith, length-append, below_more}
 use Rattle.std.proofs.Math.ListN.{get_or-append}
 use Rattle.std.proofs.Math.Seq.{get_or-append_seam}
-use Rattle.std.specs.Prelude.{Result, Ok, Err, OnOk}
 use Rattle.std.specs.declared.thread.PromisedHandle.{PromisedHandle}
 use Rattle.stop_plan.specs.declared.plan.Row.{Row}
 use Rattle.walkx.specs.Walk.{started}
@@ -57,11 +56,6 @@ obeyed_more t rows first p q later n m count task is h mine =
     (p, q, h, subst (λ (x : Task). Obeys x n rows first (started n) q) task mine, is) in
     subst (λ (k : ℕ). AllObeyed t rows first k later) (let e : suc n ≡ m = omega arith in e) next
 
--- what follows from what holds at an `Ok`
-pub on_ok : {X E A B : Type 0} (r : Result X E) → (A → B) → OnOk r A → OnOk r B
-on_ok (Ok x) f h = f h
-on_ok (Err e) f h = h
-
 -- one more, at its number
 pub numbered_more : (P : ℕ → Thread → Type 0) (ts : List Thread) (t : Thread) (n : ℕ) →
     length ts ≡ n → ((k : ℕ) (d : Thread) → k < n → P k (get_or ts k d)) → P n t →
@@ -74,8 +68,3 @@ numbered_more P ts t n len h here k d lt =
     let Q : Thread → Type 0 = λ u. P i u in
     subst Q (sym (get_or-append ts (t ∷ []) d i le)) (h i d low))
     (let Q : Thread → Type 0 = λ u. P n u in subst Q (sym seam) here) k lt
-
--- what holds anyway holds at an `Ok`
-pub any_ok : {X E A : Type 0} (r : Result X E) → A → OnOk r A
-any_ok (Ok x) a = a
-any_ok (Err e) a = tt

@@ -3,17 +3,13 @@ use Rattle.std.proofs.Common.{◌≡◌, ◌∙◌, ◌++◌, ◌+◌, ◌<◌, 
 use Rattle.std.proofs.Common.{ℕ, List, Option, false, refl, subst, sym, ap, append_assoc}
 use Rattle.std.proofs.Common.{append-nil, length, take, get_or, drop, arith}
 use Rattle.std.proofs.lemmas.List.{length-take-le, take-append-drop, take_all, take_more}
-use Rattle.std.proofs.lemmas.Bool.{ne_eqb}
-use Rattle.std.proofs.lemmas.Fmt.{decimal_is_IsNumeral}
-use Rattle.std.proofs.lemmas.Str.Parse.{digit_at}
 use Rattle.std.specs.Prelude.{codes, decimal}
-use Rattle.std.specs.Char.{digit_value}
-use Rattle.std.specs.Str.Parse.{AllDigits}
 use Rattle.csv.specs.Writing.{default_writer, field_text, fields_text}
-use Rattle.csv.specs.Writing.{is_blank, needs_byte, needs_quotes, row_text}
+use Rattle.csv.specs.Writing.{is_blank, row_text}
 use Rattle.pram_streams.specs.Transfer.{AppendsBeginning}
 use Rattle.pram_streams.proofs.Beginnings.{beginning-longer}
-use Rattle.pram_run.specs.Printed.{CellWords, kind_word, row_line, row_lines, sight_line}
+use Rattle.pram_streams.proofs.Plain.{IsPlain}
+use Rattle.pram_run.specs.Printed.{CellWords, kind_word, trace_line, row_lines, sight_line}
 use Rattle.pram_run.specs.Printed.{sight_lines, sights_text, trace_text}
 use Rattle.pram_run.specs.declared.sight.Sight.{Sight}
 use Rattle.pram_run.specs.declared.trace.StepKind.{StepKind}
@@ -28,15 +24,15 @@ lines-append tick [] more =
     ap (λ n. row_lines n more) none
 lines-append tick (row ∷ rows) more =
     let count : tick + 1 + length rows ≡ tick + length (row ∷ rows) = omega arith in
-    ap (λ l. row_line (tick + 1) row ++ l) (lines-append (tick + 1) rows more
+    ap (λ l. trace_line (tick + 1) row ++ l) (lines-append (tick + 1) rows more
     ∙ ap (λ n. row_lines (tick + 1) rows ++ row_lines n more) count)
-    ∙ sym (append_assoc (row_line (tick + 1) row) (row_lines (tick + 1) rows)
+    ∙ sym (append_assoc (trace_line (tick + 1) row) (row_lines (tick + 1) rows)
     (row_lines (tick + length (row ∷ rows)) more))
 
 -- the lines of one row more
 pub lines-more : (tick : ℕ) (rows : List TraceRow) (n : ℕ) (d : TraceRow) → n < length rows →
     row_lines tick (take (n + 1) rows)
-    ≡ row_lines tick (take n rows) ++ row_line (tick + n + 1) (get_or rows n d)
+    ≡ row_lines tick (take n rows) ++ trace_line (tick + n + 1) (get_or rows n d)
 lines-more tick rows n d within =
     let count : tick + length (take n rows) ≡ tick + n =
     omega (arith, length-take-le n rows (omega (arith, within))) in
@@ -44,7 +40,7 @@ lines-more tick rows n d within =
     ∙ lines-append tick (take n rows) (get_or rows n d ∷ [])
     ∙ ap (λ k. row_lines tick (take n rows) ++ row_lines k (get_or rows n d ∷ [])) count
     ∙ ap (λ l. row_lines tick (take n rows) ++ l)
-    (append-nil (row_line (tick + n + 1) (get_or rows n d)))
+    (append-nil (trace_line (tick + n + 1) (get_or rows n d)))
 
 -- the lines of all the rows, where they were made from the first row on
 pub lines-all : (tick : ℕ) (rows : List TraceRow) (lines : List ℕ) →
@@ -62,32 +58,11 @@ trace-begins a b rows n begins =
     rw (sym whole, all) (beginning-longer a b (trace_text (take n rows))
     (row_lines (0 + length (take n rows)) (drop n rows)) begins)
 
-digit-plain : (byte : ℕ) → digit_value byte < 10 → needs_byte default_writer byte ≡ false
-digit-plain byte digit =
-    let within = digit_at (byte ∷ []) 0 (digit, tt) (omega arith) in
-    rw (
-      ne_eqb byte 44 (λ is. omega (arith, is, within)),
-      ne_eqb byte 34 (λ is. omega (arith, is, within)),
-      ne_eqb byte 13 (λ is. omega (arith, is, within)),
-      ne_eqb byte 10 (λ is. omega (arith, is, within)),
-    ) refl
-
-digits-plain : (digits : List ℕ) → AllDigits 10 digits → needs_quotes default_writer digits ≡ false
-digits-plain [] all = refl
-digits-plain (digit ∷ digits) (first, all) = rw (digit-plain digit first) (digits-plain digits all)
-
-pub decimal-plain : (n : ℕ) → n < 2 ^ 64 → field_text default_writer (decimal n) ≡ decimal n
-decimal-plain n fits = rw (digits-plain (decimal n) (decimal_is_IsNumeral n fits).0.1) refl
-
 kind-plain : (kind : StepKind) → field_text default_writer (kind_word kind) ≡ kind_word kind
 kind-plain Load = refl
 kind-plain Store = refl
 kind-plain Max = refl
 kind-plain Swap = refl
-
--- a field that csv writes without quotes
-abbrev pub IsPlain : List ℕ → Type 0
-IsPlain field = field_text default_writer field ≡ field
 
 -- a row of such fields as csv writes it
 pub row-text : (tick worker word before after : List ℕ) (kind : StepKind) →

@@ -11,7 +11,7 @@ use Rattle.pram_board.specs.Seats.{SeatData}
 use Rattle.pram_run.specs.Inner.Reading.{HasPut, PassedSights, PutAfter, ReadsRound}
 use Rattle.pram_run.specs.Printed.{CellWords, sight_lines, sights_text}
 use Rattle.pram_run.specs.PutReads.{Printing, PutWatch}
-use Rattle.pram_run.specs.Watching.{HasRead, cells_of}
+use Rattle.pram_run.specs.Watching.{HasRead, cells_seen}
 use Rattle.pram_run.specs.declared.sight.Sight.{Sight}
 use Rattle.pram_run.proofs.Lines.{sights-append}
 use Rattle.pram_run.proofs.Streaming.{begins_none}
@@ -91,7 +91,7 @@ module _ (words : CellWords) where
         record {
           gone = has.gone ++ passed.gone;
           reads = subst (λ (ss : List Sight). HasRead task given ss later) split has.reads;
-          listed = ap cells_of (sym split) ∙ has.listed;
+          listed = ap cells_seen (sym split) ∙ has.listed;
           ok = put_ok a b c has.gone passed.gone printed next has.ok passed.put;
           beginning = put_begins a b c has.gone passed.gone printed next has.ok has.beginning
               passed.put;
@@ -103,16 +103,16 @@ module _ (words : CellWords) where
         ReadsRound task cells old before new later →
         HasPut words task cells (rounds + 1) given later new a b printed
     put_round before later old new a b printed has round =
-        let all : cells_of (has.gone ++ new) ≡ cells_of (has.gone ++ old) ++ cells =
+        let all : cells_seen (has.gone ++ new) ≡ cells_seen (has.gone ++ old) ++ cells =
         map-append (λ (s : Sight). s.cell) has.gone new
-        ∙ ap (λ (l : List ℕ). cells_of has.gone ++ l) round.cells
-        ∙ sym (append_assoc (cells_of has.gone) (cells_of old) cells)
+        ∙ ap (λ (l : List ℕ). cells_seen has.gone ++ l) round.cells
+        ∙ sym (append_assoc (cells_seen has.gone) (cells_seen old) cells)
         ∙ ap (λ (l : List ℕ). l ++ cells) (sym (map-append (λ (s : Sight). s.cell) has.gone old)) in
         record {
           gone = has.gone;
           reads = round.reads has.gone given has.reads;
-          listed = round_more rounds cells (cells_of (has.gone ++ old))
-              (cells_of (has.gone ++ new)) all has.listed;
+          listed = round_more rounds cells (cells_seen (has.gone ++ old))
+              (cells_seen (has.gone ++ new)) all has.listed;
           ok = has.ok;
           beginning = has.beginning;
         }
@@ -124,7 +124,7 @@ module _ (words : CellWords) where
     put_watch later a b printed has = record {
       sights = has.gone;
       watch = is_watch task cells rounds given has.gone later
-          (ap cells_of (sym (append-nil has.gone)) ∙ has.listed)
+          (ap cells_seen (sym (append-nil has.gone)) ∙ has.listed)
           (subst (λ (ss : List Sight). HasRead task given ss later) (append-nil has.gone) has.reads);
       ok = has.ok;
       beginning = has.beginning;

@@ -13,21 +13,22 @@ use Rattle.walkx.specs.Records.{Record, empty}
 use Rattle.walkx.specs.Walk.{ask_of, told}
 use Rattle.pram_world.specs.declared.event.Event.{Event}
 use Rattle.pram_world.specs.declared.event.Event.TheVariants.{Go}
-use Rattle.pram_world.specs.Inner.Holding.{Holds}
-use Rattle.pram_world.specs.Worlds.{WorldData, walks, start, run, went, happens, going, goes}
+use Rattle.pram_world.specs.Inner.Holding.{WorldHolds}
+use Rattle.pram_world.specs.Worlds.{WorldData, walks, start_compact, run, went, happens, going}
+use Rattle.pram_world.specs.Worlds.{body_goes}
 use Rattle.pram_world.proofs.Counting.{Counted, counted_none, counted_own}
 use Rattle.pram_world.proofs.Counting.{counted_other, lengthened, get_set_other}
 use Rattle.pram_world.proofs.Counting.{goer, fewer, bound_small, run_board}
 use Rattle.pram_world.specs.Inner.Holding.{Held}
 use Rattle.pram_world.proofs.Keeping.{holds_start, holds_step, run_holds, run_more}
-use Rattle.pram_run.specs.Replays.{running, world_events}
+use Rattle.pram_run.specs.Replays.{still_runs, world_events}
 use Rattle.pram_run.specs.Inner.Progress.{turn}
 use Rattle.pram_run.proofs.After.{rounds_more}
 
 -- where body b is still going, the record of the world has n steps of it
 pub record Tracks (s : WorldData) (b n : ℕ) : Type 0 where
   pub made : Record
-  pub holds : Holds s made
+  pub holds : WorldHolds s made
   pub counted : going s b ≡ true → Counted s made b n
 
 pub tracks_none : (s : WorldData) (b : ℕ) → Held s → Tracks s b 0
@@ -43,7 +44,7 @@ module _ (s : WorldData) (b n c : ℕ) (goes_c : going s c ≡ true) (t : Tracks
   same_next = let g = goer s c goes_c in ap (went s c) (sym g.walks)
 
   holds_next : let g = goer s c goes_c in
-      Holds (went s c (Some (walks g.worker))) (lengthened s t.made g.worker)
+      WorldHolds (went s c (Some (walks g.worker))) (lengthened s t.made g.worker)
   holds_next = let g = goer s c goes_c in holds_step s t.made c g.worker g.walks t.holds
 
   -- a step of the body itself
@@ -69,32 +70,34 @@ module _ (s : WorldData) (b n c : ℕ) (goes_c : going s c ≡ true) (t : Tracks
         made = lengthened s t.made g.worker;
         holds = holds_next;
         counted = λ later. counted_other s t.made b n c g.worker apart
-            (t.counted (ap goes (sym (get_set_other s.bodies c b new apart)) ∙ later));
+            (t.counted (ap body_goes (sym (get_set_other s.bodies c b new apart)) ∙ later));
       })
 
 module _ (job : JobData) (workers : ℕ) where
   abbrev After : List Event → WorldData
-  After es = run (start job workers) es
+  After es = run (start_compact job workers) es
 
   -- ---- a turn
 
   turn_other : (b n c : ℕ) (es : List Event) → b ≢ c → Tracks (After es) b n →
       Tracks (After (turn job workers c es)) b n
-  turn_other b n c es apart t = elim (cases_Bool (running job workers es c)) [
+  turn_other b n c es apart t = elim (cases_Bool (still_runs job workers es c)) [
     | inl runs ↦
         subst (λ (v : Bool). Tracks (After (if v then es ++ Go c ∷ [] else es)) b n) (sym runs)
         (subst (λ (x : WorldData). Tracks x b n)
-        (sym (run_more (start job workers) es (Go c))) (tracks_other (After es) b n c runs t apart))
+        (sym (run_more (start_compact job workers) es (Go c)))
+        (tracks_other (After es) b n c runs t apart))
     | inr still ↦
         subst (λ (v : Bool). Tracks (After (if v then es ++ Go c ∷ [] else es)) b n) (sym still) t
   ]
 
   turn_own : (b n : ℕ) (es : List Event) → Tracks (After es) b n →
       Tracks (After (turn job workers b es)) b (n + 1)
-  turn_own b n es t = elim (cases_Bool (running job workers es b)) [
+  turn_own b n es t = elim (cases_Bool (still_runs job workers es b)) [
     | inl runs ↦ subst (λ (v : Bool). Tracks (After (if v then es ++ Go b ∷ [] else es)) b (n + 1))
         (sym runs) (subst (λ (x : WorldData). Tracks x b (n + 1))
-        (sym (run_more (start job workers) es (Go b))) (tracks_own (After es) b n b runs t refl))
+        (sym (run_more (start_compact job workers) es (Go b)))
+        (tracks_own (After es) b n b runs t refl))
     | inr still ↦ subst (λ (v : Bool). Tracks (After (if v then es ++ Go b ∷ [] else es)) b (n + 1))
         (sym still)
         (record { made = t.made; holds = t.holds; counted = λ goes. absurd (apart goes still) })
@@ -106,7 +109,7 @@ module _ (job : JobData) (workers : ℕ) where
   -- ---- a round
 
   turns_out : (b n c k : ℕ) (es : List Event) → (b < c) ⊎ (c + k ≤ b) → Tracks (After es) b n →
-      Tracks (After (after_turns world_events (running job workers) c k es)) b n
+      Tracks (After (after_turns world_events (still_runs job workers) c k es)) b n
   unfolding after_turns
   turns_out b n c zero es out t = t
   turns_out b n c (suc k) es out t =
@@ -117,7 +120,7 @@ module _ (job : JobData) (workers : ℕ) where
       turns_out b n (c + 1) k (turn job workers c es) next (turn_other b n c es apart t)
 
   turns_in : (b n c k : ℕ) (es : List Event) → c ≤ b → b < c + k → Tracks (After es) b n →
-      Tracks (After (after_turns world_events (running job workers) c k es)) b (n + 1)
+      Tracks (After (after_turns world_events (still_runs job workers) c k es)) b (n + 1)
   unfolding after_turns
   turns_in b n c zero es low high t = absurd (omega arith)
   turns_in b n c (suc k) es low high t = elim (cases_lt c b) [
@@ -130,31 +133,32 @@ module _ (job : JobData) (workers : ℕ) where
   ]
 
   rounds_track : (b n : ℕ) (es : List Event) → b < workers → Held (After es) →
-      Tracks (After (after_rounds world_events (running job workers) workers n es)) b n
+      Tracks (After (after_rounds world_events (still_runs job workers) workers n es)) b n
   unfolding after_rounds
   rounds_track b zero es below h = tracks_none (After es) b h
   rounds_track b (suc n) es below h =
       let one : n + 1 ≡ suc n = omega arith in
-      let next : Tracks (After (after_turns world_events (running job workers) 0 workers
-      (after_rounds world_events (running job workers) workers n es))) b (n + 1) =
-      turns_in b n 0 workers (after_rounds world_events (running job workers) workers n es)
+      let next : Tracks (After (after_turns world_events (still_runs job workers) 0 workers
+      (after_rounds world_events (still_runs job workers) workers n es))) b (n + 1) =
+      turns_in b n 0 workers (after_rounds world_events (still_runs job workers) workers n es)
       (omega arith) (omega arith) (rounds_track b n es below h) in
       subst (λ (k : ℕ).
-      Tracks (After (after_rounds world_events (running job workers) workers k es)) b k) one
+      Tracks (After (after_rounds world_events (still_runs job workers) workers k es)) b k) one
       (subst (λ (xs : List Event). Tracks (After xs) b (n + 1))
       (sym (rounds_more job workers n es)) next)
 
   -- so there are fewer rounds than the own-step bound before one in which some worker goes
   pub rounds_fewer : (b n : ℕ) (es : List Event) →
       IsJob job → 1 ≤ workers → workers ≤ 64 → b < workers →
-      running job workers (after_rounds world_events (running job workers) workers n es) b ≡ true →
+      still_runs job workers (after_rounds world_events (still_runs job workers) workers n es) b
+      ≡ true →
       n < most_steps job
   rounds_fewer b n es limits some most below runs =
-      let h : Held (After es) = run_holds (start job workers) es
+      let h : Held (After es) = run_holds (start_compact job workers) es
       (record { made = empty; holds = holds_start job workers limits some most }) in
-      let all = after_rounds world_events (running job workers) workers n es in
+      let all = after_rounds world_events (still_runs job workers) workers n es in
       let t = rounds_track b n es below h in
-      let board = run_board (start job workers) all in
+      let board = run_board (start_compact job workers) all in
       let less : n < most_steps (After all).job =
       fewer (After all) t.made b n t.holds (t.counted runs) (goer (After all) b runs) in
       subst (λ (j : JobData). n < most_steps j) board.0 less
@@ -163,4 +167,4 @@ module _ (job : JobData) (workers : ℕ) where
   pub rounds_small : IsJob job → 1 ≤ workers → workers ≤ 64 →
       most_steps job < 2 ^ 63
   rounds_small limits some most = bound_small job (layout_of job Compact workers)
-      (start job workers).words (holds_start job workers limits some most).stands
+      (start_compact job workers).words (holds_start job workers limits some most).stands

@@ -19,16 +19,16 @@ use Rattle.walkx.specs.Records.{empty}
 use Rattle.walkx.specs.Walk.{Walking, ask_of, told, started, come_back}
 use Rattle.pram_world.specs.declared.event.Event.{Event}
 use Rattle.pram_world.specs.declared.event.Event.TheVariants.{Go, Stop, Back}
-use Rattle.pram_world.specs.Outcomes.{IsOutcome}
+use Rattle.pram_world.specs.Outcomes.{IsWorldOutcome}
 use Rattle.pram_world.specs.Worlds.{Body, walks, stopped, number, WorldData, Walks}
-use Rattle.pram_world.specs.Worlds.{start, run, went, replaced, happens, going}
+use Rattle.pram_world.specs.Worlds.{start_compact, run, went, replaced, happens, going}
 use Rattle.pram_world.proofs.Counting.{get_set_same, get_set_other}
 use Rattle.pram_world.specs.Inner.Holding.{Held}
 use Rattle.pram_world.proofs.Keeping.{holds_start, run_holds}
 use Rattle.pram_world.proofs.Overs.{over_finished}
 use Rattle.pram_run.specs.declared.trace.TraceRow.{TraceRow}
-use Rattle.pram_run.specs.Inner.Progress.{IsAfter}
-use Rattle.pram_run.specs.Replays.{IsReplay, running, world_events}
+use Rattle.pram_run.specs.Inner.Progress.{IsAfterEvents}
+use Rattle.pram_run.specs.Replays.{IsReplay, still_runs, world_events}
 use Rattle.pram_run.specs.Running.{IsUnfinished}
 
 -- no event stops the body
@@ -143,26 +143,28 @@ rows_never (row ∷ rows) b none =
 
 module _ (job : JobData) (workers : ℕ) where
   turns_never : (b c n : ℕ) (es : List Event) → NeverStops b es →
-      NeverStops b (after_turns world_events (running job workers) c n es)
+      NeverStops b (after_turns world_events (still_runs job workers) c n es)
   unfolding after_turns
   turns_never b c zero es h = h
-  turns_never b c (suc n) es h = turns_never b (c + 1) n _ (turn_never (running job workers es c))
+  turns_never b c (suc n) es h =
+      turns_never b (c + 1) n _ (turn_never (still_runs job workers es c))
     where
       turn_never : (v : Bool) → NeverStops b (if v then es ++ Go c ∷ [] else es)
       turn_never true = never_both b es (Go c ∷ []) h ((λ e. absurd (cc)), tt)
       turn_never false = h
 
   rounds_never : (b n : ℕ) (es : List Event) → NeverStops b es →
-      NeverStops b (after_rounds world_events (running job workers) workers n es)
+      NeverStops b (after_rounds world_events (still_runs job workers) workers n es)
   unfolding after_rounds
   rounds_never b zero es h = h
   rounds_never b (suc n) es h = rounds_never b n
-      (after_turns world_events (running job workers) 0 workers es) (turns_never b 0 workers es h)
+      (after_turns world_events (still_runs job workers) 0 workers es)
+      (turns_never b 0 workers es h)
 
   -- ---- so the outcome is unfinished only where the plan stops every worker
 
   told_end : (s : WorldData) (b : ℕ) (answer : RunAnswer) → Held s → IsWorker s b →
-      going s b ≡ false → IsOutcome s answer → IsUnfinished answer → ⊥
+      going s b ≡ false → IsWorldOutcome s answer → IsUnfinished answer → ⊥
   told_end s b (Final cells) h w still outcome un = un
   told_end s b (Conflict fault) h w still outcome un = un
   told_end s b (Unfinished t) h w still outcome un =
@@ -170,41 +172,45 @@ module _ (job : JobData) (workers : ℕ) where
 
   pub plan_stops : (rows : List Row) (n : ℕ) (answer : RunAnswer) →
       IsJob job → 1 ≤ workers → workers ≤ 64 →
-      NoneRuns (running job workers) workers
-      (after_rounds world_events (running job workers) workers n
+      NoneRuns (still_runs job workers) workers
+      (after_rounds world_events (still_runs job workers) workers n
       (events_of_rows world_events rows)) →
-      IsOutcome (run (start job workers) (after_rounds world_events (running job workers) workers n
+      IsWorldOutcome (run (start_compact job workers)
+      (after_rounds world_events (still_runs job workers) workers n
       (events_of_rows world_events rows))) answer → IsUnfinished answer → (b : ℕ) →
       b < workers → stops rows b ≡ true
   plan_stops rows n answer limits some most none outcome un b below =
       elim (cases_Bool (stops rows b)) [
         | inl done ↦ done
         | inr left ↦ (let es = after_rounds world_events
-            (running job workers) workers n (events_of_rows world_events rows) in
+            (still_runs job workers) workers n (events_of_rows world_events rows) in
             let never : NeverStops b es =
             rounds_never b n (events_of_rows world_events rows) (rows_never rows b left) in
-            let w : IsWorker (run (start job workers) es) b = run_worker (start job workers)
+            let w : IsWorker (run (start_compact job workers) es) b =
+            run_worker (start_compact job workers)
             b es never (started (0 + b), start_at 0 workers b below) in
-            let h : Held (run (start job workers) es) = run_holds (start job workers) es
+            let h : Held (run (start_compact job workers) es) =
+            run_holds (start_compact job workers) es
             (record { made = empty; holds = holds_start job workers limits some most }) in
-            absurd (told_end (run (start job workers) es) b answer h w (none b below) outcome un))
+            absurd (told_end (run (start_compact job workers) es) b answer h w (none b below)
+            outcome un))
       ]
 
 -- ---- what a replay comes to
 
 replayed_own : (job : JobData) (plan : PlanData) (n : ℕ) (s : WorldData)
     (rows : List TraceRow) (answer : RunAnswer) → IsJob job → 1 ≤ plan.workers → plan.workers ≤ 64 →
-    IsAfter job plan.workers (after_rounds world_events
-    (running job plan.workers) plan.workers n (events_of_rows world_events plan.rows)) s rows →
-    ((b : ℕ) → b < plan.workers → going s b ≡ false) → IsOutcome s answer →
+    IsAfterEvents job plan.workers (after_rounds world_events
+    (still_runs job plan.workers) plan.workers n (events_of_rows world_events plan.rows)) s rows →
+    ((b : ℕ) → b < plan.workers → going s b ≡ false) → IsWorldOutcome s answer →
     IsReplay job plan answer rows
 replayed_own job plan n s rows answer limits some most is still outcome =
     let es = after_rounds world_events
-    (running job plan.workers) plan.workers n (events_of_rows world_events plan.rows) in
-    let none : NoneRuns (running job plan.workers) plan.workers es =
+    (still_runs job plan.workers) plan.workers n (events_of_rows world_events plan.rows) in
+    let none : NoneRuns (still_runs job plan.workers) plan.workers es =
     λ b below. ap (λ x. going x b) (sym is.world) ∙ still b below in
-    let told : IsOutcome (run (start job plan.workers) es) answer =
-    subst (λ (x : WorldData). IsOutcome x answer) is.world outcome in
+    let told : IsWorldOutcome (run (start_compact job plan.workers) es) answer =
+    subst (λ (x : WorldData). IsWorldOutcome x answer) is.world outcome in
     record {
       schedule = es;
       is = record { count = n; rounds = refl; over = none };
@@ -217,11 +223,13 @@ replayed_own job plan n s rows answer limits some most is still outcome =
 pub replayed : (job : JobData) (plan : PlanData)
     (workers n : ℕ) (s : WorldData) (rows : List TraceRow) (answer : RunAnswer) →
     plan.workers ≡ workers → IsJob job → 1 ≤ workers → workers ≤ 64 →
-    IsAfter job workers (after_rounds world_events
-    (running job workers) workers n (events_of_rows world_events plan.rows)) s rows →
-    ((b : ℕ) → b < workers → going s b ≡ false) → IsOutcome s answer → IsReplay job plan answer rows
+    IsAfterEvents job workers (after_rounds world_events
+    (still_runs job workers) workers n (events_of_rows world_events plan.rows)) s rows →
+    ((b : ℕ) → b < workers → going s b ≡ false) → IsWorldOutcome s answer →
+    IsReplay job plan answer rows
 replayed job plan workers n s rows answer e = subst (λ (w : ℕ). IsJob job → 1 ≤ w → w ≤ 64 →
-    IsAfter job w
-    (after_rounds world_events (running job w) w n (events_of_rows world_events plan.rows)) s rows →
-    ((b : ℕ) → b < w → going s b ≡ false) → IsOutcome s answer → IsReplay job plan answer rows)
+    IsAfterEvents job w
+    (after_rounds world_events (still_runs job w) w n (events_of_rows world_events plan.rows)) s
+    rows →
+    ((b : ℕ) → b < w → going s b ≡ false) → IsWorldOutcome s answer → IsReplay job plan answer rows)
     e (replayed_own job plan n s rows answer)

@@ -7,7 +7,7 @@ use Rattle.std.specs.Io.KnownBytes.{Appends}
 use Rattle.std.specs.Prelude.{◌↔◌, IsErrOf, IsTrue, OnErr, codes}
 use Rattle.pram_job.specs.Job.{JobData, IsJob}
 use Rattle.pram_step.specs.declared.answer.RunAnswer.{RunAnswer}
-use Rattle.pram_world.specs.Outcomes.{IsOutcome}
+use Rattle.pram_world.specs.Outcomes.{IsWorldOutcome}
 use Rattle.pram_streams.specs.Transfer.{AppendsBeginning}
 use Rattle.pram_streams.specs.declared.print.PrintFault.TheVariants.{Device}
 use Rattle.pram_streams.proofs.Beginnings.{beginning-after, beginning-longer}
@@ -15,7 +15,7 @@ use Rattle.stop_plan.specs.Plan.{PlanData}
 use Rattle.pram_run.specs.declared.schedule.Replaying.{Replaying}
 use Rattle.pram_run.specs.declared.trace.TraceRow.{TraceRow}
 use Rattle.pram_run.specs.Inner.Printing.{PassedOn}
-use Rattle.pram_run.specs.Inner.Underway.{Advances, HasCome, HasPrinted}
+use Rattle.pram_run.specs.Inner.Underway.{Advances, HasCome, HasPrintedRows}
 use Rattle.pram_run.specs.Printed.{row_lines, trace_text}
 use Rattle.pram_run.specs.Replays.{BeginsReplay, TakesReplay}
 use Rattle.pram_run.proofs.Lines.{lines-append}
@@ -74,8 +74,8 @@ unfailed false result is = refl
 -- what goes on keeps what is printed
 pub further_printed : (job : JobData) (plan : PlanData) (before now : Replaying)
     (rows later : List TraceRow) (more : Bool) (count : ℕ) (a b : Option (List ℕ)) →
-    Advances before rows now later more → HasPrinted job plan before rows count a b →
-    HasPrinted job plan now later count a b
+    Advances before rows now later more → HasPrintedRows job plan before rows count a b →
+    HasPrintedRows job plan now later count a b
 further_printed job plan before now rows later more count a b goes printed = record {
   gone = printed.gone;
   come = (goes printed.gone job plan printed.come).come;
@@ -95,7 +95,7 @@ passed_all a b before rows now kept after is none count put = record {
 }
 
 module _ (job : JobData) (plan : PlanData) (now : Replaying) (kept : List TraceRow) (count : ℕ)
-    (a b : Option (List ℕ)) (printed : HasPrinted job plan now kept count a b) where
+    (a b : Option (List ℕ)) (printed : HasPrintedRows job plan now kept count a b) where
   pub begins_printed : BeginsReplay job plan a b
   begins_printed =
       begins job plan a b (printed.gone ++ kept)
@@ -127,7 +127,7 @@ module _ (job : JobData) (plan : PlanData) (now : Replaying) (kept : List TraceR
 
   -- the first of them go, and the others are kept
   pub passed_on : (left : List TraceRow) (after : ℕ) (c : Option (List ℕ)) →
-      PassedOn b c count kept left after → HasPrinted job plan now left after a c
+      PassedOn b c count kept left after → HasPrintedRows job plan now left after a c
   passed_on left after c passed =
       let split : printed.gone ++ kept ≡ (printed.gone ++ passed.gone) ++ left =
       ap (λ rows. printed.gone ++ rows) passed.parts
@@ -151,11 +151,11 @@ module _ (job : JobData) (plan : PlanData) (now : Replaying) (kept : List TraceR
 pub takes_all : (job : JobData) (plan : PlanData) (before now : Replaying)
     (rows later : List TraceRow) (more : Bool) (count : ℕ) (a b c : Option (List ℕ))
     (answer : RunAnswer) → Advances before rows now later more → more ≡ false →
-    HasPrinted job plan before rows count a b → Appends b c (row_lines count later) →
-    IsOutcome now.world answer → TakesReplay job plan a c answer
+    HasPrintedRows job plan before rows count a b → Appends b c (row_lines count later) →
+    IsWorldOutcome now.world answer → TakesReplay job plan a c answer
 takes_all job plan before now rows later more count a b c answer goes over printed put outcome =
     let far = goes printed.gone job plan printed.come in
-    let all : HasPrinted job plan now later count a b =
+    let all : HasPrintedRows job plan now later count a b =
     record {
       gone = printed.gone;
       come = far.come;

@@ -24,7 +24,7 @@ use Rattle.pram_run.specs.Obeyed.{AllObeyed, HasLooked, IsAnswered}
 use Rattle.pram_run.specs.Heard.{Ended, HasRunBeside}
 use Rattle.pram_run.specs.Watching.{HasRead, IsTrueSight, IsWatch, HasWatched, HasWatchedWith}
 use Rattle.pram_run.specs.Watching.{ReadsAndHears, ReadsUnlessRefused}
-use Rattle.pram_run.specs.Inner.Hearing.{HasEnded}
+use Rattle.pram_run.specs.Inner.Hearing.{RunHasEnded}
 use Rattle.pram_run.specs.Inner.Obeying.{GoesOn, IsToWatch}
 use Rattle.pram_run.specs.Inner.Reading.{IsWatchJoined}
 use Rattle.pram_run.proofs.Records.{begins_all, knows_all}
@@ -170,7 +170,7 @@ pub watched_with : {P H : Type 0} (t : Task) (plan : PlanData) (given before rea
     (n : ℕ) (Reads : SeatData → SeatData → P → Type 0) (Hears : P → Ended → H → Type 0)
     (ended : Ended) (heard : H) (after : P) → HasLooked given before →
     (n ≡ plan.workers → before ≡ given) → Reads before reader after → Hears after ended heard →
-    HasEnded t plan given n reader later ended →
+    RunHasEnded t plan given n reader later ended →
     HasWatchedWith t plan given later (ReadsAndHears Reads Hears ended heard) ended
 watched_with t plan given before reader later n Reads Hears ended heard after
     waited at_once reads hears h = record {

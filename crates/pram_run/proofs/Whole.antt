@@ -18,16 +18,16 @@ use Rattle.lawful_walk.specs.Board.{Stands, conflict, root}
 use Rattle.pram_world.specs.declared.event.Event.{Event}
 use Rattle.pram_world.specs.declared.event.Event.TheVariants.{Go}
 use Rattle.pram_world.specs.Inner.Holding.{Held}
-use Rattle.pram_world.specs.Outcomes.{IsOutcome, IsTold}
-use Rattle.pram_world.specs.Worlds.{WorldData, start, run, happens, shown, going}
+use Rattle.pram_world.specs.Outcomes.{IsWorldOutcome, IsTold}
+use Rattle.pram_world.specs.Worlds.{WorldData, start_compact, run, happens, shown, going}
 use Rattle.pram_world.proofs.Answering.{conflict_most, finished_clear, finished_last}
 use Rattle.pram_world.proofs.Keeping.{holds_start, run_holds}
 use Rattle.pram_run.specs.declared.schedule.Replaying.{Replaying}
 use Rattle.pram_run.specs.declared.trace.TraceRow.{TraceRow}
 use Rattle.pram_run.specs.Inner.Progress.{turn}
-use Rattle.pram_run.specs.Inner.Underway.{AreMade, HasCome, IsOver, ahead, with_rounds}
-use Rattle.pram_run.specs.Replays.{IsReplay, running, world_events}
-use Rattle.pram_run.specs.Traces.{body_of, rows_of, trace_of}
+use Rattle.pram_run.specs.Inner.Underway.{AreEventsMade, HasCome, IsOver, ahead, with_rounds}
+use Rattle.pram_run.specs.Replays.{IsReplay, still_runs, world_events}
+use Rattle.pram_run.specs.Traces.{body_of_event, rows_of_effect, trace_of}
 use Rattle.pram_run.proofs.Rounds.{rounds_fewer}
 use Rattle.pram_run.proofs.Stops.{replayed}
 
@@ -96,8 +96,9 @@ trace_append : (s : WorldData) (es more : List Event) →
 unfolding trace_of
 trace_append s [] more = refl
 trace_append s (e ∷ es) more =
-    ap (λ rows. rows_of (body_of e) (shown s e) ++ rows) (trace_append (happens s e) es more)
-    ∙ sym (append_assoc (rows_of (body_of e) (shown s e)) (trace_of (happens s e) es)
+    ap (λ rows. rows_of_effect (body_of_event e) (shown s e) ++ rows)
+    (trace_append (happens s e) es more)
+    ∙ sym (append_assoc (rows_of_effect (body_of_event e) (shown s e)) (trace_of (happens s e) es)
     (trace_of (run (happens s e) es) more))
 
 -- one list of events is the other and more
@@ -114,14 +115,14 @@ extends_both es next later (one, is) (more, too) =
 
 module _ (job : JobData) (workers : ℕ) where
   turn_grows : (b : ℕ) (es : List Event) → Extends es (turn job workers b es)
-  turn_grows b es = by (running job workers es b)
+  turn_grows b es = by (still_runs job workers es b)
     where
       by : (v : Bool) → Extends es (if v then es ++ Go b ∷ [] else es)
       by true = (Go b ∷ [], refl)
       by false = extends_none es
 
   turns_grow : (b n : ℕ) (es : List Event) →
-      Extends es (after_turns world_events (running job workers) b n es)
+      Extends es (after_turns world_events (still_runs job workers) b n es)
   unfolding after_turns
   turns_grow b zero es = extends_none es
   turns_grow b (suc n) es =
@@ -129,36 +130,36 @@ module _ (job : JobData) (workers : ℕ) where
       (turns_grow (b + 1) n (turn job workers b es))
 
   rounds_grow : (n : ℕ) (es : List Event) →
-      Extends es (after_rounds world_events (running job workers) workers n es)
+      Extends es (after_rounds world_events (still_runs job workers) workers n es)
   unfolding after_rounds
   rounds_grow zero es = extends_none es
   rounds_grow (suc n) es =
-      extends_both es (after_turns world_events (running job workers) 0 workers es) _
+      extends_both es (after_turns world_events (still_runs job workers) 0 workers es) _
       (turns_grow 0 workers es)
-      (rounds_grow n (after_turns world_events (running job workers) 0 workers es))
+      (rounds_grow n (after_turns world_events (still_runs job workers) 0 workers es))
 
   rounds_both : (n d : ℕ) (es : List Event) →
-      after_rounds world_events (running job workers) workers (n + d) es
-      ≡ after_rounds world_events (running job workers) workers d
-      (after_rounds world_events (running job workers) workers n es)
+      after_rounds world_events (still_runs job workers) workers (n + d) es
+      ≡ after_rounds world_events (still_runs job workers) workers d
+      (after_rounds world_events (still_runs job workers) workers n es)
   unfolding after_rounds
   rounds_both zero d es =
       let same : 0 + d ≡ d = omega arith in
-      ap (λ k. after_rounds world_events (running job workers) workers k es) same
+      ap (λ k. after_rounds world_events (still_runs job workers) workers k es) same
   rounds_both (suc n) d es =
       let one : suc n + d ≡ suc (n + d) = omega arith in
-      ap (λ k. after_rounds world_events (running job workers) workers k es) one
-      ∙ rounds_both n d (after_turns world_events (running job workers) 0 workers es)
+      ap (λ k. after_rounds world_events (still_runs job workers) workers k es) one
+      ∙ rounds_both n d (after_turns world_events (still_runs job workers) 0 workers es)
 
   rounds_later : (n m : ℕ) (es : List Event) → n ≤ m →
-      Extends (after_rounds world_events (running job workers) workers n es)
-      (after_rounds world_events (running job workers) workers m es)
+      Extends (after_rounds world_events (still_runs job workers) workers n es)
+      (after_rounds world_events (still_runs job workers) workers m es)
   rounds_later n m es le =
       let all : n + (m - n) ≡ m = omega (arith, le) in
-      let some = after_rounds world_events (running job workers) workers n es in
+      let some = after_rounds world_events (still_runs job workers) workers n es in
       let grown = rounds_grow (m - n) some in (
         grown.0,
-        (ap (λ k. after_rounds world_events (running job workers) workers k es) (sym all)
+        (ap (λ k. after_rounds world_events (still_runs job workers) workers k es) (sym all)
             ∙ rounds_both n (m - n) es ∙ grown.1),
       )
 
@@ -170,7 +171,7 @@ module _ (job : JobData) (plan : PlanData) (limits : IsJob job) (some : 1 ≤ pl
   whole = with_rounds job plan (most_steps job)
 
   abbrev last : WorldData
-  last = run (start job plan.workers) whole
+  last = run (start_compact job plan.workers) whole
 
   none_goes : (b : ℕ) → b < plan.workers → going last b ≡ false
   none_goes b below = elim (cases_Bool (going last b)) [
@@ -180,24 +181,24 @@ module _ (job : JobData) (plan : PlanData) (limits : IsJob job) (some : 1 ≤ pl
     | inr still ↦ still
   ]
 
-  outcome : (answer : RunAnswer) × IsOutcome last answer
+  outcome : (answer : RunAnswer) × IsWorldOutcome last answer
   outcome =
-      let held : Held last = run_holds (start job plan.workers) whole
+      let held : Held last = run_holds (start_compact job plan.workers) whole
       (record { made = empty; holds = holds_start job plan.workers limits some most }) in
       has_told last.job last.layout last.words held.holds.stands
 
   pub whole_replay : (answer : RunAnswer)
-      × IsReplay job plan answer (trace_of (start job plan.workers) whole)
+      × IsReplay job plan answer (trace_of (start_compact job plan.workers) whole)
   whole_replay =
       let told = outcome in (
         told.0,
         replayed job plan plan.workers (most_steps job) last
-            (trace_of (start job plan.workers) whole) told.0 refl limits some most
+            (trace_of (start_compact job plan.workers) whole) told.0 refl limits some most
             (record { world = refl; trace = refl }) none_goes told.1,
       )
 
   whole_extends : (now : Replaying) (made : List Event) → now.rounds ≤ most_steps job →
-      AreMade job plan now made → Extends made whole
+      AreEventsMade job plan now made → Extends made whole
   whole_extends now made le (inl (none, is)) =
       extends_both made (events_of_rows world_events plan.rows) whole (ahead now, sym is)
       (rounds_grow job plan.workers (most_steps job) (events_of_rows world_events plan.rows))
@@ -218,7 +219,7 @@ comes_to job plan now rows come =
     let all = whole_replay job plan come.limits come.some come.most in
     let left = whole_extends job plan come.limits come.some come.most now come.made come.rounds
     come.are in
-    let first = start job plan.workers in
+    let first = start_compact job plan.workers in
     let parts : trace_of first (whole job plan come.limits come.some come.most)
     ≡ rows ++ trace_of (run first come.made) left.0 =
     ap (trace_of first) left.1 ∙ trace_append first come.made left.0
@@ -232,7 +233,7 @@ comes_to job plan now rows come =
 -- ---- the end
 
 pub made_over : (job : JobData) (plan : PlanData) (now : Replaying) (made : List Event) →
-    now.ticks ≡ 0 → now.rows.now ≡ [] → AreMade job plan now made →
+    now.ticks ≡ 0 → now.rows.now ≡ [] → AreEventsMade job plan now made →
     made ≡ with_rounds job plan now.rounds
 unfolding after_rounds
 made_over job plan now made ticks rows (inl (none, is)) =
@@ -244,14 +245,15 @@ made_over job plan now made ticks rows (inl (none, is)) =
 made_over job plan now made ticks rows (inr (none, over, is)) = is
 
 pub ended : (job : JobData) (plan : PlanData) (now : Replaying) (rows : List TraceRow)
-    (answer : RunAnswer) → HasCome job plan now rows → IsOver now → IsOutcome now.world answer →
+    (answer : RunAnswer) → HasCome job plan now rows → IsOver now →
+    IsWorldOutcome now.world answer →
     IsReplay job plan answer rows
 ended job plan now rows answer come over outcome =
     let made = made_over job plan now come.made over.ticks over.rows come.are in
     replayed job plan plan.workers now.rounds now.world rows answer refl come.limits come.some
     come.most
     (record {
-      world = come.after.world ∙ ap (run (start job plan.workers)) made;
-      trace = come.after.trace ∙ ap (trace_of (start job plan.workers)) made;
+      world = come.after.world ∙ ap (run (start_compact job plan.workers)) made;
+      trace = come.after.trace ∙ ap (trace_of (start_compact job plan.workers)) made;
     })
     (λ b below. over.none b (omega (arith, below, come.workers))) outcome

@@ -12,15 +12,15 @@ kind_word Max = codes "max"
 kind_word Swap = codes "swap"
 
 -- the line of a row, with the tick in front
-abbrev pub row_line : ℕ → TraceRow → List ℕ
-row_line tick row = decimal tick ++ codes "," ++ decimal row.worker ++ codes ","
+abbrev pub trace_line : ℕ → TraceRow → List ℕ
+trace_line tick row = decimal tick ++ codes "," ++ decimal row.worker ++ codes ","
     ++ kind_word row.kind ++ codes "," ++ decimal row.word ++ codes ","
     ++ decimal row.before ++ codes "," ++ decimal row.after ++ codes "\n"
 
 -- a line for each row, the ticks counted on from one
 abbrev pub row_lines : ℕ → List TraceRow → List ℕ
 row_lines tick [] = []
-row_lines tick (row ∷ rows) = row_line (tick + 1) row ++ row_lines (tick + 1) rows
+row_lines tick (row ∷ rows) = trace_line (tick + 1) row ++ row_lines (tick + 1) rows
 
 -- the header, and a line for each row
 abbrev pub trace_text : List TraceRow → List ℕ

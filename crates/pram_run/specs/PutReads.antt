@@ -23,7 +23,7 @@ pub record PutWatch (words : CellWords) (task : Task) (cells : List ℕ) (rounds
   pub ok : OnOk printed (Appends sink sink' (sights_text words sights))
   pub beginning : AppendsBeginning sink sink' (sights_text words sights)
 
--- so of what is observed
+-- the sights of what is observed were put into a sink, or a beginning of their text
 abbrev pub PutReads : {G : Type 0} → CellWords → Observation G → SeatData → SeatData
     → Option (List ℕ) → Option (List ℕ) → Printing → Type 0
 PutReads words seen = PutWatch words seen.assignment.board.now.task seen.cells.now seen.rounds

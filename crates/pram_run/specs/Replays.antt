@@ -8,8 +8,8 @@ use Rattle.stop_plan.specs.Plan.{PlanData, StopsAll}
 use Rattle.stop_plan.specs.Schedule.{Events, IsSchedule, Running}
 use Rattle.pram_world.specs.declared.event.Event.{Event}
 use Rattle.pram_world.specs.declared.event.Event.TheVariants.{Go, Stop, Back}
-use Rattle.pram_world.specs.Outcomes.{IsOutcome}
-use Rattle.pram_world.specs.Worlds.{start, run, going}
+use Rattle.pram_world.specs.Outcomes.{IsWorldOutcome}
+use Rattle.pram_world.specs.Worlds.{start_compact, run, going}
 use Rattle.pram_run.specs.declared.trace.TraceRow.{TraceRow}
 use Rattle.pram_run.specs.Printed.{trace_text}
 use Rattle.pram_run.specs.Running.{IsUnfinished}
@@ -21,17 +21,17 @@ world_events =
     record { go = λ worker. Go worker; stop = λ worker. Stop worker; back = λ worker. Back worker }
 
 -- whether a worker still runs after these events
-abbrev pub running : JobData → ℕ → Running Event
-running job workers events worker = going (run (start job workers) events) worker
+abbrev pub still_runs : JobData → ℕ → Running Event
+still_runs job workers events worker = going (run (start_compact job workers) events) worker
 
 -- The outcome of the world after the plan's schedule, and the atomic steps of that run. It is
 -- unfinished only where the plan stops every worker.
 pub record IsReplay (job : JobData) (plan : PlanData) (answer : RunAnswer) (trace : List TraceRow) :
     Type 0 where
   pub schedule : List Event
-  pub is : IsSchedule world_events (running job plan.workers) plan schedule
-  pub outcome : IsOutcome (run (start job plan.workers) schedule) answer
-  pub steps : trace ≡ trace_of (start job plan.workers) schedule
+  pub is : IsSchedule world_events (still_runs job plan.workers) plan schedule
+  pub outcome : IsWorldOutcome (run (start_compact job plan.workers) schedule) answer
+  pub steps : trace ≡ trace_of (start_compact job plan.workers) schedule
   pub stops : IsUnfinished answer → StopsAll plan
 
 -- This is the answer of a replay, and the sink took its trace.

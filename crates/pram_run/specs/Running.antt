@@ -18,7 +18,7 @@ IsBoardFor job plan desk seat = (desk.task.job ≡ job)
     × (desk.task.layout.workers ≡ plan.workers) × (seat.desk ≡ desk)
 
 -- what the record has seen: the greatest step that it shows
-pub record HasSeen (layout : LayoutData) (past : Record) (step : ℕ) : Type 0 where
+pub record IsLastSeen (layout : LayoutData) (past : Record) (step : ℕ) : Type 0 where
   pub shows : Shows layout past step
   pub most : (t : ℕ) → Shows layout past t → t ≤ step
 
@@ -29,7 +29,7 @@ ShowsEnd task past = Shows task.layout past task.job.steps
 
 -- The record does not show the end, and has seen this step, which is reached and below the last.
 pub record IsLeftAt (task : Task) (past : Record) (step : ℕ) : Type 0 where
-  pub seen : HasSeen task.layout past step
+  pub seen : IsLastSeen task.layout past step
   pub reached : IsReached task.job step
   pub below : step < task.job.steps
   pub unended : ShowsEnd task past → ⊥

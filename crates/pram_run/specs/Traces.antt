@@ -22,25 +22,26 @@ row_by worker before after (op.Max word value) = Some (row_with worker Max word 
 row_by worker before after (op.Swap word old new) = Some (row_with worker Swap word before after)
 row_by worker before after (op.Over ended) = None
 
-abbrev pub row_of : ℕ → Option Op → ℕ → ℕ → Option TraceRow
-row_of worker None before after = None
-row_of worker (Some op) before after = row_by worker before after op
+abbrev pub row_of_step : ℕ → Option Op → ℕ → ℕ → Option TraceRow
+row_of_step worker None before after = None
+row_of_step worker (Some op) before after = row_by worker before after op
 
-abbrev pub listed : Option TraceRow → List TraceRow
-listed None = []
-listed (Some row) = row ∷ []
+abbrev pub listed_row : Option TraceRow → List TraceRow
+listed_row None = []
+listed_row (Some row) = row ∷ []
 
 -- the rows of what an event of this worker showed: one for an atomic step, else none
-abbrev pub rows_of : ℕ → Effect → List TraceRow
-rows_of worker effect = listed (row_of worker effect.op effect.before effect.after)
+abbrev pub rows_of_effect : ℕ → Effect → List TraceRow
+rows_of_effect worker effect = listed_row (row_of_step worker effect.op effect.before effect.after)
 
-abbrev pub body_of : Event → ℕ
-body_of (Go body) = body
-body_of (Stop body) = body
-body_of (Back body) = body
+abbrev pub body_of_event : Event → ℕ
+body_of_event (Go body) = body
+body_of_event (Stop body) = body
+body_of_event (Back body) = body
 
 -- the atomic steps of a run, in order
 unfoldable pub trace_of : WorldData → List Event → List TraceRow
 trace_of world [] = []
 trace_of world (event ∷ events) =
-    rows_of (body_of event) (shown world event) ++ trace_of (happens world event) events
+    rows_of_effect (body_of_event event) (shown world event)
+    ++ trace_of (happens world event) events

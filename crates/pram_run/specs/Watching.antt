@@ -16,8 +16,8 @@ use Rattle.pram_run.specs.declared.assignment.Observation.{Observation}
 use Rattle.pram_run.specs.declared.sight.Sight.{Sight}
 
 -- the cells that were read, in order
-abbrev pub cells_of : List Sight → List ℕ
-cells_of sights = map (λ sight. sight.cell) sights
+abbrev pub cells_seen : List Sight → List ℕ
+cells_seen sights = map (λ sight. sight.cell) sights
 
 -- the reads of a list, one after the other, each lawful, from one seat's record to the one after
 -- them
@@ -37,7 +37,7 @@ pub record IsTrueSight (task : Task) (sight : Sight) : Type 0 where
 -- seat before knew, and the steps never fall.
 pub record IsWatch (task : Task) (cells : List ℕ) (rounds : ℕ) (before : SeatData)
     (sights : List Sight) (later : SeatData) : Type 0 where
-  pub listed : cells_of sights ≡ repeat rounds cells
+  pub listed : cells_seen sights ≡ repeat rounds cells
   pub reads : HasRead task before sights later
   pub tells : All (λ sight. IsTrueSight task sight) sights
   pub least : All (λ sight. (known : ℕ) → KnowsStep task.layout before.record_of known →
@@ -72,7 +72,7 @@ abbrev pub HasReadBeside : Task → PlanData → SeatData → SeatData → RunAn
 HasReadBeside task plan given later answer Reads =
     HasRunWith (ReadsBeside plan given Reads) task plan given later answer
 
--- So a reader did, and this answer was given if memory was.
+-- A run with a reader that did this, whose answer was given if memory was.
 pub record HasWatchedWith (task : Task) (plan : PlanData) (given later : SeatData)
     (Reads : SeatData → SeatData → Type 0) (ended : Ended) : Type 0 where
   pub answer : RunAnswer

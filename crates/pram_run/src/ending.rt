@@ -24,14 +24,17 @@ pub(crate) fn answer(
 {
     let progress = board.progress(seat);
     if progress.conflict.is_some() {
-        let fault = board.fault(alloc, seat)?;
-        return Ok(RunAnswer::Conflict(fault));
+        let fault = board.fault(alloc, seat);
+        seat.facts();
+        return Ok(RunAnswer::Conflict(fault?));
     }
     if progress.step < job.steps() {
+        seat.facts();
         return Ok(RunAnswer::Unfinished {
             step: progress.step,
         });
     }
-    let cells = board.memory(alloc, seat)?;
-    Ok(RunAnswer::Final(Cells::new(cells)))
+    let cells = board.memory(alloc, seat);
+    seat.facts();
+    Ok(RunAnswer::Final(Cells::new(cells?)))
 }

@@ -2,9 +2,9 @@
 ghost use Rattle.std.specs.Prelude.{◌≡◌, ◌⊎◌, ◌↔◌, ◌<◌, ◌≤◌, All, IfOk, IsTrue, vec_capacity};
 ghost use Rattle.std.specs.Prelude.{vec_len};
 ghost use Rattle.lawful_walk.specs.Seen.{BeginsWith};
-ghost use Rattle.pram_run.specs.Inner.Hearing.{HasEnded, HasTold, IsJoined, TellsEnd, ToldEnd};
+ghost use Rattle.pram_run.specs.Inner.Hearing.{RunHasEnded, HasTold, IsJoined, TellsEnd, ToldEnd};
 ghost use Rattle.pram_run.specs.Inner.Obeying.{GoesOn};
-ghost use Rattle.pram_run.specs.Inner.Sharing.{board_of, plan_of, task_of};
+ghost use Rattle.pram_run.specs.Inner.Sharing.{board_of, plan_of, shared_task};
 ghost use Rattle.pram_run.specs.Inner.Teams.{IsAtWork};
 ghost use Rattle.pram_run.specs.Obeyed.{HasLooked};
 ghost use Rattle.pram_run.specs.Running.{IsBoardFor, IsUnfinished, Tells};
@@ -93,7 +93,7 @@ fn work_beside<'s, E, R: Threads + Wait, G: Gate + Sync, H, P: Reads<Heard = H>>
     requires reader { P.can_read reader }
     requires listener { P.can_hear reader }
     requires seat { seat.desk ≡ board_of shared.now }
-    ensures ran { let seen = shared.now.observation in let task = task_of shared.now in
+    ensures ran { let seen = shared.now.observation in let task = shared_task shared.now in
         ReadsUnlessRefused task (plan_of shared.now) seat reader
         (P.reads reader task seen.cells.now seen.rounds) P.hears result.0 result.1 result.2 }
     ensures goes_on { GoesOn seat result.0 }
@@ -138,7 +138,7 @@ fn await_missing<R: Wait, G>(
     ensures looked { HasLooked seat result.0 }
     ensures whole { vec_len team.now.threads ≡ (plan_of shared.now).workers → result.0 ≡ seat }
     ensures answers { IsTrue result.1 → (vec_len team.now.threads ≡ (plan_of shared.now).workers)
-        ⊎ ToldEnd (task_of shared.now) result.0.record_of }
+        ⊎ ToldEnd (shared_task shared.now) result.0.record_of }
 {
     if team.is_whole(shared) {
         return (seat, true);
@@ -162,8 +162,8 @@ fn hear_end<'s, R: Threads + Wait, G: Gate + Sync, L: Listener>(
     requires desk { team.seat.desk ≡ board_of shared.now }
     requires seat { GoesOn team.seat seat }
     requires answers { (vec_len team.threads ≡ (plan_of shared.now).workers)
-        ⊎ ToldEnd (task_of shared.now) seat.record_of }
-    ensures ended { HasEnded (task_of shared.now) (plan_of shared.now) team.entry.seat
+        ⊎ ToldEnd (shared_task shared.now) seat.record_of }
+    ensures ended { RunHasEnded (shared_task shared.now) (plan_of shared.now) team.entry.seat
         (vec_len team.entry.threads) seat result.0 result.1 }
     ensures heard { L.hears listener result.1 result.2 }
     ensures goes_on { GoesOn team.entry.seat result.0 }
@@ -190,7 +190,7 @@ fn await_end<R: Wait, G>(
     mut seat: Seat,
 ) -> (Seat, Result<RunAnswer, AllocError>)
     requires { seat.desk ≡ board_of shared.now }
-    ensures told { IfOk result.1 (Tells (task_of shared.now) result.0.record_of) }
+    ensures told { IfOk result.1 (Tells (shared_task shared.now) result.0.record_of) }
     ensures looked { HasLooked seat result.0 }
 {
     let workers = team.threads.len() as u64;
@@ -234,7 +234,7 @@ fn join_beside<'s, R: Threads, G: Gate + Sync>(
     requires team { IsAtWork (plan_of shared.now) team.seat team }
     requires desk { team.seat.desk ≡ board_of shared.now }
     requires looker { GoesOn team.seat looker }
-    ensures { IsJoined (task_of shared.now) (plan_of shared.now) team.entry.seat looker
+    ensures { IsJoined (shared_task shared.now) (plan_of shared.now) team.entry.seat looker
         (vec_len team.entry.threads) result }
 {
     let seat = join_all(rt, shared, team);
@@ -251,10 +251,10 @@ fn last_answer<G>(
     all_started: bool,
 ) -> (Seat, Result<RunAnswer, AllocError>)
     requires { seat.desk ≡ board_of shared.now }
-    ensures told { IfOk result.1 (HasTold (task_of shared.now) seat result.0) }
+    ensures told { IfOk result.1 (HasTold (shared_task shared.now) seat result.0) }
     ensures looked { HasLooked seat result.0 }
     ensures all { IfOk result.1 (λ answer. IsUnfinished answer → IsTrue all_started) }
-    ensures some { (answer : RunAnswer) × HasTold (task_of shared.now) seat result.0 answer }
+    ensures some { (answer : RunAnswer) × HasTold (shared_task shared.now) seat result.0 answer }
 {
     let assignment = &shared.observation.assignment;
     let told = answer(shared.alloc, assignment.job, assignment.board, &mut seat);

@@ -4,8 +4,9 @@ ghost use Rattle.std.specs.Prelude.{map, take, IfOk, OnOk, IsErrOf, IsTrue};
 ghost use Rattle.std.specs.Io.KnownBytes.{Appends};
 ghost use Rattle.csv.specs.Writing.{default_writer, field_text, row_text, text_written};
 ghost use Rattle.pram_streams.specs.Transfer.{AppendsBeginning};
-ghost use Rattle.pram_run.specs.Inner.Printing.{IsBetweenRecords, PassedOn};
-ghost use Rattle.pram_run.specs.Printed.{kind_word, row_line, row_lines, sight_line};
+ghost use Rattle.pram_streams.specs.Records.{IsBetweenRecords};
+ghost use Rattle.pram_run.specs.Inner.Printing.{PassedOn};
+ghost use Rattle.pram_run.specs.Printed.{kind_word, trace_line, row_lines, sight_line};
 ghost use Rattle.pram_run.specs.Printed.{sight_lines, sights_text, trace_text};
 
 use crate::cell_names::{CellNames, push_number};
@@ -13,7 +14,7 @@ use crate::sight::Sight;
 use crate::trace::{PART, Trace, TraceRow};
 use csv::{Error, Writer};
 use itoa::Buffer;
-use pram_streams::{IntoWrite, PrintFault, Sink, put};
+use pram_streams::{IntoWrite, PrintFault, Sink, number_text, put};
 use std::alloc::{AllocError, Global};
 use std::io::Write;
 
@@ -132,7 +133,7 @@ fn write_row<W: Write + Drop>(
     requires { IsBetweenRecords writer.old }
     ensures between { OnOk result (IsBetweenRecords writer.new) }
     ensures text { OnOk result (Appends (text_written W.contents writer.old)
-        (text_written W.contents writer.new) (row_line tick row.now)) }
+        (text_written W.contents writer.new) (trace_line tick row.now)) }
 {
     let mut ticks = Buffer::new();
     let mut workers = Buffer::new();
@@ -247,13 +248,6 @@ fn push_sight<C: CellNames>(lines: &mut Vec<u8>, names: &C, sight: &Sight) -> Re
     Ok(())
 }
 
-fn number_text(buffer: &mut Buffer, number: u64) -> &[u8]
-    ensures value { result.now ≡ decimal number }
-    ensures plain { field_text default_writer result.now ≡ result.now }
-{
-    buffer.format(number).as_bytes()
-}
-
 /// Why a trace was not written.
 #[derive(Clone, Copy, Debug, PartialEq, Eq)]
 pub enum OutFault {
@@ -264,9 +258,9 @@ pub enum OutFault {
 }
 
 impl From<PrintFault> for OutFault {
-    ghost from_gives = { λ fault made. made ≡ fault_of_print fault };
+    ghost from_gives = { λ fault made. made ≡ out_fault_of_print fault };
 
-    ghost use Rattle.pram_run.specs.Inner.Printing.{fault_of_print};
+    ghost use Rattle.pram_run.specs.Inner.Printing.{out_fault_of_print};
 
     fn from(fault: PrintFault) -> OutFault {
         match fault {

@@ -4,7 +4,7 @@ ghost use Rattle.pram_board.specs.Worked.{Works};
 ghost use Rattle.walkx.specs.Walk.{started};
 ghost use Rattle.lawful_walk.specs.Seen.{BeginsWith};
 ghost use Rattle.pram_run.specs.Inner.Obeying.{AllWorked, EndsOrStops, GoesOn, HasObeyed};
-ghost use Rattle.pram_run.specs.Inner.Sharing.{board_of, plan_of, task_of};
+ghost use Rattle.pram_run.specs.Inner.Sharing.{board_of, plan_of, shared_task};
 ghost use Rattle.pram_run.specs.Inner.Teams.{IsAtWork};
 ghost use Rattle.pram_run.specs.Obeyed.{AllObeyed, DoesRow, HasRun, Obeys};
 ghost use Rattle.pram_run.specs.Running.{IsBoardFor};
@@ -83,7 +83,7 @@ pub(crate) fn work_in<'s, E, R: Threads, G: Gate + Sync>(
 ) -> (Seat, Result<(), AllocError>)
     requires { seat.desk ≡ board_of shared.now }
     ensures worked { OnOk result.1
-        (AllWorked (task_of shared.now) (plan_of shared.now) seat result.0) }
+        (AllWorked (shared_task shared.now) (plan_of shared.now) seat result.0) }
     ensures goes_on { GoesOn seat result.0 }
 {
     let team = start_all(scope, shared, seat);
@@ -181,7 +181,7 @@ pub(crate) fn join_all<'s, R: Threads, G>(
     requires team { IsAtWork (plan_of shared.now) team.seat team }
     ensures ends { (k : ℕ) → k < vec_len team.entry.threads →
         EndsOrStops (plan_of shared.now).rows k result }
-    ensures obeyed { AllObeyed (task_of shared.now) (plan_of shared.now).rows team.entry.seat
+    ensures obeyed { AllObeyed (shared_task shared.now) (plan_of shared.now).rows team.entry.seat
         (vec_len team.entry.threads) result }
     ensures goes_on { GoesOn team.entry.seat result }
 {

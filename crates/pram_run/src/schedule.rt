@@ -2,8 +2,9 @@
 ghost use Rattle.std.specs.Prelude.{◌≡◌, ℕ, ◌<◌, ◌≤◌, ◌↔◌, List, [], ◌∷◌, true, false};
 ghost use Rattle.std.specs.Prelude.{IfOk, OnErr, OnOk, IsErrOf, IsTrue};
 ghost use Rattle.pram_world.specs.Worlds.{going};
-ghost use Rattle.pram_run.specs.Inner.Progress.{Makes, go_on, one_round, one_step, one_turn};
-ghost use Rattle.pram_run.specs.Inner.Underway.{Advances, HasCome, IsUnderWay};
+ghost use Rattle.pram_run.specs.Inner.Progress.{MakesProgress, go_on, one_round, one_step};
+ghost use Rattle.pram_run.specs.Inner.Progress.{one_turn};
+ghost use Rattle.pram_run.specs.Inner.Underway.{Advances, HasCome, IsReplayUnderWay};
 ghost use Rattle.pram_run.specs.Replays.{BeginsReplay, IsReplay, TakesReplay};
 ghost use Rattle.pram_run.specs.declared.trace.TraceRow.{TraceRow};
 
@@ -36,9 +37,9 @@ pub fn replay(
     Ok((answer, trace))
 }
 
-/// The same outcome. The trace is printed while its steps are made, as `print_trace` prints it:
-/// rows go out piece by piece, so that it takes memory for the world and for one piece. Out of
-/// memory, a beginning of the trace was printed, as where the sink fails.
+/// The outcome of a replay, whose trace is printed while its steps are made, as `print_trace`
+/// prints it: rows go out piece by piece, so that it takes memory for the world and for one piece.
+/// Out of memory, a beginning of the trace was printed, as where the sink fails.
 pub fn replay_to<W: Sink>(
     alloc: Global,
     sink: &mut W,
@@ -107,7 +108,7 @@ impl<'a> Replaying<'a> {
     // Goes on in the plan's schedule, by `PART` steps at most: of the row that was begun, or else
     // it begins the next one, or else it makes a round. Says whether anything was left.
     fn advance(&mut self, trace: &mut Trace) -> Result<bool, AllocError>
-        requires { IsUnderWay self.old }
+        requires { IsReplayUnderWay self.old }
         ensures { IfOk result (Advances self.old trace.old self.new trace.new) }
     {
         if self.ticks > 0 {
@@ -162,7 +163,7 @@ impl<'a> Replaying<'a> {
 
     // Makes a round, if some worker is neither stopped nor over.
     fn go_round(&mut self, trace: &mut Trace) -> Result<bool, AllocError>
-        requires come { IsUnderWay self.old }
+        requires come { IsReplayUnderWay self.old }
         requires row { self.old.ticks ≡ 0 }
         requires rows { self.old.rows.now ≡ [] }
         ensures { IfOk result (Advances self.old trace.old self.new trace.new) }
@@ -178,7 +179,8 @@ impl<'a> Replaying<'a> {
 
 // Makes up to so many steps of a worker.
 fn go(world: &mut World, trace: &mut Trace, worker: u32, ticks: u32) -> Result<(), AllocError>
-    ensures { OnOk result (Makes world.old trace.old world.new trace.new (go_on worker ticks)) }
+    ensures { OnOk result
+        (MakesProgress world.old trace.old world.new trace.new (go_on worker ticks)) }
 {
     for _ in 0..ticks {
         if !world.is_going(worker as usize) {
@@ -191,7 +193,8 @@ fn go(world: &mut World, trace: &mut Trace, worker: u32, ticks: u32) -> Result<(
 
 // One step of a worker.
 fn step(world: &mut World, trace: &mut Trace, worker: u32) -> Result<(), AllocError>
-    ensures { OnOk result (Makes world.old trace.old world.new trace.new (one_step worker)) }
+    ensures { OnOk result
+        (MakesProgress world.old trace.old world.new trace.new (one_step worker)) }
 {
     let effect = world.event(Event::Go(worker as usize));
     trace.note(worker, effect)
@@ -199,7 +202,8 @@ fn step(world: &mut World, trace: &mut Trace, worker: u32) -> Result<(), AllocEr
 
 // One step of each worker that is neither stopped nor over.
 fn make_round(world: &mut World, trace: &mut Trace, workers: u32) -> Result<(), AllocError>
-    ensures { OnOk result (Makes world.old trace.old world.new trace.new (one_round workers)) }
+    ensures { OnOk result
+        (MakesProgress world.old trace.old world.new trace.new (one_round workers)) }
 {
     for worker in 0..workers {
         take_turn(world, trace, worker)?;
@@ -209,7 +213,8 @@ fn make_round(world: &mut World, trace: &mut Trace, workers: u32) -> Result<(), 
 
 // One step of a worker that is neither stopped nor over.
 fn take_turn(world: &mut World, trace: &mut Trace, worker: u32) -> Result<(), AllocError>
-    ensures { OnOk result (Makes world.old trace.old world.new trace.new (one_turn worker)) }
+    ensures { OnOk result
+        (MakesProgress world.old trace.old world.new trace.new (one_turn worker)) }
 {
     if world.is_going(worker as usize) {
         step(world, trace, worker)

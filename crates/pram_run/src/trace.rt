@@ -1,6 +1,6 @@
 //! Traces: the atomic steps of a run, in order.
 ghost use Rattle.std.specs.Prelude.{◌≡◌, [], ◌++◌, OnOk};
-ghost use Rattle.pram_run.specs.Traces.{row_of as row_as, rows_of};
+ghost use Rattle.pram_run.specs.Traces.{row_of_step as row_as, rows_of_effect};
 
 use pram_world::Effect;
 use std::alloc::{AllocError, Global};
@@ -87,7 +87,7 @@ impl Trace {
 
     // Notes the atomic step that this worker made, if it made one.
     pub(crate) fn note(&mut self, worker: u32, effect: Effect) -> Result<(), AllocError>
-        ensures { OnOk result (self.new ≡ self.old ++ rows_of worker effect) }
+        ensures { OnOk result (self.new ≡ self.old ++ rows_of_effect worker effect) }
     {
         if let Some(row) = row_of(worker, effect) {
             self.rows.push(row)?;

@@ -5,7 +5,7 @@ ghost use Rattle.walkx.specs.declared.operation.Reading.TheVariants.{At};
 ghost use Rattle.lawful_walk.specs.Seen.{BeginsWith};
 ghost use Rattle.pram_run.specs.Inner.Obeying.{AllEndOrStop, GoesOn, IsToWatch};
 ghost use Rattle.pram_run.specs.Inner.Reading.{IsWatchJoined, ReadsRound};
-ghost use Rattle.pram_run.specs.Inner.Sharing.{board_of, plan_of, task_of};
+ghost use Rattle.pram_run.specs.Inner.Sharing.{board_of, plan_of, shared_task};
 ghost use Rattle.pram_run.specs.Running.{IsBoardFor};
 ghost use Rattle.pram_run.specs.Watching.{HasWatched, IsWatch};
 
@@ -107,7 +107,7 @@ fn watch_in<'s, E, R: Threads, G: Gate + Sync>(
     requires { seat.desk ≡ board_of shared.now }
     ensures ends { IfOk result.1 (λ sights. AllEndOrStop (plan_of shared.now) result.0) }
     ensures sights { IfOk result.1 (λ sights. let seen = shared.now in
-        IsWatchJoined (task_of seen) (plan_of seen) seen.observation.cells.now
+        IsWatchJoined (shared_task seen) (plan_of seen) seen.observation.cells.now
         seen.observation.rounds seat sights.items result.0) }
     ensures goes_on { GoesOn seat result.0 }
 {

@@ -18,7 +18,8 @@ use Rattle.pram_step.specs.Steps.{first_written, next_state}
 use Rattle.pram_step.specs.Inner.Marks.{Puts, AreAsked, AreStored}
 use Rattle.pram_step.specs.Inner.Marks.{AsksNext, store_at}
 use Rattle.pram_step.specs.Inner.Passes.{IsAdvance, SameCells}
-use Rattle.pram_step.specs.Inner.Passes.{AreRunning, HaveMoved, IsIdle, IsMove, IsOwnPlace}
+use Rattle.pram_step.specs.Inner.Passes.{HaveMoved, IsIdle, IsMove, IsOwnPlace}
+use Rattle.pram_step.specs.Running.{AreRunning}
 use Rattle.pram_step.specs.Inner.Passes.{IsPassed}
 use Rattle.pram_step.proofs.LawCounters.{next_counter}
 use Rattle.pram_step.proofs.LawFixed.{length-after}

@@ -7,7 +7,8 @@ use Rattle.pram_job.specs.declared.instr.Rule.{Rule}
 use Rattle.pram_job.specs.declared.instr.Rule.TheVariants.{Common, Priority, Crew}
 use Rattle.pram_step.specs.declared.answer.Dispute.{Dispute}
 use Rattle.pram_machine.specs.declared.requests.Request.{Request}
-use Rattle.pram_step.specs.Steps.{written, Writes, Forbids, Clashes, IsDispute, IsVerdict}
+use Rattle.pram_step.specs.Steps.{written, Writes, WritesCell, Clashes, IsDispute, IsVerdict}
+use Rattle.pram_step.specs.Disputes.{Forbids}
 use Rattle.pram_step.specs.Inner.Marks.{Puts, PutsFirst, PutsNone}
 use Rattle.pram_step.proofs.RequestList.{request_at, slice_get_below, slice_get_last}
 use Rattle.pram_step.proofs.RequestList.{slice_get_earlier, slice_get_more, Puts-from_Writes}
@@ -82,24 +83,22 @@ module _ (requests : List Request) (m : ℕ) (inside : m < length requests) (job
   Clashes_more cell i j c = record {
     value = c.value;
     other = c.other;
-    is_cell = c.is_cell;
-    writes = Writes_more cell i c.value c.writes;
-    writes_too = Writes_more cell j c.other c.writes_too;
+    writes = (c.writes.0, Writes_more cell i c.value c.writes.1);
+    writes_too = (c.writes.0, Writes_more cell j c.other c.writes_too.1);
     forbidden = c.forbidden;
   }
 
   Clashes_split : (cell i j : ℕ) → Clashes job (take (m + 1) requests) cell i j →
       (Clashes job (take m requests) cell i j) ⊎ ClashesNow job requests m cell
   Clashes_split cell i j c =
-      elim (Writes_split cell i c.value c.writes) [
+      elim (Writes_split cell i c.value c.writes.1) [
         | inl old ↦
-            elim (Writes_split cell j c.other c.writes_too) [
+            elim (Writes_split cell j c.other c.writes_too.1) [
               | inl old' ↦ inl (record {
                 value = c.value;
                 other = c.other;
-                is_cell = c.is_cell;
-                writes = old;
-                writes_too = old';
+                writes = (c.writes.0, old);
+                writes_too = (c.writes.0, old');
                 forbidden = c.forbidden;
               })
               | inr new ↦
@@ -113,7 +112,7 @@ module _ (requests : List Request) (m : ℕ) (inside : m < length requests) (job
                         (Forbids_both_ways job.rule i c.value j c.other c.forbidden);
                   })
             ]
-        | inr new ↦ elim (Writes_split cell j c.other c.writes_too) [
+        | inr new ↦ elim (Writes_split cell j c.other c.writes_too.1) [
           | inl old ↦
               inr (record {
                 value = c.value;
@@ -136,15 +135,20 @@ module _ (requests : List Request) (m : ℕ) (inside : m < length requests) (job
   Clashes_old cell i j c low low' = record {
     value = c.value;
     other = c.other;
-    is_cell = c.is_cell;
-    writes = elim (Writes_split cell i c.value c.writes) [
-      | inl old ↦ old
-      | inr new ↦ absurd (omega (arith, new.0))
-    ];
-    writes_too = elim (Writes_split cell j c.other c.writes_too) [
-      | inl old ↦ old
-      | inr new ↦ absurd (omega (arith, new.0))
-    ];
+    writes = (
+      c.writes.0,
+      elim (Writes_split cell i c.value c.writes.1) [
+        | inl old ↦ old
+        | inr new ↦ absurd (omega (arith, new.0))
+      ],
+    );
+    writes_too = (
+      c.writes.0,
+      elim (Writes_split cell j c.other c.writes_too.1) [
+        | inl old ↦ old
+        | inr new ↦ absurd (omega (arith, new.0))
+      ],
+    );
     forbidden = c.forbidden;
   }
 
@@ -154,25 +158,25 @@ module _ (requests : List Request) (m : ℕ) (inside : m < length requests) (job
       MatchOption found ⊥ (λ d. d.cell ≤ cell)) → IsVerdict job (take (m + 1) requests) found
   IsVerdict_stays None agrees later = λ cell i j c. elim (Clashes_split cell i j c) [
     | inl old ↦ agrees cell i j old
-    | inr now ↦ later cell c.is_cell now
+    | inr now ↦ later cell c.writes.0 now
   ]
   IsVerdict_stays (Some d) dispute later = record {
     clash = Clashes_more d.cell d.first d.second dispute.clash;
     least_cell = λ cell i j c. elim (Clashes_split cell i j c) [
       | inl old ↦ dispute.least_cell cell i j old
-      | inr now ↦ later cell c.is_cell now
+      | inr now ↦ later cell c.writes.0 now
     ];
-    least_first = λ i v w. elim (Writes_split d.cell i v w) [
-      | inl old ↦ dispute.least_first i v old
+    least_first = λ i v w. elim (Writes_split d.cell i v w.1) [
+      | inl old ↦ dispute.least_first i v (w.0, old)
       | inr new ↦
-          let below = Writes_below d.cell d.first dispute.clash.value dispute.clash.writes in
+          let below = Writes_below d.cell d.first dispute.clash.value dispute.clash.writes.1 in
           omega arith
     ];
-    least_second = λ j c. elim (Writes_split d.cell j c.other c.writes_too) [
+    least_second = λ j c. elim (Writes_split d.cell j c.other c.writes_too.1) [
       | inl old ↦ dispute.least_second j (Clashes_old d.cell d.first j c (Writes_below d.cell
-          d.first dispute.clash.value dispute.clash.writes) (Writes_below d.cell j c.other old))
+          d.first dispute.clash.value dispute.clash.writes.1) (Writes_below d.cell j c.other old))
       | inr new ↦
-          let below = Writes_below d.cell d.second dispute.clash.other dispute.clash.writes_too in
+          let below = Writes_below d.cell d.second dispute.clash.other dispute.clash.writes_too.1 in
           omega arith
     ];
   }
@@ -232,9 +236,8 @@ module _ (requests : List Request) (m : ℕ) (inside : m < length requests) (job
         record {
           value = w;
           other = now.other;
-          is_cell = low;
-          writes = subst (λ c. Writes job (take m requests) c first w) here.0 first_writes;
-          writes_too = now.writes;
+          writes = (low, subst (λ c. Writes job (take m requests) c first w) here.0 first_writes);
+          writes_too = (low, now.writes);
           forbidden = Forbids_through job.rule first w m v now.beside now.other first_apart
               (may first m first_apart) forbidden;
         }
@@ -265,22 +268,24 @@ module _ (requests : List Request) (m : ℕ) (inside : m < length requests) (job
       clash = record {
         value = w;
         other = v;
-        is_cell = is_cell;
-        writes = Writes_more cell first w first_writes;
-        writes_too = Writes_last cell v
-            (written_of_put job cell m v (request_at requests m) (λ same. omega arith) puts);
+        writes = (is_cell, Writes_more cell first w first_writes);
+        writes_too = (
+          is_cell,
+          Writes_last cell v
+              (written_of_put job cell m v (request_at requests m) (λ same. omega arith) puts),
+        );
         forbidden = forbidden first m first_apart;
       };
       least_cell = λ cell' i j c.
           elim (Clashes_split cell' i j c) [
             | inl old ↦ let far = above cell' i j old in omega arith
-            | inr now ↦ let here = is_here cell' c.is_cell now in omega (arith, here.0)
+            | inr now ↦ let here = is_here cell' c.writes.0 now in omega (arith, here.0)
           ];
-      least_first = λ i u c. elim (Writes_split cell i u c) [
+      least_first = λ i u c. elim (Writes_split cell i u c.1) [
         | inl old ↦ earlier.least i u (Puts-from_Writes job (take m requests) cell i u is_cell old)
         | inr new ↦ omega (arith, new.0, first_below)
       ];
-      least_second = λ j c. elim (Writes_split cell j c.other c.writes_too) [
+      least_second = λ j c. elim (Writes_split cell j c.other c.writes_too.1) [
         | inl old ↦
             let far = above cell first j
             (Clashes_old cell first j c first_below (Writes_below cell j c.other old)) in

@@ -8,53 +8,18 @@ use Rattle.pram_step.specs.declared.answer.Fault.{Fault}
 use Rattle.pram_step.specs.declared.answer.RunAnswer.{RunAnswer}
 use Rattle.pram_step.specs.declared.answer.RunAnswer.TheVariants.{Final, Conflict, Unfinished}
 use Rattle.pram_machine.specs.declared.requests.Request.{Request}
-use Rattle.pram_step.specs.Steps.{Writes, Clashes, IsDispute}
+use Rattle.pram_step.specs.Steps.{IsDispute, WritesCell}
 use Rattle.pram_step.specs.Runs.{requests_after, IsReached, IsStateAfter}
 use Rattle.pram_step.specs.Runs.{dispute_of, IsFirstConflict, IsAnswer}
 use Rattle.pram_machine.specs.Machine.{State}
+use Rattle.pram_step.proofs.Disputing.{one_least_clash}
 use Rattle.pram_step.proofs.LawFixed.{one_state}
 
 -- ---- the details of a conflict
 
-same_cell : (job : JobData) (requests : List Request) (d e : Dispute) → IsDispute job requests d →
-    IsDispute job requests e → d.cell ≡ e.cell
-same_cell job requests d e a b = omega (
-  arith,
-  a.least_cell e.cell e.first e.second b.clash,
-  b.least_cell d.cell d.first d.second a.clash,
-)
-
-same_first : (job : JobData) (requests : List Request) (d e : Dispute) → IsDispute job requests d →
-    IsDispute job requests e → d.cell ≡ e.cell → d.first ≡ e.first
-same_first job requests d e a b cell =
-    let there : Writes job requests d.cell e.first b.clash.value =
-    subst (λ (c : ℕ). Writes job requests c e.first b.clash.value) (sym cell) b.clash.writes in
-    let back : Writes job requests e.cell d.first a.clash.value =
-    subst (λ (c : ℕ). Writes job requests c d.first a.clash.value) cell a.clash.writes in
-    omega (
-      arith,
-      a.least_first e.first b.clash.value there,
-      b.least_first d.first a.clash.value back,
-    )
-
-same_second : (job : JobData) (requests : List Request) (d e : Dispute) → IsDispute job requests d →
-    IsDispute job requests e → d.cell ≡ e.cell → d.first ≡ e.first → d.second ≡ e.second
-same_second job requests d e a b cell first =
-    let there : Clashes job requests d.cell d.first e.second =
-    subst (λ (c : ℕ). Clashes job requests c d.first e.second) (sym cell)
-    (subst (λ (i : ℕ). Clashes job requests e.cell i e.second) (sym first) b.clash) in
-    let back : Clashes job requests e.cell e.first d.second =
-    subst (λ (c : ℕ). Clashes job requests c e.first d.second) cell
-    (subst (λ (i : ℕ). Clashes job requests d.cell i d.second) first a.clash) in
-    omega (arith, a.least_second e.second there, b.least_second d.second back)
-
 pub one_dispute : (job : JobData) (requests : List Request) (d e : Dispute) →
     IsDispute job requests d → IsDispute job requests e → d ≡ e
-one_dispute job requests d e a b =
-    let cell : d.cell ≡ e.cell = same_cell job requests d e a b in
-    let first : d.first ≡ e.first = same_first job requests d e a b cell in
-    let second : d.second ≡ e.second = same_second job requests d e a b cell first in
-    λ i. record { cell = cell i; first = first i; second = second i }
+one_dispute job requests d e a b = one_least_clash job.rule (WritesCell job requests) d e a b
 
 -- ---- the first conflict
 

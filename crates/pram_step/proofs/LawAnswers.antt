@@ -7,7 +7,8 @@ use Rattle.pram_step.specs.declared.answer.Dispute.{Dispute}
 use Rattle.pram_step.specs.declared.answer.Fault.{Fault}
 use Rattle.pram_step.specs.declared.answer.RunAnswer.TheVariants.{Final, Conflict}
 use Rattle.pram_machine.specs.declared.requests.Request.{Request}
-use Rattle.pram_step.specs.Steps.{Agrees, Forbids, IsDispute}
+use Rattle.pram_step.specs.Steps.{Agrees, IsDispute}
+use Rattle.pram_step.specs.Disputes.{Forbids}
 use Rattle.pram_step.specs.Runs.{state_after, requests_after, IsReached}
 use Rattle.pram_step.specs.Runs.{IsStateAfter, dispute_of, IsFirstConflict, IsAnswer}
 use Rattle.pram_machine.specs.Machine.{State}
@@ -79,7 +80,8 @@ dispute_same job n m requests d is = record {
   least_cell = λ cell i j clash.
       is.least_cell cell i j (clash_same job job.rule m n requests cell i j clash);
   least_first =
-      λ i v w. is.least_first i v (writes_same job job.rule job.rule m n requests d.cell i v w);
+      λ i v w. is.least_first i v
+      (w.0, writes_same job job.rule job.rule m n requests d.cell i v w.1);
   least_second =
       λ j clash. is.least_second j (clash_same job job.rule m n requests d.cell d.first j clash);
 }

@@ -55,6 +55,15 @@ next_counter job s i is_job len lt =
     (request_in job s i).next is_job no_cell f.first.writes mine)
     (writer_cases job (requests_in job s) (counter_place job i))
 
+-- so it is after some steps
+pub counter_next : (job : JobData) (t i : ℕ) → IsJob job → i < job.procs →
+    counter job (state_after job (t + 1)) i ≡ (request_in job (state_after job t) i).next
+unfolding state_after
+counter_next job t i is_job within =
+    let e : t + 1 ≡ suc t = omega arith in
+    ap (λ (n : ℕ). counter job (state_after job n) i) e
+    ∙ next_counter job (state_after job t) i is_job (length-state_after job t is_job) within
+
 -- ---- a processor that has stopped stays stopped, and writes no data
 
 stopped_counter : (job : JobData) (t k i : ℕ) →
@@ -83,7 +92,7 @@ stopped_processor job t k i is_job lt past =
 
 -- ---- how far a counter goes
 
-start_counter : (job : JobData) (i : ℕ) → IsJob job → i < job.procs → counter job (start job) i ≡ 0
+pub start_counter : (job : JobData) (i : ℕ) → IsJob job → i < job.procs → counter job (start job) i ≡ 0
 start_counter job i is_job lt =
     let len : length job.init ≡ job.cells = is_job.init_len in
     let past : job.cells ≤ counter_place job i = omega arith in

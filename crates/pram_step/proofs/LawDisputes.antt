@@ -11,7 +11,8 @@ use Rattle.pram_step.specs.declared.answer.Fault.{Fault}
 use Rattle.pram_step.specs.declared.answer.RunAnswer.{RunAnswer}
 use Rattle.pram_step.specs.declared.answer.RunAnswer.TheVariants.{Final, Conflict}
 use Rattle.pram_machine.specs.declared.requests.Request.{Request}
-use Rattle.pram_step.specs.Steps.{Writes, Forbids, Clashes, Agrees, IsDispute}
+use Rattle.pram_step.specs.Steps.{Writes, WritesCell, Clashes, Agrees, IsDispute}
+use Rattle.pram_step.specs.Disputes.{Forbids}
 use Rattle.pram_step.specs.Orders.{written_by}
 use Rattle.pram_step.specs.Runs.{state_after, requests_after, IsReached, IsFirstConflict, IsAnswer}
 use Rattle.pram_step.proofs.LawWriters.{written_once, option_cases, HasFirst, HasNone, writer_cases}
@@ -69,19 +70,18 @@ clash_or_not job requests cell i v is_cell mine j =
     ⊎_elim (λ other. ⊎_elim (λ forbidden. inl (record {
       value = v;
       other = other.0;
-      is_cell = is_cell;
-      writes = mine;
-      writes_too = other.1;
+      writes = (is_cell, mine);
+      writes_too = (is_cell, other.1);
       forbidden = forbidden;
     }))
     (λ allowed. inr (λ c.
-    let value : c.value ≡ v = written_once job requests cell i c.value v c.writes mine in
+    let value : c.value ≡ v = written_once job requests cell i c.value v c.writes.1 mine in
     let second : c.other ≡ other.0 =
-    written_once job requests cell j c.other other.0 c.writes_too other.1 in
+    written_once job requests cell j c.other other.0 c.writes_too.1 other.1 in
     allowed (subst (λ (w : ℕ). Forbids job.rule i v j w) second
     (subst (λ (u : ℕ). Forbids job.rule i u j c.other) value c.forbidden))))
     (forbids_or_not job.rule i v j other.0))
-    (λ none. inr (λ c. none c.other c.writes_too))
+    (λ none. inr (λ c. none c.other c.writes_too.1))
     (writes_or_not job requests cell j)
 
 -- ---- whether a cell is disputed
@@ -102,16 +102,14 @@ first_clashes job requests cell i j k u first c =
     ⊎_elim (λ forbidden. inl (record {
       value = u;
       other = c.value;
-      is_cell = c.is_cell;
-      writes = first;
+      writes = (c.writes.0, first);
       writes_too = c.writes;
       forbidden = forbidden;
     }))
     (λ forbidden. inr (record {
       value = u;
       other = c.other;
-      is_cell = c.is_cell;
-      writes = first;
+      writes = (c.writes.0, first);
       writes_too = c.writes_too;
       forbidden = forbidden;
     }))
@@ -122,13 +120,13 @@ record Disputed (job : JobData) (requests : List Request) (cell : ℕ) : Type 0 
   pub first : ℕ
   pub second : ℕ
   pub clash : Clashes job requests cell first second
-  pub least_first : (i v : ℕ) → Writes job requests cell i v → first ≤ i
+  pub least_first : (i v : ℕ) → WritesCell job requests cell i v → first ≤ i
   pub least_second : (j : ℕ) → Clashes job requests cell first j → second ≤ j
 
 clash_below : (job : JobData) (requests : List Request) (cell i j : ℕ) →
     Clashes job requests cell i j → j < length requests
 clash_below job requests cell i j c =
-    slice_get_within requests j c.writes_too.request c.writes_too.request_is
+    slice_get_within requests j c.writes_too.1.request c.writes_too.1.request_is
 
 disputed_with : (job : JobData) (requests : List Request)
     (cell : ℕ) (f : HasFirst job requests cell) →
@@ -137,7 +135,7 @@ disputed_with job requests cell f l = record {
   first = f.writer;
   second = l.at;
   clash = l.holds;
-  least_first = f.first.least;
+  least_first = λ i v w. f.first.least i v w.1;
   least_second = λ j c.
       ⊎_elim (λ before. absurd (l.none_before j before c)) (λ after. after) (cases_lt j l.at);
 }
@@ -155,7 +153,7 @@ no_clash_with job requests cell f none i j c =
 disputed_or_not : (job : JobData) (requests : List Request) (cell : ℕ) →
     Disputed job requests cell ⊎ ((i j : ℕ) → Clashes job requests cell i j → ⊥)
 disputed_or_not job requests cell = ⊎_elim
-    (λ is_cell. ⊎_elim (λ (n : HasNone job requests cell). inr (λ i j c. n.none i c.value c.writes))
+    (λ is_cell. ⊎_elim (λ (n : HasNone job requests cell). inr (λ i j c. n.none i c.value c.writes.1))
     (λ (f : HasFirst job requests cell). ⊎_elim
     (λ (l : Least (λ j. Clashes job requests cell f.writer j) (length requests)).
     inl (disputed_with job requests cell f l))
@@ -163,7 +161,7 @@ disputed_or_not job requests cell = ⊎_elim
     (least_below (λ j. Clashes job requests cell f.writer j)
     (clash_or_not job requests cell f.writer f.value is_cell f.first.writes) (length requests)))
     (writer_cases job requests cell))
-    (λ no_cell. inr (λ i j c. let within : cell < job.cells = c.is_cell in absurd (omega arith)))
+    (λ no_cell. inr (λ i j c. let within : cell < job.cells = c.writes.0 in absurd (omega arith)))
     (cases_lt cell job.cells)
 
 -- ---- whether a step agrees
@@ -197,7 +195,7 @@ pub agrees_or_dispute : (job : JobData) (requests : List Request) →
 agrees_or_dispute job requests =
     ⊎_elim
     (λ (l : Least (Disputed job requests) job.cells). inr (dispute_at job requests l))
-    (λ none. inl (λ cell i j c. none cell c.is_cell (clash_disputed job requests cell i j c)))
+    (λ none. inl (λ cell i j c. none cell c.writes.0 (clash_disputed job requests cell i j c)))
     (least_below (Disputed job requests) (decide_disputed job requests) job.cells)
 
 -- ---- whether there is a state after t steps

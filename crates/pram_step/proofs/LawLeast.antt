@@ -12,14 +12,15 @@ use Rattle.pram_machine.specs.declared.requests.Request.{Request}
 use Rattle.pram_machine.specs.Machine.{State}
 use Rattle.pram_machine.specs.Instructions.{requests_in}
 use Rattle.pram_step.specs.Steps.{Writes, first_written, after_requests, next_state}
-use Rattle.pram_step.specs.Orders.{HasAll, written_by, lesser, least_found, after_least_found}
+use Rattle.pram_step.specs.Orders.{HasAll, written_by, lesser_writer, least_found}
+use Rattle.pram_step.specs.Orders.{after_least_found}
 use Rattle.pram_step.proofs.LawWriters.{written_once, option_cases, HasFirst, HasNone, writer_cases}
 use Rattle.pram_step.proofs.LawPlaces.{writer_is}
 use Rattle.pram_step.proofs.LawOrders.{writes_from_by, by_from_writes, not_by}
 
 -- ---- the lesser of two writers
 
-lesser_none : (a b : Option (ℕ × ℕ)) → lesser a b ≡ None → (a ≡ None) × (b ≡ None)
+lesser_none : (a b : Option (ℕ × ℕ)) → lesser_writer a b ≡ None → (a ≡ None) × (b ≡ None)
 lesser_none None b e = (refl, e)
 lesser_none (Some a) None e = absurd (none-some a (sym e))
 lesser_none (Some a) (Some b) e = absurd (chosen_some (nat_le a.0 b.0) a b e)
@@ -56,7 +57,7 @@ lesser_of_two false a b w is e =
       right = λ x f. let there : b.0 ≡ x.0 = number_is b x f in omega arith;
     }
 
-lesser_some : (a b : Option (ℕ × ℕ)) (w : ℕ × ℕ) → lesser a b ≡ Some w → IsLesser a b w
+lesser_some : (a b : Option (ℕ × ℕ)) (w : ℕ × ℕ) → lesser_writer a b ≡ Some w → IsLesser a b w
 lesser_some None b w e = record {
   one = inr e;
   left = λ x f. absurd (none-some x f);

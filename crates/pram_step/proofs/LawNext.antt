@@ -12,7 +12,8 @@ use Rattle.pram_job.specs.Job.{JobData, IsJob}
 use Rattle.pram_machine.specs.declared.requests.Request.{Request}
 use Rattle.pram_machine.specs.Machine.{State}
 use Rattle.pram_machine.specs.Instructions.{requests_in}
-use Rattle.pram_step.specs.Steps.{Writes, Forbids, Agrees, Counts, IsNext}
+use Rattle.pram_step.specs.Steps.{Writes, Agrees, Counts, IsNext}
+use Rattle.pram_step.specs.Disputes.{Forbids}
 use Rattle.pram_step.specs.Steps.{first_written, after_requests, next_state}
 use Rattle.pram_step.proofs.LawWriters.{written_once, IsFirstWriter}
 use Rattle.pram_step.proofs.LawWriters.{HasFirst, HasNone, writer_cases}
@@ -53,9 +54,8 @@ common_value job requests p i j v w rule agrees cell a b =
     (λ differ. absurd (agrees p i j (record {
       value = v;
       other = w;
-      is_cell = cell;
-      writes = a;
-      writes_too = b;
+      writes = (cell, a);
+      writes_too = (cell, b);
       forbidden = subst (λ (r : Rule). Forbids r i v j w) (sym rule) differ;
     })))
     (cases_eq v w)
@@ -69,9 +69,8 @@ crew_writer job requests p i j v w rule agrees cell a b =
     (λ differ. absurd (agrees p i j (record {
       value = v;
       other = w;
-      is_cell = cell;
-      writes = a;
-      writes_too = b;
+      writes = (cell, a);
+      writes_too = (cell, b);
       forbidden = subst (λ (r : Rule). Forbids r i v j w) (sym rule) differ;
     })))
     (cases_eq i j)

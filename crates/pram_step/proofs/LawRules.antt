@@ -14,7 +14,8 @@ use Rattle.pram_machine.specs.declared.requests.Request.{Request}
 use Rattle.pram_machine.specs.Machine.{State, counter}
 use Rattle.pram_machine.specs.Instructions.{cell_read, goes_to, decided, operand_held}
 use Rattle.pram_machine.specs.Instructions.{decided_in, request_in, requests_in}
-use Rattle.pram_step.specs.Steps.{Writes, Counts, IsNext, Clashes, Agrees, Forbids}
+use Rattle.pram_step.specs.Steps.{Writes, Counts, IsNext, Clashes, Agrees}
+use Rattle.pram_step.specs.Disputes.{Forbids}
 use Rattle.pram_step.specs.Steps.{written, first_written, after_requests, next_state}
 use Rattle.pram_step.specs.Runs.{state_after, AgreesAfter}
 use Rattle.pram_step.proofs.LawWriters.{written_once}
@@ -109,12 +110,11 @@ clash_moves : (job : JobData) (r q : Rule) (n m : ℕ) (requests : List Request)
 clash_moves job r q n m requests cell i j forbids c = record {
   value = c.value;
   other = c.other;
-  is_cell = c.is_cell;
-  writes = writes_same job r q n m requests cell i c.value c.writes;
-  writes_too = writes_same job r q n m requests cell j c.other c.writes_too;
+  writes = (c.writes.0, writes_same job r q n m requests cell i c.value c.writes.1);
+  writes_too = (c.writes.0, writes_same job r q n m requests cell j c.other c.writes_too.1);
   forbidden = forbids c.value c.other
-      (writes_same job r job.rule n job.steps requests cell i c.value c.writes)
-      (writes_same job r job.rule n job.steps requests cell j c.other c.writes_too) c.forbidden;
+      (writes_same job r job.rule n job.steps requests cell i c.value c.writes.1)
+      (writes_same job r job.rule n job.steps requests cell j c.other c.writes_too.1) c.forbidden;
 }
 
 -- what any rule forbids, crew forbids

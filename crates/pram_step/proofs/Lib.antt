@@ -9,6 +9,7 @@ pub mod LawWriters
 pub mod LawPlaces
 pub mod LawNext
 pub mod LawStopped
+pub mod Disputing
 pub mod LawAnswer
 pub mod Arriving
 pub mod LawRules
@@ -19,5 +20,6 @@ pub mod LawCounters
 pub mod LawFits
 pub mod LawFrames
 pub mod Past
+pub mod Lasts
 pub mod LawDisputes
 pub mod LawTurns

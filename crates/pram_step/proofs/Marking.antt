@@ -19,7 +19,8 @@ use Rattle.pram_step.specs.Inner.Marks.{Puts, PutsFirst, PutsNone, PutsStore, Is
 use Rattle.pram_step.specs.Inner.Marks.{AreJudged, AreStoredFrom, store_at}
 use Rattle.pram_machine.specs.Machine.{State}
 use Rattle.pram_step.specs.Inner.Marks.{JudgesStore}
-use Rattle.pram_step.specs.Steps.{Forbids, IsVerdict}
+use Rattle.pram_step.specs.Steps.{IsVerdict}
+use Rattle.pram_step.specs.Disputes.{Forbids}
 use Rattle.pram_step.specs.Inner.Marks.{AreAsked}
 use Rattle.pram_step.proofs.Passing.{skip_first, skip_next}
 use Rattle.pram_step.proofs.Judging.{IsVerdict_no_cell, IsVerdict_first, IsVerdict_allowed}
@@ -526,7 +527,7 @@ module _ (job : JobData) (requests : List Request) (asked : List Store)
           puts = λ j low. absurd (omega arith);
           marked = λ cell i v low p. absurd (none-some p.request p.request_is);
         };
-        verdict = λ cell i j clash. none-some clash.writes.request clash.writes.request_is;
+        verdict = λ cell i j clash. none-some clash.writes.1.request clash.writes.1.request_is;
       })
 
   -- before store k

@@ -16,7 +16,8 @@ use Rattle.pram_job.specs.Job.{JobData}
 use Rattle.pram_machine.specs.Instructions.{goes_to, request_in}
 use Rattle.pram_machine.specs.Machine.{State, counter, halted, IsStopped}
 use Rattle.pram_machine.proofs.Shapes.{decided_idle, request_by}
-use Rattle.pram_step.specs.Inner.Passes.{AreRunning, AreRunningBelow, IsIdle, bound}
+use Rattle.pram_step.specs.Inner.Passes.{IsIdle, bound}
+use Rattle.pram_step.specs.Running.{AreRunning, AreRunningBelow}
 
 -- ---- from a number to a later one
 

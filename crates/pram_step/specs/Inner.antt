@@ -1,3 +1,4 @@
 -- What private contracts alone cite.
 pub mod Marks
 pub mod Passes
+pub mod Courses

@@ -1,6 +1,10 @@
+pub mod Disputes
 pub mod Steps
 pub mod Runs
+pub mod Running
 pub mod Arrivals
+pub mod Walks
+pub mod Last
 pub mod History
 pub mod Orders
 pub mod Laws

@@ -32,15 +32,16 @@ after_first_found job requests order state =
 -- ---- the least writer that is found
 
 -- of two writers with their values the one of the lesser number
-abbrev pub lesser : Option (ℕ × ℕ) → Option (ℕ × ℕ) → Option (ℕ × ℕ)
-lesser None second = second
-lesser (Some first) None = Some first
-lesser (Some first) (Some second) = if nat_le first.0 second.0 then Some first else Some second
+abbrev pub lesser_writer : Option (ℕ × ℕ) → Option (ℕ × ℕ) → Option (ℕ × ℕ)
+lesser_writer None second = second
+lesser_writer (Some first) None = Some first
+lesser_writer (Some first) (Some second) =
+    if nat_le first.0 second.0 then Some first else Some second
 
 abbrev pub least_found : JobData → List Request → ℕ → List ℕ → Option (ℕ × ℕ)
 least_found job requests place [] = None
 least_found job requests place (i ∷ order) =
-    lesser (option_map (λ value. (i, value)) (written_by job requests place i))
+    lesser_writer (option_map (λ value. (i, value)) (written_by job requests place i))
     (least_found job requests place order)
 
 -- each place takes what the least writer that is found gives it

@@ -27,7 +27,7 @@ AgreesAfter job t = Agrees job (requests_after job t)
 
 -- there is a state after t steps: the steps up to t agree
 abbrev pub IsReached : JobData → ℕ → Type 0
-IsReached job t = (earlier : ℕ) → earlier < t → AgreesAfter job earlier
+IsReached job t = (earlier : ℕ) → earlier < t → Agrees job (requests_after job earlier)
 
 -- and it is this one
 pub record IsStateAfter (job : JobData) (t : ℕ) (now : State) : Type 0 where
@@ -43,7 +43,8 @@ pub record IsFirstConflict (job : JobData) (fault : Fault) : Type 0 where
   pub before : ℕ
   pub step : fault.step ≡ before + 1
   pub reached : IsReached job before
-  pub dispute : IsDispute job (requests_after job before) (dispute_of fault)
+  pub dispute : IsDispute job (requests_after job before)
+      (record { cell = fault.cell; first = fault.first; second = fault.second })
 
 -- and it is one of the job's steps
 pub record IsFault (job : JobData) (fault : Fault) : Type 0 where
@@ -65,7 +66,7 @@ IsOutcome job (outcome.Final state) = IsStateAfter job job.steps state
 IsOutcome job (outcome.Conflict step cell first second) =
     IsFault job (record { step = step; cell = cell; first = first; second = second })
 
--- The same, of the state its cells alone.
+-- The cells of the state after the job's last step, or the job's first conflict.
 abbrev pub IsAnswer : JobData → RunAnswer → Type 0
 IsAnswer job (answer.Final cells) = (state : State) × IsStateAfter job job.steps state
     × (cells ≡ take job.cells state)

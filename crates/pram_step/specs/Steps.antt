@@ -1,6 +1,6 @@
 -- What a step does, and when it is against the rule. All is said of the list of requests, one of
 -- each processor.
-use Rattle.std.specs.Prelude.{◌≡◌, ◌≢◌, ℕ, ◌+◌, ◌<◌, ◌≤◌, ◌==◌}
+use Rattle.std.specs.Prelude.{◌≡◌, ℕ, ◌+◌, ◌<◌, ◌≤◌, ◌==◌}
 use Rattle.std.specs.Prelude.{if◌then◌else◌, List, [], ◌∷◌, length, map, slice_get}
 use Rattle.std.specs.Prelude.{slice_index, Option, Some, None, unwrap_or, MatchOption}
 use Rattle.std.specs.List.{range_with_len}
@@ -14,6 +14,7 @@ use Rattle.pram_step.specs.declared.state.StepFault.{StepFault}
 use Rattle.pram_step.specs.declared.state.StepFault.TheVariants.{Conflict, Memory}
 use Rattle.pram_machine.specs.Machine.{State, counter_place}
 use Rattle.pram_machine.specs.Instructions.{requests_in}
+use Rattle.pram_step.specs.Disputes.{Clash, IsLeastClash}
 
 -- what processor i writes to a place; its next counter is a write to its counter's place
 abbrev pub written : JobData → ℕ → ℕ → Request → Option ℕ
@@ -31,33 +32,21 @@ pub record Writes (job : JobData) (requests : List Request) (place i value : ℕ
 
 -- ---- when a step agrees
 
--- Two writes to one cell that the rule forbids.
-abbrev pub Forbids : Rule → ℕ → ℕ → ℕ → ℕ → Type 0
-Forbids Common i value j other = value ≢ other
-Forbids Priority i value j other = ⊥
-Forbids Crew i value j other = i ≢ j
+-- processor i writes the value to the cell
+abbrev pub WritesCell : JobData → List Request → ℕ → ℕ → ℕ → Type 0
+WritesCell job requests cell i value = (cell < job.cells) × Writes job requests cell i value
 
 -- processors i and j write to the cell against the rule
-pub record Clashes (job : JobData) (requests : List Request) (cell i j : ℕ) : Type 0 where
-  pub value : ℕ
-  pub other : ℕ
-  pub is_cell : cell < job.cells
-  pub writes : Writes job requests cell i value
-  pub writes_too : Writes job requests cell j other
-  pub forbidden : Forbids job.rule i value j other
+abbrev pub Clashes : JobData → List Request → ℕ → ℕ → ℕ → Type 0
+Clashes job requests = Clash job.rule (WritesCell job requests)
 
 -- the step agrees with the rule
 abbrev pub Agrees : JobData → List Request → Type 0
-Agrees job requests = (cell i j : ℕ) → Clashes job requests cell i j → ⊥
+Agrees job requests = (cell i j : ℕ) → Clash job.rule (WritesCell job requests) cell i j → ⊥
 
--- The dispute of a step that does not agree: the least cell in which two clash, its least writer,
--- and the least that clashes with that one.
-pub record IsDispute (job : JobData) (requests : List Request) (dispute : Dispute) : Type 0 where
-  pub clash : Clashes job requests dispute.cell dispute.first dispute.second
-  pub least_cell : (cell i j : ℕ) → Clashes job requests cell i j → dispute.cell ≤ cell
-  pub least_first : (i value : ℕ) → Writes job requests dispute.cell i value → dispute.first ≤ i
-  pub least_second : (j : ℕ) →
-      Clashes job requests dispute.cell dispute.first j → dispute.second ≤ j
+-- the dispute of a step that does not agree
+abbrev pub IsDispute : JobData → List Request → Dispute → Type 0
+IsDispute job requests = IsLeastClash job.rule (WritesCell job requests)
 
 -- they agree, or this is their dispute
 abbrev pub IsVerdict : JobData → List Request → Option Dispute → Type 0

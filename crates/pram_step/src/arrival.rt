@@ -1,12 +1,13 @@
 //! What is there after so many steps.
 ghost use Rattle.std.specs.Prelude.{◌+◌, ◌<◌, ◌^◌, IfOk, OnOk};
 ghost use Rattle.pram_step.specs.Arrivals.{IsArrival, IsStepMade};
-ghost use Rattle.pram_step.specs.Runs.{IsReached, IsStateAfter};
+ghost use Rattle.pram_step.specs.Runs.{IsStateAfter};
 
 use crate::answer::Fault;
 use crate::laws;
-use crate::pass::Course;
+use crate::pass::{Course, Room, make_steps};
 use crate::state::{State, StepFault, step};
+use crate::walks::{Nobody, Span};
 use pram_job::Job;
 use std::alloc::{AllocError, Global};
 
@@ -17,7 +18,7 @@ pub enum Arrival {
     Reached(State),
     /// No state: this step was against the rule.
     Disputed(Fault),
-    /// So many steps may not be made.
+    /// More steps would have to be made than the caller allows.
     TooFar,
 }
 
@@ -26,8 +27,14 @@ pub enum Arrival {
 pub fn go_to(alloc: Global, job: &Job, steps: u32, most: u32) -> Result<Arrival, AllocError>
     ensures { IfOk result (IsArrival job.now steps most) }
 {
+    laws::start_is_a_state();
     let mut state = State::start(alloc, job)?;
-    match state.go(alloc, job, steps.min(most))? {
+    let mut room = Room::of(alloc, job)?;
+    let span = Span {
+        from: 0,
+        to: steps.min(most),
+    };
+    match make_steps(job, &mut state, &mut room, span, &mut Nobody)? {
         Course::Disputed(fault) => Ok(Arrival::Disputed(fault)),
         Course::Settled => Ok(Arrival::Reached(state)),
         Course::Made => {
@@ -37,18 +44,6 @@ pub fn go_to(alloc: Global, job: &Job, steps: u32, most: u32) -> Result<Arrival,
                 Ok(Arrival::Reached(state))
             }
         }
-    }
-}
-
-/// The state after so many steps, none of which is against the rule.
-pub fn state_after(alloc: Global, job: &Job, made: u32) -> Result<State, AllocError>
-    requires { IsReached job.now made }
-    ensures { IfOk result (IsStateAfter job.now made) }
-{
-    match go_to(alloc, job, made, made)? {
-        Arrival::Reached(state) => Ok(state),
-        Arrival::Disputed(_) => unreachable!(),
-        Arrival::TooFar => unreachable!(),
     }
 }
 
@@ -82,24 +77,5 @@ pub fn make_step(
             first,
             second,
         })),
-    }
-}
-
-/// Makes the step after so many. It agrees with the rule, as all up to the last one do.
-pub fn go_on(
-    alloc: Global,
-    job: &Job,
-    state: &mut State,
-    made: u32,
-    last: u32,
-) -> Result<(), AllocError>
-    requires after { IsStateAfter job.now made state.old }
-    requires reached { IsReached job.now last }
-    requires within { made < last }
-    ensures { OnOk result (IsStateAfter job.now (made + 1) state.new) }
-{
-    match make_step(alloc, job, state, made)? {
-        None => Ok(()),
-        Some(_) => unreachable!(),
     }
 }

@@ -1,6 +1,7 @@
 //! Which step is against the rule, and who disputes what in it.
 ghost use Rattle.std.specs.Prelude.{◌≡◌, ◌≢◌, ℕ, length, IfOk, MatchBool};
-ghost use Rattle.pram_step.specs.Steps.{Forbids, IsVerdict};
+ghost use Rattle.pram_step.specs.Disputes.{Forbids};
+ghost use Rattle.pram_step.specs.Steps.{IsVerdict};
 ghost use Rattle.pram_step.specs.Runs.{AreConflicting, IsFault};
 
 use crate::answer::{Dispute, Fault};

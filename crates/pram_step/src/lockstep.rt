@@ -4,7 +4,8 @@
 ghost use Rattle.std.specs.Prelude.{◌≡◌, ◌<◌, ◌≤◌, length, slice_index, IfSome};
 ghost use Rattle.pram_machine.specs.Machine.{IsDataPlace, counter, counter_place, place_count};
 ghost use Rattle.pram_machine.specs.Turns.{put_of, request_of, IsSorted};
-ghost use Rattle.pram_step.specs.Inner.Passes.{AreRunning, GoesOn, IsMove, IsPassed, IsUnderWay};
+ghost use Rattle.pram_step.specs.Inner.Passes.{TurnsGoOn, IsMove, IsPassed, IsUnderWay};
+ghost use Rattle.pram_step.specs.Running.{AreRunning};
 ghost use Rattle.pram_step.specs.Inner.Passes.{StandsAt};
 
 use crate::stores::{Store, take_up};
@@ -54,7 +55,7 @@ fn take_next(
 ) -> Turns
     requires left { turns.taken < length running.now }
     requires begun { IsUnderWay job.now running.now places.old asked.old turns }
-    ensures { GoesOn job.now running.now places.old asked.old turns places.new asked.new result }
+    ensures { TurnsGoOn job.now running.now places.old asked.old turns places.new asked.new result }
 {
     job.limits_hold();
     let counter = places[job.counter_place(running[turns.taken]) as usize];
@@ -81,7 +82,7 @@ struct Stand<'m> {
 fn take_form(stand: Stand<'_>, places: &mut [u32], running: &[u32], asked: &mut [Store]) -> Turns
     requires { StandsAt stand.at.job.now running.now places.old asked.old stand.turns
         stand.at.counter }
-    ensures { GoesOn stand.entry.at.job.now running.now places.old asked.old stand.entry.turns
+    ensures { TurnsGoOn stand.entry.at.job.now running.now places.old asked.old stand.entry.turns
         places.new asked.new result }
 {
     match *stand.at.instr {
@@ -139,7 +140,7 @@ fn take_as(
     requires same { instr ≡ stand.at.instr.now }
     requires stands { StandsAt stand.at.job.now running.now places.old asked.old stand.turns
         stand.at.counter }
-    ensures { GoesOn stand.entry.at.job.now running.now places.old asked.old stand.entry.turns
+    ensures { TurnsGoOn stand.entry.at.job.now running.now places.old asked.old stand.entry.turns
         places.new asked.new result }
 {
     take(stand.at.with(&instr), places, running, asked, stand.turns)
@@ -158,7 +159,7 @@ fn take(
     requires begun { IsUnderWay fetched.job.now running.now places.old asked.old turns }
     requires here { counter fetched.job.now places.old (slice_index running.now turns.taken)
         ≡ fetched.counter }
-    ensures { GoesOn fetched.entry.job.now running.now places.old asked.old turns
+    ensures { TurnsGoOn fetched.entry.job.now running.now places.old asked.old turns
         places.new asked.new result }
 {
     let job = fetched.job;

@@ -1,17 +1,25 @@
 //! A step: the turns of the processors that run, and then their stores. Where it agrees it is one
 //! pass over them.
-ghost use Rattle.std.specs.Prelude.{◌≡◌, ◌*◌, length, vec_len, IfErr, OnOk, OnErr};
-ghost use Rattle.pram_machine.specs.Machine.{place_count, start};
+ghost use Rattle.std.specs.Prelude.{◌≡◌, ◌*◌, ◌-◌, ◌≤◌, length, IfErr, IfOk, OnOk, OnErr};
+ghost use Rattle.pram_machine.specs.Machine.{place_count};
 ghost use Rattle.pram_machine.specs.Instructions.{requests_in};
 ghost use Rattle.pram_step.specs.Steps.{IsDispute};
 ghost use Rattle.pram_step.specs.Inner.Marks.{HasRoom};
-ghost use Rattle.pram_step.specs.Inner.Passes.{AreRunning, GoesTo, IsAdvance, IsMade, SameCells};
+ghost use Rattle.pram_step.specs.Inner.Passes.{IsAdvance, IsMade, IsWithoutStores};
+ghost use Rattle.pram_step.specs.Inner.Courses.{GoesTo, IsRoom};
+ghost use Rattle.pram_step.specs.Inner.Courses.{begun_on_course, listed_processors};
+ghost use Rattle.pram_step.specs.Runs.{IsStateAfter};
+ghost use Rattle.pram_step.specs.Running.{AreRunning, Repeats};
 
 use crate::answer::{Dispute, Fault};
+use crate::laws;
 use crate::lockstep::pass;
 use crate::running::Running;
+use crate::state::State;
 use crate::stores::{Stores, judge_all, write_stores};
+use crate::walks::{Observer, Sight, Span};
 use pram_job::Job;
+use std::alloc::{AllocError, Global};
 
 /// What comes of some steps from the start.
 #[derive(Clone, Copy)]
@@ -27,35 +35,125 @@ pub(crate) enum Course {
 /// After so many steps each it is looked at whether processors have stopped or stand still.
 const PAUSE: u32 = 32;
 
-/// Makes so many steps from the start, or those up to the first that is against the rule. Where no
-/// processor changes anything the later steps change nothing either, so they are left out.
-pub(crate) fn make_steps(
+/// Room for what a step needs beside the places.
+#[derive(Debug, Drop)]
+pub(crate) struct Room {
+    pub running: Running,
+    pub stores: Stores,
+}
+
+impl Room {
+    /// Room for nothing.
+    pub(crate) fn new(alloc: Global) -> Self {
+        Room {
+            running: Running::new(alloc),
+            stores: Stores::new(alloc),
+        }
+    }
+
+    /// Room for the processors and the cells of a job.
+    pub(crate) fn of(alloc: Global, job: &Job) -> Result<Self, AllocError>
+        ensures { IfOk result (IsRoom job.now) }
+    {
+        let mut room = Room::new(alloc);
+        room.make(alloc, job)?;
+        Ok(room)
+    }
+
+    /// Makes it, where there is none.
+    pub(crate) fn make(&mut self, alloc: Global, job: &Job) -> Result<(), AllocError>
+        ensures { OnOk result (IsRoom job.now self.new) }
+    {
+        self.running.make_room(alloc, job)?;
+        self.stores.make_room(alloc, job)
+    }
+}
+
+/// Makes the steps of the span, or those up to the first that is against the rule. Where no
+/// processor changes anything the later steps change nothing either, so they are left out. The
+/// observer sees each step before it is made.
+pub(crate) fn make_steps<O: Observer>(
     job: &Job,
-    places: &mut [u32],
-    running: &mut Running,
-    stores: &mut Stores,
-    steps: u32,
-) -> Course
-    requires places { places.old ≡ start job.now }
-    requires running { vec_len running.old.processors ≡ job.now.procs }
-    requires stores { HasRoom job.now stores.old }
-    ensures { GoesTo job.now steps places.new result }
+    state: &mut State,
+    room: &mut Room,
+    span: Span,
+    observer: &mut O,
+) -> Result<Course, AllocError>
+    requires within { span.from ≤ span.to }
+    requires after { IsStateAfter job.now span.from state.old }
+    requires room { IsRoom job.now room.old }
+    requires seen { O.has_seen job.now span.from observer.old }
+    ensures course { IfOk result (GoesTo job.now span.to state.new) }
+    ensures seen { IfOk result (λ course.
+        O.has_seen job.now (begun_on_course span.to course) observer.new) }
 {
+    laws::states_have_all_places();
     job.limits_hold();
-    running.find(job, places);
-    for done in 0..steps {
-        if let Err(dispute) = advance(job, places, running.as_slice(), stores) {
-            return Course::Disputed(dispute.in_step(done + 1));
+    room.running.find(job, state.places());
+    for made in span.from..span.to {
+        observe(
+            job,
+            state,
+            room,
+            Span {
+                from: made,
+                to: made + 1,
+            },
+            observer,
+        )?;
+        if let Err(dispute) = state.advance(job, room) {
+            return Ok(Course::Disputed(dispute.in_step(made + 1)));
         }
-        if running.rest(job, places, done % PAUSE == PAUSE - 1) {
-            return Course::Settled;
+        if room
+            .running
+            .rest(job, state.places(), made % PAUSE == PAUSE - 1)
+        {
+            observe(
+                job,
+                state,
+                room,
+                Span {
+                    from: made + 1,
+                    to: span.to,
+                },
+                observer,
+            )?;
+            return Ok(Course::Settled);
         }
     }
-    if running.rest(job, places, true) {
-        Course::Settled
+    if room.running.rest(job, state.places(), true) {
+        Ok(Course::Settled)
     } else {
-        Course::Made
+        Ok(Course::Made)
     }
+}
+
+// The observer sees the steps of the span, if there are any. Each begins in this state.
+#[inline(always)]
+fn observe<O: Observer>(
+    job: &Job,
+    state: &State,
+    room: &Room,
+    span: Span,
+    observer: &mut O,
+) -> Result<(), AllocError>
+    requires within { span.from ≤ span.to }
+    requires after { IsStateAfter job.now span.from state.now }
+    requires repeats { Repeats job.now span.from (span.to - span.from) state.now }
+    requires running { AreRunning job.now state.now (listed_processors room.now) }
+    requires seen { O.has_seen job.now span.from observer.old }
+    ensures { OnOk result (O.has_seen job.now span.to observer.new) }
+{
+    if span.from == span.to {
+        return Ok(());
+    }
+    observer.look(&Sight {
+        job,
+        state,
+        made: span.from,
+        times: span.to - span.from,
+        running: room.running.as_slice(),
+    })
 }
 
 /// Makes a step where it agrees. Otherwise the places are as before, and the dispute is answered:
@@ -63,13 +161,11 @@ pub(crate) fn make_steps(
 pub(crate) fn attempt(
     job: &Job,
     places: &mut [u32],
-    running: &mut Running,
-    stores: &mut Stores,
+    room: &mut Room,
     kept: &mut [u32],
 ) -> Result<(), Dispute>
     requires places { length places.old ≡ place_count job.now }
-    requires running { vec_len running.old.processors ≡ job.now.procs }
-    requires stores { HasRoom job.now stores.old }
+    requires room { IsRoom job.now room.old }
     requires kept { length kept.old ≡ 5 * job.now.procs }
     ensures made { OnOk result (IsMade job.now places.old places.new) }
     ensures dispute { IfErr result (IsDispute job.now (requests_in job.now places.old)) }
@@ -77,8 +173,8 @@ pub(crate) fn attempt(
 {
     let cells = job.cells() as usize;
     kept.copy_from_slice(&places[cells..]);
-    running.find(job, places);
-    match advance(job, places, running.as_slice(), stores) {
+    room.running.find(job, places);
+    match advance(job, places, room.running.as_slice(), &mut room.stores) {
         Ok(()) => Ok(()),
         Err(dispute) => {
             places[cells..].copy_from_slice(kept);
@@ -87,10 +183,10 @@ pub(crate) fn attempt(
     }
 }
 
-/// Makes a step where it agrees. Otherwise it answers the dispute, and only the cells are as
-/// before.
+/// Makes a step where it agrees. Otherwise it answers the dispute, and no store is made: only the
+/// cells are as before.
 #[inline(always)]
-fn advance(
+pub(crate) fn advance(
     job: &Job,
     places: &mut [u32],
     running: &[u32],
@@ -101,7 +197,7 @@ fn advance(
     requires stores { HasRoom job.now stores.old }
     ensures made { OnOk result (IsAdvance job.now running.now places.old places.new) }
     ensures dispute { IfErr result (IsDispute job.now (requests_in job.now places.old)) }
-    ensures cells { OnErr result (SameCells job.now.cells places.old places.new) }
+    ensures turns { OnErr result (IsWithoutStores job.now places.old places.new) }
     ensures stores { HasRoom job.now stores.new }
 {
     job.limits_hold();

@@ -5,6 +5,7 @@ ghost use Rattle.pram_step.specs.declared.run.Outcome.TheVariants.{Conflict};
 
 use crate::answer::{Fault, RunAnswer};
 use crate::state::State;
+use crate::walks::{Nobody, Walked, walk};
 use pram_job::Job;
 use std::alloc::{AllocError, Global};
 
@@ -43,10 +44,9 @@ impl From<Fault> for Outcome {
 pub fn run_plain(alloc: Global, job: &Job) -> Result<Outcome, AllocError>
     ensures { IfOk result (IsOutcome job.now) }
 {
-    let mut state = State::start(alloc, job)?;
-    match state.run(alloc, job)? {
-        None => Ok(Outcome::Final(state)),
-        Some(fault) => Ok(Outcome::from(fault)),
+    match walk(alloc, job, job.steps(), &mut Nobody)? {
+        Walked::Through(state) => Ok(Outcome::Final(state)),
+        Walked::Disputed(fault) => Ok(Outcome::from(fault)),
     }
 }
 
@@ -55,9 +55,8 @@ pub fn run_plain(alloc: Global, job: &Job) -> Result<Outcome, AllocError>
 pub fn plain_answer(alloc: Global, job: &Job) -> Result<RunAnswer, AllocError>
     ensures { IfOk result (IsAnswer job.now) }
 {
-    let mut state = State::start(alloc, job)?;
-    match state.run(alloc, job)? {
-        None => Ok(RunAnswer::Final(state.into_cells(job))),
-        Some(fault) => Ok(RunAnswer::Conflict(fault)),
+    match walk(alloc, job, job.steps(), &mut Nobody)? {
+        Walked::Through(state) => Ok(RunAnswer::Final(state.into_cells(job))),
+        Walked::Disputed(fault) => Ok(RunAnswer::Conflict(fault)),
     }
 }

@@ -2,7 +2,8 @@
 ghost use Rattle.std.specs.Prelude.{◌≡◌, ◌≤◌, length, take, vec_len, OnOk};
 ghost use Rattle.std.specs.Bool.{OnTrue};
 ghost use Rattle.pram_machine.specs.Machine.{place_count};
-ghost use Rattle.pram_step.specs.Inner.Passes.{AllIdle, AreRunning};
+ghost use Rattle.pram_step.specs.Inner.Passes.{AllIdle};
+ghost use Rattle.pram_step.specs.Running.{AreRunning};
 
 use pram_job::Job;
 use pram_job::places::counters_at;

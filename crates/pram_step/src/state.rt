@@ -4,13 +4,13 @@ ghost use Rattle.std.specs.Prelude.{IfOk, OnOk, OnErr, IfErr};
 ghost use Rattle.pram_machine.specs.Machine.{place_count, start};
 ghost use Rattle.pram_machine.specs.Instructions.{request_in, requests_in};
 ghost use Rattle.pram_step.specs.declared.state.StepFault.TheVariants.{Conflict, Memory};
-ghost use Rattle.pram_step.specs.Steps.{Agrees, IsStepFault, next_state, IsNext};
-ghost use Rattle.pram_step.specs.Inner.Passes.{GoesTo, IsRun};
+ghost use Rattle.pram_step.specs.Steps.{Agrees, IsDispute, IsStepFault, next_state, IsNext};
+ghost use Rattle.pram_step.specs.Inner.Passes.{IsAdvance, IsWithoutStores};
+ghost use Rattle.pram_step.specs.Inner.Courses.{IsRoom, listed_processors};
+ghost use Rattle.pram_step.specs.Running.{AreRunning};
 
-use crate::answer::{Cells, Dispute, Fault};
-use crate::pass::{Course, attempt, make_steps};
-use crate::running::Running;
-use crate::stores::Stores;
+use crate::answer::{Cells, Dispute};
+use crate::pass::{Room, advance, attempt};
 use pram_job::Job;
 use pram_machine::{Request, request_in};
 use std::alloc::{AllocError, Global};
@@ -24,8 +24,7 @@ use std::marker::Model;
 #[derive(Debug, Drop)]
 pub struct State {
     places: Vec<u32>,
-    running: Running,
-    stores: Stores,
+    room: Room,
     kept: Vec<u32>,
 }
 
@@ -47,8 +46,7 @@ impl State {
         places.resize((job.cells() + 5 * job.procs()) as usize, 0)?;
         Ok(State {
             places,
-            running: Running::new(alloc),
-            stores: Stores::new(alloc),
+            room: Room::new(alloc),
             kept: Vec::new(alloc),
         })
     }
@@ -77,32 +75,25 @@ impl State {
         Cells::new(places)
     }
 
-    /// Makes all steps of the job from its start, or those up to the first that is against the
-    /// rule, which it answers.
-    pub(crate) fn run(&mut self, alloc: Global, job: &Job) -> Result<Option<Fault>, AllocError>
-        requires { self.old ≡ start job.now }
-        ensures { IfOk result (IsRun job.now self.new) }
+    /// Makes a step where it agrees, these being the processors that run. Otherwise it answers the
+    /// dispute, and no store is made: only the cells are as before.
+    #[inline(always)]
+    pub(crate) fn advance(&mut self, job: &Job, room: &mut Room) -> Result<(), Dispute>
+        requires places { length self.old ≡ place_count job.now }
+        requires running { AreRunning job.now self.old (listed_processors room.old) }
+        requires room { IsRoom job.now room.old }
+        ensures made { OnOk result
+            (IsAdvance job.now (listed_processors room.new) self.old self.new) }
+        ensures dispute { IfErr result (IsDispute job.now (requests_in job.now self.old)) }
+        ensures turns { OnErr result (IsWithoutStores job.now self.old self.new) }
+        ensures room { IsRoom job.now room.new }
     {
-        match self.go(alloc, job, job.steps())? {
-            Course::Made | Course::Settled => Ok(None),
-            Course::Disputed(fault) => Ok(Some(fault)),
-        }
-    }
-
-    /// Makes so many steps from the start, or those up to the first that is against the rule.
-    pub(crate) fn go(&mut self, alloc: Global, job: &Job, steps: u32) -> Result<Course, AllocError>
-        requires { self.old ≡ start job.now }
-        ensures { IfOk result (GoesTo job.now steps self.new) }
-    {
-        self.running.make_room(alloc, job)?;
-        self.stores.make_room(alloc, job)?;
-        Ok(make_steps(
+        advance(
             job,
             &mut self.places,
-            &mut self.running,
-            &mut self.stores,
-            steps,
-        ))
+            room.running.as_slice(),
+            &mut room.stores,
+        )
     }
 }
 
@@ -139,16 +130,9 @@ pub fn step(alloc: Global, job: &Job, state: &mut State) -> Result<(), StepFault
     ensures conflict { IfErr result (IsStepFault job.now (requests_in job.now state.old)) }
     ensures unchanged { OnErr result (state.new ≡ state.old) }
 {
-    state.running.make_room(alloc, job)?;
-    state.stores.make_room(alloc, job)?;
+    state.room.make(alloc, job)?;
     make_room(alloc, job, &mut state.kept)?;
-    attempt(
-        job,
-        &mut state.places,
-        &mut state.running,
-        &mut state.stores,
-        &mut state.kept,
-    )?;
+    attempt(job, &mut state.places, &mut state.room, &mut state.kept)?;
     Ok(())
 }
 

@@ -15,10 +15,10 @@ use Rattle.pram_text.specs.declared.program.Program.{Program}
 use Rattle.pram_text.specs.declared.reader.Reader.{Reader}
 use Rattle.text_lines.specs.Lines.{Line, is_filled}
 use Rattle.pram_text.specs.Judgement.{Scope, instr_of, unlabelled}
-use Rattle.pram_text.specs.Inner.Reading.{given, HoldsAt, HoldsCode, scope_by, index_at}
+use Rattle.pram_text.specs.Inner.Reading.{value_given, HoldsAt, HoldsCode, scope_by, index_at}
 use Rattle.pram_text.specs.Inner.Reading.{fault_of_index}
 use Rattle.pram_text.specs.Inner.Statement.{resolved}
-use Rattle.pram_text.specs.Text.{end_fault, has_code, index_of}
+use Rattle.pram_text.specs.Text.{end_fault, has_code, label_index}
 use Rattle.pram_text.specs.Text.{label_fault_at, IsFirst, SpellsLines}
 use Rattle.pram_text.proofs.Inits.{SpellsInit-held}
 use Rattle.pram_text.proofs.Labels.{length-held}
@@ -66,9 +66,9 @@ module _ (before : List Line) (reader : Reader) (h : HoldsAt Code before reader)
 -- what each line says is what its statement says
 outcomes-held : (scope : Scope) (body : List Line) (program : Program) →
     HoldsCode scope body program →
-    map (λ line. instr_of scope (index_of body) (unlabelled line)) body
+    map (λ line. instr_of scope (label_index body) (unlabelled line)) body
     ≡ map (λ w. resolved (index_at program.indices) w.statement) program.written.items
-outcomes-held scope body program h = h.said (index_of body)
+outcomes-held scope body program h = h.said (label_index body)
     ∙ (λ i. map (λ w. resolved (λ name. sym (h.indices name) i) w.statement) program.written.items)
 
 -- the first statement that is wrong stands in the first line that is
@@ -80,7 +80,8 @@ pub first_unknown : (scope : Scope) (body : List Line) (program : Program) (k : 
 first_unknown scope body program k kind h first =
     let len = length-held scope body program h in
     let same = λ (j : ℕ) (l : j < length body).
-    sym (get_or-map (λ line. instr_of scope (index_of body) (unlabelled line)) body j [] (Ok Halt) l)
+    sym (get_or-map (λ line. instr_of scope (label_index body) (unlabelled line)) body j []
+    (Ok Halt) l)
     ∙ ap (λ os. get_or os j (Ok Halt)) (outcomes-held scope body program h) in
     let here : k < length body = omega (arith, first.within) in
     record {
@@ -93,7 +94,7 @@ first_unknown scope body program k kind h first =
 
 module _ (before : List Line) (reader : Reader)
     (init : List ℕ) (code : List Instr) (h : HoldsAt Code before reader)
-    (values : init ≡ map (λ c. unwrap_or (given reader.setup.values.items c) 0)
+    (values : init ≡ map (λ c. unwrap_or (value_given reader.setup.values.items c) 0)
     (range_with_len 0 reader.head.cells))
     (coded : map (λ w. resolved (index_at reader.program.indices) w.statement)
     reader.program.written.items ≡ map (λ i. Ok i) code)

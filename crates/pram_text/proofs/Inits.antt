@@ -19,9 +19,10 @@ use Rattle.pram_text.specs.declared.fault.TextKind.TheVariants.{BadHeader}
 use Rattle.pram_job.specs.declared.instr.Array.{Array}
 use Rattle.pram_text.specs.declared.start.Setup.{Setup}
 use Rattle.text_lines.specs.Lines.{Line, Word, is_filled, words_of}
-use Rattle.pram_text.specs.Judgement.{◌>>=◌, Entry, names, gives, says_array, array_of, values_of}
+use Rattle.pram_text.specs.Judgement.{Entry, names, gives, says_array, array_of, values_of}
+use Rattle.text_lines.specs.Reads.{◌>>=◌}
 use Rattle.pram_text.specs.Judgement.{init_of, entry_of}
-use Rattle.pram_text.specs.Inner.Reading.{HoldsStart, ReadsArray, ReadsInit, given}
+use Rattle.pram_text.specs.Inner.Reading.{HoldsStart, ReadsArray, ReadsInit, value_given}
 use Rattle.pram_text.specs.Inner.Statement.{array_named}
 use Rattle.pram_text.specs.Text.{array_by, array_in, value_by, value_in, gives_values, is_taken}
 use Rattle.pram_text.specs.Text.{entry_fault, new_entry_fault, entries_in, SaysEntries, SpellsInit}
@@ -178,7 +179,7 @@ SpellsInit-from cells entries = record {
 
 pub SpellsInit-held : (later : Bool) (cells : ℕ) (inits : List Line) (start : Setup)
     (init : List ℕ) (h : HoldsStart later cells inits start) →
-    init ≡ map (λ c. unwrap_or (given start.values.items c) 0) (range_with_len 0 cells) →
+    init ≡ map (λ c. unwrap_or (value_given start.values.items c) 0) (range_with_len 0 cells) →
     SpellsInit cells h.entries init
 SpellsInit-held later cells inits start init h values =
     subst (SpellsInit cells h.entries)
@@ -255,9 +256,9 @@ bare_if [] n len e = refl
 bare_if (x ∷ xs) n len e = absurd (let none = eqb-true n 0 e in omega arith)
 
 pub given_before : (old new : List (Option ℕ)) (c n m : ℕ) (b : Bool) →
-    ((q : ℕ) → given new q ≡ given old q) → m ≡ n →
-    b ≡ list_any (λ q. is_some (given new q)) (range_with_len c m) →
-    list_any (λ q. is_some (given old q)) (range_with_len c n) ≡ b
+    ((q : ℕ) → value_given new q ≡ value_given old q) → m ≡ n →
+    b ≡ list_any (λ q. is_some (value_given new q)) (range_with_len c m) →
+    list_any (λ q. is_some (value_given old q)) (range_with_len c n) ≡ b
 given_before old new c n m b same len e =
     sym (e ∙ (λ i. list_any (λ q. is_some (same q i)) (range_with_len c (len i))))
 
@@ -268,7 +269,8 @@ module _ (later : Bool) (cells : ℕ) (inits : List Line) (old : Setup) (w : Lin
   module _ (c : ℕ) (vs : List ℕ) (said : entry_of later cells w ≡ Ok (gives c vs)) where
     -- whether one of its cells has a value
     abbrev pub has_given : Bool
-    has_given = list_any (λ q. is_some (given old.values.items q)) (range_with_len c (length vs))
+    has_given = list_any (λ q. is_some (value_given old.values.items q))
+        (range_with_len c (length vs))
 
     taken-given : is_taken h.entries (gives c vs) ≡ has_given
     unfolding is_taken
@@ -282,25 +284,25 @@ module _ (later : Bool) (cells : ℕ) (inits : List Line) (old : Setup) (w : Lin
 
     -- a cell that is given a value had none
     fresh_cell : has_given ≡ false → (q : ℕ) →
-        (value_by (gives c vs) q ≡ None) ⊎ (given old.values.items q ≡ None)
+        (value_by (gives c vs) q ≡ None) ⊎ (value_given old.values.items q ≡ None)
     fresh_cell none q = by_low (nat_le c q) refl
       where
         by_low : (b : Bool) → nat_le c q ≡ b →
-            (value_by (gives c vs) q ≡ None) ⊎ (given old.values.items q ≡ None)
+            (value_by (gives c vs) q ≡ None) ⊎ (value_given old.values.items q ≡ None)
         by_low false e = inl (ap (λ b. if b then slice_get vs (q - c) else None) e)
         by_low true e = ⊎_elim
-            (λ within. inr (none_from (given old.values.items q)
-            (not_any_in (λ p. is_some (given old.values.items p)) c (length vs) none q
+            (λ within. inr (none_from (value_given old.values.items q)
+            (not_any_in (λ p. is_some (value_given old.values.items p)) c (length vs) none q
             (leb-true c q e) (omega (arith, within, leb-true c q e)))))
             (λ past. inl (ap (λ b. if b then slice_get vs (q - c) else None) e
             ∙ slice_get_past vs (q - c) past))
             (cases_lt (q - c) (length vs))
 
     swapped : has_given ≡ false → (q : ℕ) →
-        option_or (value_by (gives c vs) q) (given old.values.items q)
+        option_or (value_by (gives c vs) q) (value_given old.values.items q)
         ≡ option_or (value_in h.entries q) (value_by (gives c vs) q)
     swapped none q = ⊎_elim
-        (λ no. ap (λ o. option_or o (given old.values.items q)) no ∙ h.values q
+        (λ no. ap (λ o. option_or o (value_given old.values.items q)) no ∙ h.values q
         ∙ sym (ap (option_or (value_in h.entries q)) no ∙ or_none (value_in h.entries q)))
         (λ no. ap (option_or (value_by (gives c vs) q)) no ∙ or_none (value_by (gives c vs) q)
         ∙ sym (ap (λ o. option_or o (value_by (gives c vs) q)) (sym (h.values q) ∙ no)))
@@ -309,8 +311,8 @@ module _ (later : Bool) (cells : ℕ) (inits : List Line) (old : Setup) (w : Lin
     pub HoldsStart-given : (new : Setup) → has_given ≡ false →
         ((name : Word) → array_named new.arrays name ≡ array_named old.arrays name) →
         is_filled new.values.items ≡ true →
-        ((q : ℕ) → given new.values.items q
-        ≡ option_or (value_by (gives c vs) q) (given old.values.items q)) →
+        ((q : ℕ) → value_given new.values.items q
+        ≡ option_or (value_by (gives c vs) q) (value_given old.values.items q)) →
         HoldsStart later cells (inits ++ w ∷ []) new
     HoldsStart-given new none same filled u = record {
       entries = h.entries ++ gives c vs ∷ [];
@@ -361,7 +363,7 @@ module _ (later : Bool) (cells : ℕ) (inits : List Line) (old : Setup) (w : Lin
           ∙ ap (λ b. option_or (array_in h.entries other) (if b then Some array else None)) no
           ∙ or_none (array_in h.entries other)))
           (cases_Bool (bytes_eq name other));
-      values = λ q. ap (λ items. given items q) same ∙ h.values q
+      values = λ q. ap (λ items. value_given items q) same ∙ h.values q
           ∙ sym (value_in-push h.entries (names name array) q ∙ or_none (value_in h.entries q));
       filled = ap is_filled same ∙ h.filled ∙ sym (gives-push h.entries (names name array)
           ∙ or_false (list_any gives_values h.entries));

@@ -21,7 +21,8 @@ use Rattle.pram_text.specs.declared.fault.TextKind.TheVariants.{NoCode, TooLong,
 use Rattle.pram_text.specs.declared.reader.Reader.{Reader}
 use Rattle.pram_job.specs.Job.{JobData}
 use Rattle.text_lines.specs.Lines.{Line, lines_of, words_of, worded, is_allowed, is_filled}
-use Rattle.pram_text.specs.Inner.Reading.{Holds, numbers_of, number_if, Finishes, TakesLine}
+use Rattle.pram_text.specs.Inner.Reading.{HoldsLines, numbers_of, number_if, FinishesJob}
+use Rattle.pram_text.specs.Inner.Reading.{TakesInLine}
 use Rattle.pram_text.specs.Text.{line_fault, end_fault, fault_at, label_fault_at, has_code, body_of}
 use Rattle.pram_text.specs.Text.{scope_in, numbered_body, IsFirst, Bears, IsRefusal, Spells, SpellsLines}
 use Rattle.pram_text.proofs.Worded.{numbered_body-push, words-numbered_body}
@@ -34,11 +35,11 @@ worded-append ls ms = ap (filter is_filled) (map-append words_of ls ms)
 
 -- what a reader holds of so many lines: none of them has a fault
 pub record HasRead (lines : List (List ℕ)) (n : ℕ) (reader : Reader) : Type 0 where
-  pub held : Holds (worded (take n lines)) reader
+  pub held : HoldsLines (worded (take n lines)) reader
   pub clean : (k : ℕ) → k < n → line_fault (worded (take k lines)) (get_or lines k []) ≡ None
   pub numbers : numbers_of reader.program ≡ map (λ l. l.0) (numbered_body (take n lines))
 
-pub HasRead-none : (lines : List (List ℕ)) (reader : Reader) → Holds [] reader →
+pub HasRead-none : (lines : List (List ℕ)) (reader : Reader) → HoldsLines [] reader →
     numbers_of reader.program ≡ [] → HasRead lines 0 reader
 HasRead-none lines reader h e =
     record { held = h; clean = λ k l. absurd (omega arith); numbers = e }
@@ -51,14 +52,15 @@ numbers-push false numbers number line = sym (map-append (λ l. l.0) numbers [])
 
 pub HasRead-more : (lines : List (List ℕ)) (n number : ℕ) (line : List ℕ) (old new : Reader) →
     HasRead lines n old → n < length lines → line ≡ get_or lines n [] → number ≡ n + 1 →
-    TakesLine (worded (take n lines)) line old number (Ok (tt {0})) new → HasRead lines (n + 1) new
+    TakesInLine (worded (take n lines)) line old number (Ok (tt {0})) new →
+    HasRead lines (n + 1) new
 HasRead-more lines n number line old new h l here numbered t =
     let before : List Line = worded (take n lines) in
     let more : take (n + 1) lines ≡ take n lines ++ line ∷ [] =
     take_more lines n [] l ∙ ap (λ one. take n lines ++ one ∷ []) (sym here) in
     let number_is : number ≡ length (take n lines) + 1 = omega (arith, length-take-le n lines) in
     record {
-      held = subst (λ ls. Holds ls new)
+      held = subst (λ ls. HoldsLines ls new)
           (sym (ap worded more ∙ worded-append (take n lines) (line ∷ []))) t.1;
       clean = below_more _ _ h.clean (ap (line_fault before) (sym here) ∙ t.0);
       numbers = t.2 ∙ ap₂ (λ ns k. ns ++ number_if (has_code before && is_filled (words_of line)) k)
@@ -160,13 +162,13 @@ lawful_from_none before line e = ⊎_elim (λ yes. yes)
     cc)) (cases_Bool (list_all is_allowed line))
 
 held-end : (lines : List (List ℕ)) (n : ℕ) (reader : Reader) → HasRead lines n reader →
-    n ≡ length lines → Holds (worded lines) reader
+    n ≡ length lines → HoldsLines (worded lines) reader
 held-end lines n reader h all =
-    subst (λ ls. Holds (worded ls) reader) (take_all n lines (omega arith)) h.held
+    subst (λ ls. HoldsLines (worded ls) reader) (take_all n lines (omega arith)) h.held
 
 Bears-end : (text : List ℕ) (n : ℕ) (reader : Reader) (fault : TextFault) →
     HasRead (lines_of text) n reader → n ≡ length (lines_of text) → fault.kind ≢ Memory →
-    Finishes (worded (lines_of text)) (numbers_of reader.program) n (Err fault) →
+    FinishesJob (worded (lines_of text)) (numbers_of reader.program) n (Err fault) →
     Bears text fault.line fault.kind
 unfolding Bears
 Bears-end text n reader fault h all other told = ⊎_elim
@@ -202,7 +204,8 @@ Spells-end text n reader job h all lines = record {
 -- what the end of a text makes of it
 pub spells_from_finish : (text : List ℕ) (n : ℕ) (reader : Reader) (r : Result JobData TextFault) →
     HasRead (lines_of text) n reader → n ≡ length (lines_of text) →
-    ((before : List Line) → Holds before reader → Finishes before (numbers_of reader.program) n r) →
+    ((before : List Line) → HoldsLines before reader →
+    FinishesJob before (numbers_of reader.program) n r) →
     IfOk r (λ job. Spells text job)
 spells_from_finish text n reader (Ok job) h all told = Spells-end text n reader job h all
     (told (worded (lines_of text)) (held-end (lines_of text) n reader h all))
@@ -210,7 +213,8 @@ spells_from_finish text n reader (Err fault) h all told = tt
 
 pub bears_from_finish : (text : List ℕ) (n : ℕ) (reader : Reader) (r : Result JobData TextFault) →
     HasRead (lines_of text) n reader → n ≡ length (lines_of text) →
-    ((before : List Line) → Holds before reader → Finishes before (numbers_of reader.program) n r) →
+    ((before : List Line) → HoldsLines before reader →
+    FinishesJob before (numbers_of reader.program) n r) →
     IfErr r (λ fault. fault.kind ≡ Memory → fault.line ≡ 0) →
     IfErr r (λ fault. IsRefusal text fault.line fault.kind)
 bears_from_finish text n reader (Ok job) h all told memory = tt

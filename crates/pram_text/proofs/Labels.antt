@@ -20,7 +20,8 @@ use Rattle.pram_text.specs.declared.program.Written.{Written}
 use Rattle.pram_text.specs.declared.statement.Statement.{Statement}
 use Rattle.text_lines.specs.Lines.{Line, Word}
 use Rattle.pram_text.specs.Judgement.{label_of, unlabelled, is_name, Scope, instr_of}
-use Rattle.pram_text.specs.Judgement.{index_in, ◌>>=◌}
+use Rattle.pram_text.specs.Judgement.{index_in}
+use Rattle.text_lines.specs.Reads.{◌>>=◌}
 use Rattle.pram_text.specs.Inner.Reading.{HoldsCode, HoldsIndices, index_at, define_fault}
 use Rattle.pram_text.specs.Inner.Statement.{resolved, aimed, ReadsLine}
 use Rattle.pram_job.specs.declared.limits.TheConstants.{MAX_CODE}

@@ -15,7 +15,7 @@ use Rattle.pram_job.specs.Job.{JobData}
 use Rattle.text_lines.specs.Lines.{Line, is_filled}
 use Rattle.pram_text.specs.Judgement.{version_of, is_later, cells_of, procs_of, steps_of}
 use Rattle.pram_text.specs.Judgement.{rule_of, Entry, is_code, unlabelled, Scope, instr_of}
-use Rattle.pram_text.specs.Text.{index_of, code_line, SaysEntries, IsLabelled, SpellsHeader}
+use Rattle.pram_text.specs.Text.{label_index, code_heading, SaysEntries, IsLabelled, SpellsHeader}
 use Rattle.pram_text.specs.Text.{SpellsLines, entry_fault, instr_fault, rest_fault, words_fault}
 use Rattle.pram_text.specs.Text.{entries_in, scope_of, scope_in}
 use Rattle.pram_text.specs.Text.{names_rule, has_code, body_of, end_fault, label_fault_at}
@@ -143,7 +143,7 @@ pub record HasParts (lines : List Line) : Type 0 where
   pub header : List Line
   pub inits : List Line
   pub body : List Line
-  pub parts : lines ≡ header ++ (inits ++ code_line ∷ body)
+  pub parts : lines ≡ header ++ (inits ++ code_heading ∷ body)
   pub sizes : SpellsHeader version cells procs steps rule header
   pub entries : List Entry
   pub said : SaysEntries (is_later version) cells inits entries
@@ -159,11 +159,11 @@ has_parts lines passes code =
     let later = is_later h.version in
     let cut = any_split is_code h.rest
     (sym (ap has_code h.parts ∙ has_code-after _ _ _ _ _ h.header h.sizes h.rest) ∙ code) in
-    let rest : h.rest ≡ cut.0 ++ code_line ∷ cut.2 =
+    let rest : h.rest ≡ cut.0 ++ code_heading ∷ cut.2 =
     cut.3 ∙ ap (λ l. cut.0 ++ l ∷ cut.2) (code_line_is cut.1 cut.5) in
-    let whole : lines ≡ h.header ++ (cut.0 ++ code_line ∷ cut.2) =
+    let whole : lines ≡ h.header ++ (cut.0 ++ code_heading ∷ cut.2) =
     h.parts ∙ ap (λ ls. h.header ++ ls) rest in
-    let after_header : EachSplit (cut.0 ++ code_line ∷ cut.2)
+    let after_header : EachSplit (cut.0 ++ code_heading ∷ cut.2)
     (λ before line. rest_fault later h.cells before line ≡ None) = λ before line after e.
     sym (words_fault-after _ _ _ _ _ h.header h.sizes before line)
     ∙ passes (h.header ++ before) line after (h.parts ∙ ap (λ ls. h.header ++ ls) (rest ∙ e)
@@ -174,8 +174,9 @@ has_parts lines passes code =
     sym (rest_fault-inits later h.cells before line (none_left is_code before (line ∷ after) none)
     ∙ ap (λ b. if b then None else entry_fault later h.cells before line)
     (none_at is_code before line after none))
-    ∙ after_header before line (after ++ code_line ∷ cut.2) (ap (λ ls. ls ++ code_line ∷ cut.2) e
-    ∙ append_assoc before (line ∷ after) (code_line ∷ cut.2)) in
+    ∙ after_header before line (after ++ code_heading ∷ cut.2)
+    (ap (λ ls. ls ++ code_heading ∷ cut.2) e
+    ∙ append_assoc before (line ∷ after) (code_heading ∷ cut.2)) in
     let said = grown (λ ls. (entries : List Entry) × SaysEntries later h.cells ls entries) cut.0
     ([], SaysEntries-none later h.cells) (λ before line after e more.
     SaysEntries-more later h.cells before line more (inits before line after e)) in
@@ -198,9 +199,9 @@ has_parts lines passes code =
           ap scope_in whole ∙ scope_in-body _ _ _ _ _ h.header h.sizes cut.0 cut.2 cut.4;
       scope_is = ap (scope_of later) (entries_in-said later h.cells cut.0 said.0 said.1.said);
       passes = λ before line after e. sym (rest_fault-body later h.cells cut.0 before line cut.4)
-          ∙ after_header (cut.0 ++ code_line ∷ before) line after
-          (ap (λ ls. cut.0 ++ code_line ∷ ls) e
-          ∙ sym (append_assoc cut.0 (code_line ∷ before) (line ∷ after)));
+          ∙ after_header (cut.0 ++ code_heading ∷ before) line after
+          (ap (λ ls. cut.0 ++ code_heading ∷ ls) e
+          ∙ sym (append_assoc cut.0 (code_heading ∷ before) (line ∷ after)));
       is_body = ap body_of whole ∙ body_of-body _ _ _ _ _ h.header h.sizes cut.0 cut.2 cut.4;
     }
 
@@ -227,7 +228,7 @@ lines_spell lines passes e known =
     let p = has_parts lines passes end.0 in
     let scope = scope_of (is_later p.version) p.entries in
     let says : Line → Result Instr TextKind =
-    λ line. instr_of scope (index_of p.body) (unlabelled line) in
+    λ line. instr_of scope (label_index p.body) (unlabelled line) in
     let known' : (k : ℕ) → k < length p.body → label_fault_at scope p.body k ≡ None =
     subst (λ sc. (k : ℕ) → k < length p.body → label_fault_at sc p.body k ≡ None)
     (p.is_scope ∙ p.scope_is)

@@ -13,7 +13,8 @@ use Rattle.pram_text.specs.declared.fault.TextKind.TheVariants.{NotAscii, Unknow
 use Rattle.pram_job.specs.Job.{JobData}
 use Rattle.text_lines.specs.Lines.{Line, lines_of, words_of, worded, is_allowed, is_filled}
 use Rattle.pram_text.specs.Judgement.{unlabelled}
-use Rattle.pram_text.specs.Text.{index_of, Spells, words_fault, line_fault, body_of, numbered_body}
+use Rattle.pram_text.specs.Text.{label_index, Spells, words_fault, line_fault, body_of}
+use Rattle.pram_text.specs.Text.{numbered_body}
 use Rattle.pram_text.specs.Text.{end_fault, fault_at, scope_in, label_fault_at, IsFirst, Bears}
 use Rattle.pram_text.proofs.Worded.{worded_at, words-numbered_body}
 use Rattle.pram_text.proofs.Labels.{instr_fault-none}
@@ -164,7 +165,7 @@ label_comes_last text line kind (inr label) none =
     let here : label_fault_at p.scope p.body k ≡ Some kind =
     subst (λ scope. label_fault_at scope p.body k ≡ Some kind) p.is_scope
     (subst (λ ls. label_fault_at (scope_in (worded lines)) ls k ≡ Some kind) body label.3.here) in
-    elim (instr_follows p.scope (index_of p.body) (unlabelled (get_or p.body k []))).same [
+    elim (instr_follows p.scope (label_index p.body) (unlabelled (get_or p.body k []))).same [
       | inl same ↦ let known = fine.2 in cc
       | inr unknown ↦ let is = unknown.0 in cc
     ]

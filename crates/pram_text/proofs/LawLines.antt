@@ -4,7 +4,7 @@ use Rattle.std.proofs.lemmas.List.{length-map}
 use Rattle.pram_text.specs.Judgement.{is_later, unlabelled, instr_of}
 use Rattle.pram_text.specs.Laws.{InstructionsHaveLines}
 use Rattle.text_lines.specs.Lines.{Line, lines_of, worded}
-use Rattle.pram_text.specs.Text.{body_of, index_of, numbered_body, scope_of}
+use Rattle.pram_text.specs.Text.{body_of, label_index, numbered_body, scope_of}
 use Rattle.pram_text.proofs.Stages.{body_of-body, none_named}
 use Rattle.pram_text.proofs.Worded.{words-numbered_body}
 
@@ -20,6 +20,6 @@ have_lines text job spells =
     ∙ ap length (words-numbered_body lines ∙ body) in
     let code : length s.body ≡ length job.code =
     sym (length-map s.body (λ (line : Line). instr_of (scope_of (is_later s.version) s.entries)
-    (index_of s.body) (unlabelled line)))
+    (label_index s.body) (unlabelled line)))
     ∙ ap length s.code.said ∙ length-map job.code _ in
     length-map (numbered_body lines) (λ (l : ℕ × Line). l.0) ∙ entries ∙ code

@@ -18,11 +18,12 @@ use Rattle.pram_job.specs.declared.instr.Rule.{Rule}
 use Rattle.pram_job.specs.declared.limits.TheConstants.{MAX_CODE}
 use Rattle.pram_job.specs.Job.{JobData}
 use Rattle.text_lines.specs.Lines.{Word, Line}
-use Rattle.pram_text.specs.Judgement.{◌>>=◌, version_of, cells_of, procs_of, steps_of, rule_of}
+use Rattle.pram_text.specs.Judgement.{version_of, cells_of, procs_of, steps_of, rule_of}
+use Rattle.text_lines.specs.Reads.{◌>>=◌}
 use Rattle.pram_text.specs.Judgement.{is_later, Entry, entry_of, is_code, label_of, unlabelled}
 use Rattle.pram_text.specs.Judgement.{is_name, Scope, register_of, one_label}
 use Rattle.pram_text.specs.Judgement.{register_label, index_in, instr_of, instr_by, made_of}
-use Rattle.pram_text.specs.Text.{is_named, new_label_fault, defines, index_of, code_line}
+use Rattle.pram_text.specs.Text.{is_named, new_label_fault, defines, label_index, code_heading}
 use Rattle.pram_text.specs.Text.{SaysEntries, SpellsCode, SpellsRule, scope_of}
 use Rattle.pram_text.specs.Text.{SpellsHeader, SpellsLines, names_rule, entry_fault}
 use Rattle.pram_text.specs.Text.{label_fault, instr_fault, rest_fault, words_fault}
@@ -158,12 +159,13 @@ instr_passes : (scope : Scope) (before : List Line) (line : Line) (after : List 
     instr_fault scope before line ≡ None
 instr_passes scope before line after code s =
     let a = said_around
-    (λ (l : Line). instr_of scope (index_of (before ++ line ∷ after)) (unlabelled l))
+    (λ (l : Line). instr_of scope (label_index (before ++ line ∷ after)) (unlabelled l))
     before line after code s.said in
     let few : length before < MAX_CODE =
     omega (arith, s.labelled.few, length-append before (line ∷ after)) in
     instr_fault-rest scope before line few (label_passes scope before line after code s)
-    ∙ known_passes scope (index_of (before ++ line ∷ after)) (unlabelled line) a.value a.said_value
+    ∙ known_passes scope (label_index (before ++ line ∷ after)) (unlabelled line) a.value
+    a.said_value
 
 -- ---- all lines with words
 
@@ -217,10 +219,10 @@ header_passes version cells procs steps rule header before line after h e =
         one_line (x ∷ y ∷ before) g said named = cc
 
 rest_passes : (job : JobData) (lines : List Line) (s : SpellsLines job lines) (before : List Line)
-    (line : Line) (after : List Line) → s.inits ++ code_line ∷ s.body ≡ before ++ line ∷ after →
+    (line : Line) (after : List Line) → s.inits ++ code_heading ∷ s.body ≡ before ++ line ∷ after →
     rest_fault (is_later s.version) job.cells before line ≡ None
 rest_passes job lines s before line after e =
-    elim (split_of_append s.inits (code_line ∷ s.body) before line after e) [
+    elim (split_of_append s.inits (code_heading ∷ s.body) before line after e) [
       | inl start ↦
           let none' = subst (NonePasses is_code) start.1 none in
           rest_fault-inits later job.cells before line
@@ -238,16 +240,16 @@ rest_passes job lines s before line after e =
     none : NonePasses is_code s.inits
     none = none_named (is_later s.version) job.cells s.inits s.entries s.said
 
-    go : (more : List Line) → code_line ∷ s.body ≡ more ++ line ∷ after →
+    go : (more : List Line) → code_heading ∷ s.body ≡ more ++ line ∷ after →
         rest_fault later job.cells (s.inits ++ more) line ≡ None
     go [] f =
-        let same : line ≡ code_line = cc in
+        let same : line ≡ code_heading = cc in
         ap (λ ls. rest_fault later job.cells ls line) (append-nil s.inits)
         ∙ rest_fault-inits later job.cells s.inits line none
         ∙ ap (λ b. if b then None else entry_fault later job.cells s.inits line)
         (ap is_code same ∙ code_line_is_code)
     go (c ∷ more) f =
-        let same : c ≡ code_line = cc in
+        let same : c ≡ code_heading = cc in
         let body : s.body ≡ more ++ line ∷ after = cc in
         ap (λ l. rest_fault later job.cells (s.inits ++ l ∷ more) line) same
         ∙ rest_fault-body later job.cells s.inits more line none
@@ -259,7 +261,7 @@ rest_passes job lines s before line after e =
 pub words_pass : (job : JobData) (lines before : List Line) (line : Line) (after : List Line) →
     SpellsLines job lines → lines ≡ before ++ line ∷ after → words_fault before line ≡ None
 words_pass job lines before line after s e = elim (split_of_append s.header
-    (s.inits ++ code_line ∷ s.body) before line after (sym s.parts ∙ e)) [
+    (s.inits ++ code_heading ∷ s.body) before line after (sym s.parts ∙ e)) [
       | inl front ↦ header_passes s.version job.cells job.procs job.steps job.rule
           s.header before line front.0 s.sizes front.1
       | inr later ↦ ap (λ ls. words_fault ls line) later.1 ∙ words_fault-after _

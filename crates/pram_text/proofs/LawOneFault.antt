@@ -12,7 +12,7 @@ use Rattle.pram_job.specs.declared.instr.Instr.TheVariants.{Halt}
 use Rattle.pram_job.specs.Job.{JobData}
 use Rattle.text_lines.specs.Lines.{Line, lines_of, words_of, worded, is_allowed, is_filled}
 use Rattle.pram_text.specs.Judgement.{is_later, unlabelled, instr_of}
-use Rattle.pram_text.specs.Text.{index_of, SpellsLines, Spells, words_fault}
+use Rattle.pram_text.specs.Text.{label_index, SpellsLines, Spells, words_fault}
 use Rattle.pram_text.specs.Text.{line_fault, has_code, body_of, numbered_body, scope_of, scope_in}
 use Rattle.pram_text.specs.Text.{end_fault, fault_at, label_fault_at, IsFirst, Bears}
 use Rattle.pram_text.proofs.Coded.{no_fault-Ok}
@@ -45,7 +45,7 @@ labels_pass job lines s k =
     subst (λ ls. k < length ls → label_fault_at (scope_in lines) ls k ≡ None) (sym body)
     (subst (λ sc. k < length s.body → label_fault_at sc s.body k ≡ None) (sym scope) (λ lt.
     ap result_err (sym (get_or-map (λ line. instr_of (scope_of (is_later s.version) s.entries)
-    (index_of s.body) (unlabelled line)) s.body k [] (Ok Halt) lt)
+    (label_index s.body) (unlabelled line)) s.body k [] (Ok Halt) lt)
     ∙ ap (λ os. get_or os k (Ok Halt)) s.code.said) ∙ no_fault-Ok job.code k))
 
 -- ---- a line by itself

@@ -7,7 +7,7 @@ use Rattle.pram_job.specs.Job.{JobData}
 use Rattle.text_lines.specs.Lines.{Line, lines_of, worded}
 use Rattle.pram_text.specs.Judgement.{is_later, rule_of, Entry, entry_of, is_code, instr_of}
 use Rattle.pram_text.specs.Judgement.{unlabelled}
-use Rattle.pram_text.specs.Text.{index_of, code_line, scope_of, SpellsInit, SpellsCode}
+use Rattle.pram_text.specs.Text.{label_index, code_heading, scope_of, SpellsInit, SpellsCode}
 use Rattle.pram_text.specs.Text.{SpellsRule, SpellsLines, Spells}
 use Rattle.pram_text.proofs.Lists.{cut_once}
 use Rattle.pram_text.proofs.Said.{Said, said_once}
@@ -38,8 +38,8 @@ one_lines : (a b : JobData) (lines : List Line) → SpellsLines a lines → Spel
 one_lines a b lines s t =
     let h = s.sizes in
     let k = t.sizes in
-    let front = s.inits ++ code_line ∷ s.body in
-    let front' = t.inits ++ code_line ∷ t.body in
+    let front = s.inits ++ code_heading ∷ s.body in
+    let front' = t.inits ++ code_heading ∷ t.body in
     let e : h.version_line ∷ h.cells_line ∷ h.procs_line ∷ h.steps_line ∷ (h.rule_lines ++ front)
     ≡ k.version_line ∷ k.cells_line ∷ k.procs_line ∷ k.steps_line ∷ (k.rule_lines ++ front') =
     sym (ap (λ ls. ls ++ front) h.parts)
@@ -52,7 +52,7 @@ one_lines a b lines s t =
     let r = one_rule t.version a.rule b.rule h.rule_lines k.rule_lines front front'
     (version_cases k.version_line t.version k.version_said)
     (subst (λ v. SpellsRule v a.rule h.rule_lines) v h.rule_said) k.rule_said ruled in
-    let cut = cut_once is_code s.inits code_line s.body t.inits code_line t.body
+    let cut = cut_once is_code s.inits code_heading s.body t.inits code_heading t.body
     (none_named _ a.cells s.inits s.entries s.said) code_line_is_code
     (none_named _ b.cells t.inits t.entries t.said) code_line_is_code r.1 in
     let later : is_later s.version ≡ is_later t.version = ap is_later v in
@@ -71,7 +71,7 @@ one_lines a b lines s t =
     (subst (λ body. SpellsCode (scope_of (is_later s.version) s.entries) body a.code)
     cut.1 s.code) in
     let code = said_once (λ (line : Line). instr_of (scope_of (is_later t.version) t.entries)
-    (index_of t.body) (unlabelled line)) t.body a.code b.code spelled.said t.code.said in λ i.
+    (label_index t.body) (unlabelled line)) t.body a.code b.code spelled.said t.code.said in λ i.
     record { rule = r.0 i; cells = c i; procs = p i; steps = n i; init = init i; code = code i }
 
 pub spells_once : (text : List ℕ) (a b : JobData) → Spells text a → Spells text b → a ≡ b

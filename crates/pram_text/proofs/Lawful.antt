@@ -26,15 +26,16 @@ use Rattle.pram_job.specs.Instructions.{target_two, place_value, register_index,
 use Rattle.pram_job.specs.Instructions.{table, IsOperand, IsArray, IsPlace}
 use Rattle.pram_job.specs.Job.{JobData, IsJob, IsInstr}
 use Rattle.text_lines.specs.Lines.{Word, Line, lines_of, worded}
-use Rattle.pram_text.specs.Judgement.{◌>>=◌, is_number, number_of, number_in, most, named_number}
+use Rattle.pram_text.specs.Judgement.{is_number, value_of_digits, number_in, most, named_number}
+use Rattle.text_lines.specs.Reads.{◌>>=◌}
 use Rattle.pram_text.specs.Judgement.{is_later, Entry, names, gives, is_array_name, says_array}
 use Rattle.pram_text.specs.Judgement.{array_of, values_of, are_values, init_of, entry_of}
 use Rattle.pram_text.specs.Judgement.{Scope, operand_of, array_at, register_of, no_operand}
-use Rattle.pram_text.specs.Judgement.{one_register, two_operands, register_place, place_operand}
+use Rattle.pram_text.specs.Judgement.{one_register, two_operands, register_and_place, place_operand}
 use Rattle.pram_text.specs.Judgement.{register_number, index_in, one_label, register_label}
 use Rattle.pram_text.specs.Judgement.{instr_of, instr_by, made_of, unlabelled}
 use Rattle.pram_text.proofs.Table.{IsRow, is_instr, table_is}
-use Rattle.pram_text.specs.Text.{index_of, defines, array_in, value_by, value_in, scope_of}
+use Rattle.pram_text.specs.Text.{label_index, defines, array_in, value_by, value_in, scope_of}
 use Rattle.pram_text.specs.Text.{SaysEntries, SpellsInit, SpellsCode, SpellsLines, Spells}
 
 -- the value, if there is one, is such
@@ -80,11 +81,11 @@ number_in-keeps : (low high : ℕ) (word : Word) →
 unfolding number_in
 number_in-keeps low high word =
     either (is_number word) _ _
-    (cond_both (nat_le low (number_of word) && nat_le (number_of word) high)
-    (Ok (number_of word)) (Err OutOfLimits) (λ r. Keeps (λ n. (low ≤ n) × (n ≤ high)) r)
-    (λ e. let parts = and_parts _ _ e in ok _ (number_of word) (
-      leb-true low (number_of word) parts.0,
-      leb-true (number_of word) high parts.1,
+    (cond_both (nat_le low (value_of_digits word) && nat_le (value_of_digits word) high)
+    (Ok (value_of_digits word)) (Err OutOfLimits) (λ r. Keeps (λ n. (low ≤ n) × (n ≤ high)) r)
+    (λ e. let parts = and_parts _ _ e in ok _ (value_of_digits word) (
+      leb-true low (value_of_digits word) parts.0,
+      leb-true (value_of_digits word) high parts.1,
     )) (λ e. err _ OutOfLimits)) (err _ BadNumber)
 
 operand_of-keeps : (later : Bool) (word : Word) → Keeps IsOperand (operand_of later word)
@@ -180,7 +181,7 @@ module _ (cells len : ℕ) where
 
     keeps_load : (make : ℕ → Place → Instr) → ((r : ℕ) (place : Place) → r < 4 →
         IsPlace cells place → IsInstr cells len (make r place)) → (operands : Line) →
-        Keeps (IsInstr cells len) (register_place scope make operands)
+        Keeps (IsInstr cells len) (register_and_place scope make operands)
     keeps_load make h (r ∷ a ∷ []) = then_ok _ _ (register_of-keeps r) (λ r' o.
         then_ok _ _ (operand_of-keeps scope.later a)
         (λ a' p. ok _ (make r' (Cell a')) (h r' (Cell a') o p)))
@@ -342,19 +343,19 @@ code_keeps : (cells : ℕ) (scope : Scope) (body : List Line) (code : List Instr
     SpellsCode scope body code → All (IsInstr cells (length code)) code
 code_keeps cells scope body code fit s =
     let says : Line → Result Instr TextKind =
-    λ line. instr_of scope (index_of body) (unlabelled line) in
+    λ line. instr_of scope (label_index body) (unlabelled line) in
     let same = said_length says body code s.said in
-    let within = λ (label : Word) (index : ℕ) (e : index_of body label ≡ Some index). le_of_lt
+    let within = λ (label : Word) (index : ℕ) (e : label_index body label ≡ Some index). le_of_lt
     (subst (λ n. index < n) (sym same) (position-Some (defines label) body index [] e).0) in
     All-from_recursion (IsInstr cells (length code)) code
     (said_all (IsInstr cells (length code)) says
-    (λ line. instr_keeps cells (length code) scope fit (index_of body) within (unlabelled line))
+    (λ line. instr_keeps cells (length code) scope fit (label_index body) within (unlabelled line))
     body code s.said)
 
 pub lines_keep : (job : JobData) (lines : List Line) → SpellsLines job lines → IsJob job
 lines_keep job lines s =
     let scope : Scope = scope_of (is_later s.version) s.entries in
-    let same = said_length (λ (line : Line). instr_of scope (index_of s.body) (unlabelled line))
+    let same = said_length (λ (line : Line). instr_of scope (label_index s.body) (unlabelled line))
     s.body job.code s.code.said in
     let steps =
     value_keeps job.steps (named_number-keeps _ _ _ s.sizes.steps_line) s.sizes.steps_said in

@@ -11,12 +11,12 @@ use Rattle.pram_text.specs.declared.fault.TextKind.{TextKind}
 use Rattle.pram_text.specs.declared.fault.TextKind.TheVariants.{BadHeader, BadNumber}
 use Rattle.pram_job.specs.declared.instr.Rule.{Rule}
 use Rattle.text_lines.specs.Lines.{Line}
-use Rattle.pram_text.specs.Judgement.{is_number, number_of, version_of, is_later, rule_of}
+use Rattle.pram_text.specs.Judgement.{is_number, value_of_digits, version_of, is_later, rule_of}
 use Rattle.pram_text.specs.Judgement.{Entry, says_array, array_of, init_of, entry_of, is_code}
 use Rattle.pram_text.specs.Text.{words_fault, entry_fault, new_entry_fault, instr_fault}
 use Rattle.pram_text.specs.Text.{rest_fault, names_rule, entries_in, has_code, body_of}
 use Rattle.pram_text.specs.Text.{scope_of, scope_after, scope_in}
-use Rattle.pram_text.specs.Text.{code_line, SaysEntries, SpellsRule, SpellsHeader}
+use Rattle.pram_text.specs.Text.{code_heading, SaysEntries, SpellsRule, SpellsHeader}
 use Rattle.pram_text.proofs.Lists.{NonePasses, any_none, any_at, after_first_at, after_first_skip}
 use Rattle.pram_text.proofs.Lists.{before_first_at, before_first_skip}
 use Rattle.pram_text.proofs.Said.{Said}
@@ -37,9 +37,10 @@ version_cases [] n e = cc
 version_cases (a ∷ []) n e = cc
 version_cases (a ∷ b ∷ []) n e =
     let p = version_picked (bytes_eq a (codes "pram")) (is_number b)
-    (nat_le 1 (number_of b) && nat_le (number_of b) 3) (number_of b) n BadHeader BadNumber e in
+    (nat_le 1 (value_of_digits b) && nat_le (value_of_digits b) 3) (value_of_digits b) n BadHeader
+    BadNumber e in
     let least : 1 ≤ n = subst (λ m. 1 ≤ m) p.1
-    (leb-true 1 (number_of b) (and_parts _ _ p.0).0) in
+    (leb-true 1 (value_of_digits b) (and_parts _ _ p.0).0) in
     ⊎_elim (λ same. inl (sym same)) (λ other. inr (omega arith)) (cases_eq 1 n)
 version_cases (a ∷ b ∷ c ∷ ds) n e = cc
 
@@ -104,13 +105,13 @@ entry_of-rule later cells (a ∷ b ∷ []) rule e =
     both_bad (later && says_array (a ∷ b ∷ [])) _ (no_values (bytes_eq a (codes "init")) _)
 entry_of-rule later cells (a ∷ b ∷ c ∷ ds) rule e = cc
 
-pub code_line_is : (line : Line) → is_code line ≡ true → line ≡ code_line
+pub code_line_is : (line : Line) → is_code line ≡ true → line ≡ code_heading
 unfolding is_code
 code_line_is [] e = cc
 code_line_is (a ∷ []) e = ap (λ word. word ∷ []) ((bytes_eq-Decides a (codes "code")).0 e)
 code_line_is (a ∷ b ∷ ds) e = cc
 
-pub code_line_is_code : is_code code_line ≡ true
+pub code_line_is_code : is_code code_heading ≡ true
 unfolding is_code
 code_line_is_code = refl
 
@@ -135,22 +136,22 @@ rest_fault-inits later cells inits w none =
 
 -- what instruction lines may say after these lines
 pub scope_after-body : (later : Bool) (cells : ℕ) (inits body : List Line) →
-    NonePasses is_code inits → scope_after later cells (inits ++ code_line ∷ body)
+    NonePasses is_code inits → scope_after later cells (inits ++ code_heading ∷ body)
     ≡ scope_of later (entries_in later cells inits)
 scope_after-body later cells inits body none =
     ap (λ ls. scope_of later (entries_in later cells ls))
-    (before_first_at is_code inits code_line body none code_line_is_code)
+    (before_first_at is_code inits code_heading body none code_line_is_code)
 
 pub rest_fault-body : (later : Bool) (cells : ℕ) (inits body : List Line) (w : Line) →
-    NonePasses is_code inits → rest_fault later cells (inits ++ code_line ∷ body) w
+    NonePasses is_code inits → rest_fault later cells (inits ++ code_heading ∷ body) w
     ≡ instr_fault (scope_of later (entries_in later cells inits)) body w
 rest_fault-body later cells inits body w none =
-    ap (λ b. if b then instr_fault (scope_after later cells (inits ++ code_line ∷ body))
-    (after_first is_code (inits ++ code_line ∷ body)) w
-    else (if is_code w then None else entry_fault later cells (inits ++ code_line ∷ body) w))
-    (any_at is_code inits code_line body code_line_is_code)
+    ap (λ b. if b then instr_fault (scope_after later cells (inits ++ code_heading ∷ body))
+    (after_first is_code (inits ++ code_heading ∷ body)) w
+    else (if is_code w then None else entry_fault later cells (inits ++ code_heading ∷ body) w))
+    (any_at is_code inits code_heading body code_line_is_code)
     ∙ ap₂ (λ scope ls. instr_fault scope ls w) (scope_after-body later cells inits body none)
-    (after_first_at is_code inits code_line body none code_line_is_code)
+    (after_first_at is_code inits code_heading body none code_line_is_code)
 
 -- the line of the rule says nothing of arrays, start values and instructions
 entries_in-rule : (later : Bool) (cells : ℕ) (first : Line) (rule : Rule) (lines : List Line) →
@@ -230,15 +231,15 @@ module _ (version cells procs steps : ℕ) (rule : Rule) (header : List Line)
     pub has_code-header : has_code (header ++ inits) ≡ false
     has_code-header = has_code-after inits ∙ any_none is_code inits none
 
-    pub has_code-body : has_code (header ++ (inits ++ code_line ∷ body)) ≡ true
-    has_code-body = has_code-after (inits ++ code_line ∷ body)
-        ∙ any_at is_code inits code_line body code_line_is_code
+    pub has_code-body : has_code (header ++ (inits ++ code_heading ∷ body)) ≡ true
+    has_code-body = has_code-after (inits ++ code_heading ∷ body)
+        ∙ any_at is_code inits code_heading body code_line_is_code
 
-    pub body_of-body : body_of (header ++ (inits ++ code_line ∷ body)) ≡ body
-    body_of-body = body_of-after (inits ++ code_line ∷ body)
-        ∙ after_first_at is_code inits code_line body none code_line_is_code
+    pub body_of-body : body_of (header ++ (inits ++ code_heading ∷ body)) ≡ body
+    body_of-body = body_of-after (inits ++ code_heading ∷ body)
+        ∙ after_first_at is_code inits code_heading body none code_line_is_code
 
-    pub scope_in-body : scope_in (header ++ (inits ++ code_line ∷ body))
+    pub scope_in-body : scope_in (header ++ (inits ++ code_heading ∷ body))
         ≡ scope_of (is_later version) (entries_in (is_later version) cells inits)
-    scope_in-body = scope_in-after (inits ++ code_line ∷ body)
+    scope_in-body = scope_in-after (inits ++ code_heading ∷ body)
         ∙ scope_after-body (is_later version) cells inits body none

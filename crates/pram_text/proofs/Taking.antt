@@ -15,13 +15,13 @@ use Rattle.pram_text.specs.declared.reader.Reader.{Reader}
 use Rattle.text_lines.specs.Lines.{Line, is_allowed, is_filled, words_of, worded}
 use Rattle.pram_text.specs.declared.start.Setup.{Setup}
 use Rattle.pram_text.specs.Judgement.{is_later, is_code, Scope}
-use Rattle.pram_text.specs.Inner.Reading.{HoldsHead, HoldsAt, Holds, HoldsNothing, HoldsStart}
+use Rattle.pram_text.specs.Inner.Reading.{HoldsHead, HoldsAt, HoldsLines, HoldsNothing, HoldsStart}
 use Rattle.pram_text.specs.Inner.Reading.{HoldsCode, HoldsNoCode, Starts, scope_by, TakesHead}
-use Rattle.pram_text.specs.Inner.Reading.{TakesStart, TakesCode, TakesWords, TakesLine}
+use Rattle.pram_text.specs.Inner.Reading.{TakesStart, TakesCode, TakesWords, TakesInLine}
 use Rattle.pram_text.specs.Inner.Reading.{numbers_of, number_if}
 use Rattle.pram_text.specs.Inner.Statement.{array_named}
 use Rattle.pram_text.specs.Text.{words_fault, entries_in, entry_fault, instr_fault}
-use Rattle.pram_text.specs.Text.{line_fault, has_code, body_of, scope_in, code_line}
+use Rattle.pram_text.specs.Text.{line_fault, has_code, body_of, scope_in, code_heading}
 use Rattle.pram_text.proofs.Inits.{SaysEntries-none, entries_in-said}
 use Rattle.pram_text.proofs.Stages.{none_named, has_code-header, has_code-body}
 use Rattle.pram_text.proofs.Stages.{body_of-body, scope_in-body, words_fault-after}
@@ -80,8 +80,9 @@ HoldsAt-from_head Start before reader b h e code = (
 HoldsAt-from_head Code before reader b h e code = absurd (b refl)
 
 pub TakesWords-front : (before : List Line) (w : Line) (old : Reader) (number : ℕ) (head : Head) →
-    old.head.next ≢ Start → old.head.next ≢ Code → Holds before old → TakesHead before w (Ok head) →
-    (words_fault before w ≡ None) × Holds (before ++ w ∷ []) (record old { head = head })
+    old.head.next ≢ Start → old.head.next ≢ Code → HoldsLines before old →
+    TakesHead before w (Ok head) →
+    (words_fault before w ≡ None) × HoldsLines (before ++ w ∷ []) (record old { head = head })
     × (numbers_of old.program ≡ numbers_of old.program ++ number_if (has_code before) number)
 TakesWords-front before w old number head a b h t =
     let parts = HoldsAt-front old.head.next before old a b h in (
@@ -117,7 +118,7 @@ TakesWords-code_line before w old number h code = (
     h.0,
     h.1,
     [],
-    ap₂ (λ ls l. ls ++ l ∷ []) h.2 (code_line_is w code) ∙ append_assoc h.0 h.1 (code_line ∷ []),
+    ap₂ (λ ls l. ls ++ l ∷ []) h.2 (code_line_is w code) ∙ append_assoc h.0 h.1 (code_heading ∷ []),
     h.3,
     h.4,
     h.5 (scope_by old h.4.entries),
@@ -174,7 +175,7 @@ module _ (before : List Line) (reader : Reader) (h : HoldsAt Code before reader)
       words_fault before w ≡ instr_fault (scope_by reader h.5.entries) h.2 w
   words_fault-held w =
       ap (λ ls. words_fault ls w) h.3
-      ∙ words_fault-after _ _ _ _ _ h.0 h.4 (h.1 ++ code_line ∷ h.2) w
+      ∙ words_fault-after _ _ _ _ _ h.0 h.4 (h.1 ++ code_heading ∷ h.2) w
       ∙ rest_fault-body (is_later reader.head.version) reader.head.cells h.1 h.2 w
       (none_named _ _ h.1 h.5.entries h.5.said)
       ∙ ap (λ entries. instr_fault (scope_by reader entries) h.2 w) entries_held
@@ -210,8 +211,8 @@ TakesWords-code before w old number r program later same h next told numbers =
         h.0,
         h.1,
         h.2 ++ w ∷ [],
-        ap (λ ls. ls ++ w ∷ []) h.3 ∙ append_assoc h.0 (h.1 ++ code_line ∷ h.2) (w ∷ [])
-            ∙ ap (λ ls. h.0 ++ ls) (append_assoc h.1 (code_line ∷ h.2) (w ∷ [])),
+        ap (λ ls. ls ++ w ∷ []) h.3 ∙ append_assoc h.0 (h.1 ++ code_heading ∷ h.2) (w ∷ [])
+            ∙ ap (λ ls. h.0 ++ ls) (append_assoc h.1 (code_heading ∷ h.2) (w ∷ [])),
         h.4,
         h.5,
         t.1,
@@ -250,10 +251,10 @@ worded-one line b e = ap (λ b. cond b (words_of line ∷ []) []) e
 pub TakesLine-words : (before : List Line) (line : List ℕ) (old : Reader)
     (number : ℕ) (r : Result (Unit {0}) TextKind) (new : Reader) → list_all is_allowed line ≡ true →
     is_filled (words_of line) ≡ true → TakesWords before (words_of line) old number r new →
-    TakesLine before line old number r new
+    TakesInLine before line old number r new
 TakesLine-words before line old number (Ok u) new lawful some t = (
   line_fault-words before line lawful some ∙ t.0,
-  subst (λ ls. Holds (before ++ ls) new) (sym (worded-one line true some)) t.1,
+  subst (λ ls. HoldsLines (before ++ ls) new) (sym (worded-one line true some)) t.1,
   t.2 ∙ ap (λ b. numbers_of old.program ++ number_if b number)
       (sym (ap (λ b. has_code before && b) some ∙ and-true (has_code before))),
 )
@@ -261,13 +262,13 @@ TakesLine-words before line old number (Err kind) new lawful some t =
     λ memory. line_fault-words before line lawful some ∙ t memory
 
 pub TakesLine-blank : (before : List Line) (line : List ℕ) (reader : Reader) (number : ℕ) →
-    list_all is_allowed line ≡ true → is_filled (words_of line) ≡ false → Holds before reader →
+    list_all is_allowed line ≡ true → is_filled (words_of line) ≡ false → HoldsLines before reader →
     (line_fault before line ≡ None)
-    × Holds (before ++ worded (line ∷ [])) reader × (numbers_of reader.program
+    × HoldsLines (before ++ worded (line ∷ [])) reader × (numbers_of reader.program
     ≡ numbers_of reader.program ++ number_if (has_code before && is_filled (words_of line)) number)
 TakesLine-blank before line reader number lawful none h = (
   line_fault-blank before line lawful none,
-  subst (λ ls. Holds ls reader)
+  subst (λ ls. HoldsLines ls reader)
       (sym (ap (λ ls. before ++ ls) (worded-one line false none) ∙ append-nil before)) h,
   sym (ap (λ b. numbers_of reader.program ++ number_if b number) (and_right (has_code before)
       (is_filled (words_of line)) none) ∙ append-nil (numbers_of reader.program)),

@@ -6,7 +6,8 @@ use Rattle.std.proofs.lemmas.List.{length_push}
 use Rattle.pram_text.specs.declared.fault.TextKind.{TextKind}
 use Rattle.pram_text.specs.declared.fault.TextKind.TheVariants.{OutOfLimits}
 use Rattle.text_lines.specs.Lines.{Line, Word}
-use Rattle.pram_text.specs.Judgement.{◌>>=◌, number_in, most, values_of}
+use Rattle.pram_text.specs.Judgement.{number_in, most, values_of}
+use Rattle.text_lines.specs.Reads.{◌>>=◌}
 
 -- the values so far, and then the others
 abbrev pub then_all : List ℕ → Result (List ℕ) TextKind → Result (List ℕ) TextKind

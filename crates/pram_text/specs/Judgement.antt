@@ -27,12 +27,7 @@ use Rattle.pram_job.specs.Instructions.{Form, table, bare, only_target, target_n
 use Rattle.pram_job.specs.Instructions.{target_place, target_two, place_value, register_index}
 use Rattle.pram_job.specs.Instructions.{only_index}
 use Rattle.text_lines.specs.Lines.{Word, Line, is_filled}
-
--- what the next part says of the value of the part before it, unless that part has a fault
-infixl 10 ◌>>=◌
-abbrev pub ◌>>=◌ : {A B : Type 0} → Result A TextKind → (A → Result B TextKind) → Result B TextKind
-(Ok value) >>= next = next value
-(Err kind) >>= next = Err kind
+use Rattle.text_lines.specs.Reads.{◌>>=◌}
 
 -- ---- numbers, registers and names
 
@@ -40,13 +35,14 @@ abbrev pub ◌>>=◌ : {A B : Type 0} → Result A TextKind → (A → Result B 
 abbrev pub is_number : Word → Bool
 is_number word = is_filled word && list_all is_ascii_digit word
 
-abbrev pub number_of : Word → ℕ
-number_of word = digits_value 10 word
+abbrev pub value_of_digits : Word → ℕ
+value_of_digits word = digits_value 10 word
 
 unfoldable pub number_in : ℕ → ℕ → Word → Result ℕ TextKind
 number_in low high word =
     if is_number word
-    then (if nat_le low (number_of word) && nat_le (number_of word) high then Ok (number_of word)
+    then (if nat_le low (value_of_digits word)
+    && nat_le (value_of_digits word) high then Ok (value_of_digits word)
     else Err OutOfLimits)
     else Err BadNumber
 
@@ -81,8 +77,8 @@ unfoldable pub version_of : Line → Result ℕ TextKind
 version_of (first ∷ number ∷ []) =
     if not (bytes_eq first (codes "pram")) then Err BadHeader
     else (if not (is_number number) then Err BadNumber
-    else (if nat_le 1 (number_of number) && nat_le (number_of number) 3
-    then Ok (number_of number) else Err BadHeader))
+    else (if nat_le 1 (value_of_digits number) && nat_le (value_of_digits number) 3
+    then Ok (value_of_digits number) else Err BadHeader))
 version_of _ = Err BadHeader
 
 -- whether a text of this version has what version 3 brought
@@ -212,16 +208,16 @@ two_operands later make (target_word ∷ first_word ∷ second_word ∷ []) =
 two_operands later make _ = Err WrongOperands
 
 -- a register, and an index or an array and an index
-abbrev pub register_place : Scope → (ℕ → Place → Instr) → Line → Result Instr TextKind
-register_place scope make (target_word ∷ word ∷ []) =
+abbrev pub register_and_place : Scope → (ℕ → Place → Instr) → Line → Result Instr TextKind
+register_and_place scope make (target_word ∷ word ∷ []) =
     register_of target_word >>= λ target. operand_of scope.later word >>= λ index.
     Ok (make target (Cell index))
-register_place scope make (target_word ∷ name ∷ word ∷ []) =
+register_and_place scope make (target_word ∷ name ∷ word ∷ []) =
     if scope.later
     then (register_of target_word >>= λ target. array_at scope name >>= λ array.
     operand_of scope.later word >>= λ index. Ok (make target (Named array index)))
     else Err WrongOperands
-register_place scope make _ = Err WrongOperands
+register_and_place scope make _ = Err WrongOperands
 
 -- an index or an array and an index, and a value
 abbrev pub place_operand : Scope → (Place → Operand → Instr) → Line → Result Instr TextKind
@@ -259,7 +255,7 @@ abbrev pub made_of : Scope → (Word → Option ℕ) → Form → Line → Resul
 made_of scope find (bare instr) operands = no_operand instr operands
 made_of scope find (only_target make) operands = one_register make operands
 made_of scope find (target_number make) operands = register_number make operands
-made_of scope find (target_place make) operands = register_place scope make operands
+made_of scope find (target_place make) operands = register_and_place scope make operands
 made_of scope find (target_two make) operands = two_operands scope.later make operands
 made_of scope find (place_value make) operands = place_operand scope make operands
 made_of scope find (register_index make) operands = register_label find make operands

@@ -39,8 +39,8 @@ abbrev pub defines : Word → Line → Bool
 defines name line = is_named (label_of line) name
 
 -- a label's index is the number of the first instruction that it stands before, counted from 0
-abbrev pub index_of : List Line → Word → Option ℕ
-index_of body name = position (defines name) body
+abbrev pub label_index : List Line → Word → Option ℕ
+label_index body name = position (defines name) body
 
 -- ---- a text spells a job
 
@@ -91,7 +91,7 @@ pub record SpellsInit (cells : ℕ) (entries : List Entry) (init : List ℕ) : T
 abbrev pub scope_of : Bool → List Entry → Scope
 scope_of later entries = record { later = later; arrays = array_in entries }
 
--- So many lines at most, whose labels are names, and no two define one label.
+-- The lines are not too many, their labels are names, and no two define one label.
 pub record IsLabelled (body : List Line) : Type 0 where
   pub few : length body ≤ MAX_CODE
   pub names : All (λ line. IfSome (label_of line) (λ label. IsTrue (is_name label))) body
@@ -102,7 +102,7 @@ pub record IsLabelled (body : List Line) : Type 0 where
 pub record SpellsCode (scope : Scope) (body : List Line) (code : List Instr) : Type 0 where
   pub some : 1 ≤ length body
   pub labelled : IsLabelled body
-  pub said : map (λ line. instr_of scope (index_of body) (unlabelled line)) body
+  pub said : map (λ line. instr_of scope (label_index body) (unlabelled line)) body
       ≡ map (λ instr. Ok instr) code
 
 -- Version 1 has the rule common, and no line for it; the others have one line, which names the
@@ -126,8 +126,8 @@ pub record SpellsHeader (version cells procs steps : ℕ) (rule : Rule) (lines :
   pub steps_said : steps_of steps_line ≡ Ok steps
   pub rule_said : SpellsRule version rule rule_lines
 
-abbrev pub code_line : Line
-code_line = codes "code" ∷ []
+abbrev pub code_heading : Line
+code_heading = codes "code" ∷ []
 
 -- The lines with words: the header, arrays and start values, the line `code`, and the instructions.
 pub record SpellsLines (job : JobData) (lines : List Line) : Type 0 where
@@ -136,7 +136,7 @@ pub record SpellsLines (job : JobData) (lines : List Line) : Type 0 where
   pub inits : List Line
   pub body : List Line
   pub entries : List Entry
-  pub parts : lines ≡ header ++ (inits ++ code_line ∷ body)
+  pub parts : lines ≡ header ++ (inits ++ code_heading ∷ body)
   pub sizes : SpellsHeader version job.cells job.procs job.steps job.rule header
   pub said : SaysEntries (is_later version) job.cells inits entries
   pub init : SpellsInit job.cells entries job.init
@@ -202,7 +202,7 @@ abbrev pub scope_after : Bool → ℕ → List Line → Scope
 scope_after later cells lines =
     scope_of later (entries_in later cells (before_first is_code lines))
 
--- the same, of lines from the first
+-- what the words of instruction lines may be, by the lines from the first
 abbrev pub scope_in : List Line → Scope
 scope_in lines =
     scope_after (is_later (version_in (slice_index_or lines 0 [])))
@@ -251,7 +251,7 @@ numbered_body lines = after_first (λ entry. is_code entry.1) (drop 4 (numbered 
 -- the fault of one of these instruction lines, whose own are none: its jump's label is not defined
 abbrev pub label_fault_at : Scope → List Line → ℕ → Option TextKind
 label_fault_at scope body index =
-    result_err (instr_of scope (index_of body) (unlabelled (slice_index_or body index [])))
+    result_err (instr_of scope (label_index body) (unlabelled (slice_index_or body index [])))
 
 -- The first of so many with a fault has this one.
 pub record IsFirst (fault : ℕ → Option TextKind) (len index : ℕ) (kind : TextKind) : Type 0 where

@@ -13,9 +13,9 @@ const HEADER: u32 = 4;
 /// What is left before the line that is looked for.
 #[derive(Clone, Copy, PartialEq, Eq)]
 enum Ahead {
-    /// So many lines with words, and then those up to the line `code`.
+    /// This many lines with words, and then those up to the line `code`.
     Header(u32),
-    /// So many instructions.
+    /// This many instructions.
     Body(u32),
 }
 

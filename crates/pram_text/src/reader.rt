@@ -2,8 +2,8 @@
 ghost use Rattle.std.specs.Prelude.{◌≡◌, ◌≢◌, ◌≤◌, ℕ, [], List, IfOk, IfErr, vec_len};
 ghost use Rattle.pram_job.specs.Job.{IsJob};
 ghost use Rattle.text_lines.specs.Lines.{Line, words_of};
-ghost use Rattle.pram_text.specs.Inner.Reading.{Finishes, Holds, HoldsAt};
-ghost use Rattle.pram_text.specs.Inner.Reading.{TakesLine, TakesWords, job_of, numbers_of};
+ghost use Rattle.pram_text.specs.Inner.Reading.{FinishesJob, HoldsLines, HoldsAt};
+ghost use Rattle.pram_text.specs.Inner.Reading.{TakesInLine, TakesWords, job_of_head, numbers_of};
 ghost use Rattle.pram_text.specs.Text.{IsRefusal, Spells};
 
 use crate::fault::{TextFault, TextKind};
@@ -58,7 +58,7 @@ struct Reader<'t> {
 impl<'t> Reader<'t> {
     // A reader that has read nothing.
     fn new(alloc: Global) -> Self
-        ensures held { Holds [] result }
+        ensures held { HoldsLines [] result }
         ensures numbers { numbers_of result.program ≡ [] }
     {
         Reader {
@@ -70,9 +70,9 @@ impl<'t> Reader<'t> {
 
     // Reads one line more.
     fn take(&mut self, number: u64, line: &'t [u8]) -> Result<(), TextKind>
-        requires { (before : List Line) × Holds before self.old }
-        ensures { (before : List Line) → Holds before self.old
-            → TakesLine before line.now self.old number result self.new }
+        requires { (before : List Line) × HoldsLines before self.old }
+        ensures { (before : List Line) → HoldsLines before self.old
+            → TakesInLine before line.now self.old number result self.new }
     {
         if !is_lawful(line) {
             Err(TextKind::NotAscii)
@@ -85,8 +85,8 @@ impl<'t> Reader<'t> {
 
     // Reads one line more, with words.
     fn take_words(&mut self, number: u64, line: &'t [u8]) -> Result<(), TextKind>
-        requires { (before : List Line) × Holds before self.old }
-        ensures { (before : List Line) → Holds before self.old
+        requires { (before : List Line) × HoldsLines before self.old }
+        ensures { (before : List Line) → HoldsLines before self.old
             → TakesWords before (words_of line.now) self.old number result self.new }
     {
         match self.head.next {
@@ -114,9 +114,9 @@ impl<'t> Reader<'t> {
 
     // The job that the lines spell, where all of them were read and the last one has this number.
     fn finish(self, last: u64) -> Result<Job, TextFault>
-        requires { (before : List Line) × Holds before self }
-        ensures told { (before : List Line) → Holds before self.entry
-            → Finishes before (numbers_of self.entry.program) last result }
+        requires { (before : List Line) × HoldsLines before self }
+        ensures told { (before : List Line) → HoldsLines before self.entry
+            → FinishesJob before (numbers_of self.entry.program) last result }
         ensures memory { IfErr result (λ fault. fault.kind ≡ TextKind.Memory → fault.line ≡ 0) }
     {
         let Next::Code = self.head.next else {
@@ -139,7 +139,7 @@ impl<'t> Reader<'t> {
         requires held { (before : List Line) × HoldsAt Next.Code before self.now }
         requires some { 1 ≤ vec_len self.now.program.written }
         ensures told { (before : List Line) (last : ℕ) → HoldsAt Next.Code before self.now
-            → Finishes before (numbers_of self.now.program) last result }
+            → FinishesJob before (numbers_of self.now.program) last result }
         ensures memory { IfErr result (λ fault. fault.kind ≡ TextKind.Memory → fault.line ≡ 0) }
     {
         let code = self.program.code()?;
@@ -151,8 +151,8 @@ impl<'t> Reader<'t> {
 
 // The job of a header, of start values and of instructions.
 fn job_of(head: &Head, init: Vec<u32>, code: Vec<Instr>) -> Job
-    requires { IsJob (job_of head.now init.items code.items) }
-    ensures { result ≡ job_of head.now init.items code.items }
+    requires { IsJob (job_of_head head.now init.items code.items) }
+    ensures { result ≡ job_of_head head.now init.items code.items }
 {
     Job::of_parts(head.rule, head.procs, head.steps, init, code)
 }

@@ -8,7 +8,7 @@ ghost use Rattle.text_lines.specs.Lines.{Line, words_of};
 ghost use Rattle.pram_text.specs.Judgement.{gives, says_array};
 ghost use Rattle.pram_text.specs.Text.{value_by};
 ghost use Rattle.pram_text.specs.Inner.Reading.{HoldsNothing, HoldsStart, ReadsValues, TakesStart};
-ghost use Rattle.pram_text.specs.Inner.Reading.{given};
+ghost use Rattle.pram_text.specs.Inner.Reading.{value_given};
 
 use crate::fault::TextKind;
 use crate::header::{array_in, init_in, is_array_line};
@@ -104,7 +104,7 @@ fn values_in(alloc: Global, room: u32, words: &[u8]) -> Result<Vec<u32>, TextKin
 // Makes room for the values of so many cells.
 fn make_room(start: &mut Vec<Option<u32>>, cells: usize) -> Result<(), AllocError>
     ensures room { OnOk result (cells ≤ vec_len start.new) }
-    ensures given { (c : ℕ) → given start.new.items c ≡ given start.old.items c }
+    ensures given { (c : ℕ) → value_given start.new.items c ≡ value_given start.old.items c }
 {
     if start.len() < cells {
         start.resize(cells, None)?;
@@ -115,7 +115,8 @@ fn make_room(start: &mut Vec<Option<u32>>, cells: usize) -> Result<(), AllocErro
 // Whether one of so many cells, from the first on, has a value.
 fn is_given(start: &[Option<u32>], first: usize, len: usize) -> bool
     requires { first + len ≤ length start.now }
-    ensures { result ≡ list_any (λ c. is_some (given start.now c)) (range_with_len first len) }
+    ensures { result ≡ list_any (λ c. is_some (value_given start.now c))
+        (range_with_len first len) }
 {
     (first..first + len).any(|cell| start[cell].is_some())
 }
@@ -124,8 +125,8 @@ fn is_given(start: &[Option<u32>], first: usize, len: usize) -> bool
 fn give(start: &mut [Option<u32>], first: usize, values: &[u32])
     requires { first + length values.now ≤ length start.old }
     ensures len { length start.new ≡ length start.old }
-    ensures given { (c : ℕ) → given start.new c
-        ≡ option_or (value_by (gives first values.now) c) (given start.old c) }
+    ensures given { (c : ℕ) → value_given start.new c
+        ≡ option_or (value_by (gives first values.now) c) (value_given start.old c) }
 {
     for (k, value) in values.iter().enumerate() {
         start[first + k] = Some(*value);
@@ -139,7 +140,7 @@ pub(crate) fn start_values(
     cells: u32,
 ) -> Result<Vec<u32>, AllocError>
     ensures { IfOk result (λ values.
-        values.items ≡ map (λ c. unwrap_or (given start.now c) 0) (range_with_len 0 cells)) }
+        values.items ≡ map (λ c. unwrap_or (value_given start.now c) 0) (range_with_len 0 cells)) }
 {
     (0..cells)
         .map(|cell| start.get(cell as usize).copied().flatten().unwrap_or(0))

@@ -235,7 +235,7 @@ fn statement_of<'a>(
     }
 }
 
-// The same, of the rows that compute with bits or compare, and of those after them.
+// The statement of an instruction that computes with bits or compares, or has a later row.
 fn bits_of<'a>(
     name: &[u8],
     operands: &'a [u8],
@@ -260,7 +260,7 @@ fn bits_of<'a>(
     }
 }
 
-// The same, of the rows that name places, of those that jump, and of those after them.
+// The statement of an instruction that names a place, jumps or halts, or has a later row.
 fn place_of<'a>(
     name: &[u8],
     operands: &'a [u8],
@@ -280,12 +280,12 @@ fn place_of<'a>(
     } else if is_word(name, "halt") {
         no_operand_in(operands).map(|()| plain(Instr::Halt))
     } else {
-        shift_of(name, operands, names)
+        later_of(name, operands, names)
     }
 }
 
-// The same, of the rows that version 3 brought.
-fn shift_of<'a>(
+// The statement of an instruction that version 3 brought.
+fn later_of<'a>(
     name: &[u8],
     operands: &[u8],
     names: &Names<'_, '_>,

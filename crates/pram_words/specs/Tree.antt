@@ -23,8 +23,8 @@ first_leaf_of leaves worker = leaves + worker % leaves
 abbrev pub turns_right : ℕ → ℕ → ℕ → Bool
 turns_right leaves worker node = bit_at (worker % leaves) (depth_of leaves - 1 - depth_of node) == 1
 
--- the same in words: at this depth of a tree of this height, the bit `height - 1 - depth` of the
--- worker's number modulo the leaves is 1
+-- the turn in the compact form, said by bits: at this depth of a tree of this height, the bit
+-- `height - 1 - depth` of the worker's number modulo the leaves is 1
 abbrev pub IsTurn : ℕ → ℕ → ℕ → Bool → Type 0
 IsTurn leaves worker node right =
     (height depth : ℕ) → leaves ≡ 2 ^ height → 2 ^ depth ≤ node → node < 2 ^ (depth + 1) →

@@ -16,9 +16,9 @@ abbrev pub turns_right_wide : ℕ → ℕ → ℕ → Bool
 turns_right_wide workers worker node =
     nat_lt 1 workers && (bit_at worker (min (depth_of node) (turn_bits workers - 1)) == 1)
 
--- the same in words, for the least number of bits that number all workers: at each depth the bit of
--- that number in the worker's number, or, below the last bit, that bit again, is 1; with one worker
--- always left
+-- the turn in the wide form, said by bits: of the least number of bits that number all workers, at
+-- each depth the bit of that number in the worker's number, or, below the last bit, that bit again,
+-- is 1; with one worker always left
 abbrev pub IsTurnWide : ℕ → ℕ → ℕ → Bool → Type 0
 IsTurnWide workers worker node right =
     (bits depth : ℕ) → workers ≤ 2 ^ bits → ((enough : ℕ) → workers ≤ 2 ^ enough → bits ≤ enough) →
@@ -31,10 +31,10 @@ turns_right_in layout worker node =
     by_form layout.form (turns_right layout.leaves worker node)
     (turns_right_wide layout.workers worker node)
 
--- the same in words
-abbrev pub IsTurnOf : Form → LayoutData → ℕ → ℕ → Bool → Type 0
-IsTurnOf Compact layout worker node right = IsTurn layout.leaves worker node right
-IsTurnOf (Wide grain) layout worker node right = IsTurnWide layout.workers worker node right
+-- a worker's way from an inner node, said by bits, in each form
+abbrev pub IsTurnInForm : Form → LayoutData → ℕ → ℕ → Bool → Type 0
+IsTurnInForm Compact layout worker node right = IsTurn layout.leaves worker node right
+IsTurnInForm (Wide grain) layout worker node right = IsTurnWide layout.workers worker node right
 
 -- the node at a depth where a worker's turns lead from the root
 unfoldable pub way_of : LayoutData → ℕ → ℕ → ℕ

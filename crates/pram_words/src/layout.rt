@@ -6,7 +6,7 @@ ghost use Rattle.pram_words.specs.declared.words.Word.TheVariants.{Asked, Claim,
 ghost use Rattle.pram_words.specs.declared.words.Word.TheVariants.{Node, Position, Stored};
 ghost use Rattle.pram_words.specs.Start.{start_of, start_words};
 ghost use Rattle.pram_words.specs.Tree.{depth_of, leaves_of};
-ghost use Rattle.pram_words.specs.Ways.{IsTurnOf, first_leaf_in, turns_right_in, way_of};
+ghost use Rattle.pram_words.specs.Ways.{IsTurnInForm, first_leaf_in, turns_right_in, way_of};
 ghost use Rattle.pram_words.specs.Words.{Admits, IsInRange, IsLayout, IsStamped, LayoutData};
 ghost use Rattle.pram_words.specs.Words.{has_claims, layout_data, layout_of};
 ghost use Rattle.pram_words.specs.Words.{length_of, most_length};
@@ -313,7 +313,7 @@ impl Layout {
         requires node { 1 ≤ n }
         requires inner { n < self.now.leaves }
         ensures value { result ≡ turns_right_in self.now w n }
-        ensures turn { IsTurnOf self.now.form self.now w n result }
+        ensures turn { IsTurnInForm self.now.form self.now w n result }
     {
         match self.form {
             Form::Compact => goes_right(self.leaves, w, n),

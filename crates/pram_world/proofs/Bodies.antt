@@ -21,8 +21,8 @@ use Rattle.pram_world.specs.declared.event.Effect.{Effect}
 use Rattle.pram_world.specs.declared.event.Event.TheVariants.{Go, Stop, Back}
 use Rattle.pram_world.specs.declared.world.Runner.{Runner}
 use Rattle.pram_world.specs.declared.world.Runner.TheVariants as runner
-use Rattle.pram_world.specs.Inner.Holding.{Holds, IsWorld, AllServe, body_of, world_of}
-use Rattle.pram_world.specs.Worlds.{Body, walks, stopped, number, WorldData, start, twinned}
+use Rattle.pram_world.specs.Inner.Holding.{WorldHolds, IsWorld, AllServe, body_of_runner, world_of}
+use Rattle.pram_world.specs.Worlds.{Body, walks, stopped, number, WorldData, start_compact, twinned}
 use Rattle.pram_world.specs.Worlds.{went, replaced, happens, shown, shown_by, effect_of, nothing}
 use Rattle.pram_world.proofs.Cited.{hears_admitted}
 use Rattle.pram_world.proofs.Keeping.{holds_start, holds_step, holds_replaced, holds_twinned}
@@ -30,8 +30,8 @@ use Rattle.pram_world.proofs.Keeping.{stopped_known, back_known, get_set, get_pu
 
 -- a body as contracts see it
 pub body_at : (runners : List Runner) (b : ℕ) (r : Runner) → slice_get runners b ≡ Some r →
-    slice_get (map body_of runners) b ≡ Some (body_of r)
-body_at runners b r is = slice_get-map body_of runners b ∙ ap (option_map body_of) is
+    slice_get (map body_of_runner runners) b ≡ Some (body_of_runner r)
+body_at runners b r is = slice_get-map body_of_runner runners b ∙ ap (option_map body_of_runner) is
 
 same_kept : (j k : WorkerData) → runner.Walks j ≡ runner.Walks k → j ≡ k
 same_kept j k e = cc
@@ -60,11 +60,11 @@ push_serve job y runners r all new = λ at k e. elim (get_push runners at r (run
 set_world :
     (job : JobData) (y : LayoutData) (words : List ℕ) (runners : List Runner) (b : ℕ) (r : Runner) →
     world_of job y words (slice_set runners b r) ≡ record (world_of job y words runners) {
-      bodies = slice_set (map body_of runners) b (body_of r);
+      bodies = slice_set (map body_of_runner runners) b (body_of_runner r);
     }
 set_world job y words runners b r =
     ap (λ (bodies : List Body). record { job = job; layout = y; words = words; bodies = bodies })
-    (map-set body_of runners b r)
+    (map-set body_of_runner runners b r)
 
 -- ---- a step
 
@@ -92,7 +92,13 @@ module _ (job : JobData) (y : LayoutData) (words : List ℕ) (runners : List Run
       s.became ∙ ap (λ (op : Op). told job y w (answer words op)) s.asked in
       set_world job y now runners b (runner.Walks new)
       ∙ ap₂ (λ (ws : List ℕ) (body : Body).
-      record { job = job; layout = y; words = ws; bodies = slice_set (map body_of runners) b body })
+      record {
+        job = job;
+        layout = y;
+        words = ws;
+        bodies =
+            slice_set (map body_of_runner runners) b body;
+      })
       wrote (ap walks became)
       ∙ ap (went (world_of job y words runners) b) (sym (body_at runners b (runner.Walks old) s.at))
 
@@ -106,7 +112,7 @@ module _ (job : JobData) (y : LayoutData) (words : List ℕ) (runners : List Run
       let body = body_at runners b (runner.Walks old) s.at in
       record {
         made = _;
-        holds = subst (λ (x : WorldData). Holds x
+        holds = subst (λ (x : WorldData). WorldHolds x
             (after h.made (ask_of job y old.walking) (answer words (ask_of job y old.walking))))
             (ap (λ o. went (world_of job y words runners) b o) (sym body) ∙ sym step_world)
             (holds_step (world_of job y words runners) h.made b old.walking body h.holds);
@@ -134,15 +140,16 @@ hears_at job y words runners b k found h at is =
 
 pub number_below : (job : JobData) (y : LayoutData) (words : List ℕ) (runners : List Runner)
     (b : ℕ) (r : Runner) → IsWorld job y words runners → slice_get runners b ≡ Some r →
-    number (body_of r) < y.workers
-number_below job y words runners b r h at = (h.holds).numbers b (body_of r) (body_at runners b r at)
+    number (body_of_runner r) < y.workers
+number_below job y words runners b r h at =
+    (h.holds).numbers b (body_of_runner r) (body_at runners b r at)
 
 pub stop_keeps : (job : JobData) (y : LayoutData) (words : List ℕ)
     (runners : List Runner) (b n : ℕ) → IsWorld job y words runners → n < y.workers →
     IsWorld job y words (slice_set runners b (runner.Stopped n))
 stop_keeps job y words runners b n h below = record {
   made = h.made;
-  holds = subst (λ (x : WorldData). Holds x h.made)
+  holds = subst (λ (x : WorldData). WorldHolds x h.made)
       (sym (set_world job y words runners b (runner.Stopped n)))
       (holds_replaced (world_of job y words runners) h.made b
       (stopped n) h.holds (stopped_known (world_of job y words runners) n below));
@@ -154,9 +161,9 @@ pub back_keeps : (job : JobData) (y : LayoutData) (words : List ℕ) (runners : 
     Serves job y k → IsWorld job y words (slice_set runners b (runner.Walks k))
 back_keeps job y words runners b n k h below is serves = record {
   made = h.made;
-  holds = subst (λ (x : WorldData). Holds x h.made) (sym (set_world job y words runners b
+  holds = subst (λ (x : WorldData). WorldHolds x h.made) (sym (set_world job y words runners b
       (runner.Walks k) ∙ ap (λ w. record (world_of job y words runners) {
-        bodies = slice_set (map body_of runners) b (walks w);
+        bodies = slice_set (map body_of_runner runners) b (walks w);
       }) is))
       (holds_replaced (world_of job y words runners) h.made b
       (walks (come_back n)) h.holds (back_known (world_of job y words runners) n below));
@@ -169,49 +176,51 @@ pub twin_world : (job : JobData) (y : LayoutData)
     world_of job y words (runners ++ runner.Walks k ∷ []) ≡ twinned (world_of job y words runners) n
 twin_world job y words runners n k is =
     ap (λ (bodies : List Body). record { job = job; layout = y; words = words; bodies = bodies })
-    (map-append body_of runners (runner.Walks k ∷ [])
-    ∙ ap (λ w. map body_of runners ++ walks w ∷ []) is)
+    (map-append body_of_runner runners (runner.Walks k ∷ [])
+    ∙ ap (λ w. map body_of_runner runners ++ walks w ∷ []) is)
 
 pub twin_keeps : (job : JobData) (y : LayoutData) (words : List ℕ) (runners : List Runner)
     (n : ℕ) (k : WorkerData) → IsWorld job y words runners → n < y.workers → k.walking ≡ started n →
     Serves job y k → IsWorld job y words (runners ++ runner.Walks k ∷ [])
 twin_keeps job y words runners n k h below is serves = record {
   made = h.made;
-  holds = subst (λ (x : WorldData). Holds x h.made) (sym (twin_world job y words runners n k is))
+  holds = subst (λ (x : WorldData). WorldHolds x h.made)
+      (sym (twin_world job y words runners n k is))
       (holds_twinned (world_of job y words runners) h.made n h.holds below);
   serve = push_serve job y runners
       (runner.Walks k) h.serve (λ j e. subst (Serves job y) (sym (same_kept j k e)) serves);
 }
 
 pub stop_world : (job : JobData) (y : LayoutData) (words : List ℕ) (runners : List Runner)
-    (b n : ℕ) (r : Runner) → slice_get runners b ≡ Some r → n ≡ number (body_of r) →
+    (b n : ℕ) (r : Runner) → slice_get runners b ≡ Some r → n ≡ number (body_of_runner r) →
     world_of job y words (slice_set runners b (runner.Stopped n))
     ≡ happens (world_of job y words runners) (Stop b)
 stop_world job y words runners b n r at is =
     set_world job y words runners b (runner.Stopped n)
     ∙ ap (λ m. record (world_of job y words runners) {
-      bodies = slice_set (map body_of runners) b (stopped m);
+      bodies = slice_set (map body_of_runner runners) b (stopped m);
     }) is
     ∙ ap (replaced (world_of job y words runners) b stopped) (sym (body_at runners b r at))
 
 pub back_world : (job : JobData) (y : LayoutData)
     (words : List ℕ) (runners : List Runner) (b n : ℕ) (k : WorkerData) (r : Runner) →
-    slice_get runners b ≡ Some r → n ≡ number (body_of r) → k.walking ≡ come_back n →
+    slice_get runners b ≡ Some r → n ≡ number (body_of_runner r) → k.walking ≡ come_back n →
     world_of job y words (slice_set runners b (runner.Walks k))
     ≡ happens (world_of job y words runners) (Back b)
 back_world job y words runners b n k r at is walks_is =
     set_world job y words runners b (runner.Walks k)
     ∙ ap (λ w. record (world_of job y words runners) {
-      bodies = slice_set (map body_of runners) b (walks w);
+      bodies = slice_set (map body_of_runner runners) b (walks w);
     }) (walks_is ∙ ap come_back is)
     ∙ ap (replaced (world_of job y words runners) b (λ m. walks (come_back m)))
     (sym (body_at runners b r at))
 
 -- no body has the number
 pub no_body : (runners : List Runner) (b : ℕ) → length runners ≤ b →
-    slice_get (map body_of runners) b ≡ None
+    slice_get (map body_of_runner runners) b ≡ None
 no_body runners b past =
-    slice_get-map body_of runners b ∙ ap (option_map body_of) (slice_get_past runners b past)
+    slice_get-map body_of_runner runners b
+    ∙ ap (option_map body_of_runner) (slice_get_past runners b past)
 
 -- a stopped body stays as it is
 pub set_same : {X : Type 0} (xs : List X) (b : ℕ) (x : X) →
@@ -225,13 +234,13 @@ pub still_world : (job : JobData) (y : LayoutData) (words : List ℕ) (runners :
     world_of job y words (slice_set runners b r) ≡ happens (world_of job y words runners) (Go b)
 still_world job y words runners b n r at is =
     ap (world_of job y words) (set_same runners b r at) ∙ ap (went (world_of job y words runners) b)
-    (sym (body_at runners b r at ∙ ap (λ x. Some (body_of x)) is))
+    (sym (body_at runners b r at ∙ ap (λ x. Some (body_of_runner x)) is))
 
 pub still_shown : (job : JobData) (y : LayoutData) (words : List ℕ) (runners : List Runner)
     (b n : ℕ) (r : Runner) → slice_get runners b ≡ Some r → r ≡ runner.Stopped n →
     nothing ≡ shown (world_of job y words runners) (Go b)
 still_shown job y words runners b n r at is = ap (shown_by (world_of job y words runners))
-    (sym (body_at runners b r at ∙ ap (λ x. Some (body_of x)) is))
+    (sym (body_at runners b r at ∙ ap (λ x. Some (body_of_runner x)) is))
 
 -- ---- the start
 
@@ -248,18 +257,18 @@ starts_serve job y runners now k all is serves =
     (λ j e. subst (Serves job y) (sym (same_kept j k e)) serves))
 
 pub starts_bodies : (runners now : List Runner) (k : WorkerData) (n : ℕ) →
-    map body_of runners ≡ map (λ w. walks (started w)) (range_with_len 0 n) →
+    map body_of_runner runners ≡ map (λ w. walks (started w)) (range_with_len 0 n) →
     now ≡ runners ++ runner.Walks k ∷ [] → k.walking ≡ started n →
-    map body_of now ≡ map (λ w. walks (started w)) (range_with_len 0 (n + 1))
+    map body_of_runner now ≡ map (λ w. walks (started w)) (range_with_len 0 (n + 1))
 starts_bodies runners now k n bodies is started_is =
-    ap (map body_of) is ∙ map-append body_of runners (runner.Walks k ∷ [])
+    ap (map body_of_runner) is ∙ map-append body_of_runner runners (runner.Walks k ∷ [])
     ∙ ap₂ (λ xs w. xs ++ walks w ∷ []) bodies started_is
     ∙ sym (map-range_with_len_more (λ (w : ℕ). walks (started w)) 0 n n (omega arith))
 
 pub start_world : (job : JobData) (y : LayoutData) (workers : ℕ) (words : List ℕ)
     (runners : List Runner) → y ≡ layout_of job Compact workers → words ≡ start_words y job →
-    map body_of runners ≡ map (λ w. walks (started w)) (range_with_len 0 workers) →
-    world_of job y words runners ≡ start job workers
+    map body_of_runner runners ≡ map (λ w. walks (started w)) (range_with_len 0 workers) →
+    world_of job y words runners ≡ start_compact job workers
 start_world job y workers words runners is words_is bodies =
     ap₂ (λ ws (bs : List Body). record { job = job; layout = y; words = ws; bodies = bs }) words_is
     bodies ∙ ap (λ (z : LayoutData). record {
@@ -272,11 +281,11 @@ start_world job y workers words runners is words_is bodies =
 pub start_is_world : (job : JobData) (y : LayoutData)
     (workers : ℕ) (words : List ℕ) (runners : List Runner) → IsJob job →
     1 ≤ workers → workers ≤ 64 → y ≡ layout_of job Compact workers → words ≡ start_words y job →
-    map body_of runners ≡ map (λ w. walks (started w)) (range_with_len 0 workers) →
+    map body_of_runner runners ≡ map (λ w. walks (started w)) (range_with_len 0 workers) →
     AllServe job y runners → IsWorld job y words runners
 start_is_world job y workers words runners limits some most is words_is bodies serve = record {
   made = empty;
-  holds = subst (λ (s : WorldData). Holds s empty)
+  holds = subst (λ (s : WorldData). WorldHolds s empty)
       (sym (start_world job y workers words runners is words_is bodies))
       (holds_start job workers limits some most);
   serve = serve;

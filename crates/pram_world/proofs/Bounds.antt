@@ -11,12 +11,12 @@ use Rattle.walkx.specs.Operations.{answer}
 use Rattle.walkx.specs.Records.{Record}
 use Rattle.walkx.specs.Walk.{Walking, ask_of, told, end_of, started, come_back}
 use Rattle.pram_world.specs.declared.event.Event.TheVariants.{Go, Stop, Back}
-use Rattle.pram_world.specs.Inner.Holding.{Holds}
+use Rattle.pram_world.specs.Inner.Holding.{WorldHolds}
 use Rattle.pram_world.specs.Laws.{EveryBodyIsBounded}
-use Rattle.pram_world.specs.Runs.{Act, event, twin, load, Run, begun, noted_by, acted}
-use Rattle.pram_world.specs.Runs.{all_acted, TwinsFit, steps_at, steps_in, Leaves, AllLeave}
+use Rattle.pram_world.specs.Runs.{Act, event, twin, load, Run, run_begun, noted_by, acted}
+use Rattle.pram_world.specs.Runs.{all_acted, TwinsFit, steps_at, steps_in, LeavesAlone, AllLeave}
 use Rattle.pram_world.specs.Worlds.{Body, walks, stopped, number, WorldData}
-use Rattle.pram_world.specs.Worlds.{Walks, going, goes, went, replaced, twinned}
+use Rattle.pram_world.specs.Worlds.{Walks, going, body_goes, went, replaced, twinned}
 use Rattle.pram_world.proofs.Counting.{Counted, counted_none, counted_own, counted_other}
 use Rattle.pram_world.proofs.Counting.{lengthened, get_set_other, get_set_same, goer, fewer}
 use Rattle.pram_world.proofs.Interleaving.{RunHolds, acted_holds, all_hold, begun_holds}
@@ -58,7 +58,7 @@ bounded_in : (s : WorldData) (made : Record) (b n : ℕ) (bodies : List Body) �
 bounded_in s made b n bodies same h = record {
   there = (h.there.0, same ∙ h.there.1);
   most = h.most;
-  counted = λ now. counted_in s made b n bodies same (h.counted (ap goes (sym same) ∙ now));
+  counted = λ now. counted_in s made b n bodies same (h.counted (ap body_goes (sym same) ∙ now));
 }
 
 replaced_bounded : (s : WorldData) (made : Record) (b n c : ℕ) (new : ℕ → Body) (o : Option Body) →
@@ -72,15 +72,15 @@ replaced_bounded s made b n c new (Some body) apart h =
 
 -- its count, o being body c
 abbrev counts : ℕ → ℕ → Option Body → ℕ
-counts b c o = if (c == b) && goes o then 1 else 0
+counts b c o = if (c == b) && body_goes o then 1 else 0
 
-counts_own : (b c : ℕ) (o : Option Body) → c ≡ b → goes o ≡ true → counts b c o ≡ 1
+counts_own : (b c : ℕ) (o : Option Body) → c ≡ b → body_goes o ≡ true → counts b c o ≡ 1
 counts_own b c o same runs = rw (eq-eqb c b same, runs)
 
 counts_other : (b c : ℕ) (o : Option Body) → c ≢ b → counts b c o ≡ 0
 counts_other b c o apart = rw (ne_eqb c b apart)
 
-counts_still : (b c : ℕ) (o : Option Body) → goes o ≡ false → counts b c o ≡ 0
+counts_still : (b c : ℕ) (o : Option Body) → body_goes o ≡ false → counts b c o ≡ 0
 counts_still b c o still =
     elim (cases_eq c b) [ inl e ↦ rw (eq-eqb c b e, still) | inr n ↦ rw (ne_eqb c b n) ]
 
@@ -89,10 +89,10 @@ no_more k n none = omega arith
 
 -- of the body itself
 own_bounded : (s : WorldData) (made : Record) (b n : ℕ) (w : Walking) →
-    Walks s b w → goes (Some (walks w)) ≡ true → Holds s made → Bounded s made b n →
+    Walks s b w → body_goes (Some (walks w)) ≡ true → WorldHolds s made → Bounded s made b n →
     Bounded (went s b (Some (walks w))) (lengthened s made w) b (1 + n)
 own_bounded s made b n w at runs holds h =
-    let here : going s b ≡ true = ap goes at ∙ runs in
+    let here : going s b ≡ true = ap body_goes at ∙ runs in
     let counted = h.counted here in
     let less : n < most_steps s.job = fewer s made b n holds counted (goer s b here) in
     let one : n + 1 ≡ 1 + n = omega arith in
@@ -113,11 +113,12 @@ other_bounded s made b n c w apart h =
     record {
       there = (h.there.0, same ∙ h.there.1);
       most = h.most;
-      counted = λ now. counted_other s made b n c w apart (h.counted (ap goes (sym same) ∙ now));
+      counted = λ now. counted_other s made b n c w apart
+          (h.counted (ap body_goes (sym same) ∙ now));
     }
 
 walked_bounded : (s : WorldData) (made : Record) (b n c : ℕ) (w : Walking) →
-    Walks s c w → goes (Some (walks w)) ≡ true → Holds s made → Bounded s made b n →
+    Walks s c w → body_goes (Some (walks w)) ≡ true → WorldHolds s made → Bounded s made b n →
     Bounded (went s c (Some (walks w))) (lengthened s made w) b (counts b c (Some (walks w)) + n)
 walked_bounded s made b n c w at runs holds h = elim (cases_eq c b) [
   | inl e ↦ subst (λ (k : ℕ). Bounded (went s c (Some (walks w))) (lengthened s made w) b (k + n))
@@ -130,7 +131,7 @@ walked_bounded s made b n c w at runs holds h = elim (cases_eq c b) [
 ]
 
 went_bounded : (s : WorldData) (made : Record) (b n c : ℕ) (o : Option Body) →
-    slice_get s.bodies c ≡ o → Holds s made → Bounded s made b n →
+    slice_get s.bodies c ≡ o → WorldHolds s made → Bounded s made b n →
     Bounded (went s c o) (noted_by s o made) b (counts b c o + n)
 went_bounded s made b n c None is holds h =
     subst (Bounded s made b) (no_more _ n (counts_still b c None refl)) h
@@ -153,7 +154,7 @@ went_bounded s made b n c (Some (walks w)) is holds h =
 -- ---- an act
 
 acted_bounded : (r : Run) (b n : ℕ) (a : Act) →
-    Leaves b a → Holds r.world r.made → Bounded r.world r.made b n →
+    LeavesAlone b a → WorldHolds r.world r.made → Bounded r.world r.made b n →
     Bounded (acted r a).world (acted r a).made b (steps_at r.world b a + n)
 acted_bounded r b n (event (Go c)) leaves holds h =
     went_bounded r.world r.made b n c (slice_get r.world.bodies c) refl holds h
@@ -188,9 +189,9 @@ all_bounded job y r b n (a ∷ acts) fits leaves holds h =
 pub every_body_is_bounded : EveryBodyIsBounded
 every_body_is_bounded job form workers acts later b w limits block some most fits also at leaves =
     let y = layout_of job form workers in
-    let before = all_acted (begun job form workers) acts in
+    let before = all_acted (run_begun job form workers) acts in
     let behind = all_acted before later in
-    let h = all_hold job y (begun job form workers) acts fits
+    let h = all_hold job y (run_begun job form workers) acts fits
     (begun_holds job form workers limits block some most) in
     let after = all_hold job y before later also h in
     let start : Bounded before.world before.made b 0 = record {

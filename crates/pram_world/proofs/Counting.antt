@@ -15,10 +15,10 @@ use Rattle.walkx.specs.Walk.{Walking, ask_of, told, end_of, come_back}
 use Rattle.lawful_walk.specs.Board.{Stands}
 use Rattle.pram_world.specs.declared.event.Event.{Event}
 use Rattle.pram_world.specs.declared.event.Event.TheVariants.{Go, Stop, Back}
-use Rattle.pram_world.specs.Ends.{steps_of}
-use Rattle.pram_world.specs.Inner.Holding.{Fitting, Holds}
+use Rattle.pram_world.specs.Ends.{after_own_steps}
+use Rattle.pram_world.specs.Inner.Holding.{Fitting, WorldHolds}
 use Rattle.pram_world.specs.Worlds.{Body, walks, stopped, WorldData, Walks, KeepsBoard}
-use Rattle.pram_world.specs.Worlds.{going, goes, went, replaced, happens, run}
+use Rattle.pram_world.specs.Worlds.{going, body_goes, went, replaced, happens, run}
 use Rattle.pram_world.proofs.Cited.{has_on, own_steps}
 use Rattle.pram_world.specs.Inner.Holding.{Held}
 use Rattle.pram_world.proofs.Keeping.{holds_step}
@@ -34,7 +34,7 @@ none_is None e = refl
 none_is (Some x) e = absurd (cc)
 
 goer_by : (s : WorldData) (b : ℕ) (o : Option Body) →
-    slice_get s.bodies b ≡ o → goes o ≡ true → IsGoing s b
+    slice_get s.bodies b ≡ o → body_goes o ≡ true → IsGoing s b
 goer_by s b None is e = absurd (cc)
 goer_by s b (Some (stopped n)) is e = absurd (cc)
 goer_by s b (Some (walks w)) is e =
@@ -52,7 +52,7 @@ pub record Counted (now : WorldData) (made : Record) (b n : ℕ) : Type 0 where
   pub at : Walks now b (told_all now.job now.layout worker answers)
   pub has : Has made (history_of now.job now.layout worker answers)
 
-pub counted_none : (s : WorldData) (made : Record) (b : ℕ) → Holds s made →
+pub counted_none : (s : WorldData) (made : Record) (b : ℕ) → WorldHolds s made →
     IsGoing s b → Counted s made b 0
 counted_none s made b h g =
     let k = h.known b g.worker g.walks in
@@ -66,7 +66,7 @@ counted_none s made b h g =
     }
 
 -- so it has made fewer than the bound
-pub fewer : (s : WorldData) (made : Record) (b n : ℕ) → Holds s made → Counted s made b n →
+pub fewer : (s : WorldData) (made : Record) (b n : ℕ) → WorldHolds s made → Counted s made b n →
     IsGoing s b → n < most_steps s.job
 fewer s made b n h c g =
     let same : g.worker ≡ told_all s.job s.layout c.worker c.answers =
@@ -160,21 +160,21 @@ run_board s (e ∷ es) =
     let rest = run_board (happens s e) es in (rest.0 ∙ one.0, rest.1 ∙ one.1)
 
 pub steps_board : (s : WorldData) (b n : ℕ) →
-    ((steps_of s b n).job ≡ s.job) × ((steps_of s b n).layout ≡ s.layout)
+    ((after_own_steps s b n).job ≡ s.job) × ((after_own_steps s b n).layout ≡ s.layout)
 steps_board s b zero = (refl, refl)
 steps_board s b (suc n) =
-    let one = same_board (steps_of s b n) (Go b) in
+    let one = same_board (after_own_steps s b n) (Go b) in
     let rest = steps_board s b n in (one.0 ∙ rest.0, one.1 ∙ rest.1)
 
 -- ---- steps of one body alone
 
 record Chained (s : WorldData) (b n : ℕ) : Type 0 where
   made : Record
-  holds : Holds (steps_of s b n) made
-  counted : Counted (steps_of s b n) made b n
+  holds : WorldHolds (after_own_steps s b n) made
+  counted : Counted (after_own_steps s b n) made b n
 
 chained : (s : WorldData) (b n : ℕ) → Held s →
-    ((k : ℕ) → k ≤ n → going (steps_of s b k) b ≡ true) → Chained s b n
+    ((k : ℕ) → k ≤ n → going (after_own_steps s b k) b ≡ true) → Chained s b n
 chained s b zero h all = record {
   made = h.made;
   holds = h.holds;
@@ -182,8 +182,8 @@ chained s b zero h all = record {
 }
 chained s b (suc n) h all =
     let c = chained s b n h (λ k le. all k (omega arith)) in
-    let now = steps_of s b n in
-    let g = goer (steps_of s b n) b (all n (omega arith)) in
+    let now = after_own_steps s b n in
+    let g = goer (after_own_steps s b n) b (all n (omega arith)) in
     let made = lengthened now c.made g.worker in
     let same : went now b (Some (walks g.worker)) ≡ happens now (Go b) =
     ap (went now b) (sym g.walks) in
@@ -193,19 +193,19 @@ chained s b (suc n) h all =
     e) (counted_own now c.made b n g.worker g.walks c.counted) in
     record {
       made = made;
-      holds = subst (λ (x : WorldData). Holds x made) same
+      holds = subst (λ (x : WorldData). WorldHolds x made) same
           (holds_step now c.made b g.worker g.walks c.holds);
       counted = subst (λ (x : WorldData). Counted x made b (suc n)) same count;
     }
 
 -- a body that was going before each of its steps has made no more than the bound
 pub finish_bound : (s : WorldData) (b n : ℕ) → Held s →
-    ((k : ℕ) → k < n → going (steps_of s b k) b ≡ true) → n ≤ most_steps s.job
+    ((k : ℕ) → k < n → going (after_own_steps s b k) b ≡ true) → n ≤ most_steps s.job
 finish_bound s b zero h all = omega arith
 finish_bound s b (suc n) h all =
     let c = chained s b n h (λ k le. all k (omega arith)) in
-    let less : n < most_steps (steps_of s b n).job = fewer (steps_of s b n)
-    c.made b n c.holds c.counted (goer (steps_of s b n) b (all n (omega arith))) in
+    let less : n < most_steps (after_own_steps s b n).job = fewer (after_own_steps s b n)
+    c.made b n c.holds c.counted (goer (after_own_steps s b n) b (all n (omega arith))) in
     let board = steps_board s b n in
     let same : n < most_steps s.job = subst (λ (job : JobData). n < most_steps job) board.0 less in
     omega arith
@@ -221,14 +221,17 @@ bound_small job y words stands =
     omega arith
 
 -- what one more step of the code comes to
-pub going_more : (s : WorldData) (b n : ℕ) → ((k : ℕ) → k < n → going (steps_of s b k) b ≡ true) →
-    going (steps_of s b n) b ≡ true → (k : ℕ) → k < n + 1 → going (steps_of s b k) b ≡ true
+pub going_more : (s : WorldData) (b n : ℕ) →
+    ((k : ℕ) → k < n → going (after_own_steps s b k) b ≡ true) →
+    going (after_own_steps s b n) b ≡ true → (k : ℕ) → k < n + 1 →
+    going (after_own_steps s b k) b ≡ true
 going_more s b n all last k below = elim (cases_lt k n) [
   | inl less ↦ all k less
   | inr le ↦
-      (let e : n ≡ k = omega arith in subst (λ (m : ℕ). going (steps_of s b m) b ≡ true) e last)
+      (let e : n ≡ k = omega arith in
+      subst (λ (m : ℕ). going (after_own_steps s b m) b ≡ true) e last)
 ]
 
 pub step_more : (s now : WorldData) (b n : ℕ) →
-    now ≡ happens (steps_of s b n) (Go b) → now ≡ steps_of s b (n + 1)
-step_more s now b n is = let e : suc n ≡ n + 1 = omega arith in is ∙ ap (steps_of s b) e
+    now ≡ happens (after_own_steps s b n) (Go b) → now ≡ after_own_steps s b (n + 1)
+step_more s now b n is = let e : suc n ≡ n + 1 = omega arith in is ∙ ap (after_own_steps s b) e

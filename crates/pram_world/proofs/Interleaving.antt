@@ -20,10 +20,10 @@ use Rattle.lawful_walk.proofs.Sounding.{sound_of, sound_ends}
 use Rattle.lawful_walk.proofs.Staying.{loads_keep, records_outlive}
 use Rattle.pram_world.specs.declared.event.Event.{Event}
 use Rattle.pram_world.specs.declared.event.Event.TheVariants.{Go, Stop, Back}
-use Rattle.pram_world.specs.Inner.Holding.{Holds}
+use Rattle.pram_world.specs.Inner.Holding.{WorldHolds}
 use Rattle.pram_world.specs.Interleavings.{Interleaves, IsTrueEnd}
 use Rattle.pram_world.specs.Laws.{EveryInterleaving}
-use Rattle.pram_world.specs.Runs.{Act, event, twin, load, Run, begun, noted_by}
+use Rattle.pram_world.specs.Runs.{Act, event, twin, load, Run, run_begun, noted_by}
 use Rattle.pram_world.specs.Runs.{noted, acted, all_acted, TwinFits, TwinsFit}
 use Rattle.pram_world.specs.Worlds.{Body, walks, stopped, number, WorldData}
 use Rattle.pram_world.specs.Worlds.{went, replaced, happens, Walks}
@@ -39,34 +39,36 @@ use Rattle.pram_world.proofs.Showing.{shows_machine}
 
 -- the record is kept by a step of a body that is going, and stays at one of a body that is not
 went_noted : (s : WorldData) (made : Record) (b : ℕ) (o : Option Body) → slice_get s.bodies b ≡ o →
-    Holds s made → Holds (went s b o) (noted_by s o made)
+    WorldHolds s made → WorldHolds (went s b o) (noted_by s o made)
 went_noted s made b None is h = h
 went_noted s made b (Some (stopped n)) is h = h
 went_noted s made b (Some (walks w)) is h =
     let longer = after made (ask_of s.job s.layout w) (answer s.words (ask_of s.job s.layout w)) in
     elim (cases_Bool (is_none (end_of w.now))) [
       | inl goes ↦
-          subst (λ (v : Bool). Holds (went s b (Some (walks w))) (if v then longer else made))
+          subst (λ (v : Bool). WorldHolds (went s b (Some (walks w))) (if v then longer else made))
           (sym goes) (holds_step s made b w is h)
       | inr over ↦ subst
-          (λ (v : Bool). Holds (went s b (Some (walks w))) (if v then longer else made)) (sym over)
-          (subst (λ (x : WorldData). Holds x made) (sym (idle_went s b (Some (walks w)) is over)) h)
+          (λ (v : Bool). WorldHolds (went s b (Some (walks w))) (if v then longer else made))
+          (sym over)
+          (subst (λ (x : WorldData). WorldHolds x made)
+          (sym (idle_went s b (Some (walks w)) is over)) h)
     ]
 
 stop_noted : (s : WorldData) (made : Record) (b : ℕ) (o : Option Body) → slice_get s.bodies b ≡ o →
-    Holds s made → Holds (replaced s b stopped o) made
+    WorldHolds s made → WorldHolds (replaced s b stopped o) made
 stop_noted s made b None is h = h
 stop_noted s made b (Some body) is h = holds_replaced s made b (stopped (number body)) h
     (stopped_known s (number body) (h.numbers b body is))
 
 back_noted : (s : WorldData) (made : Record) (b : ℕ) (o : Option Body) → slice_get s.bodies b ≡ o →
-    Holds s made → Holds (replaced s b (λ n. walks (come_back n)) o) made
+    WorldHolds s made → WorldHolds (replaced s b (λ n. walks (come_back n)) o) made
 back_noted s made b None is h = h
 back_noted s made b (Some body) is h = holds_replaced s made b (walks (come_back (number body))) h
     (back_known s (number body) (h.numbers b body is))
 
-pub noted_holds : (s : WorldData) (made : Record) (e : Event) → Holds s made →
-    Holds (happens s e) (noted s e made)
+pub noted_holds : (s : WorldData) (made : Record) (e : Event) → WorldHolds s made →
+    WorldHolds (happens s e) (noted s e made)
 noted_holds s made (Go b) h = went_noted s made b (slice_get s.bodies b) refl h
 noted_holds s made (Stop b) h = stop_noted s made b (slice_get s.bodies b) refl h
 noted_holds s made (Back b) h = back_noted s made b (slice_get s.bodies b) refl h
@@ -74,7 +76,7 @@ noted_holds s made (Back b) h = back_noted s made b (slice_get s.bodies b) refl 
 -- ---- the words grow
 
 went_grows : (s : WorldData) (made : Record) (b : ℕ) (o : Option Body) → slice_get s.bodies b ≡ o →
-    Holds s made → Grows s.layout s.words (went s b o).words
+    WorldHolds s made → Grows s.layout s.words (went s b o).words
 went_grows s made b None is h = same s.layout s.words
 went_grows s made b (Some (stopped n)) is h = same s.layout s.words
 went_grows s made b (Some (walks w)) is h =
@@ -86,7 +88,7 @@ replaced_grows : (s : WorldData) (b : ℕ) (new : ℕ → Body) (o : Option Body
 replaced_grows s b new None = same s.layout s.words
 replaced_grows s b new (Some body) = same s.layout s.words
 
-pub event_grows : (s : WorldData) (made : Record) (e : Event) → Holds s made →
+pub event_grows : (s : WorldData) (made : Record) (e : Event) → WorldHolds s made →
     Grows s.layout s.words (happens s e).words
 event_grows s made (Go b) h = went_grows s made b (slice_get s.bodies b) refl h
 event_grows s made (Stop b) h = replaced_grows s b stopped (slice_get s.bodies b)
@@ -94,7 +96,7 @@ event_grows s made (Back b) h = replaced_grows s b (λ n. walks (come_back n)) (
 
 -- ---- ends
 
-true_end : (s : WorldData) (made : Record) (w : Walking) (e : Ended) (b : ℕ) → Holds s made →
+true_end : (s : WorldData) (made : Record) (w : Walking) (e : Ended) (b : ℕ) → WorldHolds s made →
     Walks s b w → w.now ≡ doing.Over e → IsTrueEnd s.job s.layout s.words e
 true_end s made w ended.Done b h at is =
     let k = h.known b w at in
@@ -115,7 +117,7 @@ true_end s made w (ended.Conflict u) b h at is =
 
 -- ---- a world that holds
 
-pub interleaves : (s : WorldData) (made : Record) → Holds s made → Interleaves s made
+pub interleaves : (s : WorldData) (made : Record) → WorldHolds s made → Interleaves s made
 interleaves s made h = record {
   lawful = h.stands;
   backed = h.backed;
@@ -131,12 +133,12 @@ interleaves s made h = record {
 pub record RunHolds (job : JobData) (y : LayoutData) (r : Run) : Type 0 where
   pub job_stays : r.world.job ≡ job
   pub board_stays : r.world.layout ≡ y
-  pub holds : Holds r.world r.made
+  pub holds : WorldHolds r.world r.made
   pub observed : Backed r.world.job r.world.layout r.loads r.world.words
 
 -- records of any seat outlive an event
 outlives : (s : WorldData) (made loads : Record) (e : Event) →
-    Holds s made → Backed s.job s.layout loads s.words →
+    WorldHolds s made → Backed s.job s.layout loads s.words →
     Backed (happens s e).job (happens s e).layout loads (happens s e).words
 outlives s made loads e h backed =
     let board = same_board s e in
@@ -176,7 +178,7 @@ all_hold job y r (a ∷ acts) fits h =
 
 pub begun_holds : (job : JobData) (form : Form) (workers : ℕ) → IsJob job →
     IsGrain (grain_of form) → 1 ≤ workers → workers ≤ 64 →
-    RunHolds job (layout_of job form workers) (begun job form workers)
+    RunHolds job (layout_of job form workers) (run_begun job form workers)
 begun_holds job form workers limits block some most = record {
   job_stays = refl;
   board_stays = refl;
@@ -187,7 +189,7 @@ begun_holds job form workers limits block some most = record {
 pub every_interleaving : EveryInterleaving
 every_interleaving job form workers acts limits block some most fits =
     let h = all_hold job (layout_of job form workers)
-    (begun job form workers) acts fits (begun_holds job form workers limits block some most) in
+    (run_begun job form workers) acts fits (begun_holds job form workers limits block some most) in
     record {
       job_stays = h.job_stays;
       board_stays = h.board_stays;

@@ -17,9 +17,9 @@ use Rattle.lawful_walk.specs.Walks.{phase_now}
 use Rattle.lawful_walk.proofs.Starting.{starts_stand}
 use Rattle.pram_world.specs.declared.event.Event.{Event}
 use Rattle.pram_world.specs.declared.event.Event.TheVariants.{Go, Stop, Back}
-use Rattle.pram_world.specs.Inner.Holding.{Fitting, Held, Holds}
+use Rattle.pram_world.specs.Inner.Holding.{Fitting, Held, WorldHolds}
 use Rattle.pram_world.specs.Worlds.{Body, walks, stopped, number, WorldData}
-use Rattle.pram_world.specs.Worlds.{start, start_on, twinned, went, replaced}
+use Rattle.pram_world.specs.Worlds.{start_compact, start_on, twinned, went, replaced}
 use Rattle.pram_world.specs.Worlds.{happens, run, Walks, StaleChangesNothing}
 use Rattle.pram_world.proofs.Cited.{moves, known_on, more, fits_on}
 use Rattle.pram_world.proofs.Cited.{start_fits, back_fits, in_workers}
@@ -65,7 +65,8 @@ starts_at low (suc n) (suc at) body e =
 -- ---- the start
 
 pub holds_start_on : (job : JobData) (form : Form) (workers : ℕ) → IsJob job →
-    IsGrain (grain_of form) → 1 ≤ workers → workers ≤ 64 → Holds (start_on job form workers) empty
+    IsGrain (grain_of form) → 1 ≤ workers → workers ≤ 64 →
+    WorldHolds (start_on job form workers) empty
 holds_start_on job form workers limits block some most = record {
   stands = starts_stand job form workers limits block some most;
   backed = tt;
@@ -87,14 +88,14 @@ pub one_processor : IsGrain (grain_of Compact)
 one_processor = ((0, refl), omega arith)
 
 pub holds_start : (job : JobData) (workers : ℕ) → IsJob job → 1 ≤ workers → workers ≤ 64 →
-    Holds (start job workers) empty
+    WorldHolds (start_compact job workers) empty
 holds_start job workers limits some most =
     holds_start_on job Compact workers limits one_processor some most
 
 -- ---- a step
 
 pub holds_step : (s : WorldData) (made : Record) (b : ℕ) (w : Walking) →
-    Walks s b w → Holds s made → Holds (went s b (Some (walks w)))
+    Walks s b w → WorldHolds s made → WorldHolds (went s b (Some (walks w)))
     (after made (ask_of s.job s.layout w) (answer s.words (ask_of s.job s.layout w)))
 holds_step s made b w is h =
     let job = s.job in
@@ -155,9 +156,10 @@ back_known s n below = (
 
 -- bodies of which each is an old one or this one
 others_hold : (s : WorldData) (made : Record) (bodies : List Body) (new : Body) →
-    Holds s made → IsKnown s new →
+    WorldHolds s made → IsKnown s new →
     ((at : ℕ) (body : Body) → slice_get bodies at ≡ Some body →
-    (body ≡ new) ⊎ (slice_get s.bodies at ≡ Some body)) → Holds (record s { bodies = bodies }) made
+    (body ≡ new) ⊎ (slice_get s.bodies at ≡ Some body)) →
+    WorldHolds (record s { bodies = bodies }) made
 others_hold s made bodies new h known each = record {
   stands = h.stands;
   backed = h.backed;
@@ -171,13 +173,13 @@ others_hold s made bodies new h known each = record {
   ];
 }
 
-pub holds_replaced : (s : WorldData) (made : Record) (b : ℕ) (new : Body) → Holds s made →
-    IsKnown s new → Holds (record s { bodies = slice_set s.bodies b new }) made
+pub holds_replaced : (s : WorldData) (made : Record) (b : ℕ) (new : Body) → WorldHolds s made →
+    IsKnown s new → WorldHolds (record s { bodies = slice_set s.bodies b new }) made
 holds_replaced s made b new h known = others_hold s made (slice_set s.bodies b new) new h known
     (λ at body e. get_set s.bodies b at new body e)
 
-pub holds_twinned : (s : WorldData) (made : Record) (w : ℕ) → Holds s made →
-    w < s.layout.workers → Holds (twinned s w) made
+pub holds_twinned : (s : WorldData) (made : Record) (w : ℕ) → WorldHolds s made →
+    w < s.layout.workers → WorldHolds (twinned s w) made
 holds_twinned s made w h below =
     others_hold s made (s.bodies ++ walks (started w) ∷ []) (walks (started w)) h
     (started_known s w below) (λ at body e. get_push s.bodies at (walks (started w)) body e)

@@ -7,7 +7,7 @@ use Rattle.lawful_walk.specs.Moments.{WasBacked}
 use Rattle.lawful_walk.specs.Walks.{IsLawfulRead}
 use Rattle.lawful_walk.proofs.Sounding.{was_read}
 use Rattle.pram_world.specs.Laws.{EveryReadIsLawful}
-use Rattle.pram_world.specs.Runs.{Run, begun, all_acted}
+use Rattle.pram_world.specs.Runs.{Run, run_begun, all_acted}
 use Rattle.pram_world.proofs.Interleaving.{RunHolds, all_hold, begun_holds}
 
 -- what an observer loaded was borne out
@@ -23,10 +23,10 @@ pub every_read_is_lawful : EveryReadIsLawful
 every_read_is_lawful job form workers
     acts later c step value answers limits block some most fits also cell is read =
     let y = layout_of job form workers in
-    let before = all_acted (begun job form workers) acts in
+    let before = all_acted (run_begun job form workers) acts in
     let behind = all_acted before later in
     let h = all_hold job y before later also (all_hold job y
-    (begun job form workers) acts fits (begun_holds job form workers limits block some most)) in
+    (run_begun job form workers) acts fits (begun_holds job form workers limits block some most)) in
     let was = subst (λ (r : Record). WasBacked job y r) read (was_observed job y behind h) in
     let good = was_read job y before.loads c step value answers cell is was in (
       subst (λ (r : Record). IsLawfulRead job y before.loads r c step value) (sym read) good.0,

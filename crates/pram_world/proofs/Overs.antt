@@ -16,9 +16,9 @@ use Rattle.walkx.specs.Records.{Record, Knows}
 use Rattle.walkx.specs.Walk.{Walking, ask_of, told, next_op, rest_of, end_of}
 use Rattle.lawful_walk.specs.Board.{root, conflict}
 use Rattle.pram_world.specs.declared.event.Event.TheVariants.{Go}
-use Rattle.pram_world.specs.Inner.Holding.{Fitting, Holds}
-use Rattle.pram_world.specs.Outcomes.{IsOutcome}
-use Rattle.pram_world.specs.Worlds.{Body, walks, stopped, WorldData, Walks, goes, going}
+use Rattle.pram_world.specs.Inner.Holding.{Fitting, WorldHolds}
+use Rattle.pram_world.specs.Outcomes.{IsWorldOutcome}
+use Rattle.pram_world.specs.Worlds.{Body, walks, stopped, WorldData, Walks, body_goes, going}
 use Rattle.pram_world.specs.Worlds.{went, shown, shown_by, effect_of, happens, nothing}
 use Rattle.pram_world.proofs.Answering.{root_most}
 use Rattle.pram_world.proofs.Bodies.{set_same}
@@ -50,7 +50,7 @@ same_step s b w v op e is same at =
     ∙ ap (λ (bs : List Body). record s { bodies = bs }) (set_same s.bodies b (walks w) at)
 
 pub idle_went : (s : WorldData) (b : ℕ) (o : Option Body) → slice_get s.bodies b ≡ o →
-    goes o ≡ false → went s b o ≡ s
+    body_goes o ≡ false → went s b o ≡ s
 idle_went s b None is still = refl
 idle_went s b (Some (stopped n)) is still = refl
 idle_went s b (Some (walks w)) is still =
@@ -59,7 +59,8 @@ idle_went s b (Some (walks w)) is still =
     (ask_of s.job s.layout w) e.0 (asks_over s.job s.layout w e.0 e.1)
     (told_still s.job s.layout w (answer s.words (ask_of s.job s.layout w)) e.0 e.1) is
 
-idle_shown : (s : WorldData) (b : ℕ) (o : Option Body) → goes o ≡ false → shown_by s o ≡ nothing
+idle_shown : (s : WorldData) (b : ℕ) (o : Option Body) → body_goes o ≡ false →
+    shown_by s o ≡ nothing
 idle_shown s b None still = refl
 idle_shown s b (Some (stopped n)) still = refl
 idle_shown s b (Some (walks w)) still =
@@ -73,7 +74,7 @@ idle s b still =
 
 -- ---- how it ended
 
-ends_as : (s : WorldData) (made : Record) (w : Walking) (e : Ended) → Holds s made →
+ends_as : (s : WorldData) (made : Record) (w : Walking) (e : Ended) → WorldHolds s made →
     Knows s.job s.layout made w → Fitting s.job s.layout w → w.now ≡ doing.Over e →
     (conflict s.layout s.words ≢ 0) ⊎ (root s.layout s.words ≡ 3 * s.job.steps)
 ends_as s made w ended.Done h knows fits is =
@@ -84,16 +85,18 @@ ends_as s made w (ended.Conflict u) h knows fits is =
     inl (ended_conflict s.job s.layout made w u s.words h.stands h.backed knows fits is)
 
 -- Once a worker is over, word 0 is not 0, or the root shows the last step.
-over_tells : (s : WorldData) (made : Record) (b : ℕ) (w : Walking) → Holds s made → Walks s b w →
+over_tells : (s : WorldData) (made : Record) (b : ℕ) (w : Walking) → WorldHolds s made →
+    Walks s b w →
     going s b ≡ false → (conflict s.layout s.words ≢ 0) ⊎ (root s.layout s.words ≡ 3 * s.job.steps)
 over_tells s made b w h at still =
-    let e = over_by w.now (sym (ap goes at) ∙ still) in
+    let e = over_by w.now (sym (ap body_goes at) ∙ still) in
     let k = h.known b w at in
     ends_as s made w e.0 h k.0 k.1 e.1
 
 -- so the outcome is not that the run is unfinished
-pub over_finished : (s : WorldData) (made : Record) (b : ℕ) (w : Walking) (t : ℕ) → Holds s made →
-    Walks s b w → going s b ≡ false → IsOutcome s (Unfinished t) → ⊥
+pub over_finished : (s : WorldData) (made : Record) (b : ℕ) (w : Walking) (t : ℕ) →
+    WorldHolds s made →
+    Walks s b w → going s b ≡ false → IsWorldOutcome s (Unfinished t) → ⊥
 over_finished s made b w t h at still outcome = elim (over_tells s made b w h at still) [
   | inl some ↦ some outcome.0
   | inr last ↦ outcome.1 last

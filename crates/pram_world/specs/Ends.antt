@@ -16,16 +16,17 @@ abbrev pub end_in : WorldData → ℕ → Option Ended
 end_in world body = end_by (slice_get world.bodies body)
 
 -- the world after so many steps of the body
-abbrev pub steps_of : WorldData → ℕ → ℕ → WorldData
-steps_of world body zero = world
-steps_of world body (suc count) = happens (steps_of world body count) (Go body)
+abbrev pub after_own_steps : WorldData → ℕ → ℕ → WorldData
+after_own_steps world body zero = world
+after_own_steps world body (suc count) = happens (after_own_steps world body count) (Go body)
 
 -- The body made atomic steps until it was over, each while it was going, and no more than the
 -- own-step bound.
 pub record Finished (world : WorldData) (body : ℕ) (now : WorldData) (ended : Ended) : Type 0 where
   pub steps : ℕ
-  pub is : now ≡ steps_of world body steps
-  pub going : (earlier : ℕ) → earlier < steps → going (steps_of world body earlier) body ≡ true
+  pub is : now ≡ after_own_steps world body steps
+  pub going : (earlier : ℕ) → earlier < steps →
+      going (after_own_steps world body earlier) body ≡ true
   pub over : end_in now body ≡ Some ended
   pub most : steps ≤ most_steps world.job
 

@@ -11,7 +11,7 @@ use Rattle.walkx.specs.Walk.{Walking}
 use Rattle.lawful_walk.specs.Moments.{Backed, afters}
 use Rattle.lawful_walk.specs.Walks.{IsLawfulRead}
 use Rattle.pram_world.specs.Interleavings.{Interleaves}
-use Rattle.pram_world.specs.Runs.{Act, Run, begun, all_acted, TwinsFit, steps_in, AllLeave}
+use Rattle.pram_world.specs.Runs.{Act, Run, run_begun, all_acted, TwinsFit, steps_in, AllLeave}
 use Rattle.pram_world.specs.Worlds.{Walks}
 
 -- the job and the board stay, and the world is as said above, with the record of all atomic steps;
@@ -26,7 +26,7 @@ pub record IsLawfulRun (job : JobData) (form : Form) (workers : ℕ) (run : Run)
 abbrev pub EveryInterleaving : Type 0
 EveryInterleaving = (job : JobData) (form : Form) (workers : ℕ) (acts : List Act) → IsJob job →
     IsGrain (grain_of form) → 1 ≤ workers → workers ≤ 64 → TwinsFit workers acts →
-    IsLawfulRun job form workers (all_acted (begun job form workers) acts)
+    IsLawfulRun job form workers (all_acted (run_begun job form workers) acts)
 
 -- After such acts, an observer that reads a cell, whatever happens between its loads, has a lawful
 -- read within five of them.
@@ -38,7 +38,7 @@ EveryReadIsLawful =
     TwinsFit workers acts → TwinsFit workers later →
     cell < job.cells →
     let layout = layout_of job form workers in let before =
-    all_acted (begun job form workers) acts in let now = all_acted before later in
+    all_acted (run_begun job form workers) acts in let now = all_acted before later in
     rest (reader_script layout cell) answers ≡ ends (At step value) →
     now.loads ≡ afters before.loads (heard_in (reader_script layout cell) answers) →
     IsLawfulRead job layout before.loads now.loads cell step value
@@ -53,6 +53,6 @@ EveryBodyIsBounded =
     IsJob job → IsGrain (grain_of form) → 1 ≤ workers → workers ≤ 64 →
     TwinsFit workers acts → TwinsFit workers later →
     let layout = layout_of job form workers in let before =
-    all_acted (begun job form workers) acts in
+    all_acted (run_begun job form workers) acts in
     Walks before.world body walking → AllLeave body later →
     steps_in before body later ≤ most_steps job

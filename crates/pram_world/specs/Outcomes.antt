@@ -20,5 +20,5 @@ IsTold job layout words (Unfinished t) =
     (conflict layout words ≡ 0) × (root layout words ≢ 3 * job.steps)
     × (t ≡ root layout words / 3) × IsReached job t
 
-abbrev pub IsOutcome : WorldData → RunAnswer → Type 0
-IsOutcome world = IsTold world.job world.layout world.words
+abbrev pub IsWorldOutcome : WorldData → RunAnswer → Type 0
+IsWorldOutcome world = IsTold world.job world.layout world.words

@@ -28,8 +28,9 @@ pub record Run : Type 0 where
   pub made : Record
   pub loads : Record
 
-abbrev pub begun : JobData → Form → ℕ → Run
-begun job form workers = record { world = start_on job form workers; made = empty; loads = empty }
+abbrev pub run_begun : JobData → Form → ℕ → Run
+run_begun job form workers =
+    record { world = start_on job form workers; made = empty; loads = empty }
 
 -- the record with the next atomic step of this body, if it is a worker that is not over
 abbrev pub noted_by : WorldData → Option Body → Record → Record
@@ -84,12 +85,12 @@ steps_in run body [] = 0
 steps_in run body (act ∷ acts) = steps_at run.world body act + steps_in (acted run act) body acts
 
 -- it is neither stopped nor brought back
-abbrev pub Leaves : ℕ → Act → Type 0
-Leaves body (event (Go other)) = Unit {0}
-Leaves body (event (Stop other)) = other ≢ body
-Leaves body (event (Back other)) = other ≢ body
-Leaves body (twin worker) = Unit {0}
-Leaves body (load word) = Unit {0}
+abbrev pub LeavesAlone : ℕ → Act → Type 0
+LeavesAlone body (event (Go other)) = Unit {0}
+LeavesAlone body (event (Stop other)) = other ≢ body
+LeavesAlone body (event (Back other)) = other ≢ body
+LeavesAlone body (twin worker) = Unit {0}
+LeavesAlone body (load word) = Unit {0}
 
 abbrev pub AllLeave : ℕ → List Act → Type 0
-AllLeave body = AllByRecursion (Leaves body)
+AllLeave body = AllByRecursion (LeavesAlone body)

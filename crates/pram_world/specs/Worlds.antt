@@ -46,8 +46,8 @@ start_on job form workers = record {
 }
 
 -- the world of the code has the compact form
-abbrev pub start : JobData → ℕ → WorldData
-start job workers = start_on job Compact workers
+abbrev pub start_compact : JobData → ℕ → WorldData
+start_compact job workers = start_on job Compact workers
 
 -- with one body more, this worker newly started
 abbrev pub twinned : WorldData → ℕ → WorldData
@@ -91,7 +91,7 @@ run world (event ∷ events) = run (happens world event) events
 abbrev pub IsLawful : WorldData → Type 0
 IsLawful world = Stands world.job world.layout world.words
 
--- so they do between the events
+-- the words stand between the events
 abbrev pub IsLawfulThroughout : WorldData → List Event → Type 0
 IsLawfulThroughout world events = (count : ℕ) → IsLawful (run world (take count events))
 
@@ -138,13 +138,13 @@ abbrev pub Walks : WorldData → ℕ → Walking → Type 0
 Walks world body walking = slice_get world.bodies body ≡ Some (walks walking)
 
 -- it is neither stopped nor over
-abbrev pub goes : Option Body → Bool
-goes None = false
-goes (Some (stopped worker)) = false
-goes (Some (walks walking)) = is_none (end_of walking.now)
+abbrev pub body_goes : Option Body → Bool
+body_goes None = false
+body_goes (Some (stopped worker)) = false
+body_goes (Some (walks walking)) = is_none (end_of walking.now)
 
 abbrev pub going : WorldData → ℕ → Bool
-going world body = goes (slice_get world.bodies body)
+going world body = body_goes (slice_get world.bodies body)
 
 -- *A stale write changes no word*: where the phase of a body is at most the root, its step changes
 -- no word but its own position.

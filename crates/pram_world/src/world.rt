@@ -11,13 +11,14 @@ ghost use Rattle.walkx.specs.Walk.{come_back};
 ghost use Rattle.lawful_walk.specs.Board.{Grows, held};
 ghost use Rattle.pram_world.specs.declared.event.Event.TheVariants.{Go, Stop, Back};
 ghost use Rattle.pram_world.specs.Ends.{Finishes, end_in};
-ghost use Rattle.pram_world.specs.Inner.Holding.{AreStarted, Held, IsHeard, IsOnBoard, body_of};
+ghost use Rattle.pram_world.specs.Inner.Holding.{AreStarted, Held, HearsEffect, IsOnBoard};
+ghost use Rattle.pram_world.specs.Inner.Holding.{body_of_runner};
 ghost use Rattle.pram_world.specs.Interleavings.{IsInterleaved};
-ghost use Rattle.pram_world.specs.Outcomes.{IsOutcome};
+ghost use Rattle.pram_world.specs.Outcomes.{IsWorldOutcome};
 ghost use Rattle.pram_world.specs.Standings.{standing_of};
 ghost use Rattle.pram_world.specs.Worlds.{IsLawful, IsLawfulThroughout, IsTwinned, KeepsBoard};
 ghost use Rattle.pram_world.specs.Worlds.{StaleChangesNothing, effect_of, going, happens};
-ghost use Rattle.pram_world.specs.Worlds.{number as number_of, run, shown, start};
+ghost use Rattle.pram_world.specs.Worlds.{number as number_of, run, shown, start_compact};
 
 use crate::event::{Effect, Event, Standing};
 use crate::outcome::{answer, place_words};
@@ -69,7 +70,7 @@ impl World {
     pub fn new(alloc: Global, job: &Job, workers: u32) -> Result<World, AllocError>
         requires some { 1 ≤ workers }
         requires most { workers ≤ 64 }
-        ensures { IfOk result (λ w. w ≡ start job.now workers) }
+        ensures { IfOk result (λ w. w ≡ start_compact job.now workers) }
     {
         let job = job.try_clone()?;
         let layout = Layout::new(&job, workers);
@@ -214,7 +215,7 @@ impl World {
     /// The conflict that word 0 names, or the cells once the root shows the last step, or the
     /// number of finished steps.
     pub fn outcome(&self) -> Result<RunAnswer, AllocError>
-        ensures { IfOk result (IsOutcome self.now) }
+        ensures { IfOk result (IsWorldOutcome self.now) }
     {
         answer(self.alloc, &self.job, &self.layout, self.words.as_slice())
     }
@@ -284,7 +285,7 @@ impl World {
 
 // The number of the worker that a body is, or was.
 fn number(body: &Runner) -> u32
-    ensures { result ≡ number_of (body_of body.now) }
+    ensures { result ≡ number_of (body_of_runner body.now) }
 {
     match body {
         Runner::Walks(worker) => worker.number(),
@@ -294,9 +295,9 @@ fn number(body: &Runner) -> u32
 
 // The worker of a body's number, coming back.
 fn returning(body: &Runner) -> Worker
-    ensures value { result.walking ≡ come_back (number_of (body_of body.now)) }
+    ensures value { result.walking ≡ come_back (number_of (body_of_runner body.now)) }
     ensures serves { (job : JobData) (y : LayoutData) →
-        number_of (body_of body.now) < y.workers → Serves job y result }
+        number_of (body_of_runner body.now) < y.workers → Serves job y result }
 {
     Worker::back(number(body))
 }
@@ -345,7 +346,7 @@ fn shows(op: Op, before: u64, after: u64) -> Effect
 
 // What a worker hears of its step.
 fn heard(effect: Effect) -> u64
-    ensures { IsHeard effect result }
+    ensures { HearsEffect effect result }
 {
     match effect.op {
         None | Some(Op::Store(_, _)) => 0,
@@ -353,7 +354,7 @@ fn heard(effect: Effect) -> u64
     }
 }
 
-// So many workers, newly started.
+// Newly started workers, one for each number below the count.
 fn start_bodies(alloc: Global, workers: u32) -> Result<Vec<Runner>, AllocError>
     ensures { IfOk result (λ bodies. AreStarted workers bodies.items) }
 {

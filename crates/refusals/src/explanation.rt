@@ -30,11 +30,11 @@ pub struct Explanation<'a> {
 
 impl<'a> Explanation<'a> {
     fn job(&self) -> &'a str {
-        shown(self.line.file())
+        shown(self.line.file)
     }
 
     fn plan(&self) -> &'a str {
-        shown(self.line.plan().unwrap_or(""))
+        shown(self.line.plan.unwrap_or(""))
     }
 }
 
@@ -52,7 +52,11 @@ impl fmt::Display for Explanation<'_> {
                 on_row(f, self.plan(), row, sentences::of_plan(row, kind))
             }
             CommandFault::OutsideCell { cell } => without(f, self.job(), "cell", cell),
-            CommandFault::OutsidePlace { at } => without_place(f, self.job(), self.line.place(at)),
+            CommandFault::OutsidePlace { at } => without_place(
+                f,
+                self.job(),
+                self.line.ask.place(at),
+            ),
             CommandFault::OutsideStep { step } => without(f, self.job(), "step", step),
             CommandFault::JobDevice => on_file(f, self.job(), sentences::of_file(self.reasons.job)),
             CommandFault::PlanDevice => {

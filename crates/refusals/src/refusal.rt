@@ -111,7 +111,8 @@ pub fn tell<E: Sink>(alloc: Global, refusal: Refusal<'_>, err: &mut E) -> u8
     tell_first(alloc, refusal, err).0
 }
 
-/// The same, and whether standard error takes more.
+/// Tells a refusal, and gives its status and whether standard error takes more. Where there is no
+/// memory to tell it, it tells that.
 pub(crate) fn tell_first<E: Sink>(alloc: Global, refusal: Refusal<'_>, err: &mut E) -> (u8, bool)
     requires { E.has_failed err.old ≡ false }
     ensures status { (result.0 ≡ MEMORY) ⊎ (result.0 ≡ refusal_status refusal.entry) }

@@ -62,13 +62,13 @@ fn refusal_of<'a>(line: &Line<'a>, fault: CommandFault) -> Refusal<'a>
         CommandFault::Program(refusal) => Refusal::Program(refusal),
         CommandFault::Plan { row, kind } => Refusal::Plan { row, kind },
         CommandFault::OutsideCell { cell } => Refusal::Cell(cell),
-        CommandFault::OutsidePlace { at } => Refusal::Place(line.place(at)),
+        CommandFault::OutsidePlace { at } => Refusal::Place(line.ask.place(at)),
         CommandFault::OutsideStep { step } => Refusal::Step(step),
-        CommandFault::JobDevice => Refusal::File(line.file()),
-        CommandFault::PlanDevice => Refusal::File(line.plan().unwrap_or("")),
+        CommandFault::JobDevice => Refusal::File(line.file),
+        CommandFault::PlanDevice => Refusal::File(line.plan.unwrap_or("")),
         CommandFault::OutDevice => Refusal::Output,
-        CommandFault::JobTooLarge => Refusal::Size(line.file()),
-        CommandFault::PlanTooLarge => Refusal::Size(line.plan().unwrap_or("")),
+        CommandFault::JobTooLarge => Refusal::Size(line.file),
+        CommandFault::PlanTooLarge => Refusal::Size(line.plan.unwrap_or("")),
         CommandFault::Memory => Refusal::Memory,
     }
 }

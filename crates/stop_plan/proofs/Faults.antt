@@ -9,54 +9,56 @@ use Rattle.std.specs.List.{slice_get}
 use Rattle.std.specs.Result.{result_ok}
 use Rattle.std.proofs.lemmas.List.Elements.{filter_map-append}
 use Rattle.stop_plan.specs.Plan.{stops}
-use Rattle.stop_plan.specs.Records.{FirstFault, Record, SpellsPlan, fault_at}
-use Rattle.stop_plan.specs.Records.{fault_below, fault_of, is_header, row_of, rows_of}
+use Rattle.stop_plan.specs.Records.{FirstFault, PlanRecord, SpellsPlan, record_fault_at}
+use Rattle.stop_plan.specs.Records.{fault_below, fault_of, is_header, row_of_record, rows_of}
 use Rattle.stop_plan.specs.declared.plan.PlanKind.{PlanKind}
 use Rattle.stop_plan.specs.declared.plan.PlanKind.TheVariants.{BadRow}
 use Rattle.stop_plan.specs.declared.plan.Row.{Row}
 
-pub header_taken : (workers row : ℕ) (given : List Record) (fields : Record) (draft : List Row) →
+pub header_taken : (workers row : ℕ) (given : List PlanRecord) (fields : PlanRecord)
+    (draft : List Row) →
     row ≡ 1 → length given + 1 ≡ row → is_header fields ≡ true → draft ≡ rows_of workers given →
     (fault_of workers given fields ≡ None) × (draft ≡ rows_of workers (given ++ fields ∷ []))
 unfolding fault_of rows_of
 header_taken workers row [] fields draft one first header rows = (rw header refl, rows)
 header_taken workers row (g ∷ gs) fields draft one first header rows = absurd (omega arith)
 
-pub header_refused : (workers row : ℕ) (given : List Record) (fields : Record) → row ≡ 1 →
+pub header_refused : (workers row : ℕ) (given : List PlanRecord) (fields : PlanRecord) → row ≡ 1 →
     length given + 1 ≡ row → is_header fields ≡ false → fault_of workers given fields ≡ Some BadRow
 unfolding fault_of
 header_refused workers row [] fields one first other = rw other refl
 header_refused workers row (g ∷ gs) fields one first other = absurd (omega arith)
 
-pub fault_later : (workers row : ℕ) (given : List Record) (fields : Record) (draft : List Row) →
+pub fault_later : (workers row : ℕ) (given : List PlanRecord) (fields : PlanRecord)
+    (draft : List Row) →
     row ≢ 1 → length given + 1 ≡ row → draft ≡ rows_of workers given →
-    fault_of workers given fields ≡ fault_below (row_of workers fields) draft
+    fault_of workers given fields ≡ fault_below (row_of_record workers fields) draft
 unfolding fault_of
 fault_later workers row [] fields draft more index rows = absurd (more (omega arith))
 fault_later workers row (g ∷ gs) fields draft more index rows = rw rows refl
 
-pub row_taken : (workers row : ℕ) (given : List Record) (fields : Record) (draft : List Row)
+pub row_taken : (workers row : ℕ) (given : List PlanRecord) (fields : PlanRecord) (draft : List Row)
     (next : Row) → row ≢ 1 → length given + 1 ≡ row → draft ≡ rows_of workers given →
-    row_of workers fields ≡ Ok next → stops draft next.worker ≡ false →
+    row_of_record workers fields ≡ Ok next → stops draft next.worker ≡ false →
     (fault_of workers given fields ≡ None)
     × (draft ++ next ∷ [] ≡ rows_of workers (given ++ fields ∷ []))
 unfolding rows_of
 row_taken workers row [] fields draft next more index rows is free = absurd (more (omega arith))
 row_taken workers row (g ∷ gs) fields draft next more index rows is free = (
   fault_later workers row (g ∷ gs) fields draft more index rows ∙ rw (is, free) refl,
-  rw (rows, filter_map-append (λ r. result_ok (row_of workers r)) gs (fields ∷ []), is) refl,
+  rw (rows, filter_map-append (λ r. result_ok (row_of_record workers r)) gs (fields ∷ []), is) refl,
 )
 
-slice_get_at : (given rest : List Record) (fields : Record) →
+slice_get_at : (given rest : List PlanRecord) (fields : PlanRecord) →
     slice_get (given ++ fields ∷ rest) (length given) ≡ Some fields
 slice_get_at [] rest fields = refl
 slice_get_at (g ∷ gs) rest fields = slice_get_at gs rest fields
 
 -- the next record, and what it is to those before it
-fault_here : (workers : ℕ) (all given rest : List Record) (fields : Record) →
+fault_here : (workers : ℕ) (all given rest : List PlanRecord) (fields : PlanRecord) →
     all ≡ (given ++ fields ∷ []) ++ rest →
-    fault_at workers all (length given) ≡ fault_of workers given fields
-unfolding fault_at
+    record_fault_at workers all (length given) ≡ fault_of workers given fields
+unfolding record_fault_at
 fault_here workers all given rest fields e =
     let split : all ≡ given ++ (fields ∷ rest) = e ∙ append_assoc given (fields ∷ []) rest in
     rw (split, slice_get_at given rest fields, take_at given (fields ∷ rest) (length given) refl)
@@ -67,18 +69,18 @@ unfolding rows_of
 fresh_rows workers = refl
 
 -- the records so far have no fault, and their rows are the draft's
-pub record Judged (workers row : ℕ) (all given : List Record) (draft : List Row) : Type 0 where
+pub record Judged (workers row : ℕ) (all given : List PlanRecord) (draft : List Row) : Type 0 where
   pub count : length given ≡ row
   pub rows : draft ≡ rows_of workers given
-  pub fine : (index : ℕ) → index < length given → fault_at workers all index ≡ None
+  pub fine : (index : ℕ) → index < length given → record_fault_at workers all index ≡ None
 
-pub judged_more : (workers row : ℕ) (all given rest : List Record)
-    (fields : Record) (draft next : List Row) →
+pub judged_more : (workers row : ℕ) (all given rest : List PlanRecord)
+    (fields : PlanRecord) (draft next : List Row) →
     all ≡ (given ++ fields ∷ []) ++ rest → Judged workers row all given draft →
     (fault_of workers given fields ≡ None) × (next ≡ rows_of workers (given ++ fields ∷ [])) →
     Judged workers (row + 1) all (given ++ fields ∷ []) next
 judged_more workers row all given rest fields draft next e h taken =
-    let here : fault_at workers all (length given) ≡ None =
+    let here : record_fault_at workers all (length given) ≡ None =
     fault_here workers all given rest fields e ∙ taken.0 in
     record {
       count = length_push given fields ∙ omega (arith, h.count);
@@ -86,8 +88,9 @@ judged_more workers row all given rest fields draft next e h taken =
       fine = rw (length_push given fields) (below_more _ _ h.fine here);
     }
 
-pub first_fault : (workers row : ℕ) (all given rest : List Record)
-    (fields : Record) (draft : List Row) (kind : PlanKind) → all ≡ (given ++ fields ∷ []) ++ rest →
+pub first_fault : (workers row : ℕ) (all given rest : List PlanRecord)
+    (fields : PlanRecord) (draft : List Row) (kind : PlanKind) →
+    all ≡ (given ++ fields ∷ []) ++ rest →
     Judged workers row all given draft → fault_of workers given fields ≡ Some kind →
     FirstFault workers all (row + 1) kind
 first_fault workers row all given rest fields draft kind e h bad = record {
@@ -97,12 +100,12 @@ first_fault workers row all given rest fields draft kind e h bad = record {
   first = h.fine;
 }
 
-pub fault_past : (workers : ℕ) (all : List Record) (index : ℕ) → length all ≤ index →
-    fault_at workers all index ≡ None
-unfolding fault_at
+pub fault_past : (workers : ℕ) (all : List PlanRecord) (index : ℕ) → length all ≤ index →
+    record_fault_at workers all index ≡ None
+unfolding record_fault_at
 fault_past workers all index past = rw (slice_get_past all index past) refl
 
-pub spells : (workers row : ℕ) (all given : List Record) (draft : List Row) →
+pub spells : (workers row : ℕ) (all given : List PlanRecord) (draft : List Row) →
     all ≡ given → Judged workers row all given draft →
     SpellsPlan workers all (record { workers = workers; rows = draft })
 spells workers row all given draft e h = record {

@@ -10,12 +10,12 @@ use Rattle.std.specs.Str.Parse.{digits_value}
 use Rattle.std.proofs.lemmas.Bool.{cases_Bool, cases_lt}
 use Rattle.std.proofs.lemmas.Bool.Decides.{nat_tests}
 use Rattle.std.proofs.lemmas.List.Elements.{All-cons, All-nil}
-use Rattle.stop_plan.specs.Laws.{NeverBoth, OneFault, OnePlan, OneSchedule}
+use Rattle.stop_plan.specs.Laws.{NeverBoth, OnePlanFault, OnePlan, OneSchedule}
 use Rattle.stop_plan.specs.Laws.{PlanOrFault, RowsNameWorkers}
 use Rattle.stop_plan.specs.Plan.{PlanData, stops}
-use Rattle.stop_plan.specs.Records.{Field, FirstFault, Record, act_of, fault_at}
-use Rattle.stop_plan.specs.Records.{fault_below, fault_of, is_header, is_number}
-use Rattle.stop_plan.specs.Records.{number_below, row_of, row_with_act, row_with_ticks}
+use Rattle.stop_plan.specs.Records.{Field, FirstFault, PlanRecord, act_of, record_fault_at}
+use Rattle.stop_plan.specs.Records.{fault_below, fault_of, is_header, is_number_field}
+use Rattle.stop_plan.specs.Records.{number_below, row_of_record, row_with_act, row_with_ticks}
 use Rattle.stop_plan.specs.Records.{row_with_worker, rows_of, ticks_end}
 use Rattle.stop_plan.specs.Schedule.{Events, IsSchedule, NoneRuns, Running}
 use Rattle.stop_plan.specs.Schedule.{after_rounds, after_turns, events_of_rows}
@@ -32,7 +32,7 @@ pub never_both : NeverBoth
 never_both workers all plan row kind h k = cc (h.faultless k.index, k.fault)
 
 -- the first fault of two
-earlier : (workers : ℕ) (all : List Record) (row other : ℕ) (kind another : PlanKind) →
+earlier : (workers : ℕ) (all : List PlanRecord) (row other : ℕ) (kind another : PlanKind) →
     (h : FirstFault workers all row kind) →
     (k : FirstFault workers all other another) → h.index < k.index → ⊥
 earlier workers all row other kind another h k before = cc (k.first h.index before, h.fault)
@@ -53,8 +53,8 @@ worker_kind : (worker : Option ℕ) (act ticks : Field) →
 worker_kind None act ticks e = cc e
 worker_kind (Some worker) act ticks e = act_kind worker (act_of act) ticks e
 
-row_kind : (workers : ℕ) (fields : Record) → row_of workers fields ≡ Err Memory → ⊥
-unfolding row_of
+row_kind : (workers : ℕ) (fields : PlanRecord) → row_of_record workers fields ≡ Err Memory → ⊥
+unfolding row_of_record
 row_kind workers [] e = cc e
 row_kind workers (w ∷ []) e = cc e
 row_kind workers (w ∷ a ∷ []) e = cc e
@@ -74,24 +74,24 @@ below_kind : (read : Result Row PlanKind) (rows : List Row) → (read ≡ Err Me
 below_kind (Err kind) rows not e = not (cc e)
 below_kind (Ok row) rows not e = stop_kind (stops rows row.worker) e
 
-fault_kind : (workers : ℕ) (before : List Record) (fields : Record) →
+fault_kind : (workers : ℕ) (before : List PlanRecord) (fields : PlanRecord) →
     fault_of workers before fields ≡ Some Memory → ⊥
 unfolding fault_of
 fault_kind workers [] fields e = header_kind (is_header fields) e
-fault_kind workers (header ∷ below) fields e = below_kind (row_of workers fields)
+fault_kind workers (header ∷ below) fields e = below_kind (row_of_record workers fields)
     (rows_of workers (header ∷ below)) (row_kind workers fields) e
 
-index_kind : (workers : ℕ) (before : List Record) (fields : Option Record) →
+index_kind : (workers : ℕ) (before : List PlanRecord) (fields : Option PlanRecord) →
     option_and_then (fault_of workers before) fields ≡ Some Memory → ⊥
 index_kind workers before None e = cc e
 index_kind workers before (Some fields) e = fault_kind workers before fields e
 
-at_kind : (workers : ℕ) (all : List Record) (index : ℕ) →
-    fault_at workers all index ≡ Some Memory → ⊥
-unfolding fault_at
+at_kind : (workers : ℕ) (all : List PlanRecord) (index : ℕ) →
+    record_fault_at workers all index ≡ Some Memory → ⊥
+unfolding record_fault_at
 at_kind workers all index e = index_kind workers (take index all) (slice_get all index) e
 
-same_index : (workers : ℕ) (all : List Record) (row other : ℕ) (kind another : PlanKind) →
+same_index : (workers : ℕ) (all : List PlanRecord) (row other : ℕ) (kind another : PlanKind) →
     (h : FirstFault workers all row kind) →
     (k : FirstFault workers all other another) → h.index ≡ k.index
 same_index workers all row other kind another h k = elim (cases_lt h.index k.index) [
@@ -102,35 +102,36 @@ same_index workers all row other kind another h k = elim (cases_lt h.index k.ind
   ]
 ]
 
-pub one_fault : OneFault
+pub one_fault : OnePlanFault
 one_fault workers all row other kind another h k =
     let same = same_index workers all row other kind another h k in
     let both : Some kind ≡ Some another =
-    sym h.fault ∙ ap (fault_at workers all) same ∙ k.fault in (
+    sym h.fault ∙ ap (record_fault_at workers all) same ∙ k.fault in (
       h.number ∙ ap (λ n. n + 1) same ∙ sym k.number,
       cc both,
       λ memory. at_kind workers all h.index (h.fault ∙ ap Some memory),
     )
 
 -- the first fault up to an index, if there is one
-abbrev FaultBelow : ℕ → List Record → ℕ → Type 0
+abbrev FaultBelow : ℕ → List PlanRecord → ℕ → Type 0
 FaultBelow workers all end = (row : ℕ) × (kind : PlanKind) × FirstFault workers all row kind
 
-abbrev FineBelow : ℕ → List Record → ℕ → Type 0
-FineBelow workers all end = (index : ℕ) → index < end → fault_at workers all index ≡ None
+abbrev FineBelow : ℕ → List PlanRecord → ℕ → Type 0
+FineBelow workers all end = (index : ℕ) → index < end → record_fault_at workers all index ≡ None
 
-next_place : (workers : ℕ) (all : List Record) (end : ℕ) (fault : Option PlanKind) →
-    fault_at workers all end ≡ fault → FineBelow workers all end →
+next_place : (workers : ℕ) (all : List PlanRecord) (end : ℕ) (fault : Option PlanKind) →
+    record_fault_at workers all end ≡ fault → FineBelow workers all end →
     FineBelow workers all (end + 1) ⊎ FaultBelow workers all (end + 1)
 next_place workers all end None is fine = inl (below_more _ _ fine is)
 next_place workers all end (Some kind) is fine =
     inr (end + 1, kind, record { index = end; number = refl; fault = is; first = fine })
 
-search_below : (workers : ℕ) (all : List Record) (end : ℕ) →
+search_below : (workers : ℕ) (all : List PlanRecord) (end : ℕ) →
     FineBelow workers all end ⊎ FaultBelow workers all end
 search_below workers all zero = inl (λ index below. absurd (omega arith))
 search_below workers all (suc end) = elim (search_below workers all end) [
-  | inl fine ↦ rw (← add-one) (next_place workers all end (fault_at workers all end) refl fine)
+  | inl fine ↦ rw (← add-one)
+      (next_place workers all end (record_fault_at workers all end) refl fine)
   | inr found ↦ inr found
 ]
 
@@ -163,7 +164,7 @@ some_below bound false value n e = cc e
 
 number_lt : (bound : ℕ) (field : Field) (n : ℕ) → number_below bound field ≡ Some n → n < bound
 unfolding number_below
-number_lt bound field n e = some_below bound (is_number field) (digits_value 10 field) n e
+number_lt bound field n e = some_below bound (is_number_field field) (digits_value 10 field) n e
 
 abbrev NamesWorker : ℕ → Row → Type 0
 NamesWorker workers row = row.worker < workers
@@ -188,9 +189,9 @@ worker_lt workers None act ticks row small e = cc e
 worker_lt workers (Some worker) act ticks row small e =
     act_lt workers worker (act_of act) ticks row (small worker refl) e
 
-row_lt : (workers : ℕ) (fields : Record) (row : Row) →
-    row_of workers fields ≡ Ok row → NamesWorker workers row
-unfolding row_of
+row_lt : (workers : ℕ) (fields : PlanRecord) (row : Row) →
+    row_of_record workers fields ≡ Ok row → NamesWorker workers row
+unfolding row_of_record
 row_lt workers [] row e = cc e
 row_lt workers (w ∷ []) row e = cc e
 row_lt workers (w ∷ a ∷ []) row e = cc e
@@ -205,13 +206,13 @@ all_more workers (Ok row) rest one others =
     All-cons (NamesWorker workers) row rest (one row refl) others
 all_more workers (Err kind) rest one others = others
 
-all_lt : (workers : ℕ) (below : List Record) →
-    All (NamesWorker workers) (filter_map (λ r. result_ok (row_of workers r)) below)
+all_lt : (workers : ℕ) (below : List PlanRecord) →
+    All (NamesWorker workers) (filter_map (λ r. result_ok (row_of_record workers r)) below)
 all_lt workers [] = All-nil (NamesWorker workers)
 all_lt workers (fields ∷ below) =
-    all_more workers (row_of workers fields) _ (row_lt workers fields) (all_lt workers below)
+    all_more workers (row_of_record workers fields) _ (row_lt workers fields) (all_lt workers below)
 
-rows_lt : (workers : ℕ) (all : List Record) → All (NamesWorker workers) (rows_of workers all)
+rows_lt : (workers : ℕ) (all : List PlanRecord) → All (NamesWorker workers) (rows_of workers all)
 unfolding rows_of
 rows_lt workers [] = All-nil (NamesWorker workers)
 rows_lt workers (header ∷ below) = all_lt workers below

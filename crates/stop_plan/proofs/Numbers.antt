@@ -11,7 +11,7 @@ use Rattle.std.proofs.lemmas.Bool.Decides.{nat_tests}
 use Rattle.std.proofs.lemmas.Int.Digits.{digits_value_more}
 use Rattle.std.proofs.lemmas.List.{take_all, take_more}
 use Rattle.std.proofs.lemmas.Str.Parse.{digits_value-take-le}
-use Rattle.stop_plan.specs.Records.{is_number, number_below}
+use Rattle.stop_plan.specs.Records.{is_number_field, number_below}
 
 digit_is : (c : ℕ) → is_ascii_digit c ≡ true → digit_value c ≡ c - 48
 digit_is c h = grind (arith, nat_tests)
@@ -44,7 +44,7 @@ unfolding number_below
 none_by_size bound bs i large =
     let more = digits_value-take-le 10 bs i (omega arith) in
     let whole : nat_lt (digits_value 10 bs) bound ≡ false = grind (arith, nat_tests) in
-    rw whole (elim (is_number bs) as (λ v.
+    rw whole (elim (is_number_field bs) as (λ v.
     None ≡ cond (v && false) (Some (digits_value 10 bs)) None) [ true ↦ refl | false ↦ refl ])
 
 -- the digits up to an index, and the digit there

@@ -14,8 +14,8 @@ use Rattle.csv.specs.declared.parser.Action.{Action}
 use Rattle.csv.specs.declared.parser.State.{State}
 use Rattle.csv.specs.declared.parser.State.TheVariants as st
 use Rattle.csv.specs.declared.reader.Reader.{Reader}
-use Rattle.stop_plan.specs.Inner.Reading.{AfterRead, HasRead, bytes_left}
-use Rattle.stop_plan.specs.Records.{Record}
+use Rattle.stop_plan.specs.Inner.Reading.{AfterRead, HasReadRecords, bytes_left}
+use Rattle.stop_plan.specs.Records.{PlanRecord}
 
 -- a step that ends a record leaves the reader between records
 abbrev Settles : State × Action → Type 0
@@ -56,7 +56,7 @@ pub record Shrinks (s : State) (xs : List ℕ) (p : Read) : Type 0 where
   pub shorter : length p.2 ≤ length xs
   pub strictly : ends_at_end s ≡ false → length p.2 < length xs
 
-shrinks_at_end : (s : State) (b : Bool) (fields : Record) (p : Read) → ends_at_end s ≡ b →
+shrinks_at_end : (s : State) (b : Bool) (fields : PlanRecord) (p : Read) → ends_at_end s ≡ b →
     cond b (Some (fields, st.StartRecord, [])) None ≡ Some p → Shrinks s [] p
 shrinks_at_end s true fields p is e =
     let same : (fields, st.StartRecord, []) ≡ p = cc e in
@@ -64,7 +64,7 @@ shrinks_at_end s true fields p is e =
     (record { settled = refl; shorter = omega arith; strictly = λ settled. cc (sym is ∙ settled) })
 shrinks_at_end s false fields p is e = cc e
 
-shrinks_in : (s : State) (c : ℕ) (rest : List ℕ) (fields : Record) (p : Read) →
+shrinks_in : (s : State) (c : ℕ) (rest : List ℕ) (fields : PlanRecord) (p : Read) →
     is_end (step default_config s c).1 ≡ true →
     Some (fields, (step default_config s c).0, rest) ≡ Some p → Shrinks s (c ∷ rest) p
 shrinks_in s c rest fields p over e =
@@ -72,7 +72,7 @@ shrinks_in s c rest fields p over e =
     subst (λ (q : Read). Shrinks s (c ∷ rest) q) same
     (record { settled = step_settles s c over; shorter = omega arith; strictly = λ _. omega arith })
 
-pub shrinks : (s : State) (fields : Record) (field xs : List ℕ) (p : Read) →
+pub shrinks : (s : State) (fields : PlanRecord) (field xs : List ℕ) (p : Read) →
     next_record default_config s fields field xs ≡ Some p → Shrinks s xs p
 unfolding next_record
 shrinks s fields field [] p e = shrinks_at_end s (ends_at_end s) (fields ++ (field ∷ [])) p refl e
@@ -95,7 +95,7 @@ same_next : (m n : ℕ) (s : State) (y : List ℕ) (o : Option Read) →
     records_from default_config m p.1 p.2 ≡ records_from default_config n p.1 p.2) →
     records_next (records_from default_config m) o ≡ records_next (records_from default_config n) o
 same_next m n s y None e h = refl
-same_next m n s y (Some p) e h = ap (λ (t : List Record). p.0 ∷ t) (h p refl)
+same_next m n s y (Some p) e h = ap (λ (t : List PlanRecord). p.0 ∷ t) (h p refl)
 
 pub records_from-same : (m n : ℕ) (s : State) (y : List ℕ) → ends_at_end s ≡ false → length y < m →
     length y < n → records_from default_config m s y ≡ records_from default_config n s y
@@ -109,23 +109,23 @@ records_from-same (suc m) (suc n) s y settled a b =
     records_from-same m n p.1 p.2 less.settled (omega arith) (omega arith))
 
 -- what a known read says of the text before it
-found_next : (o : Option Read) (fields : Record) (s : State) (z : List ℕ) →
+found_next : (o : Option Read) (fields : PlanRecord) (s : State) (z : List ℕ) →
     NextIs o true fields s z → o ≡ Some (fields, s, z)
 found_next None fields s z h = cc h
 found_next (Some p) fields s z h = rw (h.1, h.2, h.3) refl
 
-next_is : (s s2 : State) (y : List ℕ) (k : Option (List ℕ)) (fields : Record) →
+next_is : (s s2 : State) (y : List ℕ) (k : Option (List ℕ)) (fields : PlanRecord) →
     ReadsNext default_config s (Some y) k true fields s2 →
     (z : List ℕ) × (k ≡ Some z) × (next_record default_config s [] [] y ≡ Some (fields, s2, z))
 next_is s s2 y None fields h = absurd h
 next_is s s2 y (Some z) fields h = (z, refl, found_next _ fields s2 z h)
 
-none_next : (o : Option Read) (fields : Record) (s : State) (z : List ℕ) →
+none_next : (o : Option Read) (fields : PlanRecord) (s : State) (z : List ℕ) →
     NextIs o false fields s z → o ≡ None
 none_next None fields s z h = refl
 none_next (Some p) fields s z h = cc h.0
 
-end_is : (s s2 : State) (y : List ℕ) (k : Option (List ℕ)) (fields : Record) →
+end_is : (s s2 : State) (y : List ℕ) (k : Option (List ℕ)) (fields : PlanRecord) →
     ReadsNext default_config s (Some y) k false fields s2 →
     next_record default_config s [] [] y ≡ None
 end_is s s2 y None fields h = absurd h
@@ -140,7 +140,7 @@ rest_more s y p settled e =
     let less = shrinks s [] [] y p e in
     let fewer = less.strictly settled in
     rw (add-one (length y), e)
-    (ap (λ (t : List Record). p.0 ∷ t)
+    (ap (λ (t : List PlanRecord). p.0 ∷ t)
     (records_from-same (length y) (length p.2 + 1) p.1 p.2 less.settled fewer (omega arith)))
 
 rest_end : (s : State) (y : List ℕ) → next_record default_config s [] [] y ≡ None →
@@ -149,9 +149,10 @@ unfolding records_from
 rest_end s y e = rw (add-one, e) refl
 
 has_read_more : {R : Type 0} (rem : R → Option (List ℕ)) (text : List ℕ)
-    (given : List Record) (old new : Reader R) (fields : Record) → old.config ≡ default_config →
-    (h : HasRead rem text given old) → ReadRecord rem old new true fields →
-    HasRead rem text (given ++ (fields ∷ [])) new × (bytes_left rem new < length h.bytes)
+    (given : List PlanRecord) (old new : Reader R) (fields : PlanRecord) →
+    old.config ≡ default_config →
+    (h : HasReadRecords rem text given old) → ReadRecord rem old new true fields →
+    HasReadRecords rem text (given ++ (fields ∷ [])) new × (bytes_left rem new < length h.bytes)
 has_read_more rem text given old new fields config h r =
     let (z, known, next) = next_is old.state new.state h.bytes
     (pending_of (rem new.rdr) new) fields (rw (config, h.unread) at r.0) in
@@ -163,7 +164,8 @@ has_read_more rem text given old new fields config h r =
         unread = unread;
         settled = less.settled;
         rest = h.rest
-            ∙ ap (λ (t : List Record). given ++ t) (rest_more old.state h.bytes _ h.settled next)
+            ∙ ap (λ (t : List PlanRecord). given ++ t)
+            (rest_more old.state h.bytes _ h.settled next)
             ∙ sym (append_assoc given (fields ∷ []) _);
         shorter = rw (length_push given fields) (omega (arith, h.shorter));
       },
@@ -171,20 +173,22 @@ has_read_more rem text given old new fields config h r =
     )
 
 pub after_read : {R : Type 0} (rem : R → Option (List ℕ))
-    (text : List ℕ) (given : List Record) (old new : Reader R) (found : Bool) (fields : Record) →
-    old.config ≡ default_config → HasRead rem text given old → ReadRecord rem old new found fields →
+    (text : List ℕ) (given : List PlanRecord) (old new : Reader R) (found : Bool)
+    (fields : PlanRecord) →
+    old.config ≡ default_config → HasReadRecords rem text given old →
+    ReadRecord rem old new found fields →
     AfterRead rem text given new found fields
 after_read rem text given old new true fields config h r =
     (has_read_more rem text given old new fields config h r).0
 after_read rem text given old new false fields config h r =
     let next = end_is old.state new.state h.bytes
     (pending_of (rem new.rdr) new) fields (rw (config, h.unread) at r.0) in
-    h.rest ∙ ap (λ (t : List Record). given ++ t) (rest_end old.state h.bytes next)
+    h.rest ∙ ap (λ (t : List PlanRecord). given ++ t) (rest_end old.state h.bytes next)
     ∙ append-nil given
 
-pub fewer_left : {R : Type 0} (rem : R → Option (List ℕ)) (text : List ℕ) (given : List Record)
-    (old new : Reader R) (found : Bool) (fields : Record) → old.config ≡ default_config →
-    HasRead rem text given old → ReadRecord rem old new found fields → found ≡ true →
+pub fewer_left : {R : Type 0} (rem : R → Option (List ℕ)) (text : List ℕ) (given : List PlanRecord)
+    (old new : Reader R) (found : Bool) (fields : PlanRecord) → old.config ≡ default_config →
+    HasReadRecords rem text given old → ReadRecord rem old new found fields → found ≡ true →
     bytes_left rem new < bytes_left rem old
 fewer_left rem text given old new true fields config h r found =
     rw h.unread (has_read_more rem text given old new fields config h r).1
@@ -202,7 +206,7 @@ strip_bom-le (a ∷ b ∷ c ∷ rest) =
 -- a new reader has the whole text before it
 pub fresh : {R : Type 0} (rem : R → Option (List ℕ)) (text : List ℕ) (reader : Reader R) →
     source_of rem reader ≡ Some (strip_bom text) →
-    reader.state ≡ st.StartRecord → HasRead rem text [] reader
+    reader.state ≡ st.StartRecord → HasReadRecords rem text [] reader
 fresh rem text reader source start = record {
   bytes = strip_bom text;
   unread = source;

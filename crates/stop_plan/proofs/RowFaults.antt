@@ -13,8 +13,8 @@ use Rattle.std.proofs.lemmas.Option.{slice_get-get_or, slice_get-map, slice_get_
 use Rattle.stop_plan.proofs.Faults.{fault_past}
 use Rattle.stop_plan.specs.Laws.{RowsAsTexts}
 use Rattle.stop_plan.specs.Plan.{PlanData}
-use Rattle.stop_plan.specs.Records.{Record, SpellsPlan, fault_at, fault_of}
-use Rattle.stop_plan.specs.Records.{is_header, row_of, rows_of, ticks_end}
+use Rattle.stop_plan.specs.Records.{PlanRecord, SpellsPlan, record_fault_at, fault_of}
+use Rattle.stop_plan.specs.Records.{is_header, row_of_record, rows_of, ticks_end}
 use Rattle.stop_plan.specs.Rows.{FirstBadRow, IsPlanOf, fault_after, judged_row, row_fault_at}
 use Rattle.stop_plan.specs.declared.plan.Act.TheVariants.{Go}
 use Rattle.stop_plan.specs.declared.plan.PlanKind.{PlanKind}
@@ -84,14 +84,14 @@ judged_good workers before row fine = elim (cases_Bool (nat_lt row.worker worker
 ]
 
 -- records below a header that say rows
-record SayRows (workers : ℕ) (header : Record) (below : List Record)
+record SayRows (workers : ℕ) (header : PlanRecord) (below : List PlanRecord)
     (rows : List Row) : Type 0 where
   header_read : is_header header ≡ true
-  said : map (row_of workers) below ≡ map (judged_row workers) rows
+  said : map (row_of_record workers) below ≡ map (judged_row workers) rows
 
-same_option : (workers : ℕ) (given : List Record) (header : Record) (before : List Row)
-    (fields : Option Record) (row : Option Row) → rows_of workers (header ∷ given) ≡ before →
-    option_map (row_of workers) fields ≡ option_map (judged_row workers) row →
+same_option : (workers : ℕ) (given : List PlanRecord) (header : PlanRecord) (before : List Row)
+    (fields : Option PlanRecord) (row : Option Row) → rows_of workers (header ∷ given) ≡ before →
+    option_map (row_of_record workers) fields ≡ option_map (judged_row workers) row →
     option_and_then (fault_of workers (header ∷ given)) fields
     ≡ option_and_then (fault_after workers before) row
 unfolding fault_of
@@ -99,43 +99,46 @@ same_option workers given header before None None rows same = refl
 same_option workers given header before None (Some r) rows same = cc same
 same_option workers given header before (Some f) None rows same = cc same
 same_option workers given header before (Some f) (Some r) rows same =
-    let one : row_of workers f ≡ judged_row workers r = cc same in
+    let one : row_of_record workers f ≡ judged_row workers r = cc same in
     rw (one, rows) refl
 
-same_said : (workers : ℕ) (header : Record) (below : List Record) (rows : List Row) (index : ℕ) →
-    SayRows workers header below rows → option_map (row_of workers) (slice_get below index)
+same_said : (workers : ℕ) (header : PlanRecord) (below : List PlanRecord) (rows : List Row)
+    (index : ℕ) →
+    SayRows workers header below rows → option_map (row_of_record workers) (slice_get below index)
     ≡ option_map (judged_row workers) (slice_get rows index)
 same_said workers header below rows index h =
-    sym (slice_get-map (row_of workers) below index) ∙ ap (λ l. slice_get l index) h.said
+    sym (slice_get-map (row_of_record workers) below index) ∙ ap (λ l. slice_get l index) h.said
     ∙ slice_get-map (judged_row workers) rows index
 
-same_fault : (workers : ℕ) (header : Record) (below : List Record) (rows : List Row) (index : ℕ) →
+same_fault : (workers : ℕ) (header : PlanRecord) (below : List PlanRecord) (rows : List Row)
+    (index : ℕ) →
     SayRows workers header below rows →
     rows_of workers (header ∷ take index below) ≡ take index rows →
-    fault_at workers (header ∷ below) (suc index) ≡ row_fault_at workers rows index
-unfolding fault_at row_fault_at
+    record_fault_at workers (header ∷ below) (suc index) ≡ row_fault_at workers rows index
+unfolding record_fault_at row_fault_at
 same_fault workers header below rows index h before =
     same_option workers (take index below) header (take index rows) (slice_get below index)
     (slice_get rows index) before (same_said workers header below rows index h)
 
 -- the records and the rows before an index, where none of the records is bad
-record Alike (workers : ℕ) (header : Record) (below : List Record)
+record Alike (workers : ℕ) (header : PlanRecord) (below : List PlanRecord)
     (rows : List Row) (index : ℕ) : Type 0 where
   before : rows_of workers (header ∷ take index below) ≡ take index rows
   fine : (earlier : ℕ) → earlier < index → row_fault_at workers rows earlier ≡ None
 
-row_said : (workers : ℕ) (header : Record) (below : List Record) (rows : List Row) (index : ℕ)
+row_said : (workers : ℕ) (header : PlanRecord) (below : List PlanRecord) (rows : List Row)
+    (index : ℕ)
     (d : Row) → SayRows workers header below rows → index < length rows → index < length below →
-    row_of workers (get_or below index []) ≡ judged_row workers (get_or rows index d)
+    row_of_record workers (get_or below index []) ≡ judged_row workers (get_or rows index d)
 row_said workers header below rows index d h within inside =
     let same = rw (
       slice_get-get_or below index [] inside,
       slice_get-get_or rows index d within,
     ) at (same_said workers header below rows index h) in cc same
 
-rows_more : (workers : ℕ) (header : Record) (below : List Record)
+rows_more : (workers : ℕ) (header : PlanRecord) (below : List PlanRecord)
     (rows : List Row) (index : ℕ) (d : Row) → index < length rows → index < length below →
-    row_of workers (get_or below index []) ≡ Ok (get_or rows index d) →
+    row_of_record workers (get_or below index []) ≡ Ok (get_or rows index d) →
     rows_of workers (header ∷ take index below) ≡ take index rows →
     rows_of workers (header ∷ take (index + 1) below) ≡ take (index + 1) rows
 unfolding rows_of
@@ -143,20 +146,22 @@ rows_more workers header below rows index d within inside is before =
     rw (
       take_more below index [] inside,
       take_more rows index d within,
-      filter_map-append (λ r. result_ok (row_of workers r))
+      filter_map-append (λ r. result_ok (row_of_record workers r))
           (take index below) (get_or below index [] ∷ []),
       before,
       is,
     ) refl
 
-same_length : (workers : ℕ) (header : Record) (below : List Record) (rows : List Row) →
+same_length : (workers : ℕ) (header : PlanRecord) (below : List PlanRecord) (rows : List Row) →
     SayRows workers header below rows → length below ≡ length rows
-same_length workers header below rows h = sym (length-map below (row_of workers)) ∙ ap length h.said
+same_length workers header below rows h =
+    sym (length-map below (row_of_record workers)) ∙ ap length h.said
     ∙ length-map rows (judged_row workers)
 
-alike_to : (workers : ℕ) (header : Record) (below : List Record) (rows : List Row)
+alike_to : (workers : ℕ) (header : PlanRecord) (below : List PlanRecord) (rows : List Row)
     (index : ℕ) (d : Row) → SayRows workers header below rows → index ≤ length rows →
-    ((earlier : ℕ) → earlier < index → fault_at workers (header ∷ below) (suc earlier) ≡ None) →
+    ((earlier : ℕ) → earlier < index →
+    record_fault_at workers (header ∷ below) (suc earlier) ≡ None) →
     Alike workers header below rows index
 unfolding rows_of
 alike_to workers header below rows zero d h within none =
@@ -180,7 +185,7 @@ alike_to workers header below rows (suc index) d h within none =
 any_row : Row
 any_row = record { worker = 0; act = Go; ticks = 0 }
 
-plan_same : (workers : ℕ) (header : Record) (below : List Record)
+plan_same : (workers : ℕ) (header : PlanRecord) (below : List PlanRecord)
     (rows : List Row) (plan : PlanData) → SayRows workers header below rows →
     SpellsPlan workers (header ∷ below) plan → IsPlanOf workers rows plan
 plan_same workers header below rows plan said h =
@@ -199,15 +204,16 @@ plan_same workers header below rows plan said h =
       rows_kept = h.rows ∙ rw kept refl;
     }
 
-header_good : (workers : ℕ) (header : Record) (below : List Record) → is_header header ≡ true →
-    fault_at workers (header ∷ below) 0 ≡ None
-unfolding fault_at fault_of
+header_good : (workers : ℕ) (header : PlanRecord) (below : List PlanRecord) →
+    is_header header ≡ true →
+    record_fault_at workers (header ∷ below) 0 ≡ None
+unfolding record_fault_at fault_of
 header_good workers header below e = rw e refl
 
-fault_same : (workers : ℕ) (header : Record) (below : List Record)
+fault_same : (workers : ℕ) (header : PlanRecord) (below : List PlanRecord)
     (rows : List Row) (row index : ℕ) (kind : PlanKind) → SayRows workers header below rows →
-    row ≡ index + 1 → fault_at workers (header ∷ below) index ≡ Some kind →
-    ((earlier : ℕ) → earlier < index → fault_at workers (header ∷ below) earlier ≡ None) →
+    row ≡ index + 1 → record_fault_at workers (header ∷ below) index ≡ Some kind →
+    ((earlier : ℕ) → earlier < index → record_fault_at workers (header ∷ below) earlier ≡ None) →
     FirstBadRow workers rows row kind
 fault_same workers header below rows row zero kind said number fault first =
     cc (fault, header_good workers header below said.header_read)

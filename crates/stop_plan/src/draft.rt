@@ -2,7 +2,7 @@
 ghost use Rattle.std.specs.Prelude.{◌≡◌, ◌++◌, ◌∷◌, [], false, Ok, IfOk, Some, MatchResult};
 ghost use Rattle.csv.specs.Records.{fields_of};
 ghost use Rattle.stop_plan.specs.Plan.{stops};
-ghost use Rattle.stop_plan.specs.Records.{fault_below, row_of};
+ghost use Rattle.stop_plan.specs.Records.{fault_below, row_of_record};
 ghost use Rattle.stop_plan.specs.Rows.{judged_row};
 
 use crate::judge::{judged_row, row_of};
@@ -47,9 +47,10 @@ impl Draft {
     /// The row of a record below the header, after those so far.
     pub(crate) fn judge(&self, workers: u32, fields: &ByteRecord) -> Result<Row, PlanKind>
         ensures { MatchResult result
-            (λ row. (row_of workers (fields_of fields.now) ≡ Ok row)
+            (λ row. (row_of_record workers (fields_of fields.now) ≡ Ok row)
             × (stops self.now row.worker ≡ false))
-            (λ kind. fault_below (row_of workers (fields_of fields.now)) self.now ≡ Some kind) }
+            (λ kind. fault_below (row_of_record workers (fields_of fields.now)) self.now
+            ≡ Some kind) }
     {
         self.after_stop(row_of(workers, fields)?)
     }
@@ -75,7 +76,7 @@ impl Draft {
         Ok(row)
     }
 
-    /// The same with one more row.
+    /// The draft with one more row.
     pub(crate) fn with_row(mut self, row: Row) -> Result<Draft, AllocError>
         ensures { IfOk result (λ draft. draft ≡ self ++ row ∷ []) }
     {

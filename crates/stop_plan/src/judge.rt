@@ -2,7 +2,7 @@
 ghost use Rattle.std.specs.Prelude.{◌≡◌, ◌≢◌, ◌∷◌, [], length, MatchOption};
 ghost use Rattle.std.specs.Str.{bytes_eq};
 ghost use Rattle.csv.specs.Records.{fields_of};
-ghost use Rattle.stop_plan.specs.Records.{act_of, is_header, row_of, ticks_end};
+ghost use Rattle.stop_plan.specs.Records.{act_of, is_header, row_of_record, ticks_end};
 ghost use Rattle.stop_plan.specs.Rows.{judged_row};
 
 use crate::number::number_below;
@@ -61,9 +61,9 @@ fn ticks_end(act: Act) -> u64
 }
 
 /// The row of a record below the header.
-#[tactic(auto, using(crate::proofs::Fields::other_row), unfolding(crate::specs::Records::row_of))]
+#[tactic(auto, using(crate::proofs::Fields::other_row), unfolding(crate::specs::Records::row_of_record))]
 pub(crate) fn row_of(workers: u32, fields: &ByteRecord) -> Result<Row, PlanKind>
-    ensures { result ≡ row_of workers (fields_of fields.now) }
+    ensures { result ≡ row_of_record workers (fields_of fields.now) }
 {
     let Some((worker, act, ticks)) = three_fields(fields) else {
         return Err(PlanKind::BadRow);

@@ -1,5 +1,5 @@
 //! Laws of the definitions, each the contract of a function that does nothing.
-ghost use Rattle.stop_plan.specs.Laws.{NeverBoth, OneFault, OnePlan, OneSchedule};
+ghost use Rattle.stop_plan.specs.Laws.{NeverBoth, OnePlanFault, OnePlan, OneSchedule};
 ghost use Rattle.stop_plan.specs.Laws.{PlanOrFault, RowsAsTexts, RowsNameWorkers};
 
 /// Records spell at most one plan.
@@ -9,7 +9,7 @@ pub fn one_plan()
 
 /// Records have at most one first fault, which is never `Memory`.
 pub fn one_fault()
-    ensures { OneFault }
+    ensures { OnePlanFault }
 {}
 
 /// Records spell a plan or have a first fault.

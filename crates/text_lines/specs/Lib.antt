@@ -2,3 +2,4 @@ pub mod Lines
 pub mod LinesAfter
 pub mod TextLines
 pub mod Words
+pub mod Reads

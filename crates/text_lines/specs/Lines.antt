@@ -37,7 +37,7 @@ words_of line = filter is_filled (slice_split is_blank (said_in line))
 abbrev pub worded : List (List ℕ) → List Line
 worded lines = filter is_filled (map words_of lines)
 
--- the same lines, each with its number among all lines, counted from 1
+-- the lines that have words, each with its number among all lines, counted from 1
 abbrev pub numbered : List (List ℕ) → List (ℕ × Line)
 numbered lines = filter (λ entry. is_filled entry.1) (enumerate_from 1 (map words_of lines))
 

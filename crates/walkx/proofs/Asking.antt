@@ -51,7 +51,7 @@ use Rattle.walkx.specs.Walk.{Then, Walking, Fits, IsBoard, IsGoing, IsPhase, Hea
 use Rattle.walkx.specs.Walk.{AllAdmitted, AsksAdmitted, IsStepOn, node_of, script_by}
 use Rattle.walkx.specs.Walk.{script_of, rest_of, ask_of, next_op, end_of, phase_begun}
 use Rattle.walkx.specs.Walk.{IsInBlock, after_part, has_rank, part_script, processor_at}
-use Rattle.walkx.specs.Walk.{marks, stands_at, way_down, begin_script, turn_script}
+use Rattle.walkx.specs.Walk.{marks_node, stands_at, way_down, begin_script, turn_script}
 use Rattle.walkx.proofs.Boards.{admits, in_range, is_below, place_shape, same_cells}
 use Rattle.walkx.proofs.Boards.{same_procs, asked_part, stamps, step_most}
 use Rattle.walkx.proofs.Cells.{cell_is}
@@ -428,7 +428,8 @@ module _ (job : JobData) (y : LayoutData) (board : IsBoard job y) where
 
   -- ---- the scripts
 
-  marks_ask : (n q : ℕ) → 1 ≤ n → n < 2 * y.leaves → q ≤ 3 * job.steps → AllAsk job y (marks y n q)
+  marks_ask : (n q : ℕ) → 1 ≤ n → n < 2 * y.leaves → q ≤ 3 * job.steps →
+      AllAsk job y (marks_node y n q)
   marks_ask n q low high last = max_of (Node n) q _ (low, high) last (ends_of _)
 
   stands_ask : (w n q : ℕ) → w < y.workers → 1 ≤ n → n < 2 * y.leaves →

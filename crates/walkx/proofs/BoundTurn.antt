@@ -13,7 +13,7 @@ use Rattle.walkx.specs.declared.operation.Op.{Op}
 use Rattle.walkx.specs.declared.operation.Op.TheVariants.{Load, Store, Max}
 use Rattle.walkx.specs.Doing as doing
 use Rattle.walkx.specs.Scripts.{asks, ends}
-use Rattle.walkx.specs.Walk.{begins, turns, works, after_part, has_rank, leaf_script, marks}
+use Rattle.walkx.specs.Walk.{begins, turns, works, after_part, has_rank, leaf_script, marks_node}
 use Rattle.walkx.specs.Walk.{part_script, processor_at, stands_at, turn_script, way_down}
 use Rattle.walkx.proofs.BoundWeight.{low_of, others, turns_left, later_weight}
 use Rattle.walkx.proofs.Firsts.{rank_parts}
@@ -81,7 +81,7 @@ part_marked job y before history n q rank grown some inside first last done =
 
 marks_leads : (job : JobData) (y : LayoutData) (w : ℕ) (before : List (Op × ℕ)) (n q : ℕ) →
     1 ≤ n → n < 2 * y.leaves → 1 ≤ q → q ≤ 3 * job.steps → low_of y before n < q →
-    LeadsOn job y w (To job y (turn_weight job y before n q)) before 1 (marks y n q)
+    LeadsOn job y w (To job y (turn_weight job y before n q)) before 1 (marks_node y n q)
 marks_leads job y w before n q some inside first last unmarked = λ history grown. (
   omega arith,
   λ found may.
@@ -120,7 +120,7 @@ leaf_leads job y w before n q some leaf inside first last unmarked =
     (λ more history grown. let few = rank_few y n 0 more in
     first_to job y before history n q grown some leaf inside first last unmarked few)
     (λ none. marked)))
-    (λ e. is.more 12 1 (marks y n q) (omega arith) marked)
+    (λ e. is.more 12 1 (marks_node y n q) (omega arith) marked)
 
 -- the task of another processor
 pub part_leads : (job : JobData) (y : LayoutData) (w n q rank : ℕ) (before : List (Op × ℕ)) →
@@ -210,12 +210,12 @@ inner_leads : (job : JobData) (y : LayoutData) (w : ℕ)
     1 ≤ n → n < y.leaves → 1 ≤ q → q ≤ 3 * job.steps → low_of y before n < q →
     low_of y before (2 * n) ≤ l → low_of y before (2 * n + 1) ≤ r →
     Leads job y w (To job y (turn_weight job y before n q))
-    (if nat_le q l && nat_le q r then marks y n q else stands_at y w (way_down y w n q l r) q)
+    (if nat_le q l && nat_le q r then marks_node y n q else stands_at y w (way_down y w n q l r) q)
     13 history
 inner_leads job y w before history n q l r grown some inner first last unmarked left right =
     let to = To job y (turn_weight job y before n q) in
     cond_both (nat_le q l && nat_le q r) _ _ (λ script. Leads job y w to script 13 history)
-    (λ e. leads_more job y w to (marks y n q) 13 1 history (omega arith)
+    (λ e. leads_more job y w to (marks_node y n q) 13 1 history (omega arith)
     (marks_leads job y w before n q some (omega arith) first last unmarked history grown))
     (λ e. down_leads job y w before history n q l r (way_down y w n q l r) 13 grown some inner first
     last left right (way_down_is y w n q l r e) (omega arith))
@@ -228,7 +228,7 @@ unfinished_leads : (job : JobData) (y : LayoutData)
     (if nat_le y.leaves n then leaf_script job y n q
     else asks (Load (number_of y (Node (2 * n))))
     (λ l. asks (Load (number_of y (Node (2 * n + 1)))) (λ r.
-    if nat_le q l && nat_le q r then marks y n q else stands_at y w (way_down y w n q l r) q)))
+    if nat_le q l && nat_le q r then marks_node y n q else stands_at y w (way_down y w n q l r) q)))
     15 history
 unfinished_leads job y w before history n q grown some inside first last unmarked =
     let to = To job y (turn_weight job y before n q) in

@@ -6,7 +6,7 @@ use Rattle.walkx.specs.declared.playback.Playback.{Playback}
 use Rattle.walkx.specs.Driving.{Reaches}
 use Rattle.walkx.specs.Inner.Posts.{PostData}
 use Rattle.walkx.specs.Inner.Heard.{newest}
-use Rattle.walkx.specs.Playing.{Asks, Played, stands_back}
+use Rattle.walkx.specs.Playing.{AsksOperation, Played, stands_back}
 use Rattle.walkx.specs.Scripts.{Script, ends, first_op, heard_in, rest}
 use Rattle.walkx.specs.Walk.{Then, AllAdmitted}
 use Rattle.walkx.proofs.Back.{ended_stays}
@@ -31,5 +31,5 @@ module _ {A : Type 0} (at : PostData) (s : Script Then)
       ended_stays s (to a) e.heard.now e.played (length e.heard.now) p.within p.here in
       rw p.same at all
   came_back e (Err why) reaches =
-      let a : Asks (d, s) e = reaches.on (d, s) starts_back in
+      let a : AsksOperation (d, s) e = reaches.on (d, s) starts_back in
       rw a.same at a.op

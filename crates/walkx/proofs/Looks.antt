@@ -11,7 +11,7 @@ use Rattle.walkx.specs.declared.reader.Glance.{Glance}
 use Rattle.walkx.specs.declared.reader.Glance.TheVariants as glance
 use Rattle.walkx.specs.Inner.Glances.{ReaderData, IsGlance, IsLaterGlance}
 use Rattle.walkx.specs.Inner.Glances.{most_looked, script_of_glance}
-use Rattle.walkx.specs.Serving.{Follows}
+use Rattle.walkx.specs.Serving.{FollowsScript}
 use Rattle.walkx.specs.Reads.{Looking, LooksFit, HeardAdmitted, look_of}
 use Rattle.walkx.specs.Reads.{looked, looks_for, reader_script, read_script}
 use Rattle.walkx.specs.Scripts.{Script, asks, ends, rest_after, first_op, op_with}
@@ -59,10 +59,11 @@ later_few (glance.Over r) new n going few later = absurd (going r refl)
 pub record Heard (job : JobData) (y : LayoutData) (k : ReaderData) (found : ℕ)
     (new : ReaderData) : Type 0 where
   pub told : new.looking ≡ looked k.looking found (look_of y k.looking)
-  pub follows : Follows y new
+  pub follows : FollowsScript y new
   pub fits : LooksFit job y new.looking
 
-heard_on : (job : JobData) (y : LayoutData) (k : ReaderData) (found : ℕ) (new : Glance) → Follows y
+heard_on : (job : JobData) (y : LayoutData) (k : ReaderData) (found : ℕ) (new : Glance) →
+    FollowsScript y
     k → LooksFit job y k.looking → HeardAdmitted job y (looks_for (look_of y k.looking)) found →
     ((r : Reading) → k.stage ≢ glance.Over r) → script_of_glance y k.looking.cell new
     ≡ rest_after (script_of_glance y k.looking.cell k.stage) found →
@@ -93,7 +94,7 @@ heard_on job y k found new follows fits admitted going is stage later =
 
 -- the same from what the code knows: v is the reader as its fields show it
 pub heard_by : (job : JobData) (y : LayoutData) (v k : ReaderData) (found : ℕ) (new : Glance) →
-    v ≡ k → Follows y k → LooksFit job y k.looking →
+    v ≡ k → FollowsScript y k → LooksFit job y k.looking →
     HeardAdmitted job y (looks_for (look_of y k.looking)) found →
     ((r : Reading) → v.stage ≢ glance.Over r) → script_of_glance y v.looking.cell new
     ≡ rest_after (script_of_glance y v.looking.cell v.stage) found →

@@ -5,16 +5,16 @@ use Rattle.walkx.specs.Walk.{Then}
 use Rattle.walkx.specs.declared.left.Left.{Left}
 use Rattle.walkx.specs.declared.left.Stopped.{Stopped}
 use Rattle.walkx.specs.declared.left.Left.TheVariants.{Late, Held}
-use Rattle.walkx.specs.Driving.{comes, settled}
+use Rattle.walkx.specs.Driving.{comes, settled_or_late}
 
 pub settled_ok : (r : Result (Unit {0}) Left) (after : Script Then) (done : Unit {0}) →
-    settled r ≡ Ok done → comes after (λ (d : Unit {0}). after) r ≡ Some after
+    settled_or_late r ≡ Ok done → comes after (λ (d : Unit {0}). after) r ≡ Some after
 settled_ok (Ok d) after done is = refl
 settled_ok (Err Late) after done is = refl
 settled_ok (Err Held) after done is = absurd (cc)
 
 pub settled_err : (r : Result (Unit {0}) Left) (after : Script Then) (why : Stopped) →
-    settled r ≡ Err why → comes after (λ (d : Unit {0}). after) r ≡ None
+    settled_or_late r ≡ Err why → comes after (λ (d : Unit {0}). after) r ≡ None
 settled_err (Ok d) after why is = absurd (cc)
 settled_err (Err Late) after why is = absurd (cc)
 settled_err (Err Held) after why is = refl

@@ -9,7 +9,7 @@ use Rattle.walkx.specs.declared.operation.Op.{Op}
 use Rattle.walkx.specs.Doing.{Doing}
 use Rattle.walkx.specs.Doing as doing
 use Rattle.walkx.specs.Scripts.{Script, asks, ends, rest_after, rest, first_op}
-use Rattle.walkx.specs.Walk.{Then, after_part, begin_script, has_rank, leaf_script, marks}
+use Rattle.walkx.specs.Walk.{Then, after_part, begin_script, has_rank, leaf_script, marks_node}
 use Rattle.walkx.specs.Walk.{part_script, processor_at, script_by, turn_script}
 use Rattle.walkx.proofs.BoundTasks.{IsWithin, task_within}
 
@@ -61,7 +61,7 @@ few_heard s k answers op short is = omega (
 
 -- ---- the scripts of a worker
 
-marks_short : (y : LayoutData) (n q k : ℕ) → 1 ≤ k → Short (marks y n q) k
+marks_short : (y : LayoutData) (n q k : ℕ) → 1 ≤ k → Short (marks_node y n q) k
 marks_short y n q k h = (h, λ found. tt)
 
 part_short : (job : JobData) (y : LayoutData) (n q rank : ℕ) →

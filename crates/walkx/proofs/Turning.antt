@@ -10,7 +10,8 @@ use Rattle.walkx.specs.Parts.{does}
 use Rattle.walkx.specs.declared.operation.Activity.{Activity}
 use Rattle.walkx.specs.declared.operation.Activity.TheVariants.{Turn, Part}
 use Rattle.walkx.specs.declared.turns.Turned.{Turned}
-use Rattle.walkx.specs.Rests.{IsPlace, IsWithin, entered, part_of, script_at, script_in, turn_of}
+use Rattle.walkx.specs.Rests.{IsPlayedAt, IsWithin, entered, part_rest, script_at, script_in}
+use Rattle.walkx.specs.Rests.{turn_of}
 use Rattle.walkx.specs.Records.{script_at_rank}
 use Rattle.walkx.specs.Turns.{working}
 use Rattle.walkx.proofs.Firsts.{rank_parts}
@@ -19,10 +20,10 @@ use Rattle.pram_words.specs.Words.{LayoutData}
 
 -- the first task of a leaf
 pub part_first : (at : PostData) → at.rank ≡ 0 →
-    part_script at.job at.layout at.node at.phase 0 ≡ part_of at
+    part_script at.job at.layout at.node at.phase 0 ≡ part_rest at
 part_first at first = rw first refl
 
-pub part_does : (at : PostData) → part_of at ≡ does at (then_next at)
+pub part_does : (at : PostData) → part_rest at ≡ does at (then_next at)
 unfolding part_script
 part_does at = refl
 
@@ -73,7 +74,7 @@ script_first at first = by at.rank first
     by zero e = refl
     by (suc rank) e = absurd (cc)
 
-pub script_later : (at : PostData) → 1 ≤ at.rank → script_at at ≡ part_of at
+pub script_later : (at : PostData) → 1 ≤ at.rank → script_at at ≡ part_rest at
 script_later at some = by at.rank some
   where
     by : (rank : ℕ) → 1 ≤ rank →
@@ -104,13 +105,13 @@ played at now within is = elim is [
 -- the task of the processor is next
 pub task_next : {D : Type 0} (stands : Standing D) (from : D × Script Then) (d : D)
     (at : PostData) (turned : Option Turned) → turned ≡ None →
-    stands from d (Some (entered at turned)) → stands from d (Some (part_of at))
+    stands from d (Some (entered at turned)) → stands from d (Some (part_rest at))
 task_next stands from d at turned none here =
     subst (λ (t : Option Turned). stands from d (Some (entered at t))) none here
 
 -- a worker at the start of such a script can play it
 pub fits_place : (job : JobData) (y : LayoutData) (number n q rank : ℕ) → IsBoard job y →
-    Fits job y (working number n q rank) → IsPlace (post_data job y number n q rank)
+    Fits job y (working number n q rank) → IsPlayedAt (post_data job y number n q rank)
 fits_place job y number n q zero board fits =
     record { phase = fits.phase.1; leaf = λ some. absurd (omega arith) }
 fits_place job y number n q (suc rank) board fits =

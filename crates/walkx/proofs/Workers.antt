@@ -15,8 +15,8 @@ use Rattle.walkx.specs.Doing as doing
 use Rattle.walkx.specs.Inner.Posts.{PostData}
 use Rattle.walkx.specs.Inner.Heard.{newest}
 use Rattle.walkx.specs.Inner.Workers.{WorkerData, doing_in, worker_data}
-use Rattle.walkx.specs.Playing.{ComesTo, IsPlayable, op_after}
-use Rattle.walkx.specs.Playing.{come_to, hearing, phase_of, stand_of}
+use Rattle.walkx.specs.Playing.{ScriptComesTo, IsPlayable, op_after}
+use Rattle.walkx.specs.Playing.{come_to, hearing, phase_of_doing, stand_of}
 use Rattle.walkx.specs.Serving.{IsHeldAt, Serves}
 use Rattle.walkx.specs.Activities.{activity_of}
 use Rattle.walkx.specs.Turns.{beginning}
@@ -46,7 +46,7 @@ script_is job y number n (activity.Over e) held_op heard = refl
 
 -- ---- a worker that fits
 
-phase_small : (job : JobData) (d : Doing) → IsPhase job d → phase_of d ≤ 3 * job.steps
+phase_small : (job : JobData) (d : Doing) → IsPhase job d → phase_of_doing d ≤ 3 * job.steps
 phase_small job doing.Back h = omega arith
 phase_small job doing.Begin h = omega arith
 phase_small job (doing.Turn q) h = h.1
@@ -187,11 +187,11 @@ module _ (job : JobData) (y : LayoutData) (number : ℕ)
       (sym (ap (λ (a : PostData). a.layout) stands)) three
 
   pub comes_here : (r : Result Next Op) →
-      ComesTo (rest (script_in at now) (newest (length d) d)) r →
-      ComesTo (rest_of job y k.walking) r
+      ScriptComesTo (rest (script_in at now) (newest (length d) d)) r →
+      ScriptComesTo (rest_of job y k.walking) r
   comes_here r c =
-      subst (λ (xs : List ℕ). ComesTo (rest (script_of job y k.walking) xs) r) same_heard
-      (subst (λ (s : Script Then). ComesTo (rest s (newest (length d) d)) r) same_script c)
+      subst (λ (xs : List ℕ). ScriptComesTo (rest (script_of job y k.walking) xs) r) same_heard
+      (subst (λ (s : Script Then). ScriptComesTo (rest s (newest (length d) d)) r) same_script c)
 
   pub within_here : IsBoard job y → IsPlayable job y k.walking → IsWithin at now
   within_here board p = subst (λ (a : PostData). IsWithin a now) (sym stands)
@@ -202,12 +202,12 @@ module _ (job : JobData) (y : LayoutData) (number : ℕ)
 -- ---- a worker that was told
 
 pub comes_ok : (s : Script Then) (r : Result Next Op) (n : Next) → r ≡ Ok n →
-    ComesTo s r → s ≡ ends (then_of n)
-comes_ok s r n is c = subst (ComesTo s) is c
+    ScriptComesTo s r → s ≡ ends (then_of n)
+comes_ok s r n is c = subst (ScriptComesTo s) is c
 
 pub comes_err : (s : Script Then) (r : Result Next Op) (op : Op) → r ≡ Err op →
-    ComesTo s r → first_op s ≡ Some op
-comes_err s r op is c = subst (ComesTo s) is c
+    ScriptComesTo s r → first_op s ≡ Some op
+comes_err s r op is c = subst (ScriptComesTo s) is c
 
 pub record Heard (job : JobData) (y : LayoutData) (w : Walking) (found : ℕ)
     (new : WorkerData) : Type 0 where
@@ -224,12 +224,12 @@ held_after job y w (next.Stops e) = refl
 module _ (job : JobData) (y : LayoutData) (w : Walking) (found : ℕ) (v : Walking)
     (r : Result Next Op) (new : WorkerData) (board : IsBoard job y) (fits : Fits job y w)
     (none : end_of w.now ≡ None) (admitted : HearsAdmitted job y (ask_of job y w) found)
-    (is : v ≡ hearing w found) (comes : ComesTo (rest_of job y v) r) where
+    (is : v ≡ hearing w found) (comes : ScriptComesTo (rest_of job y v) r) where
   going : IsGoing w.now
   going = is_going w.now none
 
-  comes_heard : ComesTo (rest_of job y (hearing w found)) r
-  comes_heard = subst (λ (u : Walking). ComesTo (rest_of job y u) r) is comes
+  comes_heard : ScriptComesTo (rest_of job y (hearing w found)) r
+  comes_heard = subst (λ (u : Walking). ScriptComesTo (rest_of job y u) r) is comes
 
   pub heard_ends : (n : Next) → r ≡ Ok n → new.walking ≡ come_to v n →
       new.held_op ≡ op_after n → Heard job y w found new

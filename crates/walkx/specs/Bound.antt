@@ -29,15 +29,15 @@ history_of job layout worker (found ∷ earlier) =
 
 -- what an operation with its answer shows of a word: what was loaded from it, or what it was raised
 -- to
-abbrev pub shown : Op → ℕ → ℕ → ℕ
-shown (Load number) found word = if number == word then found else 0
-shown (Max number value) found word = if number == word then value else 0
-shown _ found word = 0
+abbrev pub shown_of_word : Op → ℕ → ℕ → ℕ
+shown_of_word (Load number) found word = if number == word then found else 0
+shown_of_word (Max number value) found word = if number == word then value else 0
+shown_of_word _ found word = 0
 
 -- the greatest that a history shows of a word
 abbrev pub low : List (Op × ℕ) → ℕ → ℕ
 low [] word = 0
-low (step ∷ earlier) word = max (shown step.0 step.1 word) (low earlier word)
+low (step ∷ earlier) word = max (shown_of_word step.0 step.1 word) (low earlier word)
 
 -- What a worker may load from a word after a history: of a node nothing below what the history
 -- shows, of the root nothing above the last phase, and as its position a node.

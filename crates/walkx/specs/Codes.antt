@@ -60,10 +60,10 @@ op_again (Over (Conflict step)) = refl
 
 -- ---- records
 
-pub code_of : Record → Gv
-code_of empty = gnil
-code_of (after past op found) = gcons (gnum found) (gcons (op_code op) (code_of past))
-code_of (both past other) = gcons gnil (gcons (code_of past) (code_of other))
+pub record_code : Record → Gv
+record_code empty = gnil
+record_code (after past op found) = gcons (gnum found) (gcons (op_code op) (record_code past))
+record_code (both past other) = gcons gnil (gcons (record_code past) (record_code other))
 
 record_from : Gv → Record
 record_from gnil = empty
@@ -74,17 +74,17 @@ record_from (gcons (gnum found) (gcons op past)) = after (record_from past) (op_
 record_from (gcons gnil (gcons past other)) = both (record_from past) (record_from other)
 record_from (gcons (gcons left right) (gcons past other)) = empty
 
-record_again : (past : Record) → record_from (code_of past) ≡ past
-unfolding code_of record_from
+record_again : (past : Record) → record_from (record_code past) ≡ past
+unfolding record_code record_from
 record_again empty = refl
 record_again (after past op found) =
     ap₂ (λ before step. after before step found) (record_again past) (op_again op)
 record_again (both past other) =
     ap₂ (λ before beside. both before beside) (record_again past) (record_again other)
 
-pub code_of-injective : (past other : Record) → code_of past ≡ code_of other → past ≡ other
+pub code_of-injective : (past other : Record) → record_code past ≡ record_code other → past ≡ other
 code_of-injective past other same =
     sym (record_again past) ∙ ap record_from same ∙ record_again other
 
 abbrev pub coded_record : Coded Record
-coded_record = record { code = code_of; inj = code_of-injective }
+coded_record = record { code = record_code; inj = code_of-injective }

@@ -27,7 +27,8 @@ comes after next (Ok result) = Some (next result)
 comes after next (Err why) = left_as after why
 
 -- the driver is to play this part next
-pub record IsNext {D A : Type 0} (stands : Standing D) (driver : D) (part : Part A) : Type 0 where
+pub record IsNextPart {D A : Type 0} (stands : Standing D) (driver : D) (part : Part A)
+    : Type 0 where
   pub from : D × Script Then
   pub after : Script Then
   pub next : A → Script Then
@@ -39,7 +40,7 @@ pub record Plays {D A : Type 0} (stands : Standing D) (old : D) (part : Part A) 
   pub on : (from : D × Script Then) (after : Script Then) (next : A → Script Then) →
       stands from old (Some (part after next)) → stands from new (comes after next result)
 
--- the same of a whole task, which a late worker ends as any other
+-- the driver is to play this whole task next, which a late worker ends as any other
 pub record IsDue {D : Type 0} (stands : Standing D) (driver : D)
     (task : Script Then → Script Then) : Type 0 where
   pub from : D × Script Then
@@ -64,7 +65,7 @@ pub record Makes {D : Type 0} (stands : PostData → Standing D) (old : D) (op :
     (result : Result ℕ Stopped) : Type 0 where
   pub on : (at : PostData) (from : D × Script Then) (next : ℕ → Script Then) →
       stands at from old (Some (asks op next)) → stands at from new (goes next result)
-  pub admitted : (at : PostData) → IsNext (stands at) old (makes op) →
+  pub admitted : (at : PostData) → IsNextPart (stands at) old (makes op) →
       IfOk result (HearsAdmitted at.job at.layout op)
 
 -- the driver is at this script, and no part comes after it
@@ -86,7 +87,7 @@ Reaches stands old script to new result =
     Leads stands old script (λ answer. ends (to answer)) new result
 
 -- the end of a task, late or not
-abbrev pub settled : Result (Unit {0}) Left → Result (Unit {0}) Stopped
-settled (Ok done) = Ok done
-settled (Err Late) = Ok tt
-settled (Err Held) = Err (record {})
+abbrev pub settled_or_late : Result (Unit {0}) Left → Result (Unit {0}) Stopped
+settled_or_late (Ok done) = Ok done
+settled_or_late (Err Late) = Ok tt
+settled_or_late (Err Held) = Err (record {})

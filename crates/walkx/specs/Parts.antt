@@ -47,8 +47,8 @@ writes_after at place value after words =
     else asks (swap_of at place value words.0 words.1) (λ found. after)
 
 -- part j of the request, if it is of this step
-abbrev pub hears : PostData → ℕ → Part ℕ
-hears at j = hears_part at.layout (step_of at) (processor_of at) j
+abbrev pub hears_request : PostData → ℕ → Part ℕ
+hears_request at j = hears_part at.layout (step_of at) (processor_of at) j
 
 abbrev pub writes_data : PostData → ℕ → ℕ → Part (Unit {0})
 writes_data at part value after next =
@@ -109,17 +109,18 @@ after_count rule at after part value count =
     readies rule at part after (λ ready. carries_out at ready value count after (λ done. after))
 
 abbrev pub after_value : Rule → PostData → Script Then → ℕ → ℕ → Script Then
-after_value rule at after part value = hears at 2 after (after_count rule at after part value)
+after_value rule at after part value =
+    hears_request at 2 after (after_count rule at after part value)
 
 abbrev pub after_place : Rule → PostData → Script Then → ℕ → Script Then
-after_place rule at after part = hears at 1 after (after_value rule at after part)
+after_place rule at after part = hears_request at 1 after (after_value rule at after part)
 
 abbrev pub applies : Rule → PostData → Script Then → Script Then
-applies rule at after = hears at 0 after (after_place rule at after)
+applies rule at after = hears_request at 0 after (after_place rule at after)
 
 -- the cell of the request is claimed
 abbrev pub claims_cell : PostData → Script Then → Script Then
-claims_cell at after = hears at 0 after (λ part. claims_data at part after (λ done. after))
+claims_cell at after = hears_request at 0 after (λ part. claims_data at part after (λ done. after))
 
 -- the step is reported as against the rule; if it is
 abbrev pub report_made : PostData → Op
@@ -142,11 +143,11 @@ compares_place at place value after next =
 
 abbrev pub compares_data : PostData → ℕ → Part (Unit {0})
 compares_data at part after next =
-    if_data part (next tt) (λ place. hears at 1 after (λ value.
+    if_data part (next tt) (λ place. hears_request at 1 after (λ value.
     compares_place at place value after next))
 
 abbrev pub compares : PostData → Script Then → Script Then
-compares at after = hears at 0 after (λ part. compares_data at part after (λ done. after))
+compares at after = hears_request at 0 after (λ part. compares_data at part after (λ done. after))
 
 -- the claim to the cell is compared with the processor's own
 abbrev pub compares_own : PostData → Script Then → (Unit {0} → Script Then) → ℕ → Script Then
@@ -161,7 +162,7 @@ compares_claim at part after next =
 
 abbrev pub compares_claims : PostData → Script Then → Script Then
 compares_claims at after =
-    hears at 0 after (λ part. compares_claim at part after (λ done. after))
+    hears_request at 0 after (λ part. compares_claim at part after (λ done. after))
 
 -- the task of a pass, and that of the phase
 abbrev pub does_in : Kind → PostData → Script Then → Script Then
@@ -179,8 +180,8 @@ abbrev pub reads_after : PostData → Script Then → (ℕ → Script Then) → 
 reads_after at after next words =
     if is_late (step_of at) words.0 words.1 then after else next (newer_payload words.0 words.1)
 
-abbrev pub register_of : PostData → ℕ → ℕ
-register_of at register = register_place at.job (processor_of at) register
+abbrev pub register_at_post : PostData → ℕ → ℕ
+register_at_post at register = register_place at.job (processor_of at) register
 
 abbrev pub reads_operands : PostData → Instr → Part (ℕ × ℕ)
 reads_operands at instr after next =

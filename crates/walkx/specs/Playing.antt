@@ -16,7 +16,7 @@ use Rattle.walkx.specs.Rests.{then_of}
 use Rattle.walkx.specs.Scripts.{Script, ends, first_op, heard_in, rest}
 use Rattle.walkx.specs.Walk.{Then, Walking, AllAdmitted, IsInBlock, node_of, script_of}
 
--- so many of the answers were played back, and this is left of the script
+-- this many of the answers were played back, and this is left of the script
 pub record Played (at : PostData) (from : Playback × Script Then) (playback : Playback)
     (script : Script Then) : Type 0 where
   pub same : playback.heard.now ≡ from.0.heard.now
@@ -26,7 +26,7 @@ pub record Played (at : PostData) (from : Playback × Script Then) (playback : P
       (heard_in from.1 (newest (length playback.heard.now) playback.heard.now))
 
 -- the operation after all answers
-pub record Asks (from : Playback × Script Then) (playback : Playback) : Type 0 where
+pub record AsksOperation (from : Playback × Script Then) (playback : Playback) : Type 0 where
   pub same : playback.heard.now ≡ from.0.heard.now
   pub op : first_op (rest from.1 (newest (length playback.heard.now) playback.heard.now))
       ≡ Some playback.held_op
@@ -34,20 +34,20 @@ pub record Asks (from : Playback × Script Then) (playback : Playback) : Type 0 
 abbrev pub stands_back : PostData → Playback × Script Then → Playback → Option (Script Then) →
     Type 0
 stands_back at from playback (Some script) = Played at from playback script
-stands_back at from playback None = Asks from playback
+stands_back at from playback None = AsksOperation from playback
 
 -- the script ended so, or asks this next
-abbrev pub ComesTo : Script Then → Result Next Op → Type 0
-ComesTo script (Ok next) = script ≡ ends (then_of next)
-ComesTo script (Err op) = first_op script ≡ Some op
+abbrev pub ScriptComesTo : Script Then → Result Next Op → Type 0
+ScriptComesTo script (Ok next) = script ≡ ends (then_of next)
+ScriptComesTo script (Err op) = first_op script ≡ Some op
 
 -- ---- a worker
 
 -- the phase of a turn, or of a task in a block; none is needed beside one
-abbrev pub phase_of : Doing → ℕ
-phase_of (doing.Turn phase) = phase
-phase_of (doing.Part phase rank) = phase
-phase_of _ = 0
+abbrev pub phase_of_doing : Doing → ℕ
+phase_of_doing (doing.Turn phase) = phase
+phase_of_doing (doing.Part phase rank) = phase
+phase_of_doing _ = 0
 
 -- the rank of the processor whose task it does
 abbrev pub rank_of : Doing → ℕ
@@ -57,14 +57,14 @@ rank_of _ = 0
 -- where it stands
 abbrev pub stand_of : JobData → LayoutData → Walking → PostData
 stand_of job layout worker =
-    post_data job layout worker.number (node_of layout worker) (phase_of worker.now)
+    post_data job layout worker.number (node_of layout worker) (phase_of_doing worker.now)
     (rank_of worker.now)
 
 -- its script can be played back with what it heard
 pub record IsPlayable (job : JobData) (layout : LayoutData) (worker : Walking) : Type 0 where
   pub number : worker.number < layout.workers
   pub node : (1 ≤ node_of layout worker) × (node_of layout worker < 2 * layout.leaves)
-  pub phase : phase_of worker.now ≤ 3 * job.steps
+  pub phase : phase_of_doing worker.now ≤ 3 * job.steps
   pub block : IsInBlock layout (node_of layout worker) worker.now
   pub admitted : AllAdmitted job layout (heard_in (script_of job layout worker) worker.heard)
 

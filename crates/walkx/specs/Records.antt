@@ -40,7 +40,8 @@ HasPart job layout past worker node phase rank =
     (answers : List ℕ) × (rest script answers ≡ ends (works node phase (suc rank)))
     × Has past (heard_in script answers ++ begun_phase layout phase)
 
--- so of all processors of the block before the one that the worker is at
+-- the record has the whole scripts of all processors of the block before the one that the worker is
+-- at
 abbrev pub HasBlock : JobData → LayoutData → Record → ℕ → ℕ → Doing → Type 0
 HasBlock job layout past worker node (doing.Part phase rank) = (earlier : ℕ) → earlier < rank →
     HasPart job layout past worker node phase earlier

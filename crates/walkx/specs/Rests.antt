@@ -15,13 +15,13 @@ use Rattle.walkx.specs.declared.turns.Turned.{Turned}
 use Rattle.walkx.specs.declared.turns.Turned.TheVariants as turned
 use Rattle.walkx.specs.Walk.{Then, begins, turns, works, stops, back_script, begin_script}
 use Rattle.walkx.specs.Walk.{leaf_script, part_script, stands_at, turn_script, way_down}
-use Rattle.walkx.specs.Inner.Posts.{IsLeaf, PostData, then_marks}
+use Rattle.walkx.specs.Inner.Posts.{IsLeafPost, PostData, then_marks}
 
 abbrev pub moves : PostData → ℕ → Script Then
 moves at to = stands_at at.layout at.worker to at.phase
 
-abbrev pub leaf_of : PostData → Script Then
-leaf_of at = leaf_script at.job at.layout at.node at.phase
+abbrev pub leaf_rest : PostData → Script Then
+leaf_rest at = leaf_script at.job at.layout at.node at.phase
 
 abbrev pub after_children : PostData → ℕ → ℕ → Script Then
 after_children at left right = if nat_le at.phase left && nat_le at.phase right then then_marks at
@@ -39,14 +39,14 @@ leaves_up at = if at.node == 1 then ends (begins 1) else moves at (at.node / 2)
 abbrev pub after_node : PostData → ℕ → Script Then
 after_node at found =
     if nat_le at.phase found then leaves_up at
-    else (if nat_le at.layout.leaves at.node then leaf_of at else inner_of at)
+    else (if nat_le at.layout.leaves at.node then leaf_rest at else inner_of at)
 
 abbrev pub turn_of : PostData → Script Then
 turn_of at = turn_script at.job at.layout at.worker at.node at.phase
 
 -- the task of a processor
-abbrev pub part_of : PostData → Script Then
-part_of at = part_script at.job at.layout at.node at.phase at.rank
+abbrev pub part_rest : PostData → Script Then
+part_rest at = part_script at.job at.layout at.node at.phase at.rank
 
 -- the script with that task
 abbrev pub script_at : PostData → Script Then
@@ -60,7 +60,7 @@ leads at (turned.Within rank) = works at.node at.phase rank
 
 -- what is left of a script after a turn, or before the task of a processor
 abbrev pub entered : PostData → Option Turned → Script Then
-entered at None = part_of at
+entered at None = part_rest at
 entered at (Some turned) = ends (leads at turned)
 
 -- ---- the scripts back and begin
@@ -84,28 +84,28 @@ after_conflict at root conflict =
     if conflict == 0 then (if root == 3 * at.job.steps then ends (stops ended.Done)
     else ends (turns at.node (root + 1))) else ends (stops (ended.Conflict conflict))
 
-abbrev pub conflict_of : PostData → ℕ → Script Then
-conflict_of at root = asks (Load (number_of at.layout Conflict)) (after_conflict at root)
+abbrev pub conflict_rest : PostData → ℕ → Script Then
+conflict_rest at root = asks (Load (number_of at.layout Conflict)) (after_conflict at root)
 
 abbrev pub after_root : PostData → ℕ → Script Then
 after_root at root =
-    if root % 3 == 0 then conflict_of at root else ends (turns at.node (root + 1))
+    if root % 3 == 0 then conflict_rest at root else ends (turns at.node (root + 1))
 
 -- the script of an activity; a worker that is over has heard a whole begin
 abbrev pub script_in : PostData → Activity → Script Then
 script_in at activity.Back = back_of at
 script_in at activity.Begin = begin_of at
 script_in at (activity.Turn phase) = turn_of at
-script_in at (activity.Part phase rank) = part_of at
+script_in at (activity.Part phase rank) = part_rest at
 script_in at (activity.Over end) = begin_of at
 
 -- a post where such a script can be played
-pub record IsPlace (at : PostData) : Type 0 where
+pub record IsPlayedAt (at : PostData) : Type 0 where
   pub phase : at.phase ≤ 3 * at.job.steps
-  pub leaf : 1 ≤ at.rank → IsLeaf at
+  pub leaf : 1 ≤ at.rank → IsLeafPost at
 
 -- an activity that the worker's post fits
 abbrev pub IsWithin : PostData → Activity → Type 0
 IsWithin at (activity.Turn phase) = (at.rank ≡ 0) × (at.phase ≤ 3 * at.job.steps)
-IsWithin at (activity.Part phase rank) = (1 ≤ at.rank) × IsLeaf at
+IsWithin at (activity.Part phase rank) = (1 ≤ at.rank) × IsLeafPost at
 IsWithin at _ = Unit {0}

@@ -7,7 +7,7 @@ use Rattle.walkx.specs.declared.operation.Op.{Op}
 use Rattle.walkx.specs.Records.{Record, Knows}
 use Rattle.walkx.specs.Walk.{Walking, Fits, IsGoing, ask_of}
 use Rattle.walkx.specs.Inner.Workers.{WorkerData}
-use Rattle.walkx.specs.Inner.Glances.{ReaderData, StandsAt}
+use Rattle.walkx.specs.Inner.Glances.{ReaderData, StandsAtGlance}
 
 -- the worker is held at this operation, or at the start of a script
 abbrev pub IsHeldAt : JobData → LayoutData → Walking → Option Op → Type 0
@@ -20,13 +20,13 @@ pub record Serves (job : JobData) (layout : LayoutData) (worker : WorkerData) : 
 
 -- A worker of this number that stands so from the start: it serves on every board that it is a
 -- worker of, and every record knows it.
-pub record IsNew (number : ℕ) (walking : Walking) (worker : WorkerData) : Type 0 where
+pub record IsNewWorker (number : ℕ) (walking : Walking) (worker : WorkerData) : Type 0 where
   pub value : worker.walking ≡ walking
   pub serves : (job : JobData) (layout : LayoutData) → number < layout.workers →
       Serves job layout worker
   pub known : (job : JobData) (layout : LayoutData) (past : Record) →
       Knows job layout past worker.walking
 
-pub record Follows (layout : LayoutData) (reader : ReaderData) : Type 0 where
+pub record FollowsScript (layout : LayoutData) (reader : ReaderData) : Type 0 where
   pub cell : reader.looking.cell < layout.cells
-  pub stands : StandsAt layout reader
+  pub stands : StandsAtGlance layout reader

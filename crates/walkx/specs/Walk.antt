@@ -54,8 +54,8 @@ abbrev pub stands_at : LayoutData → ℕ → ℕ → ℕ → Script Then
 stands_at layout worker node phase =
     asks (Store (number_of layout (Position worker)) node) (λ stored. ends (turns node phase))
 
-abbrev pub marks : LayoutData → ℕ → ℕ → Script Then
-marks layout node phase =
+abbrev pub marks_node : LayoutData → ℕ → ℕ → Script Then
+marks_node layout node phase =
     asks (Max (number_of layout (Node node)) phase) (λ found. ends (turns node phase))
 
 -- the processor of a rank in the block of leaf n, and whether there is one
@@ -70,7 +70,7 @@ has_rank layout node rank =
 abbrev pub after_part : LayoutData → ℕ → ℕ → ℕ → Script Then
 after_part layout node phase rank =
     if has_rank layout node (suc rank) then ends (works node phase (suc rank))
-    else marks layout node phase
+    else marks_node layout node phase
 
 unfoldable pub part_script : JobData → LayoutData → ℕ → ℕ → ℕ → Script Then
 part_script job layout node phase rank =
@@ -82,7 +82,7 @@ part_script job layout node phase rank =
 abbrev pub leaf_script : JobData → LayoutData → ℕ → ℕ → Script Then
 leaf_script job layout node phase =
     if has_rank layout node 0 then part_script job layout node phase 0
-    else marks layout node phase
+    else marks_node layout node phase
 
 -- A finished node is left upward, a leaf is worked at and marked, an inner node is marked or left
 -- downward.
@@ -93,7 +93,7 @@ turn_script job layout worker node phase = asks (Load (number_of layout (Node no
     else (if nat_le layout.leaves node then leaf_script job layout node phase
     else asks (Load (number_of layout (Node (2 * node)))) (λ left.
     asks (Load (number_of layout (Node (2 * node + 1)))) (λ right.
-    if nat_le phase left && nat_le phase right then marks layout node phase
+    if nat_le phase left && nat_le phase right then marks_node layout node phase
     else stands_at layout worker (way_down layout worker node phase left right) phase))))
 
 -- ---- a worker

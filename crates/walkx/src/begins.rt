@@ -6,7 +6,7 @@ ghost use Rattle.walkx.specs.Inner.Posts.{IsPost};
 ghost use Rattle.walkx.specs.Scripts.{ends};
 ghost use Rattle.walkx.specs.Walk.{begins, turns};
 ghost use Rattle.walkx.specs.Driving.{IsHere, Reaches};
-ghost use Rattle.walkx.specs.Rests.{back_of, begin_of, after_conflict, conflict_of, then_of};
+ghost use Rattle.walkx.specs.Rests.{back_of, begin_of, after_conflict, conflict_rest, then_of};
 
 use crate::left::Stopped;
 use crate::next::Next;
@@ -44,8 +44,8 @@ pub(crate) fn begin<S: Steps>(steps: &mut S, post: &Post) -> Result<Next, Stoppe
 #[inline(always)]
 fn look_for_conflict<S: Steps>(steps: &mut S, post: &Post, root: u64) -> Result<Next, Stopped>
     requires root { root ≤ 3 * post.now.job.steps }
-    requires here { IsHere (S.stands post.now) steps.old (conflict_of post.now root) }
-    ensures reaches { Reaches (S.stands post.now) steps.old (conflict_of post.now root) then_of
+    requires here { IsHere (S.stands post.now) steps.old (conflict_rest post.now root) }
+    ensures reaches { Reaches (S.stands post.now) steps.old (conflict_rest post.now root) then_of
         steps.new result }
 {
     let conflict = steps.make(conflict_look(post))?;

@@ -1,7 +1,7 @@
 //! The apply tasks: a request is heard and carried out.
 ghost use Rattle.std.specs.Prelude.{◌≡◌, ◌≤◌, ◌==◌};
 ghost use Rattle.pram_words.specs.Words.{counters_of};
-ghost use Rattle.walkx.specs.Driving.{Ends, IsDue, IsNext, Plays};
+ghost use Rattle.walkx.specs.Driving.{Ends, IsDue, IsNextPart, Plays};
 ghost use Rattle.walkx.specs.Parts.{applies, carries_out, writes_data};
 
 use crate::claim::ready;
@@ -19,7 +19,7 @@ pub(crate) fn write_data<S: Steps>(
     value: u32,
 ) -> Result<(), Left>
     requires place { place ≤ counters_of leaf.now.layout }
-    requires next { IsNext (S.stands leaf.now) steps.old (writes_data leaf.now place value) }
+    requires next { IsNextPart (S.stands leaf.now) steps.old (writes_data leaf.now place value) }
     ensures plays { Plays (S.stands leaf.now) steps.old (writes_data leaf.now place value)
         steps.new result }
 {
@@ -39,7 +39,8 @@ pub(crate) fn carry<S: Steps>(
     count: u32,
 ) -> Result<(), Left>
     requires place { place ≤ counters_of leaf.now.layout }
-    requires next { IsNext (S.stands leaf.now) steps.old (carries_out leaf.now place value count) }
+    requires next { IsNextPart (S.stands leaf.now) steps.old
+        (carries_out leaf.now place value count) }
     ensures plays { Plays (S.stands leaf.now) steps.old (carries_out leaf.now place value count)
         steps.new result }
 {

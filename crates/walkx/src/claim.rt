@@ -1,7 +1,7 @@
 //! Claims to cells.
 ghost use Rattle.std.specs.Prelude.{◌≡◌, ◌≢◌, ◌≤◌, IfOk};
 ghost use Rattle.pram_words.specs.Words.{counters_of};
-ghost use Rattle.walkx.specs.Driving.{Ends, IsDue, IsNext, Plays};
+ghost use Rattle.walkx.specs.Driving.{Ends, IsDue, IsNextPart, Plays};
 ghost use Rattle.walkx.specs.Parts.{claims_cell, claims_data, owns, readies};
 
 use crate::left::Left;
@@ -14,7 +14,7 @@ use pram_job::Rule;
 #[inline(always)]
 pub(crate) fn claim_data<S: Steps>(steps: &mut S, leaf: &Leaf, place: u32) -> Result<(), Left>
     requires rule { leaf.now.job.rule ≢ Rule.Common }
-    requires next { IsNext (S.stands leaf.now) steps.old (claims_data leaf.now place) }
+    requires next { IsNextPart (S.stands leaf.now) steps.old (claims_data leaf.now place) }
     ensures plays { Plays (S.stands leaf.now) steps.old (claims_data leaf.now place) steps.new
         result }
 {
@@ -29,7 +29,7 @@ pub(crate) fn claim_data<S: Steps>(steps: &mut S, leaf: &Leaf, place: u32) -> Re
 #[inline(always)]
 pub(crate) fn owned<S: Steps>(steps: &mut S, leaf: &Leaf, place: u32) -> Result<u32, Left>
     requires rule { leaf.now.job.rule ≢ Rule.Common }
-    requires next { IsNext (S.stands leaf.now) steps.old (owns leaf.now place) }
+    requires next { IsNextPart (S.stands leaf.now) steps.old (owns leaf.now place) }
     ensures most { IfOk result (λ p. p ≤ place) }
     ensures plays { Plays (S.stands leaf.now) steps.old (owns leaf.now place) steps.new result }
 {
@@ -46,7 +46,7 @@ pub(crate) fn owned<S: Steps>(steps: &mut S, leaf: &Leaf, place: u32) -> Result<
 /// The data place that is to be written by the rule.
 #[inline(always)]
 pub(crate) fn ready<S: Steps>(steps: &mut S, leaf: &Leaf, place: u32) -> Result<u32, Left>
-    requires next { IsNext (S.stands leaf.now) steps.old (readies leaf.now.job.rule leaf.now
+    requires next { IsNextPart (S.stands leaf.now) steps.old (readies leaf.now.job.rule leaf.now
         place) }
     ensures most { IfOk result (λ p. p ≤ place) }
     ensures plays { Plays (S.stands leaf.now) steps.old (readies leaf.now.job.rule leaf.now place)

@@ -1,7 +1,7 @@
 //! The verify tasks: what stands in a place, or in a claim, is compared.
 ghost use Rattle.std.specs.Prelude.{◌≡◌, ◌≢◌, ◌<◌, ◌≤◌, ◌==◌};
 ghost use Rattle.pram_words.specs.Words.{counters_of, places_of};
-ghost use Rattle.walkx.specs.Driving.{Ends, IsDue, IsNext, Plays};
+ghost use Rattle.walkx.specs.Driving.{Ends, IsDue, IsNextPart, Plays};
 ghost use Rattle.walkx.specs.Parts.{compares, compares_claim, compares_claims, compares_data};
 ghost use Rattle.walkx.specs.Parts.{compares_place, either_differs, reports_if};
 
@@ -14,7 +14,7 @@ use pram_job::Rule;
 /// The step is reported, if it is against the rule.
 #[inline(always)]
 pub(crate) fn report_if<S: Steps>(steps: &mut S, leaf: &Leaf, conflict: bool) -> Result<(), Left>
-    requires next { IsNext (S.stands leaf.now) steps.old (reports_if leaf.now conflict) }
+    requires next { IsNextPart (S.stands leaf.now) steps.old (reports_if leaf.now conflict) }
     ensures plays { Plays (S.stands leaf.now) steps.old (reports_if leaf.now conflict) steps.new
         result }
 {
@@ -28,7 +28,7 @@ pub(crate) fn report_if<S: Steps>(steps: &mut S, leaf: &Leaf, conflict: bool) ->
 #[inline(always)]
 fn compare_place<S: Steps>(steps: &mut S, leaf: &Leaf, place: u32, value: u32) -> Result<(), Left>
     requires place { place < places_of leaf.now.layout }
-    requires next { IsNext (S.stands leaf.now) steps.old (compares_place leaf.now place value) }
+    requires next { IsNextPart (S.stands leaf.now) steps.old (compares_place leaf.now place value) }
     ensures plays { Plays (S.stands leaf.now) steps.old (compares_place leaf.now place value)
         steps.new result }
 {
@@ -40,7 +40,7 @@ fn compare_place<S: Steps>(steps: &mut S, leaf: &Leaf, place: u32, value: u32) -
 #[inline(always)]
 pub(crate) fn compare_data<S: Steps>(steps: &mut S, leaf: &Leaf, place: u32) -> Result<(), Left>
     requires place { place ≤ counters_of leaf.now.layout }
-    requires next { IsNext (S.stands leaf.now) steps.old (compares_data leaf.now place) }
+    requires next { IsNextPart (S.stands leaf.now) steps.old (compares_data leaf.now place) }
     ensures plays { Plays (S.stands leaf.now) steps.old (compares_data leaf.now place) steps.new
         result }
 {
@@ -65,7 +65,7 @@ pub(crate) fn compare<S: Steps>(steps: &mut S, leaf: &Leaf) -> Result<(), Left>
 #[inline(always)]
 pub(crate) fn compare_claim<S: Steps>(steps: &mut S, leaf: &Leaf, place: u32) -> Result<(), Left>
     requires rule { leaf.now.job.rule ≢ Rule.Common }
-    requires next { IsNext (S.stands leaf.now) steps.old (compares_claim leaf.now place) }
+    requires next { IsNextPart (S.stands leaf.now) steps.old (compares_claim leaf.now place) }
     ensures plays { Plays (S.stands leaf.now) steps.old (compares_claim leaf.now place) steps.new
         result }
 {

@@ -1,8 +1,8 @@
 //! Parts of a task.
 ghost use Rattle.std.specs.Prelude.{◌≡◌, ◌<◌, ◌≤◌, ◌==◌, IfOk};
 ghost use Rattle.pram_words.specs.Words.{most_asked, places_of};
-ghost use Rattle.walkx.specs.Driving.{IsNext, Plays};
-ghost use Rattle.walkx.specs.Parts.{both_of, hears, swap_of, writes};
+ghost use Rattle.walkx.specs.Driving.{IsNextPart, Plays};
+ghost use Rattle.walkx.specs.Parts.{both_of, hears_request, swap_of, writes};
 
 use crate::left::Left;
 use crate::operation::Op;
@@ -14,9 +14,10 @@ use pram_words::{payload, stamp, stamped};
 #[inline(always)]
 pub(crate) fn hear_part<S: Steps>(steps: &mut S, leaf: &Leaf, j: u32) -> Result<u32, Left>
     requires part { j < 3 }
-    requires next { IsNext (S.stands leaf.now) steps.old (hears leaf.now j) }
+    requires next { IsNextPart (S.stands leaf.now) steps.old (hears_request leaf.now j) }
     ensures most { IfOk result (λ v. v ≤ most_asked leaf.now.layout leaf.now.job j) }
-    ensures plays { Plays (S.stands leaf.now) steps.old (hears leaf.now j) steps.new result }
+    ensures plays { Plays (S.stands leaf.now) steps.old (hears_request leaf.now j) steps.new
+        result }
 {
     let found = steps.make(Op::Load(leaf.request_word(j)))?;
     if leaf.is_of(found) {
@@ -34,7 +35,7 @@ pub(crate) fn hear_both<S: Steps>(
     place: u32,
 ) -> Result<(u64, u64), Left>
     requires place { place < places_of leaf.now.layout }
-    requires next { IsNext (S.stands leaf.now) steps.old (both_of leaf.now place) }
+    requires next { IsNextPart (S.stands leaf.now) steps.old (both_of leaf.now place) }
     ensures plays { Plays (S.stands leaf.now) steps.old (both_of leaf.now place) steps.new result }
 {
     let word = leaf.place_word(place);
@@ -52,7 +53,7 @@ pub(crate) fn write_place<S: Steps>(
     value: u32,
 ) -> Result<(), Left>
     requires place { place < places_of leaf.now.layout }
-    requires next { IsNext (S.stands leaf.now) steps.old (writes leaf.now place value) }
+    requires next { IsNextPart (S.stands leaf.now) steps.old (writes leaf.now place value) }
     ensures plays { Plays (S.stands leaf.now) steps.old (writes leaf.now place value) steps.new
         result }
 {

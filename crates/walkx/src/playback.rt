@@ -1,7 +1,7 @@
 //! The driver of a worker that is asked and told.
 ghost use Rattle.std.specs.Prelude.{◌≡◌, length};
 ghost use Rattle.walkx.specs.Inner.Heard.{newest};
-ghost use Rattle.walkx.specs.Playing.{ComesTo};
+ghost use Rattle.walkx.specs.Playing.{ScriptComesTo};
 ghost use Rattle.walkx.specs.Rests.{IsWithin, script_in};
 ghost use Rattle.walkx.specs.Scripts.{heard_in, rest};
 ghost use Rattle.walkx.specs.Walk.{AllAdmitted};
@@ -47,7 +47,8 @@ pub(crate) fn play_back(post: &Post, activity: Activity, heard: &[u64]) -> Resul
     requires within { IsWithin post.now activity }
     requires admitted { AllAdmitted post.now.job post.now.layout (heard_in (script_in post.now
         activity) (newest (length heard.now) heard.now)) }
-    ensures { ComesTo (rest (script_in post.now activity) (newest (length heard.now) heard.now))
+    ensures { ScriptComesTo
+        (rest (script_in post.now activity) (newest (length heard.now) heard.now))
         result }
 {
     let mut steps = Playback {

@@ -6,7 +6,7 @@ ghost use Rattle.pram_machine.specs.Machine.{counter_place, register_place};
 ghost use Rattle.pram_words.specs.Phases.{kind_at};
 ghost use Rattle.pram_words.specs.Words.{counters_of, length_of, number_of, places_of};
 ghost use Rattle.pram_words.specs.declared.words.Word.TheVariants.{Asked, Stored};
-ghost use Rattle.walkx.specs.Inner.Posts.{IsCell, IsLeaf, IsLeafOf, IsPost, PostData};
+ghost use Rattle.walkx.specs.Inner.Posts.{IsCell, IsLeafPost, IsLeafOf, IsPost, PostData};
 ghost use Rattle.walkx.specs.Inner.Posts.{at_rank, part_raised, post_data};
 ghost use Rattle.walkx.specs.Inner.Posts.{processor_of, step_of};
 ghost use Rattle.walkx.specs.Tasks.{claim_of};
@@ -67,7 +67,7 @@ impl<'a> Post<'a> {
         }
     }
 
-    /// The same at the processor of this rank.
+    /// This post, at the processor of another rank.
     #[inline(always)]
     pub fn at_rank(self, rank: u32) -> Post<'a>
         ensures { result ≡ at_rank self.entry rank }
@@ -83,10 +83,10 @@ impl<'a> Post<'a> {
         let _ = &self.node;
     }
 
-    /// The same, known to be a leaf of a processor.
+    /// This post, known to be a leaf of a processor.
     #[inline(always)]
     pub(crate) fn leaf(&self) -> Leaf<'a>
-        requires { IsLeaf self.now }
+        requires { IsLeafPost self.now }
         ensures { result ≡ self.now }
     {
         Leaf {
@@ -128,7 +128,7 @@ impl<'a> Leaf<'a> {
     #[inline(always)]
     pub(crate) fn job(&self) -> &Job
         ensures value { result.now ≡ self.now.job }
-        ensures limits { IsLeaf self.now }
+        ensures limits { IsLeafPost self.now }
     {
         self.job
     }
@@ -138,7 +138,7 @@ impl<'a> Leaf<'a> {
     pub(crate) fn processor(&self) -> u32
         ensures value { result ≡ processor_of self.now }
         ensures below { result < self.now.layout.procs }
-        ensures limits { IsLeaf self.now }
+        ensures limits { IsLeafPost self.now }
     {
         self.processor
     }
@@ -147,7 +147,7 @@ impl<'a> Leaf<'a> {
     #[inline(always)]
     pub(crate) fn step(&self) -> u32
         ensures value { result ≡ step_of self.now }
-        ensures limits { IsLeaf self.now }
+        ensures limits { IsLeafPost self.now }
     {
         self.step
     }
@@ -156,7 +156,7 @@ impl<'a> Leaf<'a> {
     #[inline(always)]
     pub(crate) fn kind(&self) -> Kind
         ensures value { result ≡ kind_at self.now.phase }
-        ensures limits { IsLeaf self.now }
+        ensures limits { IsLeafPost self.now }
     {
         kind_of(self.phase)
     }
@@ -164,7 +164,7 @@ impl<'a> Leaf<'a> {
     #[inline(always)]
     pub(crate) fn rule(&self) -> Rule
         ensures value { result ≡ self.now.job.rule }
-        ensures limits { IsLeaf self.now }
+        ensures limits { IsLeafPost self.now }
     {
         self.job.rule()
     }
@@ -174,7 +174,7 @@ impl<'a> Leaf<'a> {
     pub(crate) fn counter_place(&self) -> u32
         ensures value { result ≡ counter_place self.now.job (processor_of self.now) }
         ensures below { result < places_of self.now.layout }
-        ensures limits { IsLeaf self.now }
+        ensures limits { IsLeafPost self.now }
     {
         self.job.counter_place(self.processor())
     }
@@ -185,7 +185,7 @@ impl<'a> Leaf<'a> {
         requires { register < 4 }
         ensures value { result ≡ register_place self.now.job (processor_of self.now) register }
         ensures below { result < places_of self.now.layout }
-        ensures limits { IsLeaf self.now }
+        ensures limits { IsLeafPost self.now }
     {
         self.job.register_place(self.processor(), register)
     }
@@ -223,7 +223,7 @@ impl<'a> Leaf<'a> {
         ensures cell { IsTrue result ↔ ((1 ≤ part) × (part - 1 < self.now.job.cells)) }
         ensures claims { IsTrue result → self.now.job.rule ≢ Rule.Common → IsCell self.now.layout
             (part - 1) }
-        ensures limits { IsLeaf self.now }
+        ensures limits { IsLeafPost self.now }
     {
         part != 0 && part - 1 < self.job.cells()
     }
@@ -236,7 +236,7 @@ impl<'a> Leaf<'a> {
         ensures first { result ≡ number_of self.now.layout (Stored place 0) }
         ensures second { result + 1 ≡ number_of self.now.layout (Stored place 1) }
         ensures below { result + 1 < 2 ^ 32 }
-        ensures limits { IsLeaf self.now }
+        ensures limits { IsLeafPost self.now }
     {
         self.layout.place_word(place)
     }
@@ -245,7 +245,7 @@ impl<'a> Leaf<'a> {
     #[inline(always)]
     pub(crate) fn is_of(&self, word: u64) -> bool
         ensures value { result ≡ (stamp_of word == step_of self.now) }
-        ensures limits { IsLeaf self.now }
+        ensures limits { IsLeafPost self.now }
     {
         stamp(word) == self.step()
     }

@@ -56,7 +56,7 @@ impl Reader {
     ghost use Rattle.std.specs.Prelude.{◌≡◌, ℕ, ◌<◌, [], length};
     ghost use Rattle.pram_job.specs.Job.{JobData};
     ghost use Rattle.pram_words.specs.Words.{LayoutData};
-    ghost use Rattle.walkx.specs.Serving.{Follows};
+    ghost use Rattle.walkx.specs.Serving.{FollowsScript};
     ghost use Rattle.walkx.specs.Reads.{HeardAdmitted, LooksFit, LooksOnBoard, answered, op_by};
     ghost use Rattle.walkx.specs.Walk.{IsLayoutOf};
 
@@ -64,7 +64,7 @@ impl Reader {
     pub fn new(cell: u32) -> Reader
         ensures value { result.looking ≡ record { cell = cell; heard = [] } }
         ensures fits { (job : JobData) (y : LayoutData) → LooksFit job y result.looking }
-        ensures follows { (y : LayoutData) → cell < y.cells → Follows y result }
+        ensures follows { (y : LayoutData) → cell < y.cells → FollowsScript y result }
     {
         Reader {
             cell,
@@ -76,7 +76,7 @@ impl Reader {
 
     /// The reader's next atomic step, or its answer.
     pub fn ask(&self, layout: &Layout) -> ReadOp
-        requires { Follows layout.now self.now }
+        requires { FollowsScript layout.now self.now }
         ensures asks { result ≡ op_by layout.now self.now.looking }
         ensures on_board { LooksOnBoard layout.now result }
         ensures few { (k : ℕ) → result ≡ ReadOp.Load k → length self.now.looking.heard < 5 }
@@ -87,12 +87,12 @@ impl Reader {
     /// Hears the answer of the step that it asks for.
     pub fn tell(&mut self, job: &Job, layout: &Layout, answer: u64)
         requires layout { IsLayoutOf job.now layout.now }
-        requires follows { Follows layout.now self.old }
+        requires follows { FollowsScript layout.now self.old }
         requires fits { LooksFit job.now layout.now self.old.looking }
         requires admitted { HeardAdmitted job.now layout.now
             (op_by layout.now self.old.looking) answer }
         ensures told { self.new.looking ≡ answered layout.now self.old.looking answer }
-        ensures follows { Follows layout.now self.new }
+        ensures follows { FollowsScript layout.now self.new }
         ensures fits { LooksFit job.now layout.now self.new.looking }
     {
         if let Glance::Over(_) = self.stage {

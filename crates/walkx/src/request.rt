@@ -4,8 +4,8 @@ ghost use Rattle.pram_job.specs.Job.{IsInstr};
 ghost use Rattle.pram_machine.specs.Instructions.{cell_read, decided, place_part};
 ghost use Rattle.pram_machine.specs.Machine.{register_place};
 ghost use Rattle.pram_words.specs.Words.{places_of};
-ghost use Rattle.walkx.specs.Inner.Posts.{IsLeaf, processor_of};
-ghost use Rattle.walkx.specs.Driving.{Ends, IsDue, IsNext, Plays};
+ghost use Rattle.walkx.specs.Inner.Posts.{IsLeafPost, processor_of};
+ghost use Rattle.walkx.specs.Driving.{Ends, IsDue, IsNextPart, Plays};
 ghost use Rattle.walkx.specs.Parts.{computes, executes_at, raises, raises_part, reads};
 ghost use Rattle.walkx.specs.Parts.{reads_cell_of, reads_operands};
 
@@ -23,7 +23,7 @@ use pram_words::newer_payload;
 #[inline(always)]
 pub(crate) fn read_place<S: Steps>(steps: &mut S, leaf: &Leaf, place: u32) -> Result<u32, Left>
     requires place { place < places_of leaf.now.layout }
-    requires next { IsNext (S.stands leaf.now) steps.old (reads leaf.now place) }
+    requires next { IsNextPart (S.stands leaf.now) steps.old (reads leaf.now place) }
     ensures plays { Plays (S.stands leaf.now) steps.old (reads leaf.now place) steps.new result }
 {
     let (first, second) = hear_both(steps, leaf, place)?;
@@ -38,7 +38,7 @@ pub(crate) fn read_place<S: Steps>(steps: &mut S, leaf: &Leaf, place: u32) -> Re
 #[inline(always)]
 pub(crate) fn read_register<S: Steps>(steps: &mut S, leaf: &Leaf, r: u8) -> Result<u32, Left>
     requires register { r < 4 }
-    requires next { IsNext (S.stands leaf.now) steps.old (reads leaf.now (register_place
+    requires next { IsNextPart (S.stands leaf.now) steps.old (reads leaf.now (register_place
         leaf.now.job (processor_of leaf.now) r)) }
     ensures plays { Plays (S.stands leaf.now) steps.old (reads leaf.now (register_place leaf.now.job
         (processor_of leaf.now) r)) steps.new result }
@@ -55,7 +55,7 @@ pub(crate) fn read_operands<S: Steps>(
     instr: Instr,
 ) -> Result<(u32, u32), Left>
     requires instr { IsInstr leaf.now.job.cells (length leaf.now.job.code) instr }
-    requires next { IsNext (S.stands leaf.now) steps.old (reads_operands leaf.now instr) }
+    requires next { IsNextPart (S.stands leaf.now) steps.old (reads_operands leaf.now instr) }
     ensures plays { Plays (S.stands leaf.now) steps.old (reads_operands leaf.now instr) steps.new
         result }
 {
@@ -82,7 +82,7 @@ pub(crate) fn read_cell<S: Steps>(
     a: u32,
 ) -> Result<u32, Left>
     requires instr { IsInstr leaf.now.job.cells (length leaf.now.job.code) instr }
-    requires next { IsNext (S.stands leaf.now) steps.old (reads_cell_of leaf.now instr a) }
+    requires next { IsNextPart (S.stands leaf.now) steps.old (reads_cell_of leaf.now instr a) }
     ensures plays { Plays (S.stands leaf.now) steps.old (reads_cell_of leaf.now instr a) steps.new
         result }
 {
@@ -101,7 +101,7 @@ pub(crate) fn raise_part<S: Steps>(
     payload: u32,
 ) -> Result<(), Left>
     requires part { j < 3 }
-    requires next { IsNext (S.stands leaf.now) steps.old (raises_part leaf.now j payload) }
+    requires next { IsNextPart (S.stands leaf.now) steps.old (raises_part leaf.now j payload) }
     ensures plays { Plays (S.stands leaf.now) steps.old (raises_part leaf.now j payload) steps.new
         result }
 {
@@ -193,7 +193,7 @@ fn request(leaf: &Leaf, counter: u32, instr: Instr, found: Found) -> Request
     ensures value { result ≡ decided leaf.now.job (processor_of leaf.now) counter instr found.a
         found.b found.value }
     ensures fits { place_part result < 2 ^ 32 }
-    ensures limits { IsLeaf leaf.now }
+    ensures limits { IsLeafPost leaf.now }
 {
     decided(leaf.job(), leaf.processor(), counter, instr, found)
 }

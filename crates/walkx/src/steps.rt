@@ -1,7 +1,7 @@
 //! What a walk is played by.
 ghost use Rattle.std.specs.Prelude.{◌≡◌};
 ghost use Rattle.walkx.specs.Inner.Posts.{PostData};
-ghost use Rattle.walkx.specs.Driving.{IsNext, Makes, Standing, makes};
+ghost use Rattle.walkx.specs.Driving.{IsNextPart, Makes, Standing, makes};
 
 use crate::left::Stopped;
 use crate::operation::Op;
@@ -14,6 +14,6 @@ pub trait Steps {
     /// Makes the script's next operation, and gives its answer; `Stopped` where the walk is held
     /// there.
     fn make(&mut self, op: Op) -> Result<u64, Stopped>
-        requires { (at : PostData) × IsNext (stands at) self.old (makes op) }
+        requires { (at : PostData) × IsNextPart (stands at) self.old (makes op) }
         ensures { Makes stands self.old op self.new result };
 }

@@ -3,11 +3,11 @@ ghost use Rattle.std.specs.Prelude.{◌≡◌, ℕ, ◌+◌, ◌*◌, ◌<◌, �
 ghost use Rattle.std.specs.Prelude.{IfOk, Option, None};
 ghost use Rattle.pram_words.specs.Words.{number_of};
 ghost use Rattle.pram_words.specs.declared.words.Word.TheVariants.{Node, Position};
-ghost use Rattle.walkx.specs.Inner.Posts.{IsLeaf, IsPost, next_rank, then_marks};
+ghost use Rattle.walkx.specs.Inner.Posts.{IsLeafPost, IsPost, next_rank, then_marks};
 ghost use Rattle.walkx.specs.Walk.{has_rank, way_down};
-ghost use Rattle.walkx.specs.Driving.{IsHere, Leads, Reaches, settled};
-ghost use Rattle.walkx.specs.Rests.{entered, inner_of, leads, leaves_up, moves, part_of};
-ghost use Rattle.walkx.specs.Rests.{IsPlace, script_at, turn_of};
+ghost use Rattle.walkx.specs.Driving.{IsHere, Leads, Reaches, settled_or_late};
+ghost use Rattle.walkx.specs.Rests.{entered, inner_of, leads, leaves_up, moves, part_rest};
+ghost use Rattle.walkx.specs.Rests.{IsPlayedAt, script_at, turn_of};
 
 use crate::left::{Left, Stopped};
 use crate::operation::Op;
@@ -52,9 +52,9 @@ fn stand<S: Steps>(steps: &mut S, post: &Post, to: u32) -> Result<Turned, Stoppe
 // The task of a processor of a leaf's block, and the mark after the last one's.
 #[inline(always)]
 fn part<S: Steps>(steps: &mut S, post: &Post) -> Result<Turned, Stopped>
-    requires leaf { IsLeaf post.now }
-    requires here { IsHere (S.stands post.now) steps.old (part_of post.now) }
-    ensures reaches { Reaches (S.stands post.now) steps.old (part_of post.now) (leads post.now)
+    requires leaf { IsLeafPost post.now }
+    requires here { IsHere (S.stands post.now) steps.old (part_rest post.now) }
+    ensures reaches { Reaches (S.stands post.now) steps.old (part_rest post.now) (leads post.now)
         steps.new result }
 {
     settle(task(steps, &post.leaf()))?;
@@ -104,7 +104,7 @@ fn enter<S: Steps>(steps: &mut S, post: &Post) -> Result<Option<Turned>, Stopped
     requires here { IsHere (S.stands post.now) steps.old (turn_of post.now) }
     ensures leads { Leads (S.stands post.now) steps.old (turn_of post.now) (entered post.now)
         steps.new result }
-    ensures leaf { IfOk result (λ turned. turned ≡ None → IsLeaf post.now) }
+    ensures leaf { IfOk result (λ turned. turned ≡ None → IsLeafPost post.now) }
 {
     let found = steps.make(looking(post, post.node))?;
     if is_finished(post, found) {
@@ -121,11 +121,11 @@ fn enter<S: Steps>(steps: &mut S, post: &Post) -> Result<Option<Turned>, Stopped
 // A script up to the task of a processor, in the same way.
 #[inline(always)]
 fn reach<S: Steps>(steps: &mut S, post: &Post) -> Result<Option<Turned>, Stopped>
-    requires place { IsPlace post.now }
+    requires place { IsPlayedAt post.now }
     requires here { IsHere (S.stands post.now) steps.old (script_at post.now) }
     ensures leads { Leads (S.stands post.now) steps.old (script_at post.now) (entered post.now)
         steps.new result }
-    ensures leaf { IfOk result (λ turned. turned ≡ None → IsLeaf post.now) }
+    ensures leaf { IfOk result (λ turned. turned ≡ None → IsLeafPost post.now) }
 {
     if post.rank == 0 {
         enter(steps, post)
@@ -138,7 +138,7 @@ fn reach<S: Steps>(steps: &mut S, post: &Post) -> Result<Option<Turned>, Stopped
 /// It calls `part` once: a compiler may refuse to inline what is called twice.
 #[inline(always)]
 pub fn script<S: Steps>(steps: &mut S, post: &Post) -> Result<Turned, Stopped>
-    requires place { IsPlace post.now }
+    requires place { IsPlayedAt post.now }
     requires here { IsHere (S.stands post.now) steps.old (script_at post.now) }
     ensures reaches { Reaches (S.stands post.now) steps.old (script_at post.now) (leads post.now)
         steps.new result }
@@ -152,7 +152,7 @@ pub fn script<S: Steps>(steps: &mut S, post: &Post) -> Result<Turned, Stopped>
 // What a task came to, late or not.
 #[inline(always)]
 fn settle(done: Result<(), Left>) -> Result<(), Stopped>
-    ensures { result ≡ settled done }
+    ensures { result ≡ settled_or_late done }
 {
     match done {
         Err(Left::Held) => Err(Stopped),
@@ -224,7 +224,7 @@ fn has_rank(post: &Post, rank: u32) -> bool
 // The rank of the next processor of the leaf's block, if there is one.
 #[inline(always)]
 fn next_rank(post: &Post) -> Option<u32>
-    requires leaf { IsLeaf post.now }
+    requires leaf { IsLeafPost post.now }
     ensures { result ≡ next_rank post.now }
 {
     let next = post.rank + 1;

@@ -36,10 +36,10 @@ impl Worker {
     ghost use Rattle.pram_words.specs.Words.{LayoutData};
     ghost use Rattle.walkx.specs.Activities.{activity_of};
     ghost use Rattle.walkx.specs.Inner.Workers.{worker_data};
-    ghost use Rattle.walkx.specs.Playing.{ComesTo, IsPlayable, op_after, come_to, hearing};
+    ghost use Rattle.walkx.specs.Playing.{ScriptComesTo, IsPlayable, op_after, come_to, hearing};
     ghost use Rattle.walkx.specs.Playing.{stand_of};
     ghost use Rattle.walkx.specs.Records.{Record, Knows};
-    ghost use Rattle.walkx.specs.Serving.{IsNew, Serves};
+    ghost use Rattle.walkx.specs.Serving.{IsNewWorker, Serves};
     ghost use Rattle.walkx.specs.Turns.{beginning, turn_begun};
     ghost use Rattle.walkx.specs.Walk.{AsksAdmitted, HearsAdmitted, IsBoard, IsLayoutOf};
     ghost use Rattle.walkx.specs.Walk.{IsStepOn, ask_of, come_back, end_of, rest_of, script_of};
@@ -47,14 +47,14 @@ impl Worker {
 
     /// Worker w, at its first leaf.
     pub fn start(w: u32) -> Worker
-        ensures { IsNew w (started w) result }
+        ensures { IsNewWorker w (started w) result }
     {
         Worker::about_to(w, Activity::Begin)
     }
 
     /// Worker w, come back: it will stand where its position word says.
     pub fn back(w: u32) -> Worker
-        ensures { IsNew w (come_back w) result }
+        ensures { IsNewWorker w (come_back w) result }
     {
         Worker::about_to(w, Activity::Back)
     }
@@ -218,7 +218,7 @@ impl Worker {
     fn left(&self, job: &Job, layout: &Layout) -> Result<Next, Op>
         requires layout { IsLayoutOf job.now layout.now }
         requires playable { IsPlayable job.now layout.now self.now.walking }
-        ensures { ComesTo (rest_of job.now layout.now self.now.walking) result }
+        ensures { ScriptComesTo (rest_of job.now layout.now self.now.walking) result }
     {
         within_limits(job, layout);
         let post = self.post(job, layout);

@@ -13,8 +13,8 @@ abbrev pub spaced : Line → List ℕ
 spaced words = flat_map (λ word. 32 ∷ word) words
 
 -- the arrays with one more, unless it is among them
-abbrev pub with_array : List Array → Array → List Array
-with_array arrays array =
+abbrev pub with_new_array : List Array → Array → List Array
+with_new_array arrays array =
     arrays ++ (if list_any (λ other. is_same other array) arrays then [] else array ∷ [])
 
 -- the runs after a cell that holds 0, and none where there is no such cell

@@ -5,7 +5,7 @@ use Rattle.pardo_text.specs.declared.statement.Line.{Line}
 use Rattle.pardo_text.specs.Program.{ProgramData}
 use Rattle.pardo_job.specs.declared.fault.JobKind.{JobKind}
 use Rattle.pardo_job.specs.declared.fault.JobKind.TheVariants.{TooDeep, TooLong, Endless, Memory}
-use Rattle.pardo_job.specs.Lines.{length_of, place_of}
+use Rattle.pardo_job.specs.Lines.{length_of_line, place_of}
 use Rattle.pardo_job.specs.Refusals.{AreFine, is_level}
 
 -- the places of the lines before this one, and its own
@@ -21,7 +21,7 @@ AreAllPlaces program places = ArePlaces program (length program.lines) places
 
 -- the line stands at a place, and this is the place after it
 pub record IsPlaceAfter (program : ProgramData) (line : Line) (place after : ℕ) : Type 0 where
-  pub after_is : after ≡ place + length_of program line
+  pub after_is : after ≡ place + length_of_line program line
   pub level : is_level program line ≡ true
   pub short : after < MAX_CODE
 
@@ -31,6 +31,6 @@ IsFaultAt program line place number TooDeep =
     (number ≡ line.number) × (is_level program line ≡ false)
 IsFaultAt program line place number TooLong =
     (number ≡ line.number) × (is_level program line ≡ true)
-    × (MAX_CODE ≤ place + length_of program line)
+    × (MAX_CODE ≤ place + length_of_line program line)
 IsFaultAt program line place number Endless = ⊥
 IsFaultAt program line place number Memory = number ≡ 0

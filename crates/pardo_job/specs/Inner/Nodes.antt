@@ -11,10 +11,10 @@ use Rattle.pardo_text.specs.Expression.{Tree, with_node}
 use Rattle.pardo_job.specs.declared.fault.JobKind.{JobKind}
 use Rattle.pardo_job.specs.declared.held.Held.{Held}
 use Rattle.pardo_job.specs.declared.held.Stack.{Stack}
-use Rattle.pardo_job.specs.Inner.Emitting.{Puts}
-use Rattle.pardo_job.specs.Layouts.{LayoutData, private_cells, loop_cells, array_cells}
+use Rattle.pardo_job.specs.Inner.Emitting.{PutsCode}
+use Rattle.pardo_job.specs.Layouts.{ProgramLayoutData, private_cells, loop_cells, array_cells}
 use Rattle.pardo_job.specs.Operations.{operation_code}
-use Rattle.pardo_job.specs.Values.{own_load, operand_of, takes, is_truth}
+use Rattle.pardo_job.specs.Values.{own_load, value_operand, takes, is_truth}
 
 -- the first register that is free after these expressions, the last one first
 abbrev pub free_after : ℕ → List Tree → ℕ
@@ -22,7 +22,7 @@ free_after base trees = base + sum_by takes trees
 
 -- an expression whose value is at hand
 abbrev pub held_of : ℕ → Tree → Held
-held_of at tree = record { operand = operand_of at tree; is_truth = is_truth tree }
+held_of at tree = record { operand = value_operand at tree; is_truth = is_truth tree }
 
 -- several, the last one last
 abbrev pub all_held : ℕ → List Tree → List Held
@@ -30,7 +30,7 @@ all_held base [] = []
 all_held base (tree ∷ trees) = all_held base trees ++ held_of (free_after base trees) tree ∷ []
 
 -- the code of a node after these expressions
-abbrev pub node_code : LayoutData → ℕ → List Tree → Node → List Instr
+abbrev pub node_code : ProgramLayoutData → ℕ → List Tree → Node → List Instr
 node_code layout base trees (Number k) = []
 node_code layout base trees Own = []
 node_code layout base trees (Loop nest) =
@@ -38,16 +38,16 @@ node_code layout base trees (Loop nest) =
 node_code layout base trees (Private x) =
     own_load (free_after base trees) (private_cells layout x) ∷ []
 node_code layout base (index ∷ trees) (Place array) = Ld (free_after base trees)
-    (Named (array_cells layout array) (operand_of (free_after base trees) index)) ∷ []
+    (Named (array_cells layout array) (value_operand (free_after base trees) index)) ∷ []
 node_code layout base [] (Place array) = []
 node_code layout base (second ∷ first ∷ trees) (Apply op) =
     operation_code (free_after base trees) op (is_truth first && is_truth second)
-    (operand_of (free_after base trees) first)
-    (operand_of (free_after base trees + takes first) second)
+    (value_operand (free_after base trees) first)
+    (value_operand (free_after base trees + takes first) second)
 node_code layout base (second ∷ []) (Apply op) = []
 node_code layout base [] (Apply op) = []
 
-abbrev pub nodes_code : LayoutData → ℕ → List Tree → List Node → List Instr
+abbrev pub nodes_code : ProgramLayoutData → ℕ → List Tree → List Node → List Instr
 nodes_code layout base trees [] = []
 nodes_code layout base trees (node ∷ nodes) =
     node_code layout base trees node ++ nodes_code layout base (with_node trees node) nodes
@@ -55,7 +55,7 @@ nodes_code layout base trees (node ∷ nodes) =
 -- ---- nodes of lawful expressions
 
 -- the node names what there is, and its operands are at hand
-abbrev pub IsReady : LayoutData → List Tree → Node → Type 0
+abbrev pub IsReady : ProgramLayoutData → List Tree → Node → Type 0
 IsReady layout trees (Number k) = Unit {0}
 IsReady layout trees Own = Unit {0}
 IsReady layout trees (Loop nest) = nest < layout.loops
@@ -66,37 +66,38 @@ IsReady layout (second ∷ first ∷ trees) (Apply op) = Unit {0}
 IsReady layout (second ∷ []) (Apply op) = ⊥
 IsReady layout [] (Apply op) = ⊥
 
--- so is each of these, and they make one expression
-abbrev pub AreReady : LayoutData → List Tree → List Node → Type 0
-AreReady layout trees [] = length trees ≡ 1
-AreReady layout trees (node ∷ nodes) =
-    IsReady layout trees node × AreReady layout (with_node trees node) nodes
+-- each of these nodes is ready after those before it, and they make one expression
+abbrev pub AreReadyNodes : ProgramLayoutData → List Tree → List Node → Type 0
+AreReadyNodes layout trees [] = length trees ≡ 1
+AreReadyNodes layout trees (node ∷ nodes) =
+    IsReady layout trees node × AreReadyNodes layout (with_node trees node) nodes
 
 -- ---- values at hand
 
 -- some values, and after them those of these expressions, the last one first
-pub record Holds (stack : Stack) (before : List Held) (base : ℕ) (trees : List Tree) : Type 0 where
+pub record HoldsValues (stack : Stack) (before : List Held) (base : ℕ) (trees : List Tree)
+    : Type 0 where
   pub values : stack.values.items ≡ before ++ all_held base trees
   pub taken : stack.taken ≡ free_after base trees
 
 -- the operands of a node are at hand
-pub record CanTake (stack : Stack) (layout : LayoutData) (node : Node) : Type 0 where
+pub record CanTake (stack : Stack) (layout : ProgramLayoutData) (node : Node) : Type 0 where
   pub before : List Held
   pub base : ℕ
   pub trees : List Tree
-  pub holds : Holds stack before base trees
+  pub holds : HoldsValues stack before base trees
   pub ready : IsReady layout trees node
 
 -- the code of the node is put, and its value is at hand
 pub record TakesOne {A : Type 0} (old new : List Instr) (stack : Stack) (result : Result A JobKind)
     (code : List Instr) (before : List Held) (base : ℕ) (trees : List Tree) : Type 0 where
-  pub put : Puts old new result code
-  pub held : OnOk result (Holds stack before base trees)
+  pub put : PutsCode old new result code
+  pub held : OnOk result (HoldsValues stack before base trees)
 
 -- whatever was at hand before
 abbrev pub Takes : {A : Type 0} → Stack → List Instr → List Instr → Stack → Result A JobKind →
-    LayoutData → Node → Type 0
+    ProgramLayoutData → Node → Type 0
 Takes was old new stack result layout node = (before : List Held) (base : ℕ) (trees : List Tree) →
-    Holds was before base trees → IsReady layout trees node →
+    HoldsValues was before base trees → IsReady layout trees node →
     TakesOne old new stack result (node_code layout base trees node) before base
     (with_node trees node)

@@ -12,40 +12,40 @@ use Rattle.pardo_text.specs.declared.statement.Target.TheVariants.{Private, Arra
 use Rattle.pardo_text.specs.Expression.{Tree}
 use Rattle.pardo_job.specs.declared.fault.JobKind.{JobKind}
 use Rattle.pardo_job.specs.declared.fault.JobKind.TheVariants.{TooDeep, TooLong, Memory}
-use Rattle.pardo_job.specs.Layouts.{LayoutData, mask_cells}
-use Rattle.pardo_job.specs.Lawful.{IsLawful}
+use Rattle.pardo_job.specs.Layouts.{ProgramLayoutData, mask_cells}
+use Rattle.pardo_job.specs.Lawful.{IsLawfulTree}
 use Rattle.pardo_job.specs.Lines.{idle}
 use Rattle.pardo_job.specs.Operations.{is_shallow}
-use Rattle.pardo_job.specs.Values.{own_load, operand_of, takes, value_code}
+use Rattle.pardo_job.specs.Values.{own_load, value_operand, takes, value_code}
 
 -- what an assignment goes to is there
-abbrev pub IsLawfulTarget : LayoutData → Target → Type 0
+abbrev pub IsLawfulTarget : ProgramLayoutData → Target → Type 0
 IsLawfulTarget layout (Private x) = x < layout.privates
 IsLawfulTarget layout (Shared array index) =
-    (array < length layout.arrays) × IsLawful layout index
+    (array < length layout.arrays) × IsLawfulTree layout index
 
 -- the code of the bounds of a loop, and where their values are
-abbrev pub bounds_code : LayoutData → Tree → Tree → List Instr
+abbrev pub bounds_code : ProgramLayoutData → Tree → Tree → List Instr
 bounds_code layout first last =
     value_code layout 0 first ++ value_code layout (takes first) last
 
 abbrev pub bounds_operands : Tree → Tree → Operand × Operand
-bounds_operands first last = (operand_of 0 first, operand_of (takes first) last)
+bounds_operands first last = (value_operand 0 first, value_operand (takes first) last)
 
 -- what an active processor does, and the others are idle as long, where an `if` is open
-abbrev pub under : LayoutData → ℕ → ℕ → List Instr → List Instr
+abbrev pub under : ProgramLayoutData → ℕ → ℕ → List Instr → List Instr
 under layout at depth body = own_load 0 (mask_cells layout depth) ∷ Jz 0 (at + 3)
     ∷ Jmp (at + 4 + length body)
     ∷ (idle (at + 3) (length body) ++ Jmp (at + 4 + 2 * length body) ∷ body)
 
 -- the condition of active processors, and 0 of the others
-abbrev pub choice_code : LayoutData → ℕ → ℕ → List Instr → List Instr
+abbrev pub choice_code : ProgramLayoutData → ℕ → ℕ → List Instr → List Instr
 choice_code layout at depth body = if depth == 0 then body
     else own_load 0 (mask_cells layout depth) ∷ Jz 0 (at + 3 + length body)
     ∷ (body ++ Jmp (at + 4 + 2 * length body) ∷ idle (at + 3 + length body) (length body + 1))
 
 -- register 0 becomes 1 for those of the mask around that it is 0 for
-abbrev pub rest_code : LayoutData → ℕ → List Instr
+abbrev pub rest_code : ProgramLayoutData → ℕ → List Instr
 rest_code layout depth = if depth == 0 then Eq 0 0 (Number 0) ∷ []
     else own_load 1 (mask_cells layout depth) ∷ Lt 0 0 (Register 1) ∷ []
 

@@ -7,7 +7,7 @@ use Rattle.pardo_text.specs.declared.operation.Op.{Op}
 use Rattle.pardo_text.specs.declared.expression.Node.{Node}
 use Rattle.pardo_text.specs.declared.expression.Node.TheVariants.{Number, Own, Loop, Private}
 use Rattle.pardo_text.specs.declared.expression.Node.TheVariants.{Place, Apply}
-use Rattle.pardo_text.specs.Reads.{◌>>=◌}
+use Rattle.text_lines.specs.Reads.{◌>>=◌}
 use Rattle.pardo_text.specs.Values.{quotient_of}
 
 -- the numbers below this one, which are the own numbers of so many processors

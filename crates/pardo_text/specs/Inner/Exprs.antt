@@ -13,7 +13,8 @@ abbrev pub Adds : {X : Type 0} → List Tree → List Tree → List Token → Re
 Adds old new rest (Ok _) read = (new ≡ first_of new ∷ old) × (read ≡ Ok (first_of new, rest))
 Adds old new rest (Err kind) read = kind ≢ Memory → read ≡ Err kind
 
--- The same of a tree that was made of the last two.
+-- What a function returned is what reading gives, unless memory ran out: the tree that was made of
+-- the last two stands in their place.
 abbrev pub Joins : {X : Type 0} → List Tree → List Tree → Result X PardoKind →
     Result Tree PardoKind → Type 0
 Joins old new (Ok _) read = (new ≡ first_of new ∷ drop 2 old) × (read ≡ Ok (first_of new))

@@ -58,8 +58,8 @@ other_bytes =
     ∷ (44, the.Comma) ∷ []
 
 -- rows of one byte each
-abbrev pub rows_of : List (ℕ × Symbol) → List (List ℕ × Symbol)
-rows_of rows = map (λ row. (row.0 ∷ [], row.1)) rows
+abbrev pub byte_rows : List (ℕ × Symbol) → List (List ℕ × Symbol)
+byte_rows rows = map (λ row. (row.0 ∷ [], row.1)) rows
 
 abbrev pub short_marks : List (List ℕ × Symbol)
-short_marks = rows_of (operation_bytes ++ other_bytes)
+short_marks = byte_rows (operation_bytes ++ other_bytes)

@@ -27,15 +27,15 @@ abbrev pub tokens_cut : ℕ → List ℕ → List Token
 tokens_cut zero line = []
 tokens_cut (suc more) line = cut_first (tokens_cut more) (token_at (after_blanks line))
 
--- so many tokens, of which the first one was cut
+-- the tokens that are left, this many at most, of which the first one was cut already
 abbrev pub tokens_left : Option Held → ℕ → List ℕ → List Token
 tokens_left None len rest = []
 tokens_left (Some first) len rest = plain first ∷ tokens_cut (len - 1) rest
 
 -- What a function returned, seen by view, is what reading gives, unless memory ran out.
-abbrev pub Gives : {X Y : Type 0} → (X → Y) → Result X PardoKind → Result Y PardoKind → Type 0
-Gives view (Ok value) read = read ≡ Ok (view value)
-Gives view (Err kind) read = kind ≢ Memory → read ≡ Err kind
+abbrev pub GivesAsRead : {X Y : Type 0} → (X → Y) → Result X PardoKind → Result Y PardoKind → Type 0
+GivesAsRead view (Ok value) read = read ≡ Ok (view value)
+GivesAsRead view (Err kind) read = kind ≢ Memory → read ≡ Err kind
 
 -- tokens with these in front
 abbrev pub preceded : List Token → Result (List Token) PardoKind → Result (List Token) PardoKind

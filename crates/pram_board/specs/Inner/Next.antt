@@ -6,7 +6,7 @@ use Rattle.pram_board.specs.declared.task.Task.{Task}
 
 -- the worker's next operation, which is admitted, and a step on the board where the worker is not
 -- over
-pub record IsNext (task : Task) (worker : Walking) (op : Op) : Type 0 where
+pub record IsNextOperation (task : Task) (worker : Walking) (op : Op) : Type 0 where
   pub is : op ≡ ask_of task.job task.layout worker
   pub admitted : AsksAdmitted task.job task.layout op
   pub step : end_of worker.now ≡ None → IsStepOn task.layout op

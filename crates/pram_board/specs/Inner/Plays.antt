@@ -3,6 +3,7 @@ use Rattle.std.specs.Prelude.{◌≡◌, ◌≤◌, ◌<◌, ℕ, Bool, false, �
 use Rattle.std.specs.Prelude.{List, [], ◌∷◌, length, Option, Some, None}
 use Rattle.walkx.specs.declared.operation.Op.{Op}
 use Rattle.walkx.specs.Inner.Posts.{PostData}
+use Rattle.walkx.specs.Bound.{told_all}
 use Rattle.walkx.specs.Inner.Workers.{WorkerData}
 use Rattle.walkx.specs.Records.{Knows}
 use Rattle.walkx.specs.Scripts.{Script, rest, first_op, heard_in}
@@ -13,7 +14,8 @@ use Rattle.walkx.specs.Walk.{Then, Walking, Fits, IsBoard, IsGoing, AllAdmitted,
 use Rattle.pram_board.specs.declared.driver.Driver.{Driver}
 use Rattle.pram_board.specs.declared.task.Task.{Task}
 use Rattle.pram_board.specs.Seats.{Desk, SeatData, hears_all}
-use Rattle.pram_board.specs.Worked.{Ran, Works}
+use Rattle.lawful_walk.specs.Walks.{steps_heard}
+use Rattle.pram_board.specs.Worked.{Works}
 
 -- what contracts see of a driver: its board, its seat, and how many atomic steps it made
 pub record Driving : Type 0 where
@@ -42,7 +44,7 @@ AllAnswer script (found ∷ earlier) = ((op : Op) × (first_op (rest script earl
 
 -- The driver played the script until this is left of it: there are answers that the board gave to
 -- the operations of the script, in its order, and no step beside them.
-pub record Plays (task : Task) (script : Script Then) (before : Driving) (left : Script Then)
+pub record PlaysScript (task : Task) (script : Script Then) (before : Driving) (left : Script Then)
     (later : Driving) : Type 0 where
   pub answers : List ℕ
   pub each : AllAnswer script answers
@@ -64,7 +66,7 @@ pub record Drives (task : Task) (from : Driving × Script Then) (driver : Drivin
   pub fits : Fits task.job task.layout by
   pub knows : Knows task.job task.layout from.0.seat.record_of by
   pub begun : script_of task.job task.layout by ≡ from.1
-  pub plays : Plays task from.1 from.0 script driver
+  pub plays : PlaysScript task from.1 from.0 script driver
 
 -- where a driver stands in a script: it is never held
 abbrev pub drives : Task → Driving × Script Then → Driving → Option (Script Then) → Type 0
@@ -73,7 +75,15 @@ drives task from driver None = ⊥
 
 -- ---- ticks
 
--- so many ticks of a worker, which are counted, and what it then is
+-- a number of ticks, one after the other, all in the record
+pub record Ran (task : Task) (before : SeatData) (walking : Walking) (ticks : ℕ) (later : SeatData)
+    (now : Walking) : Type 0 where
+  pub answers : List ℕ
+  pub count : length answers ≡ ticks
+  pub seat : later ≡ hears_all before (steps_heard task.job task.layout walking answers)
+  pub worker : now ≡ told_all task.job task.layout walking answers
+
+-- ticks of a worker, which are counted, and what it then is
 pub record Went (task : Task) (before : Driving) (walking : Walking) (later : Driving)
     (now : Walking) : Type 0 where
   pub ticks : ℕ
@@ -84,7 +94,7 @@ pub record Went (task : Task) (before : Driving) (walking : Walking) (later : Dr
 
 -- Ticks led the worker on: at least one; and one only, unless there is no limit and the worker goes
 -- on. It still goes with the board, and the seat knows it.
-pub record GoesOn (limited : Bool) (before : Driving) (worker : WorkerData) (later : Driving)
+pub record WorkerGoesOn (limited : Bool) (before : Driving) (worker : WorkerData) (later : Driving)
     (now : WorkerData) : Type 0 where
   pub went : Went before.desk.task before worker.walking later now.walking
   pub some : 1 ≤ went.ticks
@@ -92,7 +102,7 @@ pub record GoesOn (limited : Bool) (before : Driving) (worker : WorkerData) (lat
   pub works : Works later.desk later.seat now
 
 -- the worker fits the job, and the seat knows it
-pub record Walks (task : Task) (driver : Driving) (walking : Walking) : Type 0 where
+pub record IsWalking (task : Task) (driver : Driving) (walking : Walking) : Type 0 where
   pub here : IsAt task driver
   pub fits : Fits task.job task.layout walking
   pub knows : Knows task.job task.layout driver.seat.record_of walking
@@ -100,7 +110,7 @@ pub record Walks (task : Task) (driver : Driving) (walking : Walking) : Type 0 w
 -- ticks that led a worker on, at least one
 pub record Led (task : Task) (before : Driving) (walking : Walking) (later : Driving)
     (now : Walking) : Type 0 where
-  pub walks : Walks task later now
+  pub walks : IsWalking task later now
   pub went : Went task before walking later now
   pub some : 1 ≤ went.ticks
 

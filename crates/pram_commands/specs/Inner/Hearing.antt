@@ -8,8 +8,8 @@ use Rattle.pram_streams.specs.declared.print.PrintFault.{PrintFault}
 use Rattle.pram_streams.specs.declared.print.PrintFault.TheVariants.{Device, Memory}
 use Rattle.pram_run.specs.Heard.{Ended}
 use Rattle.pram_commands.specs.Did.{Writing}
-use Rattle.pram_commands.specs.Inner.Puts.{HasTold}
-use Rattle.pram_commands.specs.Names.{NamingData, told}
+use Rattle.pram_commands.specs.Inner.Puts.{HasAnswered}
+use Rattle.pram_commands.specs.Names.{NamingData, printed_answer}
 
 -- The output took the text, or a beginning of it; nothing where memory ran out.
 pub record PutText (writes : Writing) (text : List ℕ) (put : Result (Unit {0}) PrintFault)
@@ -22,11 +22,12 @@ pub record PutText (writes : Writing) (text : List ℕ) (put : Result (Unit {0})
 -- The answer of a job of so many steps was printed, or nothing where the run was out of memory.
 abbrev pub HasPrinted : Writing → Option NamingData → ℕ → Ended → Result (Unit {0}) PrintFault →
     Type 0
-HasPrinted writes names steps (Ok answer) put = PutText writes (told names answer steps) put
+HasPrinted writes names steps (Ok answer) put =
+    PutText writes (printed_answer names answer steps) put
 HasPrinted writes names steps (Err refused) put = (put ≡ Err Memory) × writes.Unwritten
 
--- The same of an answer with what follows it.
+-- An answer with what follows it was printed, or nothing where the run was out of memory.
 abbrev pub HasToldEnd : Bool → List ℕ → JobData → Writing → Ended → Result (Unit {0}) PrintFault
     → Type 0
-HasToldEnd why job_text job writes (Ok answer) put = HasTold why job_text job writes answer put
+HasToldEnd why job_text job writes (Ok answer) put = HasAnswered why job_text job writes answer put
 HasToldEnd why job_text job writes (Err refused) put = (put ≡ Err Memory) × writes.Unwritten

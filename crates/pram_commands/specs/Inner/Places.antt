@@ -6,8 +6,8 @@ use Rattle.pardo_text.specs.Program.{ArrayData}
 use Rattle.pardo_job.specs.Printed.{cell_text}
 
 -- the text is that of the cell's place
-abbrev pub IsTold : List ArrayData → List ℕ → ℕ → Type 0
-IsTold arrays place cell = (1 ≤ length place) × (cell_text arrays cell ≡ place)
+abbrev pub IsPlaceText : List ArrayData → List ℕ → ℕ → Type 0
+IsPlaceText arrays place cell = (1 ≤ length place) × (cell_text arrays cell ≡ place)
 
 -- a number below 2^32 with one digit more
 abbrev pub with_digit : (number digit : ℕ) → ℕ

@@ -33,7 +33,7 @@ abbrev pub PutSome : (List ℕ → Option RunAnswer → Type 0) → Type 0 → W
 PutSome Comes InPieces writes Device = PutBeginning Comes writes
 PutSome Comes InPieces writes Memory = writes.Unwritten ⊎ (InPieces × PutBeginning Comes writes)
 
-pub record Puts {A : Type 0} (Comes : List ℕ → Option RunAnswer → Type 0) (InPieces : Type 0)
+pub record PutsAnswer {A : Type 0} (Comes : List ℕ → Option RunAnswer → Type 0) (InPieces : Type 0)
     (writes : Writing) (Tells : A → Option RunAnswer → Type 0) (result : Result A PrintFault)
     : Type 0 where
   pub done : IfOk result (λ told. PutAll Comes writes (Tells told))
@@ -42,10 +42,12 @@ pub record Puts {A : Type 0} (Comes : List ℕ → Option RunAnswer → Type 0) 
 
 -- The answer was printed with what follows it, or a beginning of both; nothing where memory ran
 -- out.
-abbrev pub HasTold : Bool → List ℕ → JobData → Writing → RunAnswer → Result (Unit {0}) PrintFault
+abbrev pub HasAnswered : Bool → List ℕ → JobData → Writing → RunAnswer →
+    Result (Unit {0}) PrintFault
     → Type 0
-HasTold why job_text job writes answer =
-    Puts (Explaining why (λ ended. ended ≡ answer) job_text job) ⊥ writes (λ done. tells answer)
+HasAnswered why job_text job writes answer =
+    PutsAnswer (Explaining why (λ ended. ended ≡ answer) job_text job) ⊥ writes
+    (λ done. tells answer)
 
 -- what a command answers that printed how a run ended
 abbrev pub outcome : Result (Unit {0}) PrintFault → Ended → Result RunAnswer PrintFault

@@ -13,8 +13,8 @@ use Rattle.pram_commands.specs.Threads.{IsNewBoard}
 use Rattle.pram_commands.specs.declared.sources.Inputs.{Inputs}
 
 -- What reading comes to, of a task, cells and rounds, from a seat to a later one.
-abbrev pub Reading : Type 0 → Type 1
-Reading P = Task → List ℕ → ℕ → SeatData → SeatData → P → Type 0
+abbrev pub CellReading : Type 0 → Type 1
+CellReading P = Task → List ℕ → ℕ → SeatData → SeatData → P → Type 0
 
 -- What hearing how a run ended comes to.
 abbrev pub Hearing : Type 0 → Type 0 → Type 1
@@ -25,18 +25,19 @@ abbrev pub HasHeardAlone : {P H : Type 0} → Hearing P H → P → Ended × H �
 HasHeardAlone Hears reader ended = OnOk ended.0 ⊥ × Hears reader ended.0 ended.1
 
 -- A watch from this seat of the board: its reader read, and heard that it ended so.
-pub record HasWatchedOn {P H : Type 0} (Reads : Reading P) (Hears : Hearing P H) (desk : Desk)
+pub record HasWatchedOn {P H : Type 0} (Reads : CellReading P) (Hears : Hearing P H) (desk : Desk)
     (plan : PlanData) (cells : List ℕ) (rounds : ℕ) (given : SeatData) (ended : Ended × H)
     : Type 0 where
   pub later : SeatData
   pub watched : HasWatchedWith desk.task plan given later
       (ReadsAndHears (Reads desk.task cells rounds) Hears ended.0 ended.1) ended.0
 
--- So on a new board of the job.
-pub record IsWatchedBy {P H : Type 0} (Reads : Reading P) (Hears : Hearing P H) (inputs : Inputs)
+-- A watch on a new board of the job: its reader read, and heard how it ended.
+pub record IsWatchedBy {P H : Type 0} (Reads : CellReading P) (Hears : Hearing P H)
+    (inputs : Inputs)
     (cells : List ℕ) (rounds : ℕ) (ended : Ended × H) : Type 0 where
   pub made : Desk × SeatData
-  pub opened : IsNewBoard inputs.job inputs.plan made
+  pub opened : IsNewBoard inputs.spelled.job inputs.plan made
   pub on : HasWatchedOn Reads Hears made.0 inputs.plan cells rounds made.1 ended
 
 -- what printing comes to after reads that were printed so

@@ -1,27 +1,29 @@
 //! The commands that start no thread: `check`, `compile`, `plain`, `cost`, `steps` and `replay`.
-ghost use Rattle.std.specs.Prelude.{◌≡◌, ◌↔◌, [], false, IfErr, IfOk, IsErrOf, IsTrue};
+ghost use Rattle.std.specs.Prelude.{◌≡◌, ◌↔◌, ⊤, false, IfErr, IfOk, IsErrOf, IsTrue};
 ghost use Rattle.pram_streams.specs.Transfer.{GivesSome};
-ghost use Rattle.pram_commands.specs.Did.{Did, tells_none, writing, tells};
-ghost use Rattle.pram_commands.specs.Inner.Puts.{Puts};
+ghost use Rattle.pram_commands.specs.Did.{Did, Showing, tells, tells_none, writing};
+ghost use Rattle.pram_commands.specs.Inner.Costed.{IsCosted};
+ghost use Rattle.pram_commands.specs.Inner.Puts.{PutsAnswer};
 ghost use Rattle.pram_commands.specs.Inputs.{AreReady, ExplainsJob, GivesAnswer, missing_step};
 ghost use Rattle.pram_commands.specs.Inputs.{taking};
-ghost use Rattle.pram_commands.specs.Plain.{checking, no_plan, plainly};
+ghost use Rattle.pram_commands.specs.Plain.{TellsSummary, checking, plainly};
 ghost use Rattle.pram_step.specs.Runs.{IsAnswer};
 ghost use Rattle.pram_commands.specs.Names.{AreNames};
-ghost use Rattle.pram_commands.specs.Costs.{costing, tells_conflict};
-ghost use Rattle.pram_commands.specs.Steps.{stepping};
-ghost use Rattle.pram_commands.specs.Replayed.{replaying};
-ghost use Rattle.pram_commands.specs.Texts.{compiling};
+ghost use Rattle.pram_commands.specs.Costs.{TellsCost, costing, tells_conflict};
+ghost use Rattle.pram_commands.specs.Steps.{TellsSteps, stepping};
+ghost use Rattle.pram_commands.specs.Replayed.{TellsTrace, replaying};
+ghost use Rattle.pram_commands.specs.Texts.{TellsText, compiling};
+ghost use Rattle.pram_commands.specs.Why.{Explaining};
 ghost use Rattle.refusals.specs.declared.fault.CommandFault.TheVariants.{JobDevice};
 
 use crate::commands::{print_ending, printed};
-use crate::inputs::{Spelled, take_inputs, take_job, take_text};
-use crate::names::{Words, lines_of};
-use crate::sources::{Inputs, Sources};
-use crate::why::{Question, put_told};
+use crate::inputs::{take_costed, take_inputs, take_job, take_text};
+use crate::names::lines_of;
+use crate::sources::{Inputs, Sources, Spelled};
+use crate::why::put_told;
 use command_data::Workers;
 use job_text::print_text;
-use pram_cost::{Cost, cost_of, print_cost};
+use pram_cost::{Cost, print_cost};
 use pram_job::Job;
 use pram_rows::{Shown, Window, print_steps};
 use pram_run::replay_to;
@@ -46,8 +48,8 @@ pub fn check<J: Source, P: Source, O: Sink>(
 
 fn put_summary<O: Sink>(alloc: Global, job: &Job, out: &mut O) -> Result<(), PrintFault>
     requires { O.has_failed out.old ≡ false }
-    ensures { Puts (checking.Comes [] job.now no_plan) checking.InPieces
-        (writing O.Sink out.old out.new) tells_none result }
+    ensures { PutsAnswer (TellsSummary job.now) ⊥ (writing O.Sink out.old out.new) tells_none
+        result }
 {
     print_summary(alloc, out, job)?;
     Ok(())
@@ -70,8 +72,7 @@ pub fn compile<J: Source, P: Source, O: Sink>(
 
 fn put_job<O: Sink>(alloc: Global, job: &Job, out: &mut O) -> Result<(), PrintFault>
     requires { O.has_failed out.old ≡ false }
-    ensures { Puts (compiling.Comes [] job.now no_plan) compiling.InPieces
-        (writing O.Sink out.old out.new) tells_none result }
+    ensures { PutsAnswer (TellsText job.now) ⊥ (writing O.Sink out.old out.new) tells_none result }
 {
     print_text(alloc, out, job)?;
     Ok(())
@@ -90,27 +91,23 @@ pub fn plain<J: Source, P: Source, O: Sink>(
         (writing O.Sink out.old out.new) tells result }
 {
     let spelled = take_text(alloc, &mut sources.job)?;
-    let question = Question {
-        why,
-        text: spelled.text.as_slice(),
-        job: &spelled.job,
-        names: &spelled.names,
-    };
-    printed(put_plain(alloc, &question, out))
+    printed(put_plain(alloc, why, &spelled, out))
 }
 
 fn put_plain<O: Sink>(
     alloc: Global,
-    question: &Question<'_>,
+    why: bool,
+    spelled: &Spelled,
     out: &mut O,
 ) -> Result<RunAnswer, PrintFault>
     requires output { O.has_failed out.old ≡ false }
-    requires names { AreNames question.now.text.now question.now.job.now question.now.names.now }
-    ensures { Puts ((plainly question.now.why).Comes question.now.text.now question.now.job.now
-        no_plan) (plainly false).InPieces (writing O.Sink out.old out.new) tells result }
+    requires names { AreNames spelled.now.text.items spelled.now.job spelled.now.names }
+    ensures { let read = spelled.now in
+        PutsAnswer (Explaining why (IsAnswer read.job) read.text.items read.job) ⊥
+        (writing O.Sink out.old out.new) tells result }
 {
-    let answer = answer_of(alloc, question)?;
-    put_told(alloc, out, question, &answer)?;
+    let answer = answer_of(alloc, spelled)?;
+    put_told(alloc, out, why, spelled, &answer)?;
     Ok(answer)
 }
 
@@ -124,28 +121,22 @@ pub fn take_answer<J: Source>(alloc: Global, source: &mut J) -> Result<RunAnswer
     ensures reads { GivesSome (J.remaining source.old) (J.remaining source.new) }
 {
     let spelled = take_text(alloc, source)?;
-    let question = Question {
-        why: false,
-        text: spelled.text.as_slice(),
-        job: &spelled.job,
-        names: &spelled.names,
-    };
-    Ok(answer_of(alloc, &question)?)
+    Ok(answer_of(alloc, &spelled)?)
 }
 
 // The answer of the job. That of a program's is known already.
-fn answer_of(alloc: Global, question: &Question<'_>) -> Result<RunAnswer, AllocError>
-    requires { AreNames question.now.text.now question.now.job.now question.now.names.now }
-    ensures { IfOk result (IsAnswer question.now.job.now) }
+fn answer_of(alloc: Global, spelled: &Spelled) -> Result<RunAnswer, AllocError>
+    requires { AreNames spelled.now.text.items spelled.now.job spelled.now.names }
+    ensures { IfOk result (IsAnswer spelled.now.job) }
 {
-    match question.names {
-        None => plain_answer(alloc, question.job),
+    match &spelled.names {
+        None => plain_answer(alloc, &spelled.job),
         Some(naming) => naming.answer(alloc),
     }
 }
 
 /// Reads a job, and prints what its run costs and which model of the PRAM it needs. The time is
-/// that of reading the text and of `cost_of`.
+/// that of reading the text and of `cost_of`; a program is run once for both.
 pub fn cost<J: Source, P: Source, O: Sink>(
     alloc: Global,
     sources: &mut Sources<J, P>,
@@ -155,23 +146,23 @@ pub fn cost<J: Source, P: Source, O: Sink>(
     ensures { Did costing (taking J.Source P.Source sources.old sources.new)
         (writing O.Sink out.old out.new) tells_conflict result }
 {
-    let spelled = take_text(alloc, &mut sources.job)?;
-    printed(put_cost(alloc, &spelled, out))
+    let (spelled, cost) = take_costed(alloc, &mut sources.job)?;
+    printed(put_cost(alloc, &spelled, cost, out))
 }
 
-fn put_cost<O: Sink>(alloc: Global, spelled: &Spelled, out: &mut O) -> Result<Cost, PrintFault>
+fn put_cost<O: Sink>(
+    alloc: Global,
+    spelled: &Spelled,
+    cost: Cost,
+    out: &mut O,
+) -> Result<Cost, PrintFault>
     requires output { O.has_failed out.old ≡ false }
-    requires names { AreNames spelled.now.text.items spelled.now.job spelled.now.names }
-    ensures { Puts (costing.Comes spelled.now.text.items spelled.now.job no_plan) costing.InPieces
+    requires costs { IsCosted spelled.now cost }
+    ensures { PutsAnswer (TellsCost spelled.now.text.items spelled.now.job) ⊥
         (writing O.Sink out.old out.new) tells_conflict result }
 {
-    let cost = cost_of(alloc, &spelled.job)?;
     let pram = cost.needs();
-    let words = Words {
-        names: &spelled.names,
-        steps: spelled.job.steps(),
-    };
-    print_cost(alloc, out, &cost, pram, &words)?;
+    print_cost(alloc, out, &cost, pram, spelled)?;
     Ok(cost)
 }
 
@@ -208,19 +199,17 @@ fn put_steps<O: Sink>(
 ) -> Result<RunAnswer, PrintFault>
     requires output { O.has_failed out.old ≡ false }
     requires names { AreNames spelled.now.text.items spelled.now.job spelled.now.names }
-    ensures { Puts ((stepping alone window).Comes spelled.now.text.items spelled.now.job no_plan)
-        (stepping alone window).InPieces (writing O.Sink out.old out.new) tells result }
+    ensures { let read = spelled.now in
+        PutsAnswer (Showing alone (TellsSteps read.text.items read.job window) read.text.items
+        read.job) ⊤
+        (writing O.Sink out.old out.new) tells result }
 {
     let shown = Shown {
         window,
-        lines: lines_of(&spelled.names),
+        lines: lines_of(spelled),
     };
     let answer = print_steps(alloc, out, &spelled.job, &shown)?;
-    let words = Words {
-        names: &spelled.names,
-        steps: spelled.job.steps(),
-    };
-    print_ending(alloc, out, &words, &answer, alone)?;
+    print_ending(alloc, out, spelled, &answer, alone)?;
     Ok(answer)
 }
 
@@ -259,17 +248,14 @@ fn put_replay<O: Sink>(
     out: &mut O,
 ) -> Result<RunAnswer, PrintFault>
     requires output { O.has_failed out.old ≡ false }
-    requires names { AreNames inputs.now.text.items inputs.now.job inputs.now.names }
-    ensures { Puts ((replaying alone 0).Comes inputs.now.text.items inputs.now.job inputs.now.plan)
-        (replaying alone 0).InPieces
+    requires names { let read = inputs.now.spelled in
+        AreNames read.text.items read.job read.names }
+    ensures { let read = inputs.now.spelled in
+        PutsAnswer (Showing alone (TellsTrace read.job inputs.now.plan) read.text.items read.job) ⊤
         (writing O.Sink out.old out.new) tells result }
 {
-    let (job, plan) = (&inputs.job, &inputs.plan);
-    let answer = replay_to(alloc, out, job, plan.workers(), plan)?;
-    let words = Words {
-        names: &inputs.names,
-        steps: job.steps(),
-    };
-    print_ending(alloc, out, &words, &answer, alone)?;
+    let (spelled, plan) = (&inputs.spelled, &inputs.plan);
+    let answer = replay_to(alloc, out, &spelled.job, plan.workers(), plan)?;
+    print_ending(alloc, out, spelled, &answer, alone)?;
     Ok(answer)
 }

@@ -1,7 +1,7 @@
 //! The commands that start threads: `run` and `watch`.
-ghost use Rattle.std.specs.Prelude.{◌≡◌, false, []};
+ghost use Rattle.std.specs.Prelude.{◌≡◌, ⊤, false};
 ghost use Rattle.pram_commands.specs.Did.{Answering, Did, tells, writing};
-ghost use Rattle.pram_commands.specs.Inner.Puts.{Puts};
+ghost use Rattle.pram_commands.specs.Inner.Puts.{PutsAnswer};
 ghost use Rattle.pram_commands.specs.Inputs.{AreReady, taking};
 ghost use Rattle.pram_commands.specs.Names.{AreNames};
 ghost use Rattle.pram_commands.specs.Threads.{TellsSights, running, watching};
@@ -10,12 +10,10 @@ ghost use Rattle.command_data.specs.CellLists.{parts_of};
 use crate::cell_list::cells_in;
 use crate::commands::printed;
 use crate::inputs::take_inputs;
-use crate::names::Words;
 use crate::printing::{Printing, PrintingReads, outcome, take_back};
-use crate::sources::{Inputs, Sources};
+use crate::sources::Sources;
 use crate::threads::{Watched, run_job};
-use crate::why::Question;
-use command_data::{CellList, Manner};
+use command_data::{AskRun, AskWatch, Manner};
 use pram_run::ReadsNothing;
 use pram_step::RunAnswer;
 use pram_streams::{PrintFault, Sink, Source};
@@ -24,14 +22,6 @@ use std::alloc::Global;
 use std::rt::Clock;
 use std::sync::Wait;
 use std::thread::Threads;
-
-/// What is wanted of a run: its manner, and whether what became of the processors follows the
-/// answer.
-#[derive(Clone, Copy, Debug, PartialEq, Eq)]
-pub struct Wanted {
-    pub manner: Manner,
-    pub why: bool,
-}
 
 /// Reads a job, then its plan, runs the plan's workers on threads in this manner, and prints the
 /// job's answer as soon as a worker knows it: threads that are kept from going on hold back the
@@ -42,60 +32,31 @@ pub struct Wanted {
 pub fn run<R: Threads + Wait + Clock + Eprint + Sync, J: Source, P: Source, O: Sink>(
     rt: &R,
     alloc: Global,
-    wanted: Wanted,
+    ask: AskRun,
     sources: &mut Sources<J, P>,
     out: &mut O,
 ) -> Result<RunAnswer, CommandFault>
     requires { AreReady J.Source P.Source O.Sink sources.old out.old }
-    ensures { Did (running wanted.why wanted.manner.workers.count)
+    ensures { Did (running ask.why ask.manner.workers.count)
         (taking J.Source P.Source sources.old sources.new)
         (writing O.Sink out.old out.new) tells result }
 {
-    let inputs = take_inputs(alloc, wanted.manner.workers, sources)?;
-    printed(put_run(rt, alloc, &inputs, wanted, out))
-}
-
-// Prints the answer of a run as soon as it is known.
-fn put_run<R: Threads + Wait + Clock + Eprint + Sync, O: Sink>(
-    rt: &R,
-    alloc: Global,
-    inputs: &Inputs,
-    wanted: Wanted,
-    out: &mut O,
-) -> Result<RunAnswer, PrintFault>
-    requires output { O.has_failed out.old ≡ false }
-    requires names { AreNames inputs.now.text.items inputs.now.job inputs.now.names }
-    ensures { Puts ((running wanted.why 0).Comes inputs.now.text.items inputs.now.job
-        inputs.now.plan) (running false 0).InPieces (writing O.Sink out.old out.new) tells result }
-{
-    let question = Question {
-        why: wanted.why,
-        text: inputs.text.as_slice(),
-        job: &inputs.job,
-        names: &inputs.names,
-    };
+    let inputs = take_inputs(alloc, ask.manner.workers, sources)?;
     let listener = Printing {
         alloc,
-        question,
+        why: ask.why,
+        spelled: &inputs.spelled,
         out,
     };
     let watched = Watched {
-        inputs,
+        inputs: &inputs,
         cells: &[],
         rounds: 0,
     };
     let reader = ReadsNothing { listener };
-    let (ended, (out, put)) = run_job(rt, alloc, &watched, wanted.manner, reader);
+    let (ended, (out, put)) = run_job(rt, alloc, &watched, ask.manner, reader);
     take_back(out);
-    outcome(put, ended)
-}
-
-/// A run in this manner, with a reader beside its workers that goes so many rounds through cells.
-#[derive(Clone, Copy, Debug, PartialEq, Eq)]
-pub struct Reads<'a> {
-    pub manner: Manner,
-    pub cells: CellList<'a>,
-    pub rounds: u32,
+    printed(outcome(put, ended))
 }
 
 /// Does what `run` does, with a reader beside the workers; what each read told is printed before
@@ -106,29 +67,24 @@ pub struct Reads<'a> {
 pub fn watch<R: Threads + Wait + Clock + Eprint + Sync, J: Source, P: Source, O: Sink>(
     rt: &R,
     alloc: Global,
-    reads: Reads<'_>,
+    ask: AskWatch<'_>,
     sources: &mut Sources<J, P>,
     out: &mut O,
 ) -> Result<RunAnswer, CommandFault>
     requires { AreReady J.Source P.Source O.Sink sources.old out.old }
-    ensures { Did (watching reads.entry.manner.workers.count
-        (parts_of reads.entry.cells.text.now) reads.entry.rounds)
+    ensures { Did (watching ask.entry.manner.workers.count
+        (parts_of ask.entry.cells.text.now) ask.entry.rounds)
         (taking J.Source P.Source sources.old sources.new)
         (writing O.Sink out.old out.new) tells result }
 {
-    let Reads {
-        manner,
-        cells,
-        rounds,
-    } = reads;
-    let inputs = take_inputs(alloc, manner.workers, sources)?;
-    let cells = cells_in(alloc, cells.text(), &inputs)?;
+    let inputs = take_inputs(alloc, ask.manner.workers, sources)?;
+    let cells = cells_in(alloc, ask.cells.text(), &inputs.spelled)?;
     let watched = Watched {
         inputs: &inputs,
         cells: cells.as_slice(),
-        rounds,
+        rounds: ask.rounds,
     };
-    printed(put_watch(rt, alloc, &watched, manner, out))
+    printed(put_watch(rt, alloc, &watched, ask.manner, out))
 }
 
 // Prints the reads of a watch as they are made, and its answer as soon as it is known.
@@ -140,20 +96,16 @@ fn put_watch<R: Threads + Wait + Clock + Eprint + Sync, O: Sink>(
     out: &mut O,
 ) -> Result<RunAnswer, PrintFault>
     requires output { O.has_failed out.old ≡ false }
-    requires names { AreNames watched.now.inputs.now.text.items watched.now.inputs.now.job
-        watched.now.inputs.now.names }
-    ensures { let inputs = watched.now.inputs.now in
-        Puts (Answering (TellsSights inputs.names inputs.job inputs.plan watched.now.cells.now
-        watched.now.rounds) inputs.text.items inputs.job) (watching 0 [] 0).InPieces
+    requires names { let read = watched.now.inputs.now.spelled in
+        AreNames read.text.items read.job read.names }
+    ensures { let inputs = watched.now.inputs.now in let read = inputs.spelled in
+        PutsAnswer (Answering (TellsSights read.names read.job inputs.plan watched.now.cells.now
+        watched.now.rounds) read.text.items read.job) ⊤
         (writing O.Sink out.old out.new) tells result }
 {
-    let words = Words {
-        names: &watched.inputs.names,
-        steps: watched.inputs.job.steps(),
-    };
     let reader = PrintingReads {
         alloc,
-        words,
+        spelled: &watched.inputs.spelled,
         out,
         printed: Ok(()),
     };

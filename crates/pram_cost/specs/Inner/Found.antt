@@ -10,7 +10,7 @@ use Rattle.pram_cost.specs.declared.found.Access.{Access}
 use Rattle.pram_cost.specs.declared.found.Accesses.{Accesses}
 use Rattle.pram_cost.specs.declared.meeting.Sharing.{Sharing}
 use Rattle.pram_cost.specs.declared.meeting.Sharing.TheVariants.{SameRead, SameWrite, OtherValue}
-use Rattle.pram_cost.specs.Accesses.{is_running}
+use Rattle.pram_step.specs.Running.{is_running}
 use Rattle.pram_cost.specs.Meetings.{access_by}
 
 -- ---- of one processor
@@ -23,11 +23,11 @@ runs_in (Reads cell) = true
 runs_in (Writes cell value) = true
 
 -- its access that is a read, and the one that is a write
-abbrev pub read_in : Visit → Option (ℕ × ℕ)
-read_in Stopped = None
-read_in Elsewhere = None
-read_in (Reads cell) = Some (cell, 0)
-read_in (Writes cell value) = None
+abbrev pub read_in_visit : Visit → Option (ℕ × ℕ)
+read_in_visit Stopped = None
+read_in_visit Elsewhere = None
+read_in_visit (Reads cell) = Some (cell, 0)
+read_in_visit (Writes cell value) = None
 
 abbrev pub write_in : Visit → Option (ℕ × ℕ)
 write_in Stopped = None
@@ -44,7 +44,7 @@ IsInside cells (Writes cell value) = cell < cells
 -- processor i does this in the step
 pub record IsVisit (job : JobData) (state : State) (i : ℕ) (visit : Visit) : Type 0 where
   pub runs : is_running job state i ≡ runs_in visit
-  pub reads : access_by SameRead job state i ≡ read_in visit
+  pub reads : access_by SameRead job state i ≡ read_in_visit visit
   pub writes : access_by SameWrite job state i ≡ write_in visit
   pub inside : IsInside job.cells visit
 
@@ -70,7 +70,7 @@ pub record AreAccesses (cells : ℕ) (access : ℕ → Option (ℕ × ℕ)) (n :
   pub all : (i cell value : ℕ) → i < n → access i ≡ Some (cell, value) →
       ((k : ℕ) → k < length list → (access_at list k).processor ≢ i) → ⊥
 
--- so many of n processors run, and these are their accesses of both kinds
+-- how many of n processors run, and their accesses of both kinds
 pub record AreFound (job : JobData) (state : State) (n : ℕ) (accesses : Accesses) : Type 0 where
   pub few : accesses.running ≤ n
   pub count : accesses.running ≡ length (filter (is_running job state) (range_with_len 0 n))
@@ -84,8 +84,8 @@ of_kind SameWrite accesses = accesses.writes.items
 of_kind OtherValue accesses = accesses.writes.items
 
 -- the access that the mark names, if it comes before access k and goes to the same cell
-abbrev pub TellsFirst : List Access → ℕ → ℕ → Option Access → Type 0
-TellsFirst list mark k found =
+abbrev pub NamesFirst : List Access → ℕ → ℕ → Option Access → Type 0
+NamesFirst list mark k found =
     MatchOption found (mark < k → (access_at list mark).cell ≢ (access_at list k).cell)
     (λ first. (mark < k) × ((access_at list mark).cell ≡ (access_at list k).cell)
     × (first ≡ access_at list mark))

@@ -21,7 +21,7 @@ IsOfStep job state step meeting =
     (meeting.step ≡ step) × (meeting.counter ≡ counter job state meeting.first)
 
 -- n processors were looked at in this step
-pub record HasLooked (sharing : Sharing) (job : JobData) (state : State) (step n : ℕ) (marks :
+pub record HasLookedAt (sharing : Sharing) (job : JobData) (state : State) (step n : ℕ) (marks :
     List ℕ) (found : Option Meeting) : Type 0 where
   pub marked : MarkLeast (access_by sharing job state) n marks
   pub least : IsLeastOrNone sharing (access_by sharing job state) n found
@@ -42,4 +42,5 @@ goer procs list k =
 abbrev pub HasSearched : Sharing → JobData → State → ℕ → List Access → ℕ → List ℕ →
     Option Meeting → Type 0
 HasSearched sharing job state step list k marks found =
-    HasLooked sharing job state step (goer job.procs list k) (map (goer job.procs list) marks) found
+    HasLookedAt sharing job state step (goer job.procs list k) (map (goer job.procs list) marks)
+    found

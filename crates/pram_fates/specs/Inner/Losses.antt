@@ -1,10 +1,13 @@
--- What a counter says of an address.
-use Rattle.std.specs.Prelude.{◌≡◌, ℕ, ◌<◌}
-use Rattle.pram_job.specs.Job.{JobData}
-use Rattle.pram_machine.specs.Machine.{State, counter, out_of_range}
+-- Who was lost first.
+use Rattle.std.specs.Prelude.{ℕ, nat_le, nat_lt, if◌then◌else◌, Option, Some, None}
+use Rattle.pram_fates.specs.declared.fates.Lost.{Lost}
 
--- some processor's counter says that its address was out of range
-pub record SomeIsLost (job : JobData) (state : State) : Type 0 where
-  pub processor : ℕ
-  pub within : processor < job.procs
-  pub lost : counter job state processor ≡ out_of_range job
+-- that one, or the other if it is of an earlier step
+abbrev pub earlier : Option Lost → Lost → Option Lost
+earlier None other = Some other
+earlier (Some first) other = if nat_le first.step other.step then Some first else Some other
+
+-- that one, if it is of a step before this one
+abbrev pub if_before : Option Lost → ℕ → Option Lost
+if_before None step = None
+if_before (Some lost) step = if nat_lt lost.step step then Some lost else None

@@ -1,14 +1,6 @@
 -- Rows written by csv, one after the other, and put into a sink piece by piece.
 use Rattle.std.specs.Prelude.{◌≡◌, ◌++◌, ℕ, Bool, true, false, List, Option, take}
 use Rattle.std.specs.Io.KnownBytes.{Appends}
-use Rattle.csv.specs.Writing.{default_writer, fields_written, has_written, writer_setup}
-use Rattle.csv.specs.declared.writer.Writer.{Writer}
-
--- The writer has its defaults, and stands at the start of a record.
-pub record IsBetweenRecords {W : Type 0} (writer : Writer W) : Type 0 where
-  pub setup : writer_setup writer ≡ default_writer
-  pub fields : fields_written writer ≡ 0
-  pub clean : has_written writer ≡ false
 
 -- The sink took a text but for these bytes, which are still to be put.
 pub record TakesBut (sink sink' : Option (List ℕ)) (rest text : List ℕ) : Type 0 where

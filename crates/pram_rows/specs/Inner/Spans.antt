@@ -3,14 +3,14 @@ use Rattle.std.specs.Prelude.{ℕ, ◌-◌, List, min}
 use Rattle.std.specs.Option.{option_copied}
 use Rattle.pram_step.specs.Runs.{IsAnswer}
 use Rattle.pram_step.specs.declared.answer.RunAnswer.{RunAnswer}
-use Rattle.pram_rows.specs.Rows.{lines_after}
+use Rattle.pram_rows.specs.Rows.{rows_after}
 use Rattle.pram_rows.specs.Shown.{last_step}
 use Rattle.pram_rows.specs.declared.window.Span.{Span}
 
 -- the rows of its steps, those that there are: the last of all is `last`
 abbrev pub span_text : Span → ℕ → List ℕ
 span_text span last =
-    lines_after (option_copied span.lines) span.job.now span.first (min span.end last - span.first)
+    rows_after (option_copied span.lines) span.job.now span.first (min span.end last - span.first)
 
 -- this holds of the rows of a span up to the last step of the job
 abbrev pub OfAnswers : Span → (List ℕ → Type 0) → Type 0

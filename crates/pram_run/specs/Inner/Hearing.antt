@@ -29,8 +29,8 @@ pub record HasTold (task : Task) (before later : SeatData) (answer : RunAnswer) 
   pub sound : Sound task.job task.layout later.record_of
   pub tells : Tells task later.record_of answer
 
--- So many workers obeyed the plan from the given seat, and each ended or is stopped; their seats
--- and then the looker's were joined to it. What all of them heard is sound.
+-- A number of workers obeyed the plan from the given seat, and each ended or is stopped; their
+-- seats and then the looker's were joined to it. What all of them heard is sound.
 pub record IsJoined (task : Task) (plan : PlanData) (given looker : SeatData) (count : ℕ)
     (later : SeatData) : Type 0 where
   pub seat : SeatData
@@ -40,9 +40,9 @@ pub record IsJoined (task : Task) (plan : PlanData) (given looker : SeatData) (c
   pub goes_on : GoesOn given later
   pub sound : Sound task.job task.layout later.record_of
 
--- So many workers obeyed the plan from the given seat, while another seat looked on from this one;
--- they came to an answer, which was given if memory was.
-pub record HasEnded (task : Task) (plan : PlanData) (given : SeatData) (count : ℕ)
+-- A number of workers obeyed the plan from the given seat, while another seat looked on from this
+-- one; they came to an answer, which was given if memory was.
+pub record RunHasEnded (task : Task) (plan : PlanData) (given : SeatData) (count : ℕ)
     (before later : SeatData) (ended : Ended) : Type 0 where
   pub answer : RunAnswer
   pub ran : HasRunWith (λ started looker. (started ≡ count) × HasLooked before looker)

@@ -20,7 +20,7 @@ pub record GoesOn (before after : SeatData) : Type 0 where
 abbrev pub EndsOrStops : List Row → ℕ → SeatData → Type 0
 EndsOrStops rows worker seat = ShowsEnd seat.desk.task seat.record_of ⊎ (stops rows worker ≡ true)
 
--- so for all workers of the plan
+-- for each worker of the plan: the seat shows the end, or the rows stop that worker
 abbrev pub AllEndOrStop : PlanData → SeatData → Type 0
 AllEndOrStop plan seat = (worker : ℕ) → worker < plan.workers → EndsOrStops plan.rows worker seat
 

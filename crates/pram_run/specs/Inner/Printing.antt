@@ -1,8 +1,6 @@
 -- Records that csv writes, and rows that were passed on to a sink.
 use Rattle.std.specs.Prelude.{◌≡◌, ◌+◌, ◌++◌, ℕ, List, Option, length, false}
 use Rattle.std.specs.Io.KnownBytes.{Appends}
-use Rattle.csv.specs.Writing.{default_writer, fields_written, has_written, writer_setup}
-use Rattle.csv.specs.declared.writer.Writer.{Writer}
 use Rattle.pram_streams.specs.declared.print.PrintFault.{PrintFault}
 use Rattle.pram_streams.specs.declared.print.PrintFault.TheVariants as print
 use Rattle.pram_run.specs.declared.print.OutFault.{OutFault}
@@ -10,15 +8,9 @@ use Rattle.pram_run.specs.declared.print.OutFault.TheVariants.{Device, Memory}
 use Rattle.pram_run.specs.declared.trace.TraceRow.{TraceRow}
 use Rattle.pram_run.specs.Printed.{row_lines}
 
--- The writer has its defaults, and stands at the start of a record.
-pub record IsBetweenRecords {W : Type 0} (writer : Writer W) : Type 0 where
-  pub setup : writer_setup writer ≡ default_writer
-  pub fields : fields_written writer ≡ 0
-  pub clean : has_written writer ≡ false
-
-abbrev pub fault_of_print : PrintFault → OutFault
-fault_of_print print.Device = Device
-fault_of_print print.Memory = Memory
+abbrev pub out_fault_of_print : PrintFault → OutFault
+out_fault_of_print print.Device = Device
+out_fault_of_print print.Memory = Memory
 
 -- The sink took the lines of the first of these rows, so many having gone before; the others are
 -- kept, and the count goes on.

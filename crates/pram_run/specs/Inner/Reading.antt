@@ -9,7 +9,7 @@ use Rattle.pram_board.specs.Seats.{SeatData, unites}
 use Rattle.pram_run.specs.Obeyed.{AllObeyed}
 use Rattle.pram_run.specs.Printed.{CellWords, sight_lines, sights_text}
 use Rattle.pram_run.specs.PutReads.{Printing}
-use Rattle.pram_run.specs.Watching.{HasRead, IsWatch, cells_of}
+use Rattle.pram_run.specs.Watching.{HasRead, IsWatch, cells_seen}
 use Rattle.pram_run.specs.declared.sight.Sight.{Sight}
 
 -- The plan's workers obeyed it from the given seat, and a reader beside them made this watch from
@@ -27,7 +27,7 @@ pub record ReadsRound (task : Task) (round : List ℕ) (sights : List Sight) (be
     (sights' : List Sight) (later : SeatData) : Type 0 where
   pub reads : (front : List Sight) (given : SeatData) →
       HasRead task given (front ++ sights) before → HasRead task given (front ++ sights') later
-  pub cells : cells_of sights' ≡ cells_of sights ++ round
+  pub cells : cells_seen sights' ≡ cells_seen sights ++ round
 
 -- The lines of these sights were put, or a beginning of them; where printing had failed, nothing.
 abbrev pub PutAfter : CellWords → Printing → Printing → Option (List ℕ) → Option (List ℕ) →
@@ -37,7 +37,7 @@ PutAfter words (Ok done) later sink sink' sights =
     × AppendsBeginning sink sink' (sight_lines words sights)
 PutAfter words (Err fault) later sink sink' sights = (later ≡ Err fault) × (sink' ≡ sink)
 
--- So the first of the sights went, and the others wait.
+-- The first of the sights were put, and the others wait.
 pub record PassedSights (words : CellWords) (printed later : Printing)
     (sink sink' : Option (List ℕ)) (sights waiting : List Sight) : Type 0 where
   pub gone : List Sight
@@ -50,6 +50,6 @@ pub record HasPut (words : CellWords) (task : Task) (cells : List ℕ) (rounds :
     (waiting : List Sight) (sink sink' : Option (List ℕ)) (printed : Printing) : Type 0 where
   pub gone : List Sight
   pub reads : HasRead task given (gone ++ waiting) later
-  pub listed : cells_of (gone ++ waiting) ≡ repeat rounds cells
+  pub listed : cells_seen (gone ++ waiting) ≡ repeat rounds cells
   pub ok : OnOk printed (Appends sink sink' (sights_text words gone))
   pub beginning : AppendsBeginning sink sink' (sights_text words gone)

@@ -7,8 +7,8 @@ use Rattle.pram_run.specs.declared.shared.Shared.{Shared}
 abbrev pub board_of : {G : Type 0} → Shared G → Desk
 board_of shared = shared.observation.assignment.board.now
 
-abbrev pub task_of : {G : Type 0} → Shared G → Task
-task_of shared = (board_of shared).task
+abbrev pub shared_task : {G : Type 0} → Shared G → Task
+shared_task shared = (board_of shared).task
 
 abbrev pub plan_of : {G : Type 0} → Shared G → PlanData
 plan_of shared = shared.observation.assignment.plan.now

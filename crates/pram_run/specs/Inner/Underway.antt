@@ -12,9 +12,9 @@ use Rattle.pram_world.specs.declared.event.Event.TheVariants.{Go}
 use Rattle.pram_world.specs.Worlds.{going}
 use Rattle.pram_run.specs.declared.schedule.Replaying.{Replaying}
 use Rattle.pram_run.specs.declared.trace.TraceRow.{TraceRow}
-use Rattle.pram_run.specs.Inner.Progress.{IsAfter}
+use Rattle.pram_run.specs.Inner.Progress.{IsAfterEvents}
 use Rattle.pram_run.specs.Printed.{trace_text}
-use Rattle.pram_run.specs.Replays.{running, world_events}
+use Rattle.pram_run.specs.Replays.{still_runs, world_events}
 
 -- the events that the plan's rows still ask for
 abbrev pub ahead : Replaying → List Event
@@ -23,12 +23,12 @@ ahead now = replicate now.ticks (Go now.worker) ++ events_of_rows world_events n
 -- the events of the plan's rows, and of so many rounds after them
 abbrev pub with_rounds : JobData → PlanData → ℕ → List Event
 with_rounds job plan count =
-    after_rounds world_events (running job plan.workers) plan.workers count
+    after_rounds world_events (still_runs job plan.workers) plan.workers count
     (events_of_rows world_events plan.rows)
 
 -- These events were made: those of the rows but for what is ahead, or all of them and some rounds.
-abbrev pub AreMade : JobData → PlanData → Replaying → List Event → Type 0
-AreMade job plan now made =
+abbrev pub AreEventsMade : JobData → PlanData → Replaying → List Event → Type 0
+AreEventsMade job plan now made =
     ((now.rounds ≡ 0) × (made ++ ahead now ≡ events_of_rows world_events plan.rows))
     ⊎ ((now.ticks ≡ 0) × (now.rows.now ≡ []) × (made ≡ with_rounds job plan now.rounds))
 
@@ -40,13 +40,13 @@ pub record HasCome (job : JobData) (plan : PlanData) (now : Replaying) (rows : L
   pub most : plan.workers ≤ 64
   pub workers : plan.workers ≡ now.workers
   pub made : List Event
-  pub are : AreMade job plan now made
-  pub after : IsAfter job plan.workers made now.world rows
+  pub are : AreEventsMade job plan now made
+  pub after : IsAfterEvents job plan.workers made now.world rows
   pub rounds : now.rounds ≤ most_steps job
 
--- so it is, for some job, plan and steps
-abbrev pub IsUnderWay : Replaying → Type 0
-IsUnderWay now =
+-- a replay of some job and plan has come there, by some steps
+abbrev pub IsReplayUnderWay : Replaying → Type 0
+IsReplayUnderWay now =
     (job : JobData) × (plan : PlanData) × (rows : List TraceRow) × HasCome job plan now rows
 
 -- how often it can still go on, at most
@@ -70,14 +70,14 @@ pub record Further (job : JobData) (plan : PlanData) (before now : Replaying) (r
   pub fewer : more ≡ true → parts job now < parts job before
   pub over : more ≡ false → IsOver now
 
--- the same, wherever it stood; rows that are no longer kept stand in front
+-- it has gone on, or it is over, wherever it stood; rows that are no longer kept stand in front
 abbrev pub Advances : Replaying → List TraceRow → Replaying → List TraceRow → Bool → Type 0
 Advances before rows now later more =
     (front : List TraceRow) (job : JobData) (plan : PlanData) →
     HasCome job plan before (front ++ rows) → Further job plan before now (front ++ later) more
 
 -- The sink took the text of the first rows of it, and the others are kept.
-pub record HasPrinted (job : JobData) (plan : PlanData) (now : Replaying) (kept : List TraceRow)
+pub record HasPrintedRows (job : JobData) (plan : PlanData) (now : Replaying) (kept : List TraceRow)
     (count : ℕ) (sink sink' : Option (List ℕ)) : Type 0 where
   pub gone : List TraceRow
   pub come : HasCome job plan now (gone ++ kept)

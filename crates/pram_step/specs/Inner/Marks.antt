@@ -42,7 +42,7 @@ PutsStore requests asked k =
 
 -- ---- the stores that are asked for
 
--- So many stores are asked for by the processors below n, in their order: all data of these
+-- The stores that the processors below n ask for, this many, in their order: all data of these
 -- requests that goes to cells.
 pub record AreAsked (cells : ℕ) (requests : List Request) (n : ℕ) (asked : List Store)
     (count : ℕ) : Type 0 where

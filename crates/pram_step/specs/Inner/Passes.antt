@@ -1,32 +1,19 @@
 -- A pass over the processors that run.
-use Rattle.std.specs.Prelude.{◌≡◌, ℕ, ◌+◌, ◌<◌, ◌≤◌, ◌⊎◌, List, length, take, All}
-use Rattle.std.specs.Prelude.{slice_index, slice_index_or, unwrap_or, Option, MatchOption}
-use Rattle.std.specs.List.{Contains}
+use Rattle.std.specs.Prelude.{◌≡◌, ℕ, ◌<◌, ◌≤◌, ◌⊎◌, List, length, take, All}
+use Rattle.std.specs.Prelude.{slice_index, slice_index_or, unwrap_or}
 use Rattle.std.specs.List.Sorted.{IsStrictlyIncreasing}
 use Rattle.pram_job.specs.Job.{JobData}
-use Rattle.pram_step.specs.declared.answer.Fault.{Fault}
 use Rattle.pram_step.specs.declared.lockstep.Turns.{Turns}
-use Rattle.pram_step.specs.declared.pass.Course.{Course}
-use Rattle.pram_step.specs.declared.pass.Course.TheVariants.{Made, Settled, Disputed}
 use Rattle.pram_machine.specs.declared.requests.Request.{Request}
 use Rattle.pram_step.specs.declared.stores.Store.{Store}
-use Rattle.pram_machine.specs.Machine.{State, counter, counter_place, halted, place_count}
+use Rattle.pram_machine.specs.Machine.{State, counter, counter_place, place_count}
 use Rattle.pram_machine.specs.Machine.{register_place}
 use Rattle.pram_machine.specs.Instructions.{goes_to, request_in, requests_in}
 use Rattle.pram_step.specs.Steps.{Agrees, IsNext, next_state, written}
-use Rattle.pram_step.specs.Runs.{IsFault, IsFirstConflict, IsStateAfter}
 use Rattle.pram_step.specs.Inner.Marks.{AreAsked}
+use Rattle.pram_step.specs.Running.{AreRunning, SameCounters}
 
--- ---- which processors run
-
--- these processors, in order, are below n, and all others below n have stopped
-pub record AreRunningBelow (job : JobData) (state : State) (n : ℕ) (running : List ℕ) : Type 0 where
-  pub within : All (λ i. i < n) running
-  pub rises : IsStrictlyIncreasing running
-  pub all : (i : ℕ) → i < n → counter job state i < halted job → Contains running i
-
-abbrev pub AreRunning : JobData → State → List ℕ → Type 0
-AreRunning job state running = AreRunningBelow job state job.procs running
+-- ---- who stands still
 
 -- processor i's request changes nothing
 abbrev pub IsIdle : JobData → State → ℕ → Type 0
@@ -88,7 +75,7 @@ pub record StandsAt (job : JobData) (running : List ℕ) (now : State) (asked : 
   pub here : counter job now (slice_index running turns.taken) ≡ index
 
 -- Some turns more have been taken. Where those before were taken from some start, so are these.
-pub record GoesOn (job : JobData) (running : List ℕ) (now : State) (asked : List Store)
+pub record TurnsGoOn (job : JobData) (running : List ℕ) (now : State) (asked : List Store)
     (turns : Turns) (now' : State) (asked' : List Store) (turns' : Turns) : Type 0 where
   pub later : turns.taken < turns'.taken
   pub begun : IsUnderWay job running now' asked' turns'
@@ -104,7 +91,7 @@ pub record IsMade (job : JobData) (old new : State) : Type 0 where
   pub next : new ≡ next_state job old
   pub written : IsNext job (requests_in job old) old new
 
--- so it is, and those that ran are all that may run still
+-- the next state is made, and those that ran are all that may run still
 pub record IsAdvance (job : JobData) (running : List ℕ) (old new : State) : Type 0 where
   pub made : IsMade job old new
   pub runs : AreRunning job new running
@@ -114,15 +101,7 @@ pub record SameCells (cells : ℕ) (old new : State) : Type 0 where
   pub len : length new ≡ length old
   pub same : take cells new ≡ take cells old
 
--- ---- several steps
-
--- this state is that after t steps, and after all later ones where it has settled, or the first
--- conflict is among the t steps
-abbrev pub GoesTo : JobData → ℕ → State → Course → Type 0
-GoesTo job t state Made = IsStateAfter job t state
-GoesTo job t state Settled = (more : ℕ) → IsStateAfter job (t + more) state
-GoesTo job t state (Disputed fault) = IsFirstConflict job fault × (fault.step ≤ t)
-
--- The run of the job ended in this state, or by this fault.
-abbrev pub IsRun : JobData → State → Option Fault → Type 0
-IsRun job state fault = MatchOption fault (IsStateAfter job job.steps state) (IsFault job)
+-- the turns of a step are taken, and none of its stores is made
+pub record IsWithoutStores (job : JobData) (old new : State) : Type 0 where
+  pub cells : SameCells job.cells old new
+  pub counters : SameCounters job (next_state job old) new

@@ -15,7 +15,7 @@ numbered_from number lines =
 abbrev pub line_among : List (ℕ × Line) → ℕ → ℕ
 line_among entries index = slice_index (map (λ entry. entry.0) entries) index
 
--- the same, by what is left before it
+-- the line of the instruction of this index, by what is left before it
 abbrev pub line_ahead : ℕ → Ahead → List (ℕ × Line) → ℕ
 line_ahead index (Header lines) entries =
     line_among (after_first (λ entry. is_code entry.1) (drop lines entries)) index

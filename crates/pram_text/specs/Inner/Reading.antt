@@ -27,12 +27,13 @@ use Rattle.pram_text.specs.declared.reader.Reader.{Reader}
 use Rattle.pram_job.specs.Job.{JobData, job_data}
 use Rattle.text_lines.specs.Lines.{Word, Line, words_of, worded, is_filled}
 use Rattle.pram_text.specs.Judgement.{version_of, cells_of, procs_of}
-use Rattle.pram_text.specs.Judgement.{◌>>=◌, steps_of, is_later, Entry, names, gives, array_of}
+use Rattle.pram_text.specs.Judgement.{steps_of, is_later, Entry, names, gives, array_of}
+use Rattle.text_lines.specs.Reads.{◌>>=◌}
 use Rattle.pram_text.specs.Judgement.{values_of, init_of, unlabelled, Scope, instr_of}
 use Rattle.pram_text.specs.Inner.Statement.{resolved, array_named}
-use Rattle.pram_text.specs.Text.{index_of, is_named, new_label_fault, SaysEntries, IsLabelled}
+use Rattle.pram_text.specs.Text.{label_index, is_named, new_label_fault, SaysEntries, IsLabelled}
 use Rattle.pram_text.specs.Text.{array_in, value_in, gives_values, scope_of, scope_in}
-use Rattle.pram_text.specs.Text.{SpellsHeader, code_line, SpellsLines, words_fault, line_fault}
+use Rattle.pram_text.specs.Text.{SpellsHeader, code_heading, SpellsLines, words_fault, line_fault}
 use Rattle.pram_text.specs.Text.{entry_fault, instr_fault, end_fault, has_code, body_of}
 use Rattle.pram_text.specs.Text.{label_fault_at, IsFirst}
 
@@ -78,8 +79,8 @@ TakesHead before line (Err kind) = words_fault before line ≡ Some kind
 -- ---- arrays and start values
 
 -- the value given to a cell so far
-abbrev pub given : List (Option ℕ) → ℕ → Option ℕ
-given start cell = slice_index_or start cell None
+abbrev pub value_given : List (Option ℕ) → ℕ → Option ℕ
+value_given start cell = slice_index_or start cell None
 
 -- nothing is said so far
 abbrev pub HoldsNothing : Setup → Type 0
@@ -90,7 +91,7 @@ pub record HoldsStart (later : Bool) (cells : ℕ) (inits : List Line) (start : 
   pub entries : List Entry
   pub said : SaysEntries later cells inits entries
   pub arrays : (name : Word) → array_named start.arrays name ≡ array_in entries name
-  pub values : (cell : ℕ) → given start.values.items cell ≡ value_in entries cell
+  pub values : (cell : ℕ) → value_given start.values.items cell ≡ value_in entries cell
   pub filled : is_filled start.values.items ≡ list_any gives_values entries
 
 abbrev pub TakesStart : Bool → ℕ → List Line → Line → Result (Unit {0}) TextKind → Setup → Type 0
@@ -135,7 +136,7 @@ Defines old label index (Err kind) new = kind ≢ Memory → define_fault old la
 
 -- each label's index
 abbrev pub HoldsIndices : List Line → BTreeMap (Bor (List ℕ)) ℕ → Type 0
-HoldsIndices body indices = (name : Word) → index_at indices name ≡ index_of body name
+HoldsIndices body indices = (name : Word) → index_at indices name ≡ label_index body name
 
 pub record HoldsCode (scope : Scope) (body : List Line) (program : Program) : Type 0 where
   pub labelled : IsLabelled body
@@ -191,14 +192,14 @@ HoldsAt Start before reader =
     × IsHeader front reader.head × Starts inits reader × HoldsNoCode reader.program
 HoldsAt Code before reader =
     (front : List Line) × (inits : List Line) × (body : List Line)
-    × (before ≡ front ++ (inits ++ code_line ∷ body))
+    × (before ≡ front ++ (inits ++ code_heading ∷ body))
     × IsHeader front reader.head × (starts : Starts inits reader)
     × HoldsCode (scope_by reader starts.entries) body reader.program
 HoldsAt next before reader = HoldsHead next before reader.head × HoldsNothing reader.setup
     × HoldsNoCode reader.program
 
-abbrev pub Holds : List Line → Reader → Type 0
-Holds before reader = HoldsAt reader.head.next before reader
+abbrev pub HoldsLines : List Line → Reader → Type 0
+HoldsLines before reader = HoldsAt reader.head.next before reader
 
 -- the number of one line more, if it has an instruction
 abbrev pub number_if : Bool → ℕ → List ℕ
@@ -208,38 +209,38 @@ number_if false number = []
 -- one line with words more
 abbrev pub TakesWords : List Line → Line → Reader → ℕ → Result (Unit {0}) TextKind → Reader → Type 0
 TakesWords before line old number (Ok _) reader =
-    (words_fault before line ≡ None) × Holds (before ++ line ∷ []) reader
+    (words_fault before line ≡ None) × HoldsLines (before ++ line ∷ []) reader
     × (numbers_of reader.program ≡ numbers_of old.program ++ number_if (has_code before) number)
 TakesWords before line old number (Err kind) reader = kind ≢ Memory →
     words_fault before line ≡ Some kind
 
 -- one line more
-abbrev pub TakesLine : List Line → List ℕ → Reader → ℕ → Result (Unit {0}) TextKind → Reader →
+abbrev pub TakesInLine : List Line → List ℕ → Reader → ℕ → Result (Unit {0}) TextKind → Reader →
     Type 0
-TakesLine before line old number (Ok _) reader =
-    (line_fault before line ≡ None) × Holds (before ++ worded (line ∷ [])) reader
+TakesInLine before line old number (Ok _) reader =
+    (line_fault before line ≡ None) × HoldsLines (before ++ worded (line ∷ [])) reader
     × (numbers_of reader.program ≡ numbers_of old.program
     ++ number_if (has_code before && is_filled (words_of line)) number)
-TakesLine before line old number (Err kind) reader = kind ≢ Memory →
+TakesInLine before line old number (Err kind) reader = kind ≢ Memory →
     line_fault before line ≡ Some kind
 
 -- ---- the end
 
 -- the first jump to an unknown label, and the number of its line
-abbrev pub IsUnknown : List Line → List ℕ → TextFault → Type 0
-IsUnknown before numbers fault =
+abbrev pub IsUnknownLabel : List Line → List ℕ → TextFault → Type 0
+IsUnknownLabel before numbers fault =
     (index : ℕ) × (fault.line ≡ slice_index numbers index)
     × IsFirst (label_fault_at (scope_in before) (body_of before)) (length (body_of before)) index
     fault.kind
 
 -- what lines that were all read make: where they lack something, a fault of their last one
-abbrev pub Finishes : List Line → List ℕ → ℕ → Result JobData TextFault → Type 0
-Finishes before numbers last (Ok job) = SpellsLines job before
-Finishes before numbers last (Err fault) =
+abbrev pub FinishesJob : List Line → List ℕ → ℕ → Result JobData TextFault → Type 0
+FinishesJob before numbers last (Ok job) = SpellsLines job before
+FinishesJob before numbers last (Err fault) =
     fault.kind ≢ Memory
     → ((end_fault before ≡ Some fault.kind) × (fault.line ≡ last))
-    ⊎ ((end_fault before ≡ None) × IsUnknown before numbers fault)
+    ⊎ ((end_fault before ≡ None) × IsUnknownLabel before numbers fault)
 
 -- the job of a header, of start values and of instructions
-abbrev pub job_of : Head → List ℕ → List Instr → JobData
-job_of head init code = job_data head.rule head.cells head.procs head.steps init code
+abbrev pub job_of_head : Head → List ℕ → List Instr → JobData
+job_of_head head init code = job_data head.rule head.cells head.procs head.steps init code

@@ -15,9 +15,9 @@ use Rattle.pram_text.specs.declared.statement.Statement.{Statement}
 use Rattle.pram_job.specs.Instructions.{Form}
 use Rattle.text_lines.specs.Lines.{Word, Line}
 use Rattle.pram_text.specs.Judgement.{Scope, no_operand, one_register, two_operands}
-use Rattle.pram_text.specs.Judgement.{register_place, place_operand, register_number}
+use Rattle.pram_text.specs.Judgement.{register_and_place, place_operand, register_number}
 use Rattle.pram_text.specs.Judgement.{register_label, one_label, index_in, instr_by, instr_of}
-use Rattle.pram_text.specs.Judgement.{◌>>=◌}
+use Rattle.text_lines.specs.Reads.{◌>>=◌}
 
 -- ---- operands
 
@@ -36,7 +36,7 @@ ReadsTwo later operands result = (make : ℕ → ℕ → Operand → Instr) →
 
 abbrev pub ReadsLoad : Scope → Line → Result (ℕ × Place) TextKind → Type 0
 ReadsLoad scope operands result = (make : ℕ → Place → Instr) →
-    register_place scope make operands ≡ (result >>= λ read. Ok (make read.0 read.1))
+    register_and_place scope make operands ≡ (result >>= λ read. Ok (make read.0 read.1))
 
 abbrev pub ReadsStore : Scope → Line → Result (Place × Operand) TextKind → Type 0
 ReadsStore scope operands result = (make : Place → Operand → Instr) →
@@ -80,7 +80,8 @@ abbrev pub ReadsLine : Scope → Line → Result Statement TextKind → Type 0
 ReadsLine scope line result = (find : Word → Option ℕ) →
     instr_of scope find line ≡ (result >>= resolved find)
 
--- the same, of an instruction that has one of these rows
+-- What was read of an instruction that has one of these rows is what it says, wherever its label
+-- is.
 abbrev pub ReadsRows : List (Word × Form) → Scope → Word → Line →
     Result Statement TextKind → Type 0
 ReadsRows rows scope name operands result = (find : Word → Option ℕ) →

@@ -22,7 +22,7 @@ Fitting = Fits
 
 -- The words stand, and bear out one record of all steps, which knows every worker; each body has
 -- the number of a worker.
-pub record Holds (world : WorldData) (made : Record) : Type 0 where
+pub record WorldHolds (world : WorldData) (made : Record) : Type 0 where
   pub stands : Stands world.job world.layout world.words
   pub backed : Backed world.job world.layout made world.words
   pub known : (body : ℕ) (walking : Walking) → Walks world body walking →
@@ -30,19 +30,19 @@ pub record Holds (world : WorldData) (made : Record) : Type 0 where
   pub numbers : (at : ℕ) (body : Body) → slice_get world.bodies at ≡ Some body →
       number body < world.layout.workers
 
--- the same, with some record
+-- the words stand, and bear out some record of all steps
 pub record Held (world : WorldData) : Type 0 where
   pub made : Record
-  pub holds : Holds world made
+  pub holds : WorldHolds world made
 
 -- what a body is to contracts
-abbrev pub body_of : Runner → Body
-body_of (runner.Walks worker) = walks worker.walking
-body_of (runner.Stopped worker) = stopped worker
+abbrev pub body_of_runner : Runner → Body
+body_of_runner (runner.Walks worker) = walks worker.walking
+body_of_runner (runner.Stopped worker) = stopped worker
 
 abbrev pub world_of : JobData → LayoutData → List ℕ → List Runner → WorldData
 world_of job layout words runners =
-    record { job = job; layout = layout; words = words; bodies = map body_of runners }
+    record { job = job; layout = layout; words = words; bodies = map body_of_runner runners }
 
 -- the bodies keep their stages
 abbrev pub AllServe : JobData → LayoutData → List Runner → Type 0
@@ -53,7 +53,7 @@ AllServe job layout runners =
 pub record IsWorld (job : JobData) (layout : LayoutData) (words : List ℕ) (runners : List Runner) :
     Type 0 where
   pub made : Record
-  pub holds : Holds (world_of job layout words runners) made
+  pub holds : WorldHolds (world_of job layout words runners) made
   pub serve : AllServe job layout runners
 
 -- an operation on one of the first so many words
@@ -65,13 +65,13 @@ IsOnBoard most (Swap word old new) = word < most
 IsOnBoard most (Over ended) = Unit {0}
 
 -- what a worker hears of a step that had this effect
-abbrev pub IsHeard : Effect → ℕ → Type 0
-IsHeard effect found = (words : List ℕ) (op : Op) → effect ≡ effect_of words op →
+abbrev pub HearsEffect : Effect → ℕ → Type 0
+HearsEffect effect found = (words : List ℕ) (op : Op) → effect ≡ effect_of words op →
     found ≡ answer words op
 
--- so many workers, newly started, on any board that has them
+-- newly started workers, one for each number below the count, on any board that has them
 pub record AreStarted (workers : ℕ) (runners : List Runner) : Type 0 where
-  pub bodies : map body_of runners ≡ map (λ worker. walks (started worker))
+  pub bodies : map body_of_runner runners ≡ map (λ worker. walks (started worker))
       (range_with_len 0 workers)
   pub serve : (job : JobData) (layout : LayoutData) → workers ≤ layout.workers →
       AllServe job layout runners

@@ -3,7 +3,7 @@ use Rattle.std.specs.Prelude.{ℕ, List, [], unwrap_or}
 use Rattle.pram_text.specs.declared.fault.TextKind.{TextKind}
 use Rattle.stop_plan.specs.declared.plan.PlanKind.{PlanKind}
 use Rattle.pardo_job.specs.declared.fault.Refusal.{Refusal as ProgramRefusal}
-use Rattle.command_data.specs.Line.{file_of, place_of, plan_of}
+use Rattle.command_data.specs.Line.{watched_place, text_now}
 use Rattle.command_data.specs.declared.line.Line.{Line}
 use Rattle.refusals.specs.declared.fault.CommandFault.{CommandFault}
 use Rattle.refusals.specs.declared.fault.CommandFault.TheVariants as fault
@@ -38,11 +38,11 @@ abbrev pub named_by : Line → CommandFault → Named
 named_by line (fault.Text number kind) = a_line number kind
 named_by line (fault.Program found) = a_program found
 named_by line (fault.Plan row kind) = a_row row kind
-named_by line fault.JobDevice = a_file (file_of line)
-named_by line fault.JobTooLarge = a_file (file_of line)
-named_by line fault.PlanDevice = a_file (unwrap_or (plan_of line) [])
-named_by line fault.PlanTooLarge = a_file (unwrap_or (plan_of line) [])
+named_by line fault.JobDevice = a_file line.file.now
+named_by line fault.JobTooLarge = a_file line.file.now
+named_by line fault.PlanDevice = a_file (unwrap_or (text_now line.plan) [])
+named_by line fault.PlanTooLarge = a_file (unwrap_or (text_now line.plan) [])
 named_by line (fault.OutsideCell cell) = a_cell cell
-named_by line (fault.OutsidePlace at) = a_place (place_of line at)
+named_by line (fault.OutsidePlace at) = a_place (watched_place line.ask at)
 named_by line (fault.OutsideStep step) = a_step step
 named_by line _ = nothing

@@ -82,7 +82,7 @@ reader_data cell stage heard =
     record { looking = record { cell = cell; heard = heard }; stage = stage }
 
 -- its stage stands for the rest of its script
-pub record StandsAt (layout : LayoutData) (reader : ReaderData) : Type 0 where
+pub record StandsAtGlance (layout : LayoutData) (reader : ReaderData) : Type 0 where
   pub rest : look_of layout reader.looking
       ≡ script_of_glance layout reader.looking.cell reader.stage
   pub stage : IsGlance reader.stage

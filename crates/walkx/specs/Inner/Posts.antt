@@ -9,7 +9,7 @@ use Rattle.pram_words.specs.declared.words.Word.TheVariants.{Asked}
 use Rattle.walkx.specs.declared.operation.Op.{Op}
 use Rattle.walkx.specs.declared.operation.Op.TheVariants.{Max}
 use Rattle.walkx.specs.Scripts.{Script}
-use Rattle.walkx.specs.Walk.{Then, IsBoard, after_part, has_rank, marks}
+use Rattle.walkx.specs.Walk.{Then, IsBoard, after_part, has_rank, marks_node}
 use Rattle.walkx.specs.Walk.{processor_at}
 
 -- a worker at a node, in the phase of its turn, at the processor of a rank in the node's block
@@ -40,14 +40,14 @@ abbrev pub processor_of : PostData → ℕ
 processor_of at = processor_at at.layout at.node at.rank
 
 -- the node is a leaf with a processor of the rank, and the phase one of the job's
-pub record IsLeaf (at : PostData) : Type 0 where
+pub record IsLeafPost (at : PostData) : Type 0 where
   pub board : IsBoard at.job at.layout
   pub first : at.layout.leaves ≤ at.node
   pub rank : at.rank < grain at.layout
   pub last : processor_of at < at.layout.procs
   pub phase : at.phase ≤ 3 * at.job.steps
 
--- the same at the processor of another rank, and the rank of the next one
+-- the post at the processor of another rank, and the rank of the next one
 abbrev pub at_rank : PostData → ℕ → PostData
 at_rank at rank = record at { rank = rank }
 
@@ -55,15 +55,15 @@ abbrev pub next_rank : PostData → Option ℕ
 next_rank at =
     if has_rank at.layout at.node (suc at.rank) then Some (suc at.rank) else None
 
--- the same leaf, with its step and its processor
+-- a post that is a leaf's, with its step and its processor
 pub record IsLeafOf (at : PostData) (t i : ℕ) : Type 0 where
-  pub leaf : IsLeaf at
+  pub leaf : IsLeafPost at
   pub step : t ≡ step_of at
   pub processor : i ≡ processor_of at
 
 -- the node is marked; what comes after a processor's task
 abbrev pub then_marks : PostData → Script Then
-then_marks at = marks at.layout at.node at.phase
+then_marks at = marks_node at.layout at.node at.phase
 
 abbrev pub then_next : PostData → Script Then
 then_next at = after_part at.layout at.node at.phase at.rank

@@ -9,7 +9,7 @@ use Rattle.clap.specs.declared.error.Error.{Error}
 use Rattle.clap.specs.declared.error.kind.ErrorKind.{ErrorKind}
 use Rattle.clap.specs.declared.error.kind.ErrorKind.TheVariants.{OutOfMemory}
 use Rattle.std.specs.Borrow.{Bor}
-use Rattle.command_line.specs.CommandLine.{AreRefused, HasBadValue, IsAsked, pramx}
+use Rattle.command_line.specs.CommandLine.{AreRefused, HasBadValue, IsAskedLine, pramx}
 use Rattle.command_line.proofs.Values.{no_bad_value}
 use Rattle.command_line.proofs.line.read_line.Goals as goal
 
@@ -110,7 +110,7 @@ returns-in-Some-clause-kinds c =
 
 pub returns-in-Some-asked_of-clause-met : goal.returns-in-Some-asked_of-clause-met
 returns-in-Some-asked_of-clause-met c =
-    subst (λ met. IsAsked c.args.on_terminal met c.in-Some-asked_of.asked)
+    subst (λ met. IsAskedLine c.args.on_terminal met c.in-Some-asked_of.asked)
     (same_subcommand _ pramx _ _ c.in_ok-command.ensures is_simple_pramx
     c.in_ok-matches.ensures.matches) c.in-Some-asked_of.ensures
 
@@ -119,7 +119,7 @@ returns-in-Some-asked_of-clause-taken c = λ none. elim none [
   | inl fault ↦ fault (no_fault _ pramx _ c.in_ok-command.ensures is_simple_pramx
       c.in_ok-matches.ensures.kinds)
   | inr bad ↦
-      let asked = subst (λ met. IsAsked c.args.on_terminal met c.in-Some-asked_of.asked)
+      let asked = subst (λ met. IsAskedLine c.args.on_terminal met c.in-Some-asked_of.asked)
       (same_subcommand _ pramx _ _ c.in_ok-command.ensures is_simple_pramx
       c.in_ok-matches.ensures.matches) c.in-Some-asked_of.ensures in
       no_bad_value _ c.in-Some-asked_of.asked.line asked.line bad

@@ -1,5 +1,5 @@
 use Rattle.std.proofs.Common.{◌++◌, ◌∙◌, ap, map, string_bytes}
-use Rattle.job_text.specs.Printed.{array_line, arrays_in, init_lines, instruction_lines, is_aim}
+use Rattle.job_text.specs.Printed.{array_line, arrays_in, init_lines, printed_instructions, is_aim}
 use Rattle.job_text.specs.Printed.{lines_text, once}
 use Rattle.job_text.proofs.Streaming.{whole}
 use Rattle.job_text.proofs.print.spell.Goals as goal
@@ -20,5 +20,5 @@ returns c =
     ∙ ap (λ init. named ++ lines_text (init_lines init)) c.init.ensures.value)
     c.in_ok-push_str.ensures.bytes
     (c.in_ok-push_code.ensures
-    ∙ ap (λ code. said ++ lines_text (instruction_lines (is_aim code) 0 code))
+    ∙ ap (λ code. said ++ lines_text (printed_instructions (is_aim code) 0 code))
     c.code-3.ensures.value)

@@ -3,8 +3,8 @@ use Rattle.pram_words.specs.Words.{Admits, length_of}
 use Rattle.lawful_walk.proofs.Admitted.{word_admitted}
 use Rattle.walkx.specs.declared.operation.ReadOp.TheVariants as read
 use Rattle.walkx.specs.Reads.{HeardAdmitted, Looking, LooksFit, look_of, looked, looks_for}
-use Rattle.walkx.specs.Serving.{Follows}
-use Rattle.page_core.specs.Answers.{read_on}
+use Rattle.walkx.specs.Serving.{FollowsScript}
+use Rattle.page_core.specs.Answers.{read_through}
 use Rattle.page_core.proofs.Loads.{reads_on, same_cells}
 use Rattle.page_core.proofs.reads.read.Goals as goal
 
@@ -17,7 +17,7 @@ loop-step-init c =
       follows = c.new-reader.ensures.follows y (omega arith);
       fits = c.new-reader.ensures.fits job y;
       cell = ap (λ (x : Looking). x.cell) c.new-reader.ensures.value;
-      reads = ap (λ (x : Looking). read_on c.args.world.now.words (look_of y x))
+      reads = ap (λ (x : Looking). read_through c.args.world.now.words (look_of y x))
           c.new-reader.ensures.value;
     }
 
@@ -57,7 +57,8 @@ loop-step-preserved c =
     let on = reads_on y words x c.tell.new.self.looking k found e c.load-found.ensures told in
     record {
       follows =
-          subst (λ z. Follows z c.tell.new.self) c.layout-in-Load.ensures c.tell.ensures.follows;
+          subst (λ z. FollowsScript z c.tell.new.self) c.layout-in-Load.ensures
+          c.tell.ensures.follows;
       fits = subst (λ j. LooksFit j y c.tell.new.self.looking) c.job.ensures
           (subst (λ z. LooksFit c.job.result.now z c.tell.new.self.looking)
           c.layout-in-Load.ensures c.tell.ensures.fits);

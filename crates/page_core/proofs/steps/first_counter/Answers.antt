@@ -1,5 +1,5 @@
 use Rattle.std.proofs.Common.{rules, ◌<◌, ◌∙◌, sym}
-use Rattle.pram_cost.specs.Accesses.{is_running}
+use Rattle.pram_step.specs.Running.{is_running}
 use Rattle.page_core.proofs.Counting.{find_later}
 use Rattle.page_core.proofs.steps.first_counter.Goals as goal
 

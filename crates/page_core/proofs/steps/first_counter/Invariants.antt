@@ -1,7 +1,7 @@
 use Rattle.std.proofs.Common.{◌≡◌, ◌-◌}
 use Rattle.std.specs.Prelude.{find}
 use Rattle.std.specs.List.{range_with_len}
-use Rattle.pram_cost.specs.Accesses.{is_running}
+use Rattle.pram_step.specs.Running.{is_running}
 use Rattle.page_core.proofs.steps.first_counter.Given as goal
 
 -- none of those so far runs

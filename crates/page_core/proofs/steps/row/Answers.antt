@@ -1,7 +1,8 @@
 use Rattle.std.proofs.Common.{arith, ◌≡◌, ℕ, Bool, cond, Option, sym, ap, subst, ◌∙◌}
 use Rattle.std.specs.Prelude.{count_by, is_some}
 use Rattle.std.specs.List.{range_with_len}
-use Rattle.pram_cost.specs.Accesses.{is_running, read_by, write_by}
+use Rattle.pram_cost.specs.Accesses.{cell_read_by, write_by}
+use Rattle.pram_step.specs.Running.{is_running}
 use Rattle.pram_cost.specs.Costs.{at_work}
 use Rattle.page_core.specs.Steps.{count_reading, count_writing, first_counter}
 use Rattle.page_core.proofs.Counting.{count_few, count_more, count_passing, one_few, row_is}
@@ -18,7 +19,7 @@ overflow_add-row c =
 
 pub overflow_add-row-in-loop-processor : goal.overflow_add-row-in-loop-processor
 overflow_add-row-in-loop-processor c =
-    let p : ℕ → Bool = λ i. is_some (read_by c.args.job.now c.args.state.now i) in
+    let p : ℕ → Bool = λ i. is_some (cell_read_by c.args.job.now c.args.state.now i) in
     let few = count_few p c.loop-processor.processor in
     let one = one_few c.is_some.result in
     let e = c.loop-processor.invariant.reading in
@@ -42,7 +43,7 @@ loop-processor-preserved c =
     let old = c.loop-processor.invariant in
     let unit : Bool → ℕ = λ (b : Bool). cond b 1 0 in
     let some : Option ℕ → Bool = λ (o : Option ℕ). is_some o in
-    let reads : ℕ → Bool = λ i. is_some (read_by job state i) in
+    let reads : ℕ → Bool = λ i. is_some (cell_read_by job state i) in
     let writes : ℕ → Bool = λ i. is_some (write_by job state i) in
     let running : c.one_if.result ≡ cond (is_running job state n) 1 0 =
     c.one_if.ensures ∙ ap unit c.is_running.ensures in
@@ -72,7 +73,7 @@ returns c =
     old.running ∙ sym (count_passing (is_running job state) job.procs) in
     let reading : row.reading ≡ count_reading job state =
     subst (λ (n : ℕ). row.reading
-    ≡ count_by (λ i. is_some (read_by job state i)) (range_with_len 0 n)) end old.reading in
+    ≡ count_by (λ i. is_some (cell_read_by job state i)) (range_with_len 0 n)) end old.reading in
     let writing : row.writing ≡ count_writing job state =
     subst (λ (n : ℕ). row.writing
     ≡ count_by (λ i. is_some (write_by job state i)) (range_with_len 0 n)) end old.writing in

@@ -1,6 +1,6 @@
 use Rattle.std.proofs.Common.{◌∙◌, ◌++◌, ap, refl, arith}
 use Rattle.pardo_job.specs.Printed.{gone_line}
-use Rattle.pardo_answers.specs.Ends.{gone_in}
+use Rattle.pardo_job.specs.Ends.{gone_in}
 use Rattle.pardo_answers.proofs.Ranges.{range_told}
 use Rattle.pardo_answers.proofs.print.push_gone.Goals as goal
 

@@ -1,7 +1,7 @@
 use Rattle.std.proofs.Common.{◌≡◌, ◌-◌, ◌++◌}
 use Rattle.std.specs.List.{flat_map, range_with_len}
 use Rattle.pardo_job.specs.Printed.{gone_line}
-use Rattle.pardo_answers.specs.Ends.{gone_in}
+use Rattle.pardo_job.specs.Ends.{gone_in}
 use Rattle.pardo_answers.proofs.print.push_gone.Given as goal
 
 -- the lines so far and those to come are all lines

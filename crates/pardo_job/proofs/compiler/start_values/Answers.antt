@@ -1,7 +1,7 @@
 use Rattle.std.proofs.Common.{◌≡◌, ◌-◌, ◌∙◌, ◌++◌, ℕ, List, ap, arith, length, replicate, take}
 use Rattle.std.specs.List.{flat_map}
 use Rattle.pardo_text.specs.Program.{ArrayData, PrivateData}
-use Rattle.pardo_job.specs.Layouts.{LayoutData, cell_count, given_values}
+use Rattle.pardo_job.specs.Layouts.{ProgramLayoutData, cell_count, given_values}
 use Rattle.pardo_job.proofs.Initial.{start_is, values_all}
 use Rattle.pardo_job.proofs.compiler.start_values.Goals as goal
 
@@ -16,6 +16,6 @@ returns c =
     (flat_map (λ (x : ArrayData). x.start) program.arrays) values (omega (arith, count))
     c.loop-variable.invariant in
     start_is program values c.resize.new.self.items cells c.requires.lawful given
-    (c.cells-2.ensures ∙ ap (λ (l : LayoutData). cell_count l) c.requires.layout)
+    (c.cells-2.ensures ∙ ap (λ (l : ProgramLayoutData). cell_count l) c.requires.layout)
     (c.in_ok-resize.ensures.items
     ∙ ap (λ (n : ℕ). take cells values ++ replicate (cells - n) 0) c.loop-variable.values.ok.0)

@@ -2,7 +2,7 @@ use Rattle.std.proofs.Common.{◌≡◌, ◌+◌, ℕ, arith, rules, subst, sym,
 use Rattle.std.proofs.lemmas.Grind.{common_steps}
 use Rattle.pram_job.specs.declared.instr.Operand.TheVariants.{Register}
 use Rattle.pardo_text.specs.declared.expression.Node.{Node}
-use Rattle.pardo_job.specs.Inner.Emitting.{Puts, IsFaultOf}
+use Rattle.pardo_job.specs.Inner.Emitting.{PutsCode, IsCodeFault}
 use Rattle.pardo_job.specs.Inner.Nodes.{Takes}
 use Rattle.pardo_job.specs.Operations.{taken_by}
 use Rattle.pardo_job.proofs.Holding.{joined_code, made, place_taken, apply_fails_as, apply_taken}
@@ -25,8 +25,8 @@ returns-in_err-put_operation-in-Apply c =
     let op = c.in-Apply.op in
     let kind = c.in_err-put_operation-in-Apply.field-0.0 in
     let e : c.from_residual-in_err-put_operation-in-Apply.result ≡ Err kind = search rules in
-    let fault : IsFaultOf (joined_code q.taken op c.pop-first.result c.pop-second.result) kind =
-    subst (λ (n : ℕ). IsFaultOf (joined_code n op c.pop-first.result c.pop-second.result) kind)
+    let fault : IsCodeFault (joined_code q.taken op c.pop-first.result c.pop-second.result) kind =
+    subst (λ (n : ℕ). IsCodeFault (joined_code n op c.pop-first.result c.pop-second.result) kind)
     c.free-at.ensures.value c.in_err-put_operation-in-Apply.ensures.fault in
     subst (λ (n : Node). Takes c.args.stack.now c.args.code.now.items
     c.put_operation.new.code.items q c.from_residual-in_err-put_operation-in-Apply.result
@@ -48,10 +48,10 @@ pub returns-in_ok-push-in-Apply : goal.returns-in_ok-push-in-Apply
 returns-in_ok-push-in-Apply c =
     let q = c.pop-first.new.self in
     let op = c.in-Apply.op in
-    let puts : Puts c.args.code.now.items c.put_operation.new.code.items
+    let puts : PutsCode c.args.code.now.items c.put_operation.new.code.items
     (Ok c.in_ok-put_operation-in-Apply.field-0)
     (joined_code q.taken op c.pop-first.result c.pop-second.result) =
-    subst (λ (n : ℕ). Puts c.args.code.now.items c.put_operation.new.code.items
+    subst (λ (n : ℕ). PutsCode c.args.code.now.items c.put_operation.new.code.items
     (Ok c.in_ok-put_operation-in-Apply.field-0)
     (joined_code n op c.pop-first.result c.pop-second.result))
     c.free-at.ensures.value c.in_ok-put_operation-in-Apply.ensures in

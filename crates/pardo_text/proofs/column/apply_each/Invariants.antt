@@ -1,6 +1,6 @@
 use Rattle.std.proofs.Common.{◌≡◌, ◌++◌, drop, take, Ok}
 use Rattle.pardo_text.specs.Inner.Columns.{quotients}
-use Rattle.pardo_text.specs.Reads.{◌>>=◌}
+use Rattle.text_lines.specs.Reads.{◌>>=◌}
 use Rattle.pardo_text.proofs.column.apply_each.Given as goal
 
 abbrev pub invariant-loop-k : goal.invariant-loop-k

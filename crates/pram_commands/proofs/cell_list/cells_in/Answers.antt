@@ -6,7 +6,7 @@ use Rattle.std.proofs.lemmas.Iterator.Splits.{YieldsList-from_str_split}
 use Rattle.std.proofs.lemmas.List.{length-map, map-append}
 use Rattle.std.proofs.lemmas.List.Elements.{All-push}
 use Rattle.std.specs.Borrow.{Bor}
-use Rattle.command_data.specs.CellLists.{SpellsCell, cell_of, parts_of}
+use Rattle.command_data.specs.CellLists.{SpellsCell, cell_listed, parts_of}
 use Rattle.pram_commands.specs.CellLists.{AreCellsOf}
 use Rattle.refusals.specs.declared.fault.CommandFault.TheVariants.{OutsideCell, OutsidePlace}
 use Rattle.pram_commands.proofs.Cells.{as_many, cells_more, first_without, found_none, found_some}
@@ -18,8 +18,8 @@ now_of part = part.now
 
 pub returns-in_default-clause-outside : goal.returns-in_default-clause-outside
 returns-in_default-clause-outside c =
-    let names = c.args.inputs.now.names in
-    let job = c.args.inputs.now.job in
+    let names = c.args.spelled.now.names in
+    let job = c.args.spelled.now.job in
     let parts = parts_of c.args.text.now in
     let yielded = c.loop-part.yielded in
     let part = c.in-Some.part.now in
@@ -37,12 +37,12 @@ returns-in_default-clause-outside c =
     said_outside names job parts (length yielded) part c.outside.result
     (first_without names job parts (map now_of yielded) c.loop-part.cells.items (length yielded)
     part front many c.loop-part.invariant.are c.loop-part.invariant.within turn none) turn
-    (subst (λ (n : ℕ). (SpellsCell part × (c.outside.result ≡ OutsideCell (cell_of part)))
+    (subst (λ (n : ℕ). (SpellsCell part × (c.outside.result ≡ OutsideCell (cell_listed part)))
     ⊎ ((¬ SpellsCell part) × (c.outside.result ≡ OutsidePlace n))) count c.outside.ensures)
 
 pub loop-part-preserved : goal.loop-part-preserved
 loop-part-preserved c =
-    let names = c.args.inputs.now.names in
+    let names = c.args.spelled.now.names in
     let yielded = c.loop-part.yielded in
     let found = found_some c.in_ok-cell.field-0 _ _ c.in-Some-2.cell c.in_ok-cell.ensures
     c.in-Some-2.is in
@@ -57,8 +57,8 @@ loop-part-preserved c =
     c.in-Some-2.cell c.loop-part.invariant.are found.0)) in
     record {
       are = more;
-      within = subst (λ (l : List ℕ). All (λ cell. cell < c.args.inputs.now.job.cells) l) (sym kept)
-          (All-push (λ cell. cell < c.args.inputs.now.job.cells) c.loop-part.cells.items
+      within = subst (λ (l : List ℕ). All (λ cell. cell < c.args.spelled.now.job.cells) l) (sym kept)
+          (All-push (λ cell. cell < c.args.spelled.now.job.cells) c.loop-part.cells.items
           c.in-Some-2.cell c.loop-part.invariant.within found.1);
     }
 
@@ -69,5 +69,5 @@ returns-clause-cells c =
     c.split-part-items.ensures.has_more c.split-part-items.ensures.pattern) in
     let whole = YieldsList-end road c.loop-part.yielded
     _ c.loop-part.yielded_by _ _ c.in-None.is c.next.ensures.steps in
-    subst (λ (ps : List (List ℕ)). AreCellsOf c.args.inputs.now.names ps c.loop-part.cells.items)
+    subst (λ (ps : List (List ℕ)). AreCellsOf c.args.spelled.now.names ps c.loop-part.cells.items)
     whole.0 c.loop-part.invariant.are

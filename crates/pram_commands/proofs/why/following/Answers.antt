@@ -6,6 +6,7 @@ use Rattle.pram_step.specs.declared.answer.RunAnswer.{RunAnswer}
 use Rattle.pram_fates.specs.Fates.{AreFates}
 use Rattle.pram_fates.specs.Told.{fates_text}
 use Rattle.pram_fates.specs.declared.fates.Fates.{Fates}
+use Rattle.pram_commands.specs.Names.{line_at}
 use Rattle.pram_commands.specs.Why.{Follows, told_steps}
 use Rattle.pram_commands.proofs.why.following.Goals as goal
 
@@ -24,6 +25,8 @@ follows true line_of line_at job ended fates steps back asked same to are told =
 
 pub returns : goal.returns
 returns c = IfOk-weaker c.fates_text.result _ _
-    (λ back told. follows _ _ _ _ _ c.in_ok-fates.fates _ _ c.if-not-question.false
-    c.origin_of.ensures c.told_steps-steps.ensures c.in_ok-fates.ensures told)
+    (λ back told. follows _ _ _ _ _ c.in_ok-fates.fates _ _ c.if-not-why.false
+    (c.origin_of-origin.ensures
+    ∙ ap (λ (t : List ℕ). line_at t c.args.spelled.now.names) c.as_slice.ensures.value)
+    c.told_steps-steps.ensures c.in_ok-fates.ensures told)
     c.fates_text.ensures

@@ -16,7 +16,7 @@ returns-in_err-print_told g c =
     (record {
       text = _;
       answer = Some _;
-      comes = tells_all _ _ _ _ _ _ _ _ c.requires.names c.steps.ensures.value refl
+      comes = tells_all _ _ _ _ _ _ _ _ c.requires.names refl refl
           c.in_ok-back.ensures;
       takes = beginning-longer _ _ _ _ c.in_err-print_told.ensures.beginning;
     })
@@ -29,7 +29,7 @@ returns-in_err-put g c =
     (record {
       text = _;
       answer = Some _;
-      comes = tells_all _ _ _ _ _ _ _ _ c.requires.names c.steps.ensures.value c.as_bytes.ensures.value
+      comes = tells_all _ _ _ _ _ _ _ _ c.requires.names refl c.as_bytes.ensures.value
           c.in_ok-back.ensures;
       takes = beginning-after _ _ _ _ _ c.in_ok-print_told.ensures.ok
           c.in_err-put.ensures.beginning;
@@ -42,7 +42,7 @@ returns g c = record {
   done = record {
     text = _;
     answer = Some _;
-    comes = tells_all _ _ _ _ _ _ _ _ c.requires.names c.steps.ensures.value c.as_bytes.ensures.value
+    comes = tells_all _ _ _ _ _ _ _ _ c.requires.names refl c.as_bytes.ensures.value
         c.in_ok-back.ensures;
     takes = Appends-trans _ _ _ _ _ c.in_ok-print_told.ensures.ok c.in_ok-put.ensures.ok;
     is = refl;

@@ -1,19 +1,18 @@
-use Rattle.std.proofs.Common.{refl}
-use Rattle.pram_step.proofs.Arriving.{arrived_disputed, before_conflict}
+use Rattle.std.proofs.Common.{◌-◌, ◌≤◌, ℕ, arith, refl, sym, subst, Option}
+use Rattle.pram_fates.specs.declared.fates.Lost.{Lost}
+use Rattle.pram_fates.specs.Fates.{IsFirstLostOrNone}
 use Rattle.pram_fates.proofs.Ending.{fates_disputed}
+use Rattle.pram_fates.proofs.Losing.{lost_if_before}
 use Rattle.pram_fates.proofs.fates.fates_after.Goals as goal
 
-pub state_after-requires : goal.state_after-requires
-state_after-requires c =
-    let found = arrived_disputed c.args.job.now c.args.steps c.args.steps _ c.in-Disputed.fault
-    c.in-Disputed.is c.in_ok-state.ensures in
-    before_conflict c.args.job.now c.in-Disputed.fault found.0
-
-pub returns-in_ok-lost-in-Disputed : goal.returns-in_ok-lost-in-Disputed
-returns-in_ok-lost-in-Disputed c =
-    let found = arrived_disputed c.args.job.now c.args.steps c.args.steps _ c.in-Disputed.fault
-    c.in-Disputed.is c.in_ok-state.ensures in
-    fates_disputed c.args.job.now c.args.steps _ c.in-Disputed.fault c.in_ok-lost-in-Disputed.lost
-    found.0 found.1 refl
-    (rw (c.new-moment-in-Disputed.ensures.job, c.new-moment-in-Disputed.ensures.made) at
-    c.in_ok-lost-in-Disputed.ensures)
+-- at a conflict, with who was lost before its step
+pub returns : goal.returns
+returns c =
+    let job = c.args.job.now in
+    let fault = c.in-Some.fault in
+    let found = rw c.in-Some.is at c.in_ok-walk_in.ensures.walked in
+    let some : 1 ≤ fault.step = (let step = found.0.step in omega arith) in
+    fates_disputed job c.args.steps (fault.step - 1) fault c.if_before.result found.0 found.1 refl
+    (subst (IsFirstLostOrNone job (fault.step - 1)) (sym c.if_before.ensures)
+    (lost_if_before job (fault.step - 1) fault.step (omega arith) c.first_lost-in-Some.result
+    c.first_lost-in-Some.ensures))

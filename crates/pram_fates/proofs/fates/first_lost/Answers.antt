@@ -1,7 +1,11 @@
-use Rattle.pram_fates.proofs.Losing.{none_lost}
+use Rattle.std.proofs.Common.{arith, subst, ℕ}
+use Rattle.pram_fates.proofs.Losing.{HasSearched, searched}
 use Rattle.pram_fates.proofs.fates.first_lost.Goals as goal
 
-pub returns-then-not-some_is_lost : goal.returns-then-not-some_is_lost
-returns-then-not-some_is_lost c =
-    none_lost c.args.last.now.job.now c.args.last.now.made c.limits_hold.ensures
-    (λ lost. absurd (let is = c.some_is_lost.ensures.1 lost in cc))
+pub returns : goal.returns
+returns c =
+    let job = c.args.standing.now.job.now in
+    let made = c.args.standing.now.steps in
+    searched job made c.loop-processor.lost c.limits_hold.ensures
+    (subst (λ (k : ℕ). HasSearched job made k c.loop-processor.lost) (omega arith)
+    c.loop-processor.invariant)

@@ -1,10 +1,5 @@
-use Rattle.std.proofs.Common.{ℕ, ◌<◌}
-use Rattle.pram_step.specs.Runs.{IsStateAfter, state_after}
-use Rattle.pram_fates.specs.Fates.{AllName}
+use Rattle.pram_fates.proofs.Losing.{HasSearched}
 use Rattle.pram_fates.proofs.fates.first_lost.Given as goal
 
-abbrev pub invariant-loop-made : goal.invariant-loop-made
-invariant-loop-made l = record {
-  after : IsStateAfter l.last.job.now l.made l.state;
-  none : (t : ℕ) → t < l.made → AllName l.last.job.now (state_after l.last.job.now t);
-}
+abbrev pub invariant-loop-processor : goal.invariant-loop-processor
+invariant-loop-processor l = HasSearched l.standing.job.now l.standing.steps l.processor l.lost

@@ -5,4 +5,4 @@ use Rattle.pram_fates.proofs.looks.first_running.Given as goal
 
 abbrev pub invariant-loop-processor : goal.invariant-loop-processor
 invariant-loop-processor l = (j : ℕ) → j < l.processor →
-    IsStopped l.moment.job.now (state_after l.moment.job.now l.moment.made) j
+    IsStopped l.standing.job.now (state_after l.standing.job.now l.standing.steps) j

@@ -3,7 +3,7 @@ use Rattle.std.proofs.KnownBytes.{Appends-nil}
 use Rattle.std.specs.Io.KnownBytes.{Appends}
 use Rattle.std.specs.Option.{option_copied}
 use Rattle.pram_step.specs.Arrivals.{IsArrival}
-use Rattle.pram_rows.specs.Rows.{lines_after}
+use Rattle.pram_rows.specs.Rows.{rows_after}
 use Rattle.pram_rows.proofs.Spans.{has-disputed, none-begins, on_err, rows-all}
 use Rattle.pram_rows.proofs.print.print_span.Goals as goal
 
@@ -33,7 +33,7 @@ returns-in-Disputed-clause-rows g c =
     fault.step
     (has-disputed span fault stopped.0 (omega (arith, within, ordered)))
     (subst (λ m. Appends (g.W.Sink.taken c.args.sink.now) (g.W.Sink.taken c.args.sink.now)
-    (lines_after (option_copied span.lines) span.job.now span.first m)) (sym none)
+    (rows_after (option_copied span.lines) span.job.now span.first m)) (sym none)
     (Appends-nil (g.W.Sink.taken c.args.sink.now)))
 
 pub unreachable-requires : goal.unreachable-requires

@@ -2,7 +2,7 @@ use Rattle.std.proofs.Common.{◌≡◌, ◌++◌, ◌+◌}
 use Rattle.std.specs.List.{flat_map, range_with_len}
 use Rattle.std.specs.Option.{option_copied}
 use Rattle.csv.specs.Writing.{writer_pending, writer_under}
-use Rattle.pram_rows.specs.Inner.Printing.{IsBetweenRecords}
+use Rattle.pram_streams.specs.Records.{IsBetweenRecords}
 use Rattle.pram_rows.specs.Rows.{row_line}
 use Rattle.pram_rows.proofs.row.push_rows.Given as goal
 

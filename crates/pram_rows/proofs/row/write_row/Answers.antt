@@ -6,17 +6,17 @@ use Rattle.pram_job.specs.Job.{JobData}
 use Rattle.pram_machine.specs.declared.requests.Request.{Request}
 use Rattle.pram_machine.specs.Instructions.{request_in}
 use Rattle.pram_machine.specs.Machine.{IsDataPlace}
-use Rattle.pram_rows.specs.Rows.{instruction_at, line_text, target_text}
+use Rattle.pram_rows.specs.Rows.{instruction_at, line_number_text, target_text}
 use Rattle.pram_rows.proofs.Plain.{row-is}
 use Rattle.pram_rows.proofs.row.write_row.Goals as goal
 
 -- the line, where lines are told
 told : (lines : Option (Bor (List ℕ))) (given none : Bor (List ℕ)) (job : JobData) (counter : ℕ)
-    (line : List ℕ) → given ≡ unwrap_or lines none → line ≡ line_text given.now job counter →
-    IfSome (option_copied lines) (λ numbers. line ≡ line_text numbers job counter)
+    (line : List ℕ) → given ≡ unwrap_or lines none → line ≡ line_number_text given.now job counter →
+    IfSome (option_copied lines) (λ numbers. line ≡ line_number_text numbers job counter)
 told None given none job counter line is text = tt
 told (Some numbers) given none job counter line is text =
-    text ∙ ap (λ (l : Bor (List ℕ)). line_text l.now job counter) is
+    text ∙ ap (λ (l : Bor (List ℕ)). line_number_text l.now job counter) is
 
 copied : (lines : Option (Bor (List ℕ))) → is_some lines ≡ is_some (option_copied lines)
 copied None = refl
@@ -47,7 +47,7 @@ returns-clause-text g c =
       next_is = cc;
       line_is = told c.args.lines c.unwrap_or.result _ job _ c.line_in.result.now
           c.unwrap_or.ensures (c.line_in.ensures.text
-          ∙ ap (λ n. line_text c.unwrap_or.result.now job n) c.counter-index.ensures);
+          ∙ ap (λ n. line_number_text c.unwrap_or.result.now job n) c.counter-index.ensures);
       steps = c.number_text.ensures.plain;
       processors = c.number_text-2.ensures.plain;
       indices = c.number_text-3.ensures.plain;

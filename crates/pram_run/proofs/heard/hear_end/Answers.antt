@@ -1,6 +1,6 @@
 use Rattle.std.proofs.Common.{ap, ◌∙◌}
 use Rattle.pram_board.specs.Seats.{Desk}
-use Rattle.pram_run.specs.Inner.Sharing.{plan_of, task_of}
+use Rattle.pram_run.specs.Inner.Sharing.{plan_of, shared_task}
 use Rattle.pram_run.proofs.Endings.{goes_trans, looked_goes}
 use Rattle.pram_run.proofs.Hearing.{all_whole, ended_early, ended_late}
 use Rattle.pram_run.proofs.heard.hear_end.Goals as goal
@@ -22,7 +22,7 @@ last_answer-seat-requires g c = c.join_beside-seat-2.ensures.goes_on.desk ∙ c.
 pub returns-then-tells_end-clause-ended : goal.returns-then-tells_end-clause-ended
 returns-then-tells_end-clause-ended g c =
     let looker = c.await_end-looker in
-    ended_early (task_of c.args.shared.now) (plan_of c.args.shared.now) c.args.team.seat
+    ended_early (shared_task c.args.shared.now) (plan_of c.args.shared.now) c.args.team.seat
     c.args.seat looker.result.0 _ c.join_beside-seat.result c.join_beside-seat.ensures
     c.requires.team.most looker.ensures.looked looker.result.1
     (c.tells_end.ensures.0 c.if-tells_end.true) looker.ensures.told
@@ -34,7 +34,7 @@ pub returns-clause-ended : goal.returns-clause-ended
 returns-clause-ended g c =
     let looker = c.await_end-looker in
     let last = c.last_answer-seat in
-    ended_late (task_of c.args.shared.now) (plan_of c.args.shared.now) c.args.team.seat
+    ended_late (shared_task c.args.shared.now) (plan_of c.args.shared.now) c.args.team.seat
     c.args.seat looker.result.0 _ c.join_beside-seat-2.result c.join_beside-seat-2.ensures
     c.requires.team.most looker.ensures.looked last.result.0 last.result.1
     (ap (λ (d : Desk). d.task) c.requires.desk) c.requires.answers last.ensures.told

@@ -1,8 +1,8 @@
 use Rattle.std.proofs.Common.{◌≡◌, ◌∙◌, ap, inl, inr, subst, sym, vec_len}
 use Rattle.pram_board.specs.Seats.{SeatData}
-use Rattle.pram_run.specs.Inner.Hearing.{HasEnded}
+use Rattle.pram_run.specs.Inner.Hearing.{RunHasEnded}
 use Rattle.pram_run.specs.Inner.Obeying.{GoesOn}
-use Rattle.pram_run.specs.Inner.Sharing.{plan_of, task_of}
+use Rattle.pram_run.specs.Inner.Sharing.{plan_of, shared_task}
 use Rattle.pram_run.specs.Obeyed.{HasLooked}
 use Rattle.pram_run.proofs.Endings.{goes_self, goes_trans, looked_goes}
 use Rattle.pram_run.proofs.Hearing.{end_later}
@@ -38,12 +38,12 @@ hear_end-requires-clause-seat g c κs within =
 
 pub hear_end-requires-clause-answers : goal.hear_end-requires-clause-answers
 hear_end-requires-clause-answers g c κs within =
-    end_later (task_of c.args.shared.now) _ _ _ c.read-reader.ensures.goes_on
+    end_later (shared_task c.args.shared.now) _ _ _ c.read-reader.ensures.goes_on
     (c.await_missing-theirs.ensures.answers c.if-not-answers.false)
 
 pub returns-clause-ran : goal.returns-clause-ran
 returns-clause-ran g c =
-    let task = task_of c.args.shared.now in
+    let task = shared_task c.args.shared.now in
     let plan = plan_of c.args.shared.now in
     let seen = c.args.shared.now.observation in
     let team = c.start_all-team.result in
@@ -58,5 +58,5 @@ returns-clause-ran g c =
     waits.ensures.looked)
     (λ whole. waits.ensures.whole whole ∙ c.split-seat.ensures.second)
     c.read-reader.ensures.reads c.hear_end.ensures.heard
-    (subst (λ (s : SeatData). HasEnded task plan s (vec_len team.threads)
+    (subst (λ (s : SeatData). RunHasEnded task plan s (vec_len team.threads)
     c.read-reader.new.seat ended.0 ended.1) given c.hear_end.ensures.ended))

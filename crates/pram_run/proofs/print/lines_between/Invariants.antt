@@ -1,6 +1,6 @@
 use Rattle.std.proofs.Common.{◌≡◌, ◌++◌, take}
 use Rattle.csv.specs.Writing.{writer_pending, writer_under}
-use Rattle.pram_run.specs.Inner.Printing.{IsBetweenRecords}
+use Rattle.pram_streams.specs.Records.{IsBetweenRecords}
 use Rattle.pram_run.specs.Printed.{row_lines}
 use Rattle.pram_run.proofs.print.lines_between.Given as goal
 

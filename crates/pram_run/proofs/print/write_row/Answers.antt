@@ -9,9 +9,9 @@ use Rattle.pram_run.proofs.print.write_row.Goals.{then-row, else-row}
 pub returns-clause-text : goal.returns-clause-text
 returns-clause-text g c =
     let value : c.if-row.after.now ≡ decimal c.args.row.now.after = elim c.if-row.branch [
-      | then-row w ↦ ap (λ text. text.now) w.after-is ∙ c.number_text-before.ensures.value
+      | then-row w ↦ ap (λ text. text.now) w.after-is ∙ c.number_text-before.ensures.text
           ∙ ap (λ n. decimal n) (sym w.if-row.true)
-      | else-row w ↦ ap (λ text. text.now) w.after-is ∙ w.number_text-after.ensures.value
+      | else-row w ↦ ap (λ text. text.now) w.after-is ∙ w.number_text-after.ensures.text
     ] in
     let plain : field_text default_writer c.if-row.after.now ≡ c.if-row.after.now =
     elim c.if-row.branch [
@@ -29,10 +29,10 @@ returns-clause-text g c =
       c.as_bytes.ensures.value,
       c.word.ensures,
       same,
-      c.number_text.ensures.value,
-      c.number_text-2.ensures.value,
-      c.number_text-3.ensures.value,
-      c.number_text-before.ensures.value,
+      c.number_text.ensures.text,
+      c.number_text-2.ensures.text,
+      c.number_text-3.ensures.text,
+      c.number_text-before.ensures.text,
       value,
       c.from.ensures,
       c.from-2.ensures,

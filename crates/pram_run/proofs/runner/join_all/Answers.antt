@@ -3,7 +3,7 @@ use Rattle.std.proofs.Common.{◌∙◌, arith, vec_items, append_assoc, length,
 use Rattle.std.specs.Vec.Iter.{into_iter_items}
 use Rattle.pram_board.specs.Seats.{Desk}
 use Rattle.pram_run.specs.Inner.Obeying.{HasObeyed}
-use Rattle.pram_run.specs.Inner.Sharing.{plan_of, task_of}
+use Rattle.pram_run.specs.Inner.Sharing.{plan_of, shared_task}
 use Rattle.pram_run.specs.Obeyed.{AllObeyed}
 use Rattle.pram_run.proofs.Endings.{goes_self, goes_united}
 use Rattle.pram_run.proofs.Joining.{Thread, promised_next, kept_as, ends_more, obeyed_more}
@@ -53,7 +53,7 @@ loop-thread-preserved g c =
       ends = ends_more rows c.loop-thread.seat c.join.result c.join-seat.result
           (length done) (length (done ++ thread ∷ [])) more
           (theirs.0.desk ∙ sym was.goes_on.desk) c.join-seat.ensures.unites was.ends theirs.1;
-      obeyed = obeyed_more (task_of c.args.shared.now) rows c.args.team.seat c.loop-thread.seat
+      obeyed = obeyed_more (shared_task c.args.shared.now) rows c.args.team.seat c.loop-thread.seat
           c.join.result c.join-seat.result (length done) (length (done ++ thread ∷ [])) more
           (ap (λ (d : Desk). d.task) c.requires.seat)
           c.join-seat.ensures.unites was.obeyed theirs.2;
@@ -68,5 +68,6 @@ pub returns-clause-obeyed : goal.returns-clause-obeyed
 returns-clause-obeyed g c =
     let was = c.loop-thread.invariant in
     subst (λ (n : ℕ).
-    AllObeyed (task_of c.args.shared.now) (plan_of c.args.shared.now).rows c.args.team.seat n c.loop-thread.seat)
+    AllObeyed (shared_task c.args.shared.now) (plan_of c.args.shared.now).rows c.args.team.seat n
+    c.loop-thread.seat)
     (omega (arith, was.count, c.in-None.ensures.steps.0)) was.obeyed

@@ -1,7 +1,7 @@
 use Rattle.std.proofs.Common.{◌≡◌, ℕ, subst, sym, arith, vec_len}
 use Rattle.pram_board.specs.Seats.{SeatData}
 use Rattle.pram_run.specs.Inner.Obeying.{GoesOn}
-use Rattle.pram_run.specs.Inner.Sharing.{board_of, plan_of, task_of}
+use Rattle.pram_run.specs.Inner.Sharing.{board_of, plan_of, shared_task}
 use Rattle.pram_run.specs.Inner.Teams.{IsAtWork}
 use Rattle.pram_run.specs.Obeyed.{AllObeyed}
 use Rattle.pram_run.proofs.runner.work_in.Goals as goal
@@ -22,8 +22,8 @@ returns-then-whole-clause-worked g c =
     let count = c.is_whole-whole.ensures.0 c.if-whole.true in record {
       ends = λ worker lt. c.join_all-seat.ensures.ends worker (omega (arith, count));
       obeyed = subst (λ (n : ℕ).
-          AllObeyed (task_of c.args.shared.now) rows c.args.seat n c.join_all-seat.result) count
-          (subst (λ (p : SeatData). AllObeyed (task_of c.args.shared.now) rows p
+          AllObeyed (shared_task c.args.shared.now) rows c.args.seat n c.join_all-seat.result) count
+          (subst (λ (p : SeatData). AllObeyed (shared_task c.args.shared.now) rows p
           (vec_len c.start_all-team.result.threads) c.join_all-seat.result)
           c.start_all-team.ensures.seat c.join_all-seat.ensures.obeyed);
     }

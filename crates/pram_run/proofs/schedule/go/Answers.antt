@@ -1,7 +1,7 @@
 use Rattle.std.proofs.Common.{◌≡◌, ◌++◌, replicate, false, sym, subst, ◌∙◌, arith}
 use Rattle.pram_world.specs.declared.event.Event.TheVariants.{Go}
 use Rattle.pram_world.specs.Worlds.{going}
-use Rattle.pram_run.specs.Inner.Progress.{IsAfter}
+use Rattle.pram_run.specs.Inner.Progress.{IsAfterEvents}
 use Rattle.pram_run.proofs.After.{after_all, after_next, after_none}
 use Rattle.pram_run.proofs.schedule.go.Goals as goal
 
@@ -25,5 +25,5 @@ loop-preserved c = λ front job workers es is.
 pub returns : goal.returns
 returns c = λ front job workers es is.
     let all : c.loop.counter ≡ c.args.ticks = omega (arith, c.loop-test.false) in
-    subst (λ n. IsAfter job workers (es ++ replicate n (Go c.args.worker)) c.loop.world
+    subst (λ n. IsAfterEvents job workers (es ++ replicate n (Go c.args.worker)) c.loop.world
     (front ++ c.loop.trace)) all (c.loop.invariant front job workers es is)

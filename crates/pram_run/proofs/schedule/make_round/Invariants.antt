@@ -1,8 +1,8 @@
 use Rattle.stop_plan.specs.Schedule.{after_turns}
-use Rattle.pram_run.specs.Inner.Progress.{Makes}
-use Rattle.pram_run.specs.Replays.{running, world_events}
+use Rattle.pram_run.specs.Inner.Progress.{MakesProgress}
+use Rattle.pram_run.specs.Replays.{still_runs, world_events}
 use Rattle.pram_run.proofs.schedule.make_round.Given as goal
 
 abbrev pub invariant-loop-worker : goal.invariant-loop-worker
-invariant-loop-worker l = Makes l.initial.world l.initial.trace l.world l.trace
-    (λ job of events. after_turns world_events (running job of) 0 l.worker events)
+invariant-loop-worker l = MakesProgress l.initial.world l.initial.trace l.world l.trace
+    (λ job of events. after_turns world_events (still_runs job of) 0 l.worker events)

@@ -1,7 +1,7 @@
 use Rattle.std.proofs.Common.{◌≡◌, ap, subst}
 use Rattle.pram_board.specs.Seats.{Desk, SeatData}
 use Rattle.pram_run.specs.Inner.Obeying.{AllWorked, IsToWatch}
-use Rattle.pram_run.specs.Inner.Sharing.{plan_of, task_of}
+use Rattle.pram_run.specs.Inner.Sharing.{plan_of, shared_task}
 use Rattle.pram_run.proofs.Endings.{same_goes, all_front}
 use Rattle.pram_run.proofs.Watches.{watch_of, watched_of}
 use Rattle.pram_run.proofs.watcher.watch_in.Goals as goal
@@ -13,7 +13,7 @@ returns-in_default-clause-goes_on g c =
 pub returns-in-Ok-worked-clause-ends : goal.returns-in-Ok-worked-clause-ends
 returns-in-Ok-worked-clause-ends g c =
     let plan = (plan_of c.args.shared.now) in
-    let all : AllWorked (task_of c.args.shared.now) plan c.split-seat.result.0
+    let all : AllWorked (shared_task c.args.shared.now) plan c.split-seat.result.0
     c.work_in-seat.result.0 = rw c.in-Ok-worked.is at c.work_in-seat.ensures.worked in
     all_front plan
     c.work_in-seat.result.0 c.join-theirs.result.0 c.join-seat.result c.join-seat.ensures.unites
@@ -21,7 +21,7 @@ returns-in-Ok-worked-clause-ends g c =
 
 pub returns-in-Ok-worked-clause-sights : goal.returns-in-Ok-worked-clause-sights
 returns-in-Ok-worked-clause-sights g c =
-    let task = (task_of c.args.shared.now) in
+    let task = (shared_task c.args.shared.now) in
     let plan = (plan_of c.args.shared.now) in
     let cells = c.args.shared.now.observation.cells.now in
     let rounds = c.args.shared.now.observation.rounds in

@@ -1,6 +1,7 @@
 use Rattle.std.proofs.Common.{◌≡◌, length}
 use Rattle.pram_machine.specs.Machine.{State, place_count}
-use Rattle.pram_step.specs.Inner.Passes.{AreRunning, IsPassed, IsUnderWay, bound}
+use Rattle.pram_step.specs.Inner.Passes.{IsPassed, IsUnderWay, bound}
+use Rattle.pram_step.specs.Running.{AreRunning}
 use Rattle.pram_step.proofs.lockstep.take.Given as goal
 
 abbrev pub invariant-loop-taken : goal.invariant-loop-taken

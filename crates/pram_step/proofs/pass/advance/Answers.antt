@@ -1,6 +1,7 @@
-use Rattle.std.proofs.Common.{◌≤◌, List, length, take, drop, sym, subst, ◌∙◌, arith}
+use Rattle.std.proofs.Common.{◌≤◌, List, length, take, drop, sym, subst, ◌∙◌, arith, inl, refl}
 use Rattle.pram_step.specs.declared.stores.Store.{Store}
 use Rattle.pram_machine.specs.Instructions.{requests_in}
+use Rattle.pram_machine.specs.Machine.{counter_place}
 use Rattle.pram_step.specs.Steps.{IsVerdict}
 use Rattle.pram_step.specs.Inner.Marks.{AreAsked}
 use Rattle.pram_step.proofs.Applying.{advanced, passed_cells}
@@ -24,10 +25,18 @@ returns-in-Some-clause-dispute c =
     (subst (λ n. AreAsked job.cells (requests_in job s) n (take count c.deref.result.now)
     (length (take count c.deref.result.now))) (sym (length-requests_in job s)) are))
 
-pub returns-in-Some-clause-cells : goal.returns-in-Some-clause-cells
-returns-in-Some-clause-cells c =
-    passed_cells c.args.job.now c.limits_hold.ensures c.args.places.now c.requires.places
-    c.pass-count.new.places c.pass-count.ensures.passed.own
+pub returns-in-Some-clause-turns : goal.returns-in-Some-clause-turns
+returns-in-Some-clause-turns c =
+    let job = c.args.job.now in
+    let own = c.pass-count.ensures.passed.own in
+    record {
+      cells = passed_cells job c.limits_hold.ensures c.args.places.now c.requires.places
+          c.pass-count.new.places own;
+      counters = record {
+        len = own.len ∙ c.requires.places;
+        same = λ i low. own.moved i (counter_place job i) low low (inl refl);
+      };
+    }
 
 pub returns-in-None-clause-made : goal.returns-in-None-clause-made
 returns-in-None-clause-made c =

@@ -1,13 +1,12 @@
-use Rattle.std.proofs.Common.{◌≡◌, take, vec_len}
 use Rattle.pram_step.specs.Runs.{IsStateAfter}
-use Rattle.pram_step.specs.Inner.Marks.{HasRoom}
-use Rattle.pram_step.specs.Inner.Passes.{AreRunning}
+use Rattle.pram_step.specs.Running.{AreRunning}
+use Rattle.pram_step.specs.Inner.Courses.{IsRoom, listed_processors}
 use Rattle.pram_step.proofs.pass.make_steps.Given as goal
 
-abbrev pub invariant-loop-done : goal.invariant-loop-done
-invariant-loop-done l = record {
-  after : IsStateAfter l.job l.done l.places;
-  running : AreRunning l.job l.places (take l.running.count l.running.processors.items);
-  room : vec_len l.running.processors ≡ l.job.procs;
-  stores : HasRoom l.job l.stores;
+abbrev pub invariant-loop-made : goal.invariant-loop-made
+invariant-loop-made g l = record {
+  after : IsStateAfter l.job l.made l.state;
+  running : AreRunning l.job l.state (listed_processors l.room);
+  room : IsRoom l.job l.room;
+  seen : g.O.Observer.has_seen l.job l.made l.observer;
 }

@@ -1,6 +1,6 @@
 use Rattle.std.proofs.Common.{◌+◌, ◌≤◌, length, take, get_or, sym, subst, arith}
 use Rattle.pram_machine.specs.Machine.{IsStopped}
-use Rattle.pram_step.specs.Inner.Passes.{AreRunningBelow}
+use Rattle.pram_step.specs.Running.{AreRunningBelow}
 use Rattle.pram_step.proofs.Passing.{AreRunningBelow_none, AreRunningBelow_more}
 use Rattle.pram_step.proofs.Passing.{AreRunningBelow_stopped}
 use Rattle.pram_step.proofs.running.list_running.Goals as goal

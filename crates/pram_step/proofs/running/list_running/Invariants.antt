@@ -1,5 +1,5 @@
 use Rattle.std.proofs.Common.{◌≤◌, take}
-use Rattle.pram_step.specs.Inner.Passes.{AreRunningBelow}
+use Rattle.pram_step.specs.Running.{AreRunningBelow}
 use Rattle.pram_step.proofs.running.list_running.Given as goal
 
 abbrev pub invariant-loop-processor : goal.invariant-loop-processor

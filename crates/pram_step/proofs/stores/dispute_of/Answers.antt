@@ -1,6 +1,7 @@
 use Rattle.std.proofs.Common.{◌≢◌, ℕ, ◌<◌, take, MatchOption, sym, subst}
 use Rattle.pram_step.specs.declared.answer.Dispute.{Dispute}
-use Rattle.pram_step.specs.Steps.{Forbids, IsVerdict}
+use Rattle.pram_step.specs.Disputes.{Forbids}
+use Rattle.pram_step.specs.Steps.{IsVerdict}
 use Rattle.pram_step.proofs.Marking.{store_allowed, store_later, store_new}
 use Rattle.pram_step.proofs.stores.dispute_of.Goals as goal
 

@@ -1,6 +1,7 @@
 use Rattle.std.proofs.Common.{◌≡◌, ◌≤◌, ◌-◌, ◌++◌, Ok, length}
 use Rattle.text_lines.specs.Lines.{words_of}
-use Rattle.pram_text.specs.Judgement.{◌>>=◌, values_of}
+use Rattle.pram_text.specs.Judgement.{values_of}
+use Rattle.text_lines.specs.Reads.{◌>>=◌}
 use Rattle.pram_text.proofs.start.values_in.Given as goal
 
 -- the values so far, and what the words that are left say

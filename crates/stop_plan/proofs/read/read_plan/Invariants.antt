@@ -1,14 +1,14 @@
 use Rattle.std.proofs.Common.{List, Some}
-use Rattle.stop_plan.specs.Inner.Reading.{HasRead, IsPlanReader, bytes_left}
-use Rattle.stop_plan.specs.Records.{Record, records_of}
+use Rattle.stop_plan.specs.Inner.Reading.{HasReadRecords, IsPlanReader, bytes_left}
+use Rattle.stop_plan.specs.Records.{PlanRecord, records_of}
 use Rattle.stop_plan.proofs.Faults.{Judged}
 use Rattle.stop_plan.proofs.read.read_plan.Given as goal
 
 abbrev pub invariant-loop-draft : goal.invariant-loop-draft
 invariant-loop-draft l = record {
   setup : IsPlanReader l.reader;
-  given : List Record;
-  read : HasRead (λ s. Some s.now) l.fn.text given l.reader;
+  given : List PlanRecord;
+  read : HasReadRecords (λ s. Some s.now) l.fn.text given l.reader;
   judged : Judged l.workers l.row (records_of l.fn.text) given l.draft;
 }
 

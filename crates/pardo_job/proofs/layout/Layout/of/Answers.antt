@@ -2,7 +2,7 @@ use Rattle.std.proofs.Common.{◌≡◌, ℕ, ◌+◌, ◌<◌, List, [], ◌∷
 use Rattle.std.proofs.Common.{subst, ap, sym, ◌∙◌, arith}
 use Rattle.pram_job.specs.declared.instr.Array.{Array}
 use Rattle.pardo_text.specs.Program.{ArrayData, PrivateData, shared_cells}
-use Rattle.pardo_job.specs.Layouts.{cells_of, layout_of}
+use Rattle.pardo_job.specs.Layouts.{cells_of_array, program_layout}
 use Rattle.pardo_job.proofs.Sharing.{IsPart, part_of, cells_at, cells_same, layout_same}
 use Rattle.std.proofs.lemmas.List.{take_all}
 use Rattle.pardo_job.proofs.layout.Layout.of.Goals as goal
@@ -61,21 +61,21 @@ loop-array-preserved c =
           ∙ ap (λ (xs : List Array). xs ++
           cells_at c.loop-array.shared (length c.start.result.now) ∷ [])
           c.loop-array.invariant.arrays
-          ∙ ap (λ (x : Array). map cells_of (take k arrays) ++ x ∷ [])
+          ∙ ap (λ (x : Array). map cells_of_array (take k arrays) ++ x ∷ [])
           (cells_same _ _ (get_or arrays k c.array-item.result) base len)
           ∙ sym part.cells;
     }
 
 pub returns : goal.returns
-unfolding layout_of
+unfolding program_layout
 returns c =
     let arrays = c.args.program.now.arrays in
     let k = c.loop-array.array-index in
     let same : length c.arrays-array-items.result.now ≡ length arrays =
     ap (λ (xs : List ArrayData). length xs) c.arrays-array-items.ensures in
     let all : take k arrays ≡ arrays = take_all k arrays (omega (arith, same)) in
-    layout_same c.loop-array.arrays.items (map cells_of arrays) _ _ _ _ _ _ _ _ _ _
-    (c.loop-array.invariant.arrays ∙ ap (λ (xs : List ArrayData). map cells_of xs) all)
+    layout_same c.loop-array.arrays.items (map cells_of_array arrays) _ _ _ _ _ _ _ _ _ _
+    (c.loop-array.invariant.arrays ∙ ap (λ (xs : List ArrayData). map cells_of_array xs) all)
     (c.loop-array.invariant.shared ∙ ap (λ (xs : List ArrayData). shared_cells xs) all)
     c.procs.ensures
     (ap (λ (xs : List PrivateData). length xs) c.privates.ensures)

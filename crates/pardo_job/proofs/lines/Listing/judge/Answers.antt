@@ -6,7 +6,7 @@ use Rattle.pardo_text.specs.declared.statement.Target.{Target}
 use Rattle.pardo_text.specs.declared.statement.Target.TheVariants.{Private, Array as Shared}
 use Rattle.pardo_text.specs.Lawful.{IsStatement, bounds_of}
 use Rattle.pardo_job.specs.Inner.Pieces.{bounds_code}
-use Rattle.pardo_job.specs.Layouts.{LayoutData}
+use Rattle.pardo_job.specs.Layouts.{ProgramLayoutData}
 use Rattle.pardo_job.specs.Values.{value_code}
 use Rattle.pardo_job.proofs.Great.{array_part, for_part, if_part, judged_as, private_part}
 use Rattle.pardo_job.proofs.Great.{while_part}
@@ -76,7 +76,7 @@ returns-in-Assign-Private-default c = λ at.
     judged_as c.judge_one.result c.args.self.now.program.now c.args.self.now.layout
     (slice_index c.args.self.now.places.items) at c.args.line.now.depth
     c.args.line.now.statement _
-    (λ (l : LayoutData). value_code l 0 c.in-Assign-Private-default.value)
+    (λ (l : ProgramLayoutData). value_code l 0 c.in-Assign-Private-default.value)
     (record { layout_is = c.args.self.now.laid_out; is = said })
     (private_part c.args.self.now.program.now (slice_index c.args.self.now.places.items) at
     c.args.line.now.depth c.in-Assign-Private-default.field-0-0
@@ -91,7 +91,7 @@ returns-in-Assign-Array-default c = λ at.
     judged_as c.judge_both.result c.args.self.now.program.now c.args.self.now.layout
     (slice_index c.args.self.now.places.items) at c.args.line.now.depth
     c.args.line.now.statement _
-    (λ (l : LayoutData). bounds_code l c.in-Assign-Array-default.value
+    (λ (l : ProgramLayoutData). bounds_code l c.in-Assign-Array-default.value
     c.in-Assign-Array-default.index)
     (record { layout_is = c.args.self.now.laid_out; is = said })
     (array_part c.args.self.now.program.now (slice_index c.args.self.now.places.items) at
@@ -102,7 +102,7 @@ pub returns-in-If : goal.returns-in-If
 returns-in-If c = λ at.
     judged_as c.judge_one-in-If.result c.args.self.now.program.now c.args.self.now.layout
     (slice_index c.args.self.now.places.items) at c.args.line.now.depth
-    c.args.line.now.statement _ (λ (l : LayoutData). value_code l 0 c.in-If.expr)
+    c.args.line.now.statement _ (λ (l : ProgramLayoutData). value_code l 0 c.in-If.expr)
     (record { layout_is = c.args.self.now.laid_out; is = c.in-If.is })
     (if_part c.args.self.now.program.now (slice_index c.args.self.now.places.items) at
     c.args.line.now.depth c.in-If.expr) c.judge_one-in-If.ensures
@@ -111,7 +111,7 @@ pub returns-in-While : goal.returns-in-While
 returns-in-While c = λ at.
     judged_as c.judge_one-in-While.result c.args.self.now.program.now c.args.self.now.layout
     (slice_index c.args.self.now.places.items) at c.args.line.now.depth
-    c.args.line.now.statement _ (λ (l : LayoutData). value_code l 0 c.in-While.expr)
+    c.args.line.now.statement _ (λ (l : ProgramLayoutData). value_code l 0 c.in-While.expr)
     (record { layout_is = c.args.self.now.laid_out; is = c.in-While.is })
     (while_part c.args.self.now.program.now (slice_index c.args.self.now.places.items) at
     c.args.line.now.depth c.in-While.expr c.in-While.field-1) c.judge_one-in-While.ensures
@@ -120,7 +120,8 @@ pub returns-in-For : goal.returns-in-For
 returns-in-For c = λ at.
     judged_as c.judge_both-in-For.result c.args.self.now.program.now c.args.self.now.layout
     (slice_index c.args.self.now.places.items) at c.args.line.now.depth
-    c.args.line.now.statement _ (λ (l : LayoutData). bounds_code l c.in-For.first c.in-For.last)
+    c.args.line.now.statement _
+    (λ (l : ProgramLayoutData). bounds_code l c.in-For.first c.in-For.last)
     (record { layout_is = c.args.self.now.laid_out; is = c.in-For.is })
     (for_part c.args.self.now.program.now (slice_index c.args.self.now.places.items) at
     c.args.line.now.depth c.in-For.field-0 c.in-For.first c.in-For.last c.in-For.field-3

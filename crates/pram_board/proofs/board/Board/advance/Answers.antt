@@ -7,7 +7,7 @@ use Rattle.lawful_walk.specs.Moments.{Sound}
 use Rattle.pram_board.specs.Seats.{Desk, SeatData, hears}
 use Rattle.pram_board.proofs.Keeps.{may_as}
 use Rattle.pram_board.proofs.Steps.{may_step, admits}
-use Rattle.pram_board.proofs.Remembering.{remembers_more, still_knows}
+use Rattle.pram_board.proofs.Remembering.{remembers_more}
 use Rattle.pram_board.proofs.Told.{knows_told}
 use Rattle.pram_board.proofs.board.Board.advance.Goals as goal
 
@@ -55,9 +55,6 @@ returns-clause-later c =
     record {
       desk = ap (λ (p : SeatData). p.desk) c.step-answer.ensures.grows ∙ c.requires.works.desk;
       keeps = remembers_more _ _ ((ask_of t.job t.layout w, ticked.found) ∷ []) ticked.seat;
-      knows = still_knows t _ _
-          (remembers_more _ _ ((ask_of t.job t.layout w, ticked.found) ∷ []) ticked.seat);
-      sound = c.step-answer.ensures.sound;
     }
 
 pub returns-clause-works : goal.returns-clause-works

@@ -19,7 +19,6 @@ loop-processor-preserved c =
       loads = subst (λ n. HasLoaded n c.args.seat.now c.request.new.seat) thrice
           (more_loads (1 + 3 * c.loop-processor.processor) 3
           c.args.seat.now c.loop-processor.seat c.request.new.seat i.loads c.request.ensures.loads);
-      sound = c.request.ensures.sound;
       requests = λ s heard. requests_more t.job s c.loop-processor.processor
           c.loop-processor.requests.items _ c.request.result (i.requests s heard)
           (c.request.ensures.is s
@@ -51,4 +50,4 @@ fault_of-requires c =
 pub returns-clause-later : goal.returns-clause-later
 returns-clause-later c =
     let i = c.loop-processor.invariant in
-    later_loads _ _ _ _ c.requires.desk i.loads i.sound
+    later_loads _ _ _ _ c.requires.desk i.loads

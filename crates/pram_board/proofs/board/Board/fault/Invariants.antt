@@ -3,7 +3,6 @@ use Rattle.std.specs.List.{range_with_len}
 use Rattle.pram_machine.specs.Instructions.{request_in}
 use Rattle.pram_step.specs.Runs.{state_after}
 use Rattle.pram_words.specs.declared.words.Word.TheVariants.{Conflict}
-use Rattle.lawful_walk.specs.Moments.{Sound}
 use Rattle.lawful_walk.specs.Seen.{Heard}
 use Rattle.pram_board.specs.Seats.{HasLoaded}
 use Rattle.pram_board.proofs.board.Board.fault.Given as goal
@@ -11,7 +10,6 @@ use Rattle.pram_board.proofs.board.Board.fault.Given as goal
 abbrev pub invariant-loop-processor : goal.invariant-loop-processor
 invariant-loop-processor l = record {
   loads : HasLoaded (1 + 3 * l.processor) l.fn.seat l.seat;
-  sound : Sound l.self.task.job l.self.task.layout l.seat.record_of;
   requests : (s : ℕ) → Heard l.self.task.layout l.fn.seat.record_of Conflict (suc s) →
       l.requests.items ≡ map (request_in l.self.task.job (state_after l.self.task.job s))
       (range_with_len 0 l.processor);

@@ -1,6 +1,7 @@
 use Rattle.std.proofs.Common.{◌≡◌, ◌*◌, ◌+◌, take, refl, ap, subst, ◌∙◌, arith}
 use Rattle.pram_step.specs.Runs.{IsReached, state_after}
 use Rattle.lawful_walk.proofs.Sounding.{sound_known}
+use Rattle.lawful_walk.specs.Moments.{Sound}
 use Rattle.pram_board.specs.Seats.{Desk, HasLoaded}
 use Rattle.pram_board.proofs.Memory.{more_loads, still_known, cells_more}
 use Rattle.pram_board.proofs.Remembering.{later_loads}
@@ -23,7 +24,6 @@ loop-cell-preserved c =
       loads = subst (λ n. HasLoaded n c.args.seat.now c.last_value-value.new.seat) twice
           (more_loads (2 * c.loop-cell.cell) 2 c.args.seat.now
           c.loop-cell.seat c.last_value-value.new.seat i.loads c.last_value-value.ensures.loads);
-      sound = c.last_value-value.ensures.sound;
       values = cells_more t c.loop-cell.values.items _
           c.loop-cell.cell c.last_value-value.result c.facts.ensures
           (omega arith) i.values c.last_value-value.ensures.value c.push_reserved.ensures.items;
@@ -38,10 +38,11 @@ returns-clause-cells c =
     let n : c.self.inside.task.job.cells ≡ t.job.cells =
     ap (λ (d : Desk). d.task.job.cells) c.self.view_is in
     let all : c.loop-cell.cell ≡ t.job.cells = omega arith in
-    let reached : IsReached t.job t.job.steps =
-    sound_known t.job t.layout c.loop-cell.seat.record_of t.job.steps i.sound
-    (still_known t (2 * c.loop-cell.cell)
-    c.args.seat.now c.loop-cell.seat t.job.steps i.loads c.requires.knows.knows) in (
+    let sound : Sound t.job t.layout c.args.seat.now.record_of =
+    subst (λ (d : Desk). Sound d.task.job d.task.layout c.args.seat.now.record_of)
+    c.requires.desk c.facts-2.ensures in
+    let reached : IsReached t.job t.job.steps = sound_known t.job t.layout
+    c.args.seat.now.record_of t.job.steps sound c.requires.knows.knows in (
       state_after t.job t.job.steps,
       record { reached = reached; state = refl },
       i.values ∙ ap (λ k. take k (state_after t.job t.job.steps)) all,
@@ -50,4 +51,4 @@ returns-clause-cells c =
 pub returns-clause-later : goal.returns-clause-later
 returns-clause-later c =
     let i = c.loop-cell.invariant in
-    later_loads _ _ _ _ c.requires.desk i.loads i.sound
+    later_loads _ _ _ _ c.requires.desk i.loads

@@ -5,7 +5,7 @@ use Rattle.walkx.specs.declared.operation.Op.TheVariants.{Load}
 use Rattle.lawful_walk.specs.Moments.{Sound}
 use Rattle.pram_board.specs.Seats.{Desk, SeatData, hears}
 use Rattle.pram_board.proofs.Steps.{may_load, root_small, conflict_small}
-use Rattle.pram_board.proofs.Remembering.{progress_conflict, remembers_progress, still_knows}
+use Rattle.pram_board.proofs.Remembering.{progress_conflict, remembers_progress}
 use Rattle.pram_board.proofs.Told.{progressed}
 use Rattle.pram_board.proofs.board.Board.progress.Goals as goal
 
@@ -65,7 +65,4 @@ returns-clause-later c = record {
   desk = ap (λ (p : SeatData). p.desk) c.step-named.ensures.grows
       ∙ ap (λ (p : SeatData). p.desk) c.step-root.ensures.grows ∙ c.requires;
   keeps = remembers_progress _ _ _ _ (returns-clause-progressed c);
-  knows = still_knows c.args.self.now.task _ _
-      (remembers_progress _ _ _ _ (returns-clause-progressed c));
-  sound = c.step-named.ensures.sound;
 }

@@ -2,26 +2,21 @@ use Rattle.std.proofs.Common.{◌≡◌, ap, sym, subst, ◌∙◌, arith}
 use Rattle.walkx.specs.declared.operation.ReadOp.{ReadOp}
 use Rattle.walkx.specs.declared.operation.ReadOp.TheVariants as read
 use Rattle.walkx.specs.declared.operation.Op.TheVariants.{Load}
-use Rattle.walkx.specs.Serving.{Follows}
+use Rattle.walkx.specs.Serving.{FollowsScript}
 use Rattle.walkx.proofs.Boards.{same_cells}
 use Rattle.walkx.specs.Reads.{HeardAdmitted, LooksFit, LooksOnBoard, look_of, looked, looks_for}
 use Rattle.walkx.specs.Records.{after}
 use Rattle.lawful_walk.specs.Moments.{Sound}
 use Rattle.pram_board.specs.Seats.{Desk, SeatData}
 use Rattle.pram_board.proofs.Looking.{looks_on, looks_over}
-use Rattle.pram_board.proofs.Remembering.{remembers_looks, still_knows}
+use Rattle.pram_board.proofs.Remembering.{remembers_looks}
 use Rattle.pram_board.proofs.Steps.{admits}
 use Rattle.pram_board.proofs.board.Board.read.Goals as goal
 
 pub returns-in-Over-clause-later : goal.returns-in-Over-clause-later
 returns-in-Over-clause-later c =
     let i = c.loop-reading.invariant in
-    record {
-      desk = i.desk;
-      keeps = remembers_looks _ _ _ _ _ i.looks;
-      knows = still_knows c.args.self.now.task _ _ (remembers_looks _ _ _ _ _ i.looks);
-      sound = i.sound;
-    }
+    record { desk = i.desk; keeps = remembers_looks _ _ _ _ _ i.looks }
 
 pub returns-in-Over-clause-read : goal.returns-in-Over-clause-read
 returns-in-Over-clause-read c =
@@ -65,11 +60,10 @@ loop-reading-preserved c =
     ∙ c.in-Load.is in
     record {
       desk = ap (λ (p : SeatData). p.desk) c.step-answer.ensures.grows ∙ i.desk;
-      follows = subst (λ (d : Desk). Follows d.task.layout c.tell.new.self)
+      follows = subst (λ (d : Desk). FollowsScript d.task.layout c.tell.new.self)
           c.self.view_is c.tell.ensures.follows;
       fits = subst (λ (d : Desk). LooksFit d.task.job d.task.layout c.tell.new.self.looking)
           c.self.view_is c.tell.ensures.fits;
-      sound = c.step-answer.ensures.sound;
       looks = looks_on t c.args.seat.now c.loop-reading.seat
           c.args.cell c.in-Load.word found x c.step-answer.new.seat c.tell.new.self.looking
           i.looks e c.step-answer.ensures.grows c.step-answer.ensures.sound

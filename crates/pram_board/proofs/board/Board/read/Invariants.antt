@@ -1,16 +1,14 @@
 use Rattle.std.proofs.Common.{◌≡◌, ◌-◌, length}
-use Rattle.walkx.specs.Serving.{Follows}
+use Rattle.walkx.specs.Serving.{FollowsScript}
 use Rattle.walkx.specs.Reads.{LooksFit}
-use Rattle.lawful_walk.specs.Moments.{Sound}
 use Rattle.pram_board.proofs.Looking.{Looks}
 use Rattle.pram_board.proofs.board.Board.read.Given as goal
 
 abbrev pub invariant-loop-reading : goal.invariant-loop-reading
 invariant-loop-reading l = record {
   desk : l.seat.desk ≡ l.self;
-  follows : Follows l.self.task.layout l.reader;
+  follows : FollowsScript l.self.task.layout l.reader;
   fits : LooksFit l.self.task.job l.self.task.layout l.reader.looking;
-  sound : Sound l.self.task.job l.self.task.layout l.seat.record_of;
   looks : Looks l.self.task l.initial.seat l.seat l.cell l.reader.looking;
 }
 

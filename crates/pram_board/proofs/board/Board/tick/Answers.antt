@@ -24,4 +24,6 @@ pub returns-clause-shows : goal.returns-clause-shows
 returns-clause-shows c =
     let works = c.advance.ensures.works in
     shows_end c.args.self.now.task c.advance.new.seat.record_of c.advance.new.worker.walking
-    c.ended-2.result c.ended-2.ensures c.advance.ensures.later.sound works.serves.fits works.knows
+    c.ended-2.result c.ended-2.ensures
+    (subst (λ (d : Desk). Sound d.task.job d.task.layout c.advance.new.seat.record_of) works.desk
+    c.facts-2.ensures) works.serves.fits works.knows

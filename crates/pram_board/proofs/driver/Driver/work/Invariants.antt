@@ -1,7 +1,8 @@
 use Rattle.std.proofs.Common.{◌≡◌, ◌-◌, ◌≤◌, IfSome}
 use Rattle.walkx.specs.Bound.{most_steps}
 use Rattle.lawful_walk.specs.Moments.{Sound}
-use Rattle.pram_board.specs.Worked.{Ran, Works}
+use Rattle.pram_board.specs.Inner.Plays.{Ran}
+use Rattle.pram_board.specs.Worked.{Works}
 use Rattle.pram_board.proofs.driver.Driver.work.Given as goal
 
 abbrev pub invariant-loop-ended : goal.invariant-loop-ended

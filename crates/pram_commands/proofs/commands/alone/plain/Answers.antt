@@ -6,11 +6,7 @@ use Rattle.pram_commands.proofs.commands.alone.plain.Goals as goal
 pub returns : goal.returns
 returns g c =
     printed_did _ _ _ _ c.in_ok-spelled.spelled.job no_plan
-    (record {
-      job_text = c.as_slice.result.now;
-      a_job = rw c.as_slice.ensures.value c.in_ok-spelled.ensures.ok;
-      a_plan = tt;
-    }) refl refl
+    (record { job_text = _; a_job = c.in_ok-spelled.ensures.ok; a_plan = tt }) tt refl
     (λ f. ok_not_err _ _ (c.in_ok-spelled.ensures.failed.0 f))
     (well _ c.requires.plan) c.in_ok-spelled.ensures.reads (gives_none _)
     _ c.put_plain.ensures _ c.printed.ensures

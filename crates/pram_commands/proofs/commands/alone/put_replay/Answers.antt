@@ -10,7 +10,7 @@ returns-in_err-answer g c =
     let failed = c.in_err-answer.ensures.failed in
     put_failed _ _ _ _ _ c.in_err-answer.field-0.0
     (err_is _ _ c.from_residual.ensures)
-    (begins_front c.args.alone _ c.args.inputs.now.text.items c.args.inputs.now.job _ begins.answer
+    (begins_front c.args.alone _ c.args.inputs.now.spelled.text.items c.args.inputs.now.spelled.job _ begins.answer
     _ (begins.trace, begins.is, refl) _ c.requires.names begins.prints)
     (λ e. inr tt) ((λ f. err_as _ Device (failed.0 f)), (λ e. failed.1 (err_as _ Device e)))
 
@@ -19,15 +19,15 @@ returns-in_err-print_ending g c =
     let takes = c.in_ok-answer.ensures.ok in
     put_failed _ _ _ _ _ c.in_err-print_ending.field-0.0
     (err_is _ _ c.from_residual-in_err-print_ending.ensures)
-    (begins_after c.args.alone _ c.args.inputs.now.text.items c.args.inputs.now.job _
+    (begins_after c.args.alone _ c.args.inputs.now.spelled.text.items c.args.inputs.now.spelled.job _
     c.in_ok-answer.answer _ (takes.trace, takes.is, refl) _ c.requires.names _ _
-    c.steps.ensures.value takes.prints c.in_err-print_ending.ensures.beginning)
+    refl takes.prints c.in_err-print_ending.ensures.beginning)
     (λ e. inr tt) c.in_err-print_ending.ensures.failed
 
 pub returns : goal.returns
 returns g c =
     let takes = c.in_ok-answer.ensures.ok in
-    put_both c.args.alone _ c.args.inputs.now.text.items c.args.inputs.now.job _
+    put_both c.args.alone _ c.args.inputs.now.spelled.text.items c.args.inputs.now.spelled.job _
     c.in_ok-answer.answer _ (takes.trace, takes.is, refl) _ c.requires.names _ _ _
-    c.steps.ensures.value takes.prints c.in_ok-print_ending.ensures.ok
+    refl takes.prints c.in_ok-print_ending.ensures.ok
     c.in_ok-print_ending.ensures.failed

@@ -1,4 +1,4 @@
-use Rattle.std.proofs.Common.{◌≡◌, ℕ, List, Option, ap, inr}
+use Rattle.std.proofs.Common.{◌≡◌, ℕ, List, Option, ap, inr, refl}
 use Rattle.std.specs.Option.{option_copied}
 use Rattle.pram_job.specs.Job.{JobData}
 use Rattle.pram_step.specs.Runs.{IsAnswer}
@@ -8,14 +8,14 @@ use Rattle.pram_rows.specs.Rows.{rows_text}
 use Rattle.pram_rows.specs.Shown.{last_step, steps_text}
 use Rattle.pram_rows.specs.declared.window.Shown.{Shown}
 use Rattle.pram_commands.specs.Names.{AreNames, NamingData}
-use Rattle.pram_commands.specs.Steps.{TellsSteps, lines_of}
+use Rattle.pram_commands.specs.Steps.{TellsSteps, numbers_told}
 use Rattle.pram_commands.proofs.Doing.{begins_after, begins_front, err_as, err_is, put_both}
 use Rattle.pram_commands.proofs.Doing.{put_failed}
 use Rattle.pram_commands.proofs.commands.alone.put_steps.Goals as goal
 
 -- what was shown tells the steps
 tells_steps : (text : List ℕ) (job : JobData) (shown : Shown) (names : Option NamingData) →
-    AreNames text job names → option_copied shown.lines ≡ lines_of names →
+    AreNames text job names → option_copied shown.lines ≡ numbers_told names →
     (answer : RunAnswer) → IsAnswer job answer →
     TellsSteps text job shown.window answer (steps_text job shown answer)
 tells_steps text job shown names are_names told answer is = record {
@@ -50,7 +50,7 @@ returns-in_err-print_ending g c =
     (err_is _ _ c.from_residual-in_err-print_ending.ensures)
     (begins_after c.args.alone _ text job _ answer _
     (tells_steps text job shown _ c.requires.names c.lines_of.ensures answer
-    c.in_ok-answer.ensures.ok.answers) _ c.requires.names _ _ c.steps.ensures.value
+    c.in_ok-answer.ensures.ok.answers) _ c.requires.names _ _ refl
     c.in_ok-answer.ensures.ok.prints c.in_err-print_ending.ensures.beginning)
     (λ e. inr tt) c.in_err-print_ending.ensures.failed
 
@@ -62,6 +62,6 @@ returns g c =
     let answer = c.in_ok-answer.answer in
     put_both c.args.alone _ text job _ answer _
     (tells_steps text job shown _ c.requires.names c.lines_of.ensures answer
-    c.in_ok-answer.ensures.ok.answers) _ c.requires.names _ _ _ c.steps.ensures.value
+    c.in_ok-answer.ensures.ok.answers) _ c.requires.names _ _ _ refl
     c.in_ok-answer.ensures.ok.prints c.in_ok-print_ending.ensures.ok
     c.in_ok-print_ending.ensures.failed

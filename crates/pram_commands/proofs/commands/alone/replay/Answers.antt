@@ -1,16 +1,15 @@
-use Rattle.std.proofs.Common.{refl}
 use Rattle.pram_commands.proofs.Doing.{ok_not_err, printed_did}
 use Rattle.pram_commands.proofs.commands.alone.replay.Goals as goal
 
 pub returns : goal.returns
 returns g c =
     let took = c.in_ok-inputs.ensures in
-    printed_did _ _ _ _ c.in_ok-inputs.inputs.job c.in_ok-inputs.inputs.plan
+    printed_did _ _ _ _ c.in_ok-inputs.inputs.spelled.job c.in_ok-inputs.inputs.plan
     (record {
-      job_text = c.in_ok-inputs.inputs.text.items;
+      job_text = c.in_ok-inputs.inputs.spelled.text.items;
       a_job = took.both.gives_job;
       a_plan = took.both.gives_plan;
-    }) refl tt
+    }) tt tt
     (λ f. ok_not_err _ _ (took.job_failed.0 f))
     (λ f. ok_not_err _ _ (took.plan_failed.0 f)) took.job_reads took.plan_reads
     _ c.put_replay.ensures _ c.printed.ensures

@@ -22,7 +22,7 @@ returns-in-Some g c = record {
     job = c.in_ok-spelled.spelled.job;
     plan = no_plan;
     given = record { job_text = _; a_job = c.in_ok-spelled.ensures.ok; a_plan = tt };
-    missing = sym c.in-Some.ensures;
+    lacks = sym c.in-Some.ensures;
   };
   wrote = refl;
   job_first = λ never. absurd never;

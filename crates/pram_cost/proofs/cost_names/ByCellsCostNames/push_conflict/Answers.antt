@@ -8,4 +8,4 @@ returns c = rw (
   c.in_ok-push_labelled-3.ensures,
   c.in_ok-push_labelled-2.ensures,
   c.in_ok-push_labelled.ensures,
-) (simp append_assoc)
+) (simp (append_assoc, c.from.ensures, c.from-2.ensures, c.from-3.ensures, c.from-4.ensures))

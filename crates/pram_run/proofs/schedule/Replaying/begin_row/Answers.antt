@@ -3,7 +3,7 @@ use Rattle.std.proofs.lemmas.List.{append-nil}
 use Rattle.stop_plan.specs.Schedule.{events_of_act}
 use Rattle.pram_world.specs.declared.event.Event.{Event}
 use Rattle.pram_world.specs.declared.event.Event.TheVariants.{Stop, Back}
-use Rattle.pram_run.specs.Inner.Progress.{IsAfter}
+use Rattle.pram_run.specs.Inner.Progress.{IsAfterEvents}
 use Rattle.pram_run.specs.Replays.{world_events}
 use Rattle.pram_run.proofs.After.{after_quiet}
 use Rattle.pram_run.proofs.Advancing.{begun_done, begun_go}
@@ -20,7 +20,8 @@ returns-in-Sleep c = λ trace front job plan come.
     begun_done job plan _ _ _ come row c.args.rows.now c.requires.none c.requires.next
     refl refl refl [] c.requires.none
     (ap (events_of_act world_events row.worker row.ticks) c.in-Sleep.is)
-    (subst (λ (es : List Event). IsAfter job plan.workers es c.args.self.now.world (front ++ trace))
+    (subst (λ (es : List Event). IsAfterEvents job plan.workers es c.args.self.now.world
+    (front ++ trace))
     (sym (append-nil come.made)) come.after)
 
 pub returns-in-Back : goal.returns-in-Back

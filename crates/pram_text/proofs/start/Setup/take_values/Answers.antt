@@ -7,7 +7,7 @@ use Rattle.std.proofs.lemmas.Result.{err_from_is_err_and}
 use Rattle.pram_text.specs.declared.fault.TextKind.TheVariants.{BadHeader}
 use Rattle.text_lines.specs.Lines.{is_filled}
 use Rattle.pram_text.specs.Judgement.{gives}
-use Rattle.pram_text.specs.Inner.Reading.{given}
+use Rattle.pram_text.specs.Inner.Reading.{value_given}
 use Rattle.pram_text.specs.Text.{value_by}
 use Rattle.pram_text.proofs.Inits.{init_read-err, init_read-ok, filled_by, given_before}
 use Rattle.pram_text.proofs.Inits.{entry_fault-err, entry_fault-given, HoldsStart-given}
@@ -67,7 +67,7 @@ returns c = λ inits h.
           ∙ ap (λ b. if b then Some BadHeader else None) none,
       HoldsStart-given c.args.later c.args.cells inits c.args.self.now _ h _ _ said _ none
           (λ name. refl) (ap is_filled now ∙ filled_by c.give.new.start some)
-          (λ q. ap (λ items. given items q) now
+          (λ q. ap (λ items. value_given items q) now
           ∙ (rw (start, c.deref-2.ensures.value) at (c.give.ensures.given q))
           ∙ ap (option_or (value_by (gives c.in_ok-first.first c.in_ok-values.values.items) q))
           (c.make_room.ensures.given q)),

@@ -1,13 +1,13 @@
 use Rattle.std.proofs.Common.{◌≡◌, ℕ, ◌-◌, ◌<◌, ◌≤◌, true}
 use Rattle.walkx.specs.Bound.{most_steps}
-use Rattle.pram_world.specs.Ends.{steps_of}
+use Rattle.pram_world.specs.Ends.{after_own_steps}
 use Rattle.pram_world.specs.Worlds.{going}
 use Rattle.pram_world.proofs.world.World.finish.Given as goal
 
 abbrev pub invariant-loop-self : goal.invariant-loop-self
 invariant-loop-self l = record {
-  is : l.self ≡ steps_of l.initial.self l.b l.made;
-  goes : (k : ℕ) → k < l.made → going (steps_of l.initial.self l.b k) l.b ≡ true;
+  is : l.self ≡ after_own_steps l.initial.self l.b l.made;
+  goes : (k : ℕ) → k < l.made → going (after_own_steps l.initial.self l.b k) l.b ≡ true;
   most : l.made ≤ most_steps l.initial.self.job;
 }
 

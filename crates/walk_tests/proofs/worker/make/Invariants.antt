@@ -1,5 +1,0 @@
-use Rattle.walkx.specs.Serving.{Serves}
-use Rattle.walk_tests.proofs.worker.make.Given as goal
-
-abbrev pub invariant-loop : goal.invariant-loop
-invariant-loop g l = Serves l.bench.job l.bench.layout l.worker
