@@ -1,5 +1,5 @@
 -- The state after t steps: how long it is, and a state that its step leaves as it is.
-use Rattle.std.proofs.Common.{◌≡◌, ℕ, zero, suc, ◌+◌, ◌*◌, ◌≤◌, refl, sym, ap, subst, ◌∙◌}
+use Rattle.std.proofs.Common.{◌≡◌, ℕ, zero, suc, ◌+◌, ◌*◌, ◌<◌, ◌≤◌, refl, sym, ap, subst, ◌∙◌}
 use Rattle.std.proofs.Common.{inl, inr, arith, List, length, length-append, replicate}
 use Rattle.std.proofs.lemmas.List.{length-replicate}
 use Rattle.std.proofs.lemmas.Bool.{cases_order}
@@ -9,8 +9,11 @@ use Rattle.pram_job.specs.Job.{JobData, IsJob}
 use Rattle.pram_machine.specs.declared.requests.Request.{Request}
 use Rattle.pram_machine.specs.Machine.{State, place_count, start}
 use Rattle.pram_machine.specs.Instructions.{requests_in}
-use Rattle.pram_step.specs.Steps.{Agrees, next_state, after_requests}
-use Rattle.pram_step.specs.Runs.{state_after, AgreesAfter, IsReached, IsStateAfter}
+use Rattle.pram_step.specs.declared.answer.Fault.{Fault}
+use Rattle.pram_step.specs.Steps.{Agrees, IsDispute, next_state, after_requests}
+use Rattle.pram_step.specs.Running.{SameCounters}
+use Rattle.pram_step.specs.Runs.{AgreesAfter, IsFirstConflict, IsReached, IsStateAfter}
+use Rattle.pram_step.specs.Runs.{dispute_of, state_after}
 
 -- ---- lengths
 
@@ -64,6 +67,27 @@ pub next_after : (job : JobData) (t : ℕ) (s : State) → IsStateAfter job t s 
 next_after job t s is agrees =
     let e : suc t ≡ t + 1 = omega arith in
     subst (λ (n : ℕ). IsStateAfter job n (next_state job s)) e (next_after_suc job t s is agrees)
+
+-- a dispute after t steps is the first conflict, and each processor then stands where it goes
+pub disputed_there : (job : JobData) (t to : ℕ) (s new : State) (fault : Fault) →
+    IsStateAfter job t s → t < to → fault.step ≡ t + 1 →
+    IsDispute job (requests_in job s) (dispute_of fault) →
+    SameCounters job (next_state job s) new → IsFirstConflict job fault × (fault.step ≤ to)
+    × SameCounters job (state_after job fault.step) new
+unfolding state_after
+disputed_there job t to s new fault after below step dispute same =
+    let e : suc t ≡ fault.step = omega arith in (
+      record {
+        before = t;
+        step = step;
+        reached = after.reached;
+        dispute = subst (λ (r : State). IsDispute job (requests_in job r) (dispute_of fault))
+            after.state dispute;
+      },
+      omega arith,
+      subst (λ (r : State). SameCounters job r new)
+          (ap (next_state job) after.state ∙ ap (state_after job) e) same,
+    )
 
 pub one_state : (job : JobData) (t : ℕ) (r s : State) →
     IsStateAfter job t r → IsStateAfter job t s → r ≡ s

@@ -11,7 +11,6 @@ pub mod LawNext
 pub mod LawStopped
 pub mod Disputing
 pub mod LawAnswer
-pub mod Arriving
 pub mod LawRules
 pub mod LawAnswers
 pub mod LawOrders

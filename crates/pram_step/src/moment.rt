@@ -1,5 +1,4 @@
 //! Where a job is after some of its steps.
-ghost use Rattle.std.specs.Prelude.{◌≡◌};
 ghost use Rattle.pram_step.specs.Runs.{IsStateAfter};
 
 use crate::state::State;
@@ -12,15 +11,4 @@ pub struct Moment<'a> {
     pub state: &'a State,
     pub made: u32,
     pub ghost after: { IsStateAfter job.now made state.now },
-}
-
-impl<'a> Moment<'a> {
-    pub fn new(job: &'a Job, state: &'a State, made: u32) -> Moment<'a>
-        requires { IsStateAfter job.now made state.now }
-        ensures job { result.job.now ≡ job.now }
-        ensures state { result.state.now ≡ state.now }
-        ensures made { result.made ≡ made }
-    {
-        Moment { job, state, made }
-    }
 }

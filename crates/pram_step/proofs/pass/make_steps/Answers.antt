@@ -6,8 +6,7 @@ use Rattle.pram_machine.specs.Instructions.{requests_in}
 use Rattle.pram_step.specs.Running.{AreRunning}
 use Rattle.pram_step.specs.Steps.{IsDispute}
 use Rattle.pram_step.specs.Runs.{IsStateAfter}
-use Rattle.pram_step.proofs.Arriving.{disputed_there}
-use Rattle.pram_step.proofs.LawFixed.{next_after}
+use Rattle.pram_step.proofs.LawFixed.{disputed_there, next_after}
 use Rattle.pram_step.proofs.LawStopped.{idle_later, idle_settles}
 use Rattle.pram_step.proofs.pass.make_steps.Goals as goal
 
