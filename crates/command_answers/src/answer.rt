@@ -41,8 +41,8 @@ pub fn answer_words<'a, R: Eprint + Threads + Wait + Clock + Sync, F: Folder, O:
     }
 }
 
-/// Does what `answer_words` does where the words ask nothing on threads, and always returns; else it
-/// gives their line, for which nothing was done.
+/// Does what `answer_words` does where the words ask nothing on threads, and always returns; else
+/// it gives their line, for which nothing was done.
 pub fn answer_alone<'a, F: Folder, O: Sink, E: Sink>(
     alloc: Global,
     folder: &F,

@@ -26,7 +26,8 @@ operand_in held (Register register) = held register
 operand_in held (Number number) = number
 
 -- The registers of processor i after an instruction that has these operands, and computes this of
--- two numbers; none if it reads a place of an array that there is not. Stores and jumps change none.
+-- two numbers; none if it reads a place of an array that there is not. Stores and jumps change
+-- none.
 abbrev pub registers_after : (ℕ → ℕ) → ℕ → (ℕ → ℕ → ℕ) → Operands → Registers → Option Registers
 registers_after memory i computes Bare held = Some held
 registers_after memory i computes (Target target) held = Some (put target i held)

@@ -1,5 +1,5 @@
-//! Lines that are too long since an expression of theirs has very many nodes. Their code is made and
-//! dropped, node after node, and never held as a whole.
+//! Lines that are too long since an expression of theirs has very many nodes. Their code is made
+//! and dropped, node after node, and never held as a whole.
 ghost use Rattle.std.specs.Prelude.{◌≡◌, ◌<◌, ◌≤◌, ℕ, length, true, IfErr, IfOk, IsTrue, OnOk};
 ghost use Rattle.std.specs.Prelude.{slice_index};
 ghost use Rattle.pram_job.specs.declared.limits.TheConstants.{MAX_CODE as MOST};

@@ -51,8 +51,8 @@ abbrev pub StaysAs : Option ℕ → ℕ → Walking → Stay → Type 0
 StaysAs limit ticks now (stay.Ended ended) = end_of now.now ≡ Some ended
 StaysAs limit ticks now stay.Stopped = (limit ≡ Some ticks) × (end_of now.now ≡ None)
 
--- some ticks, one after the other, all in the record, at most the limit and at most 300 L T + 8, how
--- they ended, and what the record shows of a worker that is over
+-- some ticks, one after the other, all in the record, at most the limit and at most 300 L T + 8,
+-- how they ended, and what the record shows of a worker that is over
 pub record Worked (task : Task) (before : SeatData) (walking : Walking) (limit : Option ℕ)
     (later : SeatData) (now : Walking) (stay : Stay) : Type 0 where
   pub answers : List ℕ

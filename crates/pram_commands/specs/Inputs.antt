@@ -173,8 +173,10 @@ ExplainsBoth workers reads _ = ⊥
 pub record Took (workers : ℕ) (taken : Taking) (result : Result Inputs CommandFault)
     : Type 0 where
   pub both : IfOk result
-      (λ inputs. GivesBoth taken.reads workers inputs.spelled.text.items inputs.spelled.job inputs.plan)
-  pub names : IfOk result (λ inputs. AreNames inputs.spelled.text.items inputs.spelled.job inputs.spelled.names)
+      (λ inputs. GivesBoth taken.reads workers inputs.spelled.text.items inputs.spelled.job
+        inputs.plan)
+  pub names : IfOk result (λ inputs. AreNames inputs.spelled.text.items inputs.spelled.job
+      inputs.spelled.names)
   pub explains : IfErr result (ExplainsBoth workers taken.reads)
   pub job_first : IfErr result (λ fault. IsOfJob fault → taken.Unread)
   pub job_failed : IsTrue taken.reads.job_failed ↔ IsErrOf result JobDevice

@@ -19,8 +19,8 @@ use pram_streams::{PrintFault, Sink};
 use std::alloc::{AllocError, Global};
 use stop_plan::Gate;
 
-/// Prints the answer of a job to an output, and if it is asked for what became of the processors. It
-/// hands the output back with what came of that.
+/// Prints the answer of a job to an output, and if it is asked for what became of the processors.
+/// It hands the output back with what came of that.
 #[derive(Drop)]
 pub(crate) struct Printing<'a, O> {
     pub alloc: Global,

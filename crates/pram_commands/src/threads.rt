@@ -50,9 +50,9 @@ fn open(alloc: Global, inputs: &Inputs, block: Option<Block>) -> Result<(Board, 
     }
 }
 
-/// Runs the plan's workers, with a reader beside them, which takes a pause before each read too, and
-/// then hears how the job ended, as soon as a worker knows it. Where the board is refused, or so
-/// many threads that the others do not come to the end, it hears that alone.
+/// Runs the plan's workers, with a reader beside them, which takes a pause before each read too,
+/// and then hears how the job ended, as soon as a worker knows it. Where the board is refused, or
+/// so many threads that the others do not come to the end, it hears that alone.
 pub(crate) fn run_job<R: Threads + Wait + Clock + Eprint + Sync, H, P: Reads<Heard = H>>(
     rt: &R,
     alloc: Global,

@@ -13,8 +13,8 @@ use pram_step::RunAnswer;
 use pram_streams::{PrintFault, Sink, put};
 use std::alloc::{AllocError, Global};
 
-/// Prints an answer, and if it is asked for, what became of the processors. Nothing is printed before
-/// memory for both was found.
+/// Prints an answer, and if it is asked for, what became of the processors. Nothing is printed
+/// before memory for both was found.
 pub(crate) fn put_told<O: Sink>(
     alloc: Global,
     out: &mut O,

@@ -79,7 +79,8 @@ fn next_other(
     found: Option<Meeting>,
 ) -> Option<Meeting>
     requires marks { length marks.old ≡ moment.now.sight.job.now.cells }
-    requires write { IsFirstOrNone SameWrite moment.now.sight.job.now (moment.now.sight.made + 1) same_write }
+    requires write { IsFirstOrNone SameWrite moment.now.sight.job.now (moment.now.sight.made + 1)
+        same_write }
     requires found { IsFirstOrNone OtherValue moment.now.sight.job.now moment.now.sight.made found }
     ensures { IsFirstOrNone OtherValue moment.now.sight.job.now (moment.now.sight.made + 1) result }
 {
@@ -137,7 +138,8 @@ fn look(
     requires looked { HasSearched sharing moment.now.sight.job.now moment.now.sight.state.now
         (moment.now.sight.made + 1) (of_kind sharing moment.now.accesses.now) k marks.old found }
     ensures { HasSearched sharing moment.now.sight.job.now moment.now.sight.state.now
-        (moment.now.sight.made + 1) (of_kind sharing moment.now.accesses.now) (k + 1) marks.new result }
+        (moment.now.sight.made + 1) (of_kind sharing moment.now.accesses.now) (k + 1) marks.new
+        result }
 {
     laws::states_have_all_places();
     moment.sight.job.limits_hold();

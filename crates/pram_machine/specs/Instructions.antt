@@ -128,7 +128,8 @@ computed Halt a b = 0
 -- that it reads holds this value.
 abbrev pub request_with : JobData → ℕ → ℕ → (ℕ → ℕ → ℕ) → Operands → ℕ → ℕ → ℕ → Request
 request_with job i counter computes Bare first second value = goes_to (halted job)
-request_with job i counter computes (Target target) first second value = gives job i counter target i
+request_with job i counter computes (Target target) first second value =
+    gives job i counter target i
 request_with job i counter computes (TargetNumber target number) first second value =
     gives job i counter target number
 request_with job i counter computes (TargetPlace target place) first second value =

@@ -145,8 +145,8 @@ impl Registers<'_> {
     #[inline(always)]
     fn register(&self, r: u8) -> u32
         requires { r < 4 }
-        ensures { result
-            ≡ slice_index self.now.places.now (register_place self.now.job.now self.now.processor r) }
+        ensures { result ≡ slice_index self.now.places.now
+            (register_place self.now.job.now self.now.processor r) }
     {
         self.job.limits_hold();
         self.places[(self.base + u32::from(r)) as usize]

@@ -14,8 +14,8 @@ use Rattle.pram_run.specs.declared.sight.Sight.{Sight}
 abbrev pub Printing : Type 0
 Printing = Result (Unit {0}) PrintFault
 
--- A watch whose sights were put into a sink, their cells told so, or a beginning of their text where
--- that failed.
+-- A watch whose sights were put into a sink, their cells told so, or a beginning of their text
+-- where that failed.
 pub record PutWatch (words : CellWords) (task : Task) (cells : List ℕ) (rounds : ℕ)
     (given later : SeatData) (sink sink' : Option (List ℕ)) (printed : Printing) : Type 0 where
   pub sights : List Sight

@@ -1,4 +1,5 @@
-//! How the thread that waits for workers learns that they leave, and a sleeper that the job is over.
+//! How the thread that waits for workers learns that they leave, and a sleeper that the job is
+//! over.
 use std::sync::Wait;
 use std::sync::atomic::{AtomicBool, AtomicU64, Ordering};
 use std::thread::Parker;

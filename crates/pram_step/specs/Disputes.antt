@@ -19,8 +19,8 @@ pub record Clash (rule : Rule) (Writes : ℕ → ℕ → ℕ → Type 0) (cell i
   pub writes_too : Writes cell j other
   pub forbidden : Forbids rule i value j other
 
--- Where some two are: the least cell in which two clash, its least writer, and the least that clashes
--- with that one.
+-- Where some two are: the least cell in which two clash, its least writer, and the least that
+-- clashes with that one.
 pub record IsLeastClash (rule : Rule) (Writes : ℕ → ℕ → ℕ → Type 0) (dispute : Dispute) : Type 0
   where
     pub clash : Clash rule Writes dispute.cell dispute.first dispute.second

@@ -26,8 +26,8 @@ abbrev pub IsWalked : JobData → ℕ → Walked → Type 0
 IsWalked job t (Through state) = IsStateAfter job t state
 IsWalked job t (Disputed fault) = IsFirstConflict job fault × (fault.step ≤ t)
 
--- Steps that are made in a state lead to that after t steps. Or they lead to the first conflict up to
--- them, and each processor then stands where it goes in that step.
+-- Steps that are made in a state lead to that after t steps. Or they lead to the first conflict up
+-- to them, and each processor then stands where it goes in that step.
 abbrev pub LeadsTo : JobData → ℕ → State → Option Fault → Type 0
 LeadsTo job t state None = IsStateAfter job t state
 LeadsTo job t state (Some fault) = IsFirstConflict job fault × (fault.step ≤ t)

@@ -46,8 +46,9 @@ pub record PassedSights (words : CellWords) (printed later : Printing)
 
 -- What was read in so many rounds, from one seat to a later one: the first sights were put, or a
 -- beginning of their text where that failed; the others wait.
-pub record HasPut (words : CellWords) (task : Task) (cells : List ℕ) (rounds : ℕ) (given later : SeatData)
-    (waiting : List Sight) (sink sink' : Option (List ℕ)) (printed : Printing) : Type 0 where
+pub record HasPut (words : CellWords) (task : Task) (cells : List ℕ) (rounds : ℕ)
+    (given later : SeatData) (waiting : List Sight) (sink sink' : Option (List ℕ))
+    (printed : Printing) : Type 0 where
   pub gone : List Sight
   pub reads : HasRead task given (gone ++ waiting) later
   pub listed : cells_seen (gone ++ waiting) ≡ repeat rounds cells
