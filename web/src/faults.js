@@ -86,7 +86,7 @@ function unknownInstruction(line) {
   const labelled = wordsOf(line)[0].endsWith(':') && !/^[A-Za-z_]\w*:$/.test(wordsOf(line)[0]);
   if (labelled) return 'A label is a letter or _, then letters, digits and _, then “:”.';
   const names = INSTRUCTIONS.map(([known]) => known).join(', ');
-  return `There is no instruction “${name}”. There are ${names}; shl and shr with pram 3 alone.`;
+  return `There is no instruction “${name}”. There are ${names}; shl, shr, div and rem with pram 3 alone.`;
 }
 
 function wrongOperands(line) {

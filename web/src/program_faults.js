@@ -9,8 +9,8 @@ const HEADER =
   'shared NAME[COUNT] with “= values” or without, private NAME after procs.';
 
 const FORMS =
-  'A line of code is NAME := VALUE, NAME[INDEX] := VALUE, if CONDITION, else, end, ' +
-  'while CONDITION, for NAME = FIRST to LAST, or the same with downto.';
+  'A line of code is NAME := VALUE, NAME[INDEX] := VALUE, if CONDITION, elsif CONDITION, else, ' +
+  'end, while CONDITION, for NAME = FIRST to LAST, or the same with downto.';
 
 const saidIn = (line) => line.split(';', 1)[0];
 
@@ -18,7 +18,8 @@ const wordsOf = (line) => saidIn(line).split(/[^A-Za-z0-9_]+/).filter((word) => 
 
 // The first character that begins no token.
 function badSymbol(line) {
-  const rest = saidIn(line).replace(/:=|!=|[A-Za-z0-9_ \t\r+*/%&|^<>=()[\],-]|\.\.\./g, '');
+  const rest = saidIn(line).replace(/:=|!=|[A-Za-z0-9_ \t\r+*/%&|<>=()[\],-]|\.\.\./g, '');
+  if (rest.startsWith('^')) return 'It is “^”: a power of two is 1 << h, exclusive or is xor.';
   return rest === '' ? '' : `It is “${shortened(rest, 1)}”.`;
 }
 
@@ -41,7 +42,6 @@ const HELP = {
   [PROGRAM_FAULT.WRONG_KIND]: () => 'An array needs an index and a scalar has none; no value ' +
     'goes to a constant, to the own number or to a loop’s variable; loops go by what is the same ' +
     'for all processors.',
-  [PROGRAM_FAULT.NOT_CONSTANT]: () => 'Work it out in a const or a private line.',
   [PROGRAM_FAULT.OUT_OF_LIMITS]: () =>
     'Numbers go up to 4,294,967,295, processors to 1,024, places of an array to 65,536.',
   [PROGRAM_FAULT.TOO_MANY_CELLS]: () => 'A private variable, a depth of loops and a depth of ifs ' +

@@ -32,13 +32,23 @@ function withNames(words, source) {
   });
 }
 
+// The depth of each line of the text. An `elsif`, and an `end` of one, are several lines of code,
+// and stand where the outermost of these does.
+function depthsOf(lines) {
+  const depths = new Map();
+  for (const { number, depth } of lines) {
+    depths.set(number, Math.min(depth, depths.get(number) ?? depth));
+  }
+  return depths;
+}
+
 export class Source {
   // `lines` are the lines of code, `made` is what the core made of the program.
   constructor(lines, made) {
     this.text = made.text;
     this.rows = namedRows(made);
     this.lineOf = made.lineOf;
-    this.depths = new Map(lines.map(({ number, depth }) => [number, depth]));
+    this.depths = depthsOf(lines);
     this.masks = this.rows.filter(({ kind }) => kind === CELLS.MASK);
     this.loops = this.rows.filter(({ kind }) => kind === CELLS.LOOP);
     this.privates = this.rows.filter(({ kind }) => kind === CELLS.PRIVATE);

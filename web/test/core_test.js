@@ -218,7 +218,7 @@ function testPardo(core, name) {
 }
 
 const DEEP = 'pardo 1\nrule common\nprocs i < 4\nshared x\nshared y[2]\nprivate z\ncode\n' +
-  'if i < 2\n   for k = 0 to 1\n      z := k\n   end\nelse\n   x := 1\nend\n';
+  'if i < 2\n   for k = 0 to 1\n      z := k\n   end\nelsif i = 3\n   x := 1\nend\n';
 
 // What the core tells of cells and lines.
 function testNames(core) {
@@ -226,7 +226,7 @@ function testNames(core) {
   const names = [0, 1, 2, 3, 6, 7, 11].map((cell) => source.nameOfCell(cell));
   is('names of cells', names.join(),
     'x,y[0],y[1],z of P0,z of P3,loop 1 of P0,mask 1 of P0');
-  is('depths of lines', [...source.depths].join(' '), '8,0 9,1 10,1 11,1 12,0 13,1 14,0');
+  is('depths of lines', [...source.depths].join(' '), '8,0 9,1 10,1 11,1 12,0 13,2 14,0');
   is('a program of the machine', core.lines('pram 3\n').code, CODE.OTHER_LANGUAGE);
   is('it has no job of a program', core.compile('; pardo\npram 3\n').code, CODE.OTHER_LANGUAGE);
 }
@@ -271,7 +271,6 @@ const PARDO_REFUSED = [
   [`${PARDO_HEAD}code\nt := 1`, PROGRAM_FAULT.UNKNOWN_NAME, 7],
   [`${PARDO_HEAD}shared s`, PROGRAM_FAULT.DUPLICATE_NAME, 6],
   [`${PARDO_HEAD}code\nA := 1`, PROGRAM_FAULT.WRONG_KIND, 7],
-  [`${PARDO_HEAD}code\ns := s / 2`, PROGRAM_FAULT.NOT_CONSTANT, 7],
   ['pardo 1\nrule crew\nprocs i < 1025', PROGRAM_FAULT.OUT_OF_LIMITS, 3],
   [`${PARDO_HEAD}shared B[2] = 1`, PROGRAM_FAULT.WRONG_LENGTH, 6],
   [`${PARDO_HEAD}shared B[65536]`, PROGRAM_FAULT.TOO_MANY_CELLS, 6],

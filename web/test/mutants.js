@@ -3,12 +3,12 @@
 const TOKEN = /:=|!=|<=|>=|<<|>>|[A-Za-z_]\w*|\d+|[^\s\w]/g;
 
 const CLASSES = [
-  ['+', '-', '*', '|', '^', '&', '<<', '>>'], ['=', '!=', '<', '<=', '>', '>='], ['and', 'or'],
+  ['+', '-', '*', '|', 'xor', '&', '<<', '>>'], ['=', '!=', '<', '<=', '>', '>='], ['and', 'or'],
   ['min', 'max'], ['to', 'downto'], ['if', 'while'],
 ];
 
 const WORDS = new Set(['if', 'else', 'end', 'for', 'while', 'to', 'downto', 'and', 'or', 'min',
-  'max', 'lg', 'private', 'shared', 'const']);
+  'max', 'xor', 'lg', 'private', 'shared', 'const']);
 
 const isName = (word) => /^[A-Za-z_]/.test(word) && !WORDS.has(word);
 const isNumber = (word) => /^\d/.test(word);
@@ -54,7 +54,7 @@ function* changedLines(code) {
 
 // Operators with what stands behind them, which is left out.
 function* shortened(code) {
-  for (const { 0: part, index } of code.matchAll(/ (?:[-+*|&^]|<<|>>|and|or) \w+/g)) {
+  for (const { 0: part, index } of code.matchAll(/ (?:[-+*|&]|<<|>>|and|or|xor) \w+/g)) {
     yield code.slice(0, index) + code.slice(index + part.length);
   }
 }

@@ -179,7 +179,7 @@ const REFUSED = [
   ['pardo 1\nrule common\nprocs i < 4\ncode\ns := 1\n', 'Line 5: ', 'not known'],
   ['pardo 1\nrule common\nprocs i < 4\nshared i\n', 'Line 4: ', 'It is “i”.'],
   ['pardo 1\nrule common\nprocs i < 4\nshared A[4]\ncode\nA := 1\n', 'Line 6: ', 'needs an index'],
-  ['pardo 1\nrule common\nprocs i < 4\nshared s\ncode\ns := s / 2\n', 'Line 6: ', 'private line'],
+  ['pardo 1\nrule common\nprocs i < 4\nshared s\ncode\ns := 2 ^ s\n', 'Line 6: ', 'exclusive or is xor'],
   ['pardo 1\nrule common\nprocs i < 0\n', 'Line 3: ', '1,024'],
   ['pardo 1\nrule common\nprocs i < 4\nshared A[4] = 1\n', 'Line 4: ', 'values'],
   ['pardo 1\nrule common\nprocs i < 1024\nshared A[65536]\nprivate x\n', 'Line 5: ', '65,536'],

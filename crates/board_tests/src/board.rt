@@ -123,7 +123,8 @@ pub fn third(alloc: Global, text: &str) -> Result<String, Fail> {
     Ok(third_answer(alloc, &job)?)
 }
 
-fn third_answer(alloc: Global, job: &Job) -> Result<String, AllocError> {
+/// What the third worker answers of a job.
+pub fn third_answer(alloc: Global, job: &Job) -> Result<String, AllocError> {
     let (board, seat) = Board::open_with_blocks(alloc, job, 3, 4)?;
     let (seat, rest) = board.split(seat);
     let (other, mut last) = board.split(rest);

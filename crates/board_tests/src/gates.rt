@@ -146,7 +146,7 @@ const SET: &str = "pram 1\ncells 1\nprocs 1\nsteps 1\ncode\nset r0 7\n";
 pub const LATER: &str = "pram 1\ncells 1\nprocs 1\nsteps 2\ninit 0 4\ncode\n\
     set r1 7\nst r0 r1\n";
 
-pub const BELOW_ZERO: &str = "pram 1\ncells 1\nprocs 1\nsteps 3\ncode\n\
+const BELOW_ZERO: &str = "pram 1\ncells 1\nprocs 1\nsteps 3\ncode\n\
     set r1 1\nsub r2 r0 r1\nst r0 r2\n";
 
 // Two cells, each of which two processors write to.

@@ -1,10 +1,10 @@
 //! Answers that are heard while a worker is held, and after all have left.
-ghost use Rattle.std.specs.Prelude.{◌≡◌, ◌≤◌, ⊤};
+ghost use Rattle.std.specs.Prelude.{⊤};
 
-use crate::gates::{BELOW_ZERO, LATER, SWAP, TWO_CELLS};
+use crate::gates::{SWAP, TWO_CELLS};
 use crate::jobs::plan_of;
 use pram_board::Board;
-use pram_run::{Assignment, Listener, Observation, ReadsNothing, run_heard};
+use pram_run::{Bell, Listener, ReadsNothing, Shared, run_heard};
 use pram_step::RunAnswer;
 use pram_text::read_job;
 use std::alloc::AllocError;
@@ -16,7 +16,7 @@ use std::test::Fail;
 use std::thread;
 use std::thread::Threads;
 use std::time::Duration;
-use stop_plan::{Gate, Open};
+use stop_plan::Gate;
 
 // The polls of a hold, a millisecond each.
 const LIMIT: u32 = 10_000;
@@ -59,7 +59,7 @@ impl<C: Clock> Gate for Held<'_, C> {
     }
 }
 
-// How a run ended, as it was heard.
+// How a run ended, as it was heard; the step of a conflict, or the last finished one.
 #[derive(Clone, Copy, PartialEq, Eq)]
 enum Sound {
     Done,
@@ -91,42 +91,29 @@ impl Listener for Hears<'_> {
     }
 }
 
-// What is heard of a run of so many workers under rows of a plan, at a gate.
+// What is heard of a run of three workers under rows of a plan, at a gate.
 fn heard_at<G: Gate + Sync>(
     rt: &(impl AllocGlobal + Abort + Threads + Wait),
     text: &str,
-    workers: u32,
     rows: &str,
     gate: &G,
     ear: &Ear,
-) -> Result<Sound, Fail>
-    requires some { 1 ≤ workers }
-    requires most { workers ≤ 64 }
-{
+) -> Result<Sound, Fail> {
     let alloc = rt.alloc();
     let job = read_job(alloc, text.as_bytes())?;
-    let plan = plan_of(rt, workers, rows)?;
-    let (board, seat) = Board::open_wide(alloc, &job, workers)?;
-    let observation = Observation {
-        assignment: Assignment {
-            job: &job,
-            board: &board,
-            plan: &plan,
-            gate,
-        },
-        cells: &[],
-        rounds: 0,
-        piece: 0,
-    };
+    let plan = plan_of(rt, 3, rows)?;
+    let (board, seat) = Board::open_wide(alloc, &job, 3)?;
+    let bell = Bell::new();
+    let shared = Shared::new(alloc, &job, &board, &plan, gate, &bell);
     let reader = ReadsNothing {
         listener: Hears { ear },
     };
-    let (_seat, ended, sound) = run_heard(rt, alloc, &observation, seat, reader);
+    let (_seat, ended, sound) = run_heard(rt, &shared, seat, reader);
     assert!(rt; ended.is_ok());
     Ok(sound)
 }
 
-// Of three workers the first one is held until this is heard. No hold meets its limit.
+// The first worker is held until this is heard. No hold meets its limit.
 fn expect_heard<C: Clock + Sync + Drop>(
     rt: &(impl AllocGlobal + Abort + Threads + Wait),
     clock: C,
@@ -136,41 +123,30 @@ fn expect_heard<C: Clock + Sync + Drop>(
 ) -> Result<(), Fail> {
     let ear = Ear::new();
     let gate = Held { clock, ear: &ear };
-    let sound = heard_at(rt, text, 3, plan, &gate, &ear)?;
-    assert!(rt; sound == wanted);
-    assert!(rt; !ear.let_go.load(Ordering::SeqCst));
+    let sound = heard_at(rt, text, plan, &gate, &ear)?;
+    assert!(rt; sound == wanted && !ear.let_go.load(Ordering::SeqCst));
     Ok(())
 }
+
+// Texts, plans, and what is heard.
+const HEARD: [(&str, &str, Sound); 5] = [
+    (SWAP, "", Sound::Done),
+    (SWAP, "1,go,30~1,stop,0~", Sound::Done),
+    (SWAP, "0,sleep,4294967295~", Sound::Done),
+    (TWO_CELLS, "2,stop,0~", Sound::Conflict(4)),
+    (
+        SWAP,
+        "0,stop,0~1,stop,0~2,go,9~2,stop,0~",
+        Sound::Unfinished(0),
+    ),
+];
 
 // The answer is heard while worker 0 stands before its first step; where every worker is stopped,
 // that is heard once they have left.
 #[test]
 fn an_answer_is_heard_while_a_worker_is_held(rt: HostRuntime) -> Result<(), Fail> {
-    expect_heard(&rt, rt.clone()?, SWAP, "", Sound::Done)?;
-    expect_heard(&rt, rt.clone()?, SWAP, "1,go,30~1,stop,0~", Sound::Done)?;
-    expect_heard(&rt, rt.clone()?, SWAP, "0,sleep,4294967295~", Sound::Done)?;
-    expect_heard(&rt, rt.clone()?, TWO_CELLS, "2,stop,0~", Sound::Conflict(4))?;
-    let all_stop = "0,stop,0~1,stop,0~2,go,9~2,stop,0~";
-    expect_heard(&rt, rt.clone()?, SWAP, all_stop, Sound::Unfinished(0))
-}
-
-// One worker leaves this step unfinished.
-fn expect_unfinished(
-    rt: &(impl AllocGlobal + Abort + Threads + Wait),
-    text: &str,
-    plan: &str,
-    step: u32,
-) -> Result<(), Fail> {
-    let sound = heard_at(rt, text, 1, plan, &Open, &Ear::new())?;
-    assert!(rt; sound == Sound::Unfinished(step));
+    for (text, plan, wanted) in &HEARD {
+        expect_heard(&rt, rt.clone()?, text, plan, *wanted)?;
+    }
     Ok(())
-}
-
-// One worker finishes step 1 with its thirtieth tick: what it leaves is told, and nothing less.
-#[test]
-fn an_unfinished_step_is_the_last_finished_one(rt: HostRuntime) -> Result<(), Fail> {
-    expect_unfinished(&rt, BELOW_ZERO, "0,stop,0~", 0)?;
-    expect_unfinished(&rt, BELOW_ZERO, "0,go,28~0,stop,0~", 0)?;
-    expect_unfinished(&rt, BELOW_ZERO, "0,go,30~0,stop,0~", 1)?;
-    expect_unfinished(&rt, LATER, "0,go,30~0,stop,0~", 1)
 }

@@ -49,6 +49,8 @@ long swap : pram 1~cells 2~procs 2~steps 20~init 0 7~init 1 9~code~pid r0~set r1
     ld r2 r1~st r0 r2~
 count : pram 1~cells 4~procs 4~steps 12~code~pid r0~set r2 1~again: ld r1 r0~add r1 r1 r2~\
     st r0 r1~jmp again~
+divided : pram 3~cells 2~procs 2~steps 4~rule crew~init 0 5 6~code~pid r0~set r1 7~div r2 r1 r0~\
+    st r0 r2~
 no steps : pram 1~cells 1~procs 1~steps 0~init 0 5~code~halt~
 ";
 

@@ -125,6 +125,8 @@ swap -> [9, 7], [9, 7]
 numbers, common -> conflict 5 4 1 3, conflict 5 4 1 3
 numbers, priority -> [0, 1, 0, 1, 1], [0, 1, 0, 1, 1]
 equal, crew -> conflict 5 4 1 3, conflict 5 4 1 3
+-- who divides by 0 writes nothing
+divided -> [5, 7], [5, 7]
 $ board twin
 swap -> [9, 7]
 numbers, common -> conflict 5 4 1 3
@@ -148,6 +150,10 @@ const RUNS: &str = "\
 $ run
 1 : set -> [0]
 1 under 0,go,8~0,stop,0~ : set -> unfinished 0
+-- one worker finishes step 1 with its thirtieth tick: what it leaves is told, and nothing less
+1 under 0,stop,0~ : below zero -> unfinished 0
+1 under 0,go,28~0,stop,0~ : below zero -> unfinished 0
+1 under 0,go,30~0,stop,0~ : below zero -> unfinished 1
 2 under 0,go,50~0,sleep,9~1,back,0~ : swap -> [9, 7]
 3 under 1,go,40~1,stop,0~2,stop,0~ : two cells -> conflict 4 0 0 2
 64 : below zero -> [4294967295]

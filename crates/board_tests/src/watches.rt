@@ -4,7 +4,7 @@ ghost use Rattle.std.specs.Prelude.{◌≡◌, ⊤, false};
 
 use crate::gates::LATER;
 use pram_board::{Board, Seat};
-use pram_run::{Assignment, Listener, Numbers, Observation, Reads, Sight, print_reads, run_heard};
+use pram_run::{Bell, Listener, Numbers, Reads, Shared, Sight, print_reads, run_heard};
 use pram_step::RunAnswer;
 use pram_streams::{Failed, IntoWrite, PrintFault, Sink};
 use pram_text::read_job;
@@ -97,12 +97,12 @@ impl<W: Sink> Reads for Prints<'_, W> {
 
     fn read<G: Gate>(
         self,
-        observation: &Observation<'_, '_, G>,
+        shared: &Shared<'_, G>,
         seat: &mut Seat,
         sights: &mut Vec<Sight>,
     ) -> Self {
         let Prints { took, sink, .. } = self;
-        let printed = print_reads(observation, seat, sights, sink, &Numbers);
+        let printed = print_reads(shared, seat, sights, sink, &Numbers);
         Prints {
             took,
             sink,
@@ -125,26 +125,17 @@ fn watched<W: Sink, G: Gate + Sync>(
     let job = read_job(alloc, LATER.as_bytes())?;
     let plan = Plan::empty(alloc, 2);
     let (board, seat) = Board::open(alloc, &job, 2)?;
-    let assignment = Assignment {
-        job: &job,
-        board: &board,
-        plan: &plan,
-        gate,
-    };
+    let bell = Bell::new();
+    let shared = Shared::new(alloc, &job, &board, &plan, gate, &bell);
     assert!(rt; job.cells() == 1);
-    let observation = Observation {
-        assignment,
-        cells: &[0],
-        rounds: 2,
-        piece,
-    };
+    let shared = shared.reading(&[0], 2, piece);
     let printed = Ok(());
     let reader = Prints {
         took,
         sink,
         printed,
     };
-    let (_seat, ended, heard) = run_heard(rt, alloc, &observation, seat, reader);
+    let (_seat, ended, heard) = run_heard(rt, &shared, seat, reader);
     assert!(rt; ended.is_ok());
     Ok(heard)
 }

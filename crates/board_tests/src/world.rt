@@ -4,7 +4,6 @@ ghost use Rattle.std.specs.Prelude.{◌≡◌, IfOk};
 use crate::jobs::answer_text;
 use crate::worker::{Bench, WRITTEN, sees_the_older_value};
 use pram_job::Job;
-use pram_step::RunAnswer;
 use pram_text::read_job;
 use pram_words::Layout;
 use pram_world::{Effect, Event, World, laws};
@@ -152,55 +151,4 @@ fn a_read_between_two_steps_sees_the_older_one(rt: HostRuntime) -> Result<(), Fa
     let words = words_of(rt.alloc(), &world)?;
     sees_the_older_value(&rt, &Bench { job, layout }, words.as_slice());
     Ok(())
-}
-
-// A world of two workers. Where memory is refused, the same call is made again.
-fn world_again(alloc: Global, job: &Job, refused: &mut u32) -> Result<World, AllocError>
-    ensures { IfOk result (λ w. w.layout.workers ≡ 2) }
-{
-    match world(alloc, job) {
-        Ok(world) => Ok(world),
-        Err(_) => {
-            *refused = 1;
-            world(alloc, job)
-        }
-    }
-}
-
-// A twin of worker 1, likewise.
-fn twin_again(world: &mut World, refused: &mut u32) -> Result<usize, AllocError>
-    requires { world.old.layout.workers ≡ 2 }
-{
-    match world.twin(1) {
-        Ok(twin) => Ok(twin),
-        Err(_) => {
-            *refused = 1;
-            world.twin(1)
-        }
-    }
-}
-
-// How a world ended, likewise.
-fn outcome_again(world: &World, refused: &mut u32) -> Result<RunAnswer, AllocError> {
-    match world.outcome() {
-        Ok(answer) => Ok(answer),
-        Err(_) => {
-            *refused = 1;
-            world.outcome()
-        }
-    }
-}
-
-/// How a twin of worker 1 ends, and what the words say. A growth that is refused, as by `rt try
-/// --fail-alloc`, is told, and the same call then succeeds.
-pub fn twin_ends_again(
-    alloc: Global,
-    job: &Job,
-    refused: &mut u32,
-) -> Result<(Option<Ended>, RunAnswer), AllocError> {
-    let mut world = world_again(alloc, job, refused)?;
-    let twin = twin_again(&mut world, refused)?;
-    let end = world.finish(twin);
-    let answer = outcome_again(&world, refused)?;
-    Ok((end, answer))
 }

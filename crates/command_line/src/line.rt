@@ -1,6 +1,6 @@
 //! The command line.
 ghost use Rattle.std.specs.Prelude.{◌≡◌, ◌≢◌, ◌≤◌, ◌-◌, ◌^◌, Some, codes};
-ghost use Rattle.std.specs.Prelude.{true, false, map, IfOk, IfErr, IfSome};
+ghost use Rattle.std.specs.Prelude.{true, false, map, IfOk, IfErr, IfSome, MatchOption};
 ghost use Rattle.clap.specs.Words.{App, Rule, app_of, first_of, found_of, kind_of, with_rule};
 ghost use Rattle.clap.specs.Words.{rows_of, rule_of, subcommand_of, subcommand_rows_of};
 ghost use Rattle.clap.specs.Words.{with_subcommand};
@@ -101,7 +101,10 @@ pub fn read_line<'a>(
     ensures kinds { FailsByWords (map (λ word. word.now) words.entry.now) result }
 {
     let matches = command(alloc)?.try_get_matches_from(words)?;
-    if let Some(bad) = bad_value(&matches) {
+    let Some(found) = bad_value(&matches) else {
+        return Err(Error::from(AllocError));
+    };
+    if let Some(bad) = found {
         return Err(value_error(alloc, bad)?);
     }
     match asked_of(&matches, on_terminal) {
@@ -121,51 +124,63 @@ enum BadValue<'a> {
     Window { from: u32, to: u32 },
 }
 
-// The first value that makes no line, if there is one.
-fn bad_value<'a>(matches: &ArgMatches<'a>) -> Option<BadValue<'a>>
-    ensures { IfSome result (λ bad. HasBadValue (subcommand_rows_of matches.now)) }
+// The first value that makes no line, or that there is none; nothing where memory ran out.
+fn bad_value<'a>(matches: &ArgMatches<'a>) -> Option<Option<BadValue<'a>>>
+    ensures { IfSome result (λ found. MatchOption found
+        (¬ HasBadValue (subcommand_rows_of matches.now))
+        (λ bad. HasBadValue (subcommand_rows_of matches.now))) }
 {
     let (name, inner) = matches.subcommand()?;
     match name {
         "steps" => bad_window(inner),
         "run" => bad_block(inner, false),
-        "watch" => match bad_cells(inner) {
-            Some(text) => Some(BadValue::Cells(text)),
+        "watch" => match bad_cells(inner)? {
+            Some(text) => Some(Some(BadValue::Cells(text))),
             None => bad_block(inner, true),
         },
-        _ => None,
+        _ => Some(None),
     }
 }
 
-fn bad_cells<'a>(inner: &ArgMatches<'a>) -> Option<&'a str>
-    ensures { IfSome result (λ text. HasBadCells (rows_of (found_of inner.now))) }
+fn bad_cells<'a>(inner: &ArgMatches<'a>) -> Option<Option<&'a str>>
+    ensures { IfSome result (λ found. MatchOption found
+        (¬ HasBadCells (rows_of (found_of inner.now)))
+        (λ text. HasBadCells (rows_of (found_of inner.now)))) }
 {
     let text = inner.get_str("cells")?;
     match CellList::read(text) {
-        Some(_) => None,
-        None => Some(text),
+        Some(_) => Some(None),
+        None => Some(Some(text)),
     }
 }
 
-fn bad_block<'a>(inner: &ArgMatches<'a>, watches: bool) -> Option<BadValue<'a>>
-    ensures { IfSome result (λ bad. HasBadBlock (rows_of (found_of inner.now))) }
+fn bad_block<'a>(inner: &ArgMatches<'a>, watches: bool) -> Option<Option<BadValue<'a>>>
+    ensures { IfSome result (λ found. MatchOption found
+        (¬ HasBadBlock (rows_of (found_of inner.now)))
+        (λ bad. HasBadBlock (rows_of (found_of inner.now)))) }
 {
-    let text = inner.get_str("block")?;
-    let size = inner.get_one::<u32>("block")?;
+    let Some(size) = number_if_set(inner, "block")? else {
+        return Some(None);
+    };
     match Block::of(size) {
-        Some(_) => None,
-        None => Some(BadValue::Block { watches, text }),
+        Some(_) => Some(None),
+        None => {
+            let text = inner.get_str("block")?;
+            Some(Some(BadValue::Block { watches, text }))
+        }
     }
 }
 
-fn bad_window(inner: &ArgMatches<'_>) -> Option<BadValue<'static>>
-    ensures { IfSome result (λ bad. HasBadWindow (rows_of (found_of inner.now))) }
+fn bad_window(inner: &ArgMatches<'_>) -> Option<Option<BadValue<'static>>>
+    ensures { IfSome result (λ found. MatchOption found
+        (¬ HasBadWindow (rows_of (found_of inner.now)))
+        (λ bad. HasBadWindow (rows_of (found_of inner.now)))) }
 {
     let (from, to) = window_of(inner)?;
     if to < from {
-        Some(BadValue::Window { from, to })
+        Some(Some(BadValue::Window { from, to }))
     } else {
-        None
+        Some(None)
     }
 }
 
@@ -249,7 +264,7 @@ fn bare_command<'a>(alloc: Global) -> Command<'a>
     ensures { app_of result ≡ bare }
 {
     Command::new(alloc, "pramx")
-        .version("0.3.0")
+        .version("0.4.0")
         .about("Runs programs of a synchronous parallel machine with shared memory.")
         .after_help(EXAMPLES)
         .subcommand_required(true)
@@ -479,6 +494,7 @@ fn asked_of<'a>(matches: &ArgMatches<'a>, on_terminal: bool) -> Option<Asked<'a>
     })
 }
 
+#[tactic(auto, using(crate::proofs::Matches::met_file))]
 fn line_of<'a>(matches: &ArgMatches<'a>, on_terminal: bool) -> Option<Line<'a>>
     ensures met { IfSome result (IsMet (subcommand_rows_of matches.now)) }
     ensures suits { IfSome result (λ line. SuitsTerminal on_terminal (telling_of line.ask)) }

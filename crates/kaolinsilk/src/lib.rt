@@ -5,7 +5,7 @@
 pub use pram_board::{Board, Progress, Seat, Stay};
 pub use pram_job::{Job, Rule};
 pub use pram_run::{
-    Assignment, Listener, Observation, Reads, ReadsNothing, Sight, run, run_heard, watch,
+    Bell, Listener, Reads, ReadsNothing, Shared, Sight, run, run_beside, run_heard, watch,
 };
 pub use pram_step::{Cells, Fault, RunAnswer};
 pub use pram_text::{TextFault, TextKind, read_job};

@@ -1,5 +1,5 @@
 //! What the calls say of a text.
-use crate::{moments, plans, printed, programs, texts, words};
+use crate::{moments, plans, printed, programs, slips, texts, words};
 use failing_devices::Trickle;
 use std::alloc::Global;
 use std::str;
@@ -12,7 +12,8 @@ pub fn said(alloc: Global, call: &str, given: &str, text: &str) -> Result<String
     match kind {
         "text" => texts::said(alloc, call, given, text),
         "job" => moments::said(alloc, call, given, text),
-        "program" => programs::said(alloc, call, text),
+        "program" => programs::said(alloc, call, given, text),
+        "slip" => slips::said(alloc, given, text),
         "plan" => plans::plan(alloc, given, text),
         "board" => words::words(alloc, given, text),
         _ => printed_whole(alloc, call, given, text),

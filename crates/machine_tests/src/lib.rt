@@ -16,6 +16,8 @@ mod printed;
 #[cfg(test)]
 mod programs;
 #[cfg(test)]
+mod slips;
+#[cfg(test)]
 mod table;
 #[cfg(test)]
 mod texts;

@@ -180,6 +180,10 @@ pram 3~cells 8~procs 4~steps 9~rule crew~array A 1 3~array B 4 4~init 0 9 20 30 
 pram 3~cells 8~procs 4~steps 8~rule crew~array A 1 3~array B 4 4~init 0 9 20 30 40~code~pid r0~\
     ld r1 A r0~add r1 r1 4294967295~shl r2 r1 r0~shr r2 r2 1~st B r0 r2~st B 3 r2~halt~ \
     -> conflict 7 7 0 1 -- a store into one place of an array
+-- quotient and remainder of 17 by each processor's number; who divides by 0 writes nothing
+pram 3~cells 6~procs 3~steps 9~rule crew~array A 0 3~array B 3 3~code~pid r0~set r1 17~\
+    div r2 r1 r0~rem r3 r1 r0~mul r2 r2 10~add r2 r2 r3~st A r0 r2~rem r3 r2 7~st B r0 r3~ \
+    -> [0, 170, 81, 0, 2, 4]
 -- what is wrong with a step, and the places after it, twice: an address out of range stops its \
     processor, and a step against the rule changes nothing
 $ job steps
@@ -210,6 +214,9 @@ $ job fates
 3 : pram 1~cells 2~procs 4~steps 9~code~pid r0~ld r1 r0~set r2 0~st r2 r0~ \
     -> running count=2 first=0 line=9~lost processor=2 step=2 line=7~
 4 : same -> lost processor=2 step=2 line=7~
+-- one that divides by 0, and one whose remainder is by 0
+4294967295 : pram 3~cells 1~procs 3~steps 9~rule common~code~pid r0~set r1 9~div r2 r1 r0~\
+    eq r0 r0 1~rem r2 r1 r0~halt~ -> stopped step=6~lost processor=0 step=3 line=9~
 -- the line of an instruction
 $ text line
 2 : pram 1~cells 2~procs 4~steps 9~init 0 5~ code ; and so on~pid r0~ld r1 r0~st r0 r1~ -> 9

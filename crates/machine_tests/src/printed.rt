@@ -354,6 +354,8 @@ fn each_instruction_as_a_text_spells_it(rt: HostRuntime) -> Result<(), Fail> {
         (Instr::Eq(0, 1, Operand::Register(2)), "eq r0 r1 r2"),
         (Instr::Shl(0, 1, Operand::Number(31)), "shl r0 r1 31"),
         (Instr::Shr(0, 1, Operand::Register(2)), "shr r0 r1 r2"),
+        (Instr::Div(0, 1, Operand::Number(10)), "div r0 r1 10"),
+        (Instr::Rem(0, 1, Operand::Register(2)), "rem r0 r1 r2"),
         (Instr::Ld(1, Place::Cell(Operand::Register(2))), "ld r1 r2"),
         (
             Instr::Ld(1, Place::Named(array, Operand::Number(3))),

@@ -132,6 +132,8 @@ pram 3~cells 9~procs 1~steps 1~rule crew~array A 2 4~array .r0 8 1~init 1 7 8 9~
     st 8 r1~st r0 7~st A r3 9~st .r0 0 r2~ \
     -> Crew 9 1 1 [6, 7, 8, 9, 0, 0, 0, 0, 0]~add r0 r1 4294967295~eq r0 r1 r2~shl r0 r1 31~\
     shr r2 r3 r0~ld r1 5~ld r1 2..5 3~ld r1 8..8 r2~st 8 r1~st r0 7~st 2..5 r3 9~st 8..8 0 r2~
+pram 3~cells 1~procs 1~steps 1~rule common~code~div r1 r2 8~rem r0 r1 r3~ \
+    -> Common 1 1 1 [0]~div r1 r2 8~rem r0 r1 r3~
 pram 2~cells 1~procs 1~steps 1~rule common~code~halt~ -> Common 1 1 1 [0]~halt~
 pram 2~cells 1~procs 1~steps 1~rule priority~code~halt~ -> Priority 1 1 1 [0]~halt~
 pram 2~cells 1~procs 1~steps 1~rule crew~code~halt~ -> Crew 1 1 1 [0]~halt~

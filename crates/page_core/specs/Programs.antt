@@ -11,7 +11,7 @@ use Rattle.pardo_text.specs.declared.fault.PardoKind.{PardoKind}
 use Rattle.pardo_text.specs.declared.fault.PardoKind.TheVariants.{NotAscii, BadSymbol, BadHeader}
 use Rattle.pardo_text.specs.declared.fault.PardoKind.TheVariants.{BadLine, UnknownName}
 use Rattle.pardo_text.specs.declared.fault.PardoKind.TheVariants.{DuplicateName, WrongKind}
-use Rattle.pardo_text.specs.declared.fault.PardoKind.TheVariants.{NotConstant, OutOfLimits}
+use Rattle.pardo_text.specs.declared.fault.PardoKind.TheVariants.{OutOfLimits}
 use Rattle.pardo_text.specs.declared.fault.PardoKind.TheVariants.{WrongLength, TooManyCells}
 use Rattle.pardo_text.specs.declared.fault.PardoKind.TheVariants.{BadBlock, OpenBlock, NoCode}
 use Rattle.pardo_text.specs.declared.fault.PardoKind.TheVariants as text_kind
@@ -55,7 +55,6 @@ text_kind_code BadLine = 4
 text_kind_code UnknownName = 5
 text_kind_code DuplicateName = 6
 text_kind_code WrongKind = 7
-text_kind_code NotConstant = 8
 text_kind_code OutOfLimits = 9
 text_kind_code WrongLength = 10
 text_kind_code TooManyCells = 11

@@ -238,7 +238,6 @@ fn number_of_text_kind(kind: PardoKind) -> u32
         PardoKind::UnknownName => 5,
         PardoKind::DuplicateName => 6,
         PardoKind::WrongKind => 7,
-        PardoKind::NotConstant => 8,
         PardoKind::OutOfLimits => 9,
         PardoKind::WrongLength => 10,
         PardoKind::TooManyCells => 11,

@@ -1,5 +1,5 @@
 -- The code of an expression leaves its value in its register, and keeps what was taken; where there
--- is no value it names a place that there is not.
+-- is no value it names a place that there is not, or divides by 0.
 use Rattle.std.proofs.Common.{◌≡◌, ℕ, ◌+◌, ◌^◌, ◌<◌, ◌≤◌, nat_lt, Bool, true, false, ◌&&◌}
 use Rattle.std.proofs.Common.{List, [], ◌∷◌, ◌++◌, length, Option, Some, None, refl, sym, ap, ◌∙◌}
 use Rattle.std.proofs.Common.{subst, inl, inr, arith, if◌then◌else◌}
@@ -13,7 +13,7 @@ use Rattle.pram_job.specs.declared.instr.Operand.TheVariants.{Register}
 use Rattle.pram_job.specs.declared.instr.Place.TheVariants.{Named}
 use Rattle.pardo_text.specs.declared.operation.Op.{Op}
 use Rattle.pardo_text.specs.Expression.{Tree, number, own, loop, private, place, apply}
-use Rattle.pardo_text.specs.Operations.{operation_value, is_division}
+use Rattle.pardo_text.specs.Operations.{operation_value, worked_out}
 use Rattle.pardo_text.specs.Program.{ProgramData}
 use Rattle.pardo_job.specs.Layouts.{ProgramLayoutData, private_cells, loop_cells, array_cells}
 use Rattle.pardo_job.specs.Lawful.{IsLawfulTree}
@@ -28,7 +28,8 @@ use Rattle.pardo_job.proofs.Straight.{put_same, put_other, after_append, after_f
 use Rattle.pardo_job.proofs.Shallow.{shallow_front, shallow_back}
 use Rattle.pardo_job.proofs.Choosing.{not_kept}
 use Rattle.pardo_job.proofs.Choices.{IsAt, taken_one}
-use Rattle.pardo_job.proofs.Applying.{IsTruth, Operands, computes_operation}
+use Rattle.pardo_job.proofs.Applying.{IsTruth, Operands}
+use Rattle.pardo_job.proofs.Dividing.{ComputesTo, computes_found, worked_value}
 use Rattle.pardo_job.proofs.Truths.{truth_value}
 use Rattle.pardo_job.proofs.Below.{operation_below, value_below}
 use Rattle.pardo_job.proofs.Fits.{value_fits}
@@ -178,14 +179,48 @@ both_truths true true e = (refl, refl)
 both_truths true false e = no_truth e
 both_truths false t e = no_truth e
 
+-- what comes of two values
+after_operation : (memory : ℕ → ℕ) (i at : ℕ) (op : Op) (first second : Tree)
+    (layout : ProgramLayoutData) (held : Registers) (a b : ℕ)
+    (c : Evaluated memory i held layout at first a)
+    (d : Evaluated memory i c.now layout (at + takes first) second b) → (o : Option ℕ) →
+    worked_out op a b ≡ o → ((is_truth first && is_truth second) ≡ true → IsTruth a × IsTruth b) →
+    ComputesTo memory i d.now at (operation_code at op (is_truth first && is_truth second)
+    (value_operand at first) (value_operand (at + takes first) second)) o →
+    EvaluatesTo memory i held layout at (apply op first second) o
+after_operation memory i at op first second layout held a b c d None is truths e =
+    let front : List Instr = value_code layout at first in
+    let middle : List Instr = value_code layout (at + takes first) second in
+    let back : List Instr = operation_code at op (is_truth first && is_truth second)
+    (value_operand at first) (value_operand (at + takes first) second) in
+    after_front memory i front (middle ++ back) held c.now c.runs
+    ∙ after_front memory i middle back c.now d.now d.runs ∙ e
+after_operation memory i at op first second layout held a b c d (Some v) is truths e =
+    let front : List Instr = value_code layout at first in
+    let middle : List Instr = value_code layout (at + takes first) second in
+    let back : List Instr = operation_code at op (is_truth first && is_truth second)
+    (value_operand at first) (value_operand (at + takes first) second) in
+    let value_is : operation_value op a b ≡ v = worked_value op a b v is in record {
+      now = e.now;
+      runs = after_front memory i front (middle ++ back) held c.now c.runs
+          ∙ after_front memory i middle back c.now d.now d.runs ∙ e.runs;
+      gives = e.gives;
+      keeps = λ which kept. e.keeps which kept ∙
+          d.keeps which (more_kept at (takes first) which kept)
+          ∙ c.keeps which kept;
+      fits = subst (λ x. x < 2 ^ 32) value_is (value_fits op a b c.fits d.fits);
+      truth = λ yes. subst IsTruth value_is
+          (truth_value op (is_truth first && is_truth second) a b yes truths);
+    }
+
 apply_evaluates : (memory : ℕ → ℕ) (i at : ℕ) (op : Op) (first second : Tree)
     (layout : ProgramLayoutData)
-    (held : Registers) (a b : ℕ) → is_division op ≡ false → held 3 ≡ i →
+    (held : Registers) (a b : ℕ) → held 3 ≡ i →
     is_shallow (value_code layout at (apply op first second)) ≡ true →
     (c : Evaluated memory i held layout at first a) →
     Evaluated memory i c.now layout (at + takes first) second b →
-    Evaluated memory i held layout at (apply op first second) (operation_value op a b)
-apply_evaluates memory i at op first second layout held a b plain own_i shallow c d =
+    EvaluatesTo memory i held layout at (apply op first second) (worked_out op a b)
+apply_evaluates memory i at op first second layout held a b own_i shallow c d =
     let up : ℕ = at + takes first in
     let t : Bool = is_truth first && is_truth second in
     let front : List Instr = value_code layout at first in
@@ -214,40 +249,29 @@ apply_evaluates memory i at op first second layout held a b plain own_i shallow 
       first_is = operand_stays at first c.now d.now d.keeps ∙ c.gives;
       second_is = d.gives;
     } in
-    let e : Computes memory i d.now at back (operation_value op a b) =
-    computes_operation op t memory i at a b d.now x y plain operands truths last in
-    record {
-      now = e.now;
-      runs = after_front memory i front (middle ++ back) held c.now c.runs
-          ∙ after_front memory i middle back c.now d.now d.runs ∙ e.runs;
-      gives = e.gives;
-      keeps = λ which kept. e.keeps which kept ∙
-          d.keeps which (more_kept at (takes first) which kept)
-          ∙ c.keeps which kept;
-      fits = value_fits op a b plain c.fits d.fits;
-      truth = λ is. truth_value op t a b is truths;
-    }
+    after_operation memory i at op first second layout held a b c d (worked_out op a b) refl truths
+    (computes_found op t memory i at a b d.now x y operands truths last)
 
 apply_values : (memory : ℕ → ℕ) (i at : ℕ) (op : Op) (first second : Tree)
     (layout : ProgramLayoutData)
-    (held : Registers) → is_division op ≡ false → held 3 ≡ i →
+    (held : Registers) → held 3 ≡ i →
     is_shallow (value_code layout at (apply op first second)) ≡ true →
     (a b : Option ℕ) → EvaluatesTo memory i held layout at first a →
     ((now : Registers) → now 3 ≡ i → EvaluatesTo memory i now layout (at + takes first) second b) →
     EvaluatesTo memory i held layout at (apply op first second)
-    (option_and_then (λ x. option_map (operation_value op x) b) a)
-apply_values memory i at op first second layout held plain own_i shallow None b c d =
+    (option_and_then (λ x. option_and_then (worked_out op x) b) a)
+apply_values memory i at op first second layout held own_i shallow None b c d =
     none_after memory i (value_code layout at first) (value_code layout (at + takes first) second
     ++ operation_code at op (is_truth first && is_truth second) (value_operand at first)
     (value_operand (at + takes first) second)) held c
-apply_values memory i at op first second layout held plain own_i shallow (Some a) None c d =
+apply_values memory i at op first second layout held own_i shallow (Some a) None c d =
     let back : List Instr = operation_code at op (is_truth first && is_truth second)
     (value_operand at first) (value_operand (at + takes first) second) in
     let middle : List Instr = value_code layout (at + takes first) second in
     after_front memory i (value_code layout at first) (middle ++ back) held c.now c.runs
     ∙ none_after memory i middle back c.now (d c.now (c.keeps 3 (inr refl) ∙ own_i))
-apply_values memory i at op first second layout held plain own_i shallow (Some a) (Some b) c d =
-    apply_evaluates memory i at op first second layout held a b plain own_i shallow c
+apply_values memory i at op first second layout held own_i shallow (Some a) (Some b) c d =
+    apply_evaluates memory i at op first second layout held a b own_i shallow c
     (d c.now (c.keeps 3 (inr refl) ∙ own_i))
 
 -- ---- expressions
@@ -312,12 +336,12 @@ evaluates program layout source memory i sees (apply op first second) at held ow
     let middle : List Instr = value_code layout (at + takes first) second in
     let back : List Instr = operation_code at op (is_truth first && is_truth second)
     (value_operand at first) (value_operand (at + takes first) second) in
-    apply_values memory i at op first second layout held is.0 own_i shallow
+    apply_values memory i at op first second layout held own_i shallow
     (value program source i first) (value program source i second)
-    (evaluates program layout source memory i sees first at held own_i is.1.0
+    (evaluates program layout source memory i sees first at held own_i is.0
     (shallow_front (value_code layout at first) (middle ++ back) shallow))
     (λ now now_i. evaluates program layout source memory i sees second (at + takes first) now now_i
-    is.1.1
+    is.1
     (shallow_front middle back (shallow_back (value_code layout at first) (middle ++ back)
     shallow)))
 

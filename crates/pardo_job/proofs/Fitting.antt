@@ -63,8 +63,8 @@ instruction_fits : (cells len : ℕ) (op : Op) (at first : ℕ) (second : Operan
 instruction_fits cells len Add at first second a f s = (a, f, s)
 instruction_fits cells len Sub at first second a f s = (a, f, s)
 instruction_fits cells len Mul at first second a f s = (a, f, s)
-instruction_fits cells len Div at first second a f s = (a, (let z : 0 < 2 ^ 32 = omega arith in z))
-instruction_fits cells len Rem at first second a f s = (a, (let z : 0 < 2 ^ 32 = omega arith in z))
+instruction_fits cells len Div at first second a f s = (a, f, s)
+instruction_fits cells len Rem at first second a f s = (a, f, s)
 instruction_fits cells len Shl at first second a f s = (a, f, s)
 instruction_fits cells len Shr at first second a f s = (a, f, s)
 instruction_fits cells len BitAnd at first second a f s = (a, f, s)
@@ -366,10 +366,10 @@ value_fits cells len layout at (apply op first second) laid lawful shallow =
     let quiet : is_shallow front ≡ true = shallow_front front (middle ++ back) shallow in
     let quiet_too : is_shallow middle ≡ true = shallow_front middle back after in
     fit_both cells len front (middle ++ back)
-    (value_fits cells len layout at first laid lawful.1.0 quiet)
+    (value_fits cells len layout at first laid lawful.0 quiet)
     (fit_both cells len middle back
-    (value_fits cells len layout up second laid lawful.1.1 quiet_too)
+    (value_fits cells len layout up second laid lawful.1 quiet_too)
     (operation_fits cells len op at (is_truth first && is_truth second) (value_operand at first)
     (value_operand up second)
-    (operand_fits layout at first lawful.1.0 quiet)
-    (operand_fits layout up second lawful.1.1 quiet_too) (shallow_back middle back after)))
+    (operand_fits layout at first lawful.0 quiet)
+    (operand_fits layout up second lawful.1 quiet_too) (shallow_back middle back after)))

@@ -8,6 +8,7 @@ pub mod Applying
 pub mod Truths
 pub mod Below
 pub mod Fits
+pub mod Dividing
 pub mod Evaluating
 pub mod Emitting
 pub mod Nodes
@@ -28,6 +29,7 @@ pub mod JobFits
 pub mod LineGoals
 pub mod Ends
 pub mod Placed
+pub mod Counted
 pub mod Initial
 pub mod Starts
 pub mod Great

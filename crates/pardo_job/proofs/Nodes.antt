@@ -77,10 +77,10 @@ nodes_are_ready layout (place array index) trees nodes is rest =
 nodes_are_ready layout (apply op first second) trees nodes is rest =
     subst (AreReadyNodes layout trees) (sym
     (append_assoc (postfix first) (postfix second ++ Apply op ∷ []) nodes))
-    (nodes_are_ready layout first trees ((postfix second ++ Apply op ∷ []) ++ nodes) is.1.0
+    (nodes_are_ready layout first trees ((postfix second ++ Apply op ∷ []) ++ nodes) is.0
     (subst (AreReadyNodes layout (first ∷ trees))
     (sym (append_assoc (postfix second) (Apply op ∷ []) nodes))
-    (nodes_are_ready layout second (first ∷ trees) (Apply op ∷ nodes) is.1.1 (tt, rest))))
+    (nodes_are_ready layout second (first ∷ trees) (Apply op ∷ nodes) is.1 (tt, rest))))
 
 pub all_nodes_ready : (layout : ProgramLayoutData) (tree : Tree) → IsLawfulTree layout tree →
     AreReadyNodes layout [] (postfix tree)

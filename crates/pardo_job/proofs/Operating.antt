@@ -88,7 +88,7 @@ spare_apart at register lt less (inl same) e =
     omega arith
 spare_apart at register lt less (inr own) e = omega arith
 
-operand_kept : (at number : ℕ) (held : Registers) (other : Operand) → at < 3 →
+pub operand_kept : (at number : ℕ) (held : Registers) (other : Operand) → at < 3 →
     at + taken_by other < 3 → IsApart at (Number number) other →
     operand_in (put (at + taken_by other) number held) other ≡ operand_in held other
 operand_kept at number held (Number other) lt less apart = refl

@@ -19,4 +19,4 @@ lawful_tree program (place array index) is = (
   lawful_tree program index is.1,
 )
 lawful_tree program (apply op first second) is =
-    (is.0, (lawful_tree program first is.1, lawful_tree program second is.2))
+    (lawful_tree program first is.0, lawful_tree program second is.1)

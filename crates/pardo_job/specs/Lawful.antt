@@ -1,10 +1,9 @@
 -- What the reader makes of every text: what the compiler relies on.
-use Rattle.std.specs.Prelude.{◌≡◌, ◌<◌, ◌^◌, false, length}
+use Rattle.std.specs.Prelude.{◌<◌, ◌^◌, length}
 use Rattle.pardo_text.specs.Expression.{Tree, number, own, loop, private, place, apply}
-use Rattle.pardo_text.specs.Operations.{is_division}
 use Rattle.pardo_job.specs.Layouts.{ProgramLayoutData}
 
--- An expression of code names what there is, and divides nothing.
+-- An expression of code names what there is.
 abbrev pub IsLawfulTree : ProgramLayoutData → Tree → Type 0
 IsLawfulTree layout (number k) = k < 2 ^ 32
 IsLawfulTree layout own = Unit {0}
@@ -12,4 +11,4 @@ IsLawfulTree layout (loop nest) = nest < layout.loops
 IsLawfulTree layout (private x) = x < layout.privates
 IsLawfulTree layout (place array index) = (array < length layout.arrays) × IsLawfulTree layout index
 IsLawfulTree layout (apply op first second) =
-    (is_division op ≡ false) × (IsLawfulTree layout first × IsLawfulTree layout second)
+    IsLawfulTree layout first × IsLawfulTree layout second

@@ -1,5 +1,5 @@
 -- The laws of the meaning.
-use Rattle.std.specs.Prelude.{◌≡◌, ◌≢◌, ℕ}
+use Rattle.std.specs.Prelude.{◌≡◌, ◌≢◌, ℕ, ◌⊎◌}
 use Rattle.std.specs.Prelude.{false, slice_get, Some, None}
 use Rattle.pram_job.specs.declared.instr.Rule.{Rule}
 use Rattle.pram_job.specs.declared.instr.Rule.TheVariants.{Priority, Crew}
@@ -12,7 +12,7 @@ use Rattle.pardo_job.specs.Conflicts.{LineAgrees, IsLineDispute, Assigns, asked}
 use Rattle.pardo_job.specs.Layouts.{program_layout}
 use Rattle.pardo_job.specs.Lawful.{IsLawfulTree}
 use Rattle.pardo_job.specs.Meaning.{Source, is_active, next, value}
-use Rattle.pardo_job.specs.Runs.{IsLineReached}
+use Rattle.pardo_job.specs.Runs.{AllGone, IsLineReached}
 
 -- a program with another rule in place of its own
 abbrev pub by_rule : Rule → ProgramData → ProgramData
@@ -42,11 +42,11 @@ UnwrittenIsKept = (program : ProgramData) (source : Source) (cell : ℕ) →
     (next program source).cells cell ≡ source.cells cell
 
 -- A processor that is not active asks for nothing, keeps its variables, and is gone or there as
--- before.
+-- before, where not all are gone.
 pub record IsUnchanged (program : ProgramData) (source : Source) (i : ℕ) : Type 0 where
   pub asks : asked program source i ≡ None
   pub privates : (x : ℕ) → (next program source).privates x i ≡ source.privates x i
-  pub gone : (next program source).gone i ≡ source.gone i
+  pub gone : ((next program source).gone i ≡ source.gone i) ⊎ AllGone program (next program source)
 
 abbrev pub OutsideIsUnchanged : Type 0
 OutsideIsUnchanged = (program : ProgramData) (source : Source) (line : Line) (i : ℕ) →
@@ -58,7 +58,7 @@ abbrev pub GoneForGood : Type 0
 GoneForGood = (program : ProgramData) (source : Source) (i line : ℕ) →
     source.gone i ≡ Some line → (next program source).gone i ≡ Some line
 
--- Its value is one for all processors, so all make the same turns of every loop.
+-- Its value is one for all processors, or none: so all make the same turns of every loop.
 abbrev pub LoopsAreCommon : Type 0
 LoopsAreCommon = (program : ProgramData) (source : Source) (tree : Tree) (i j : ℕ) → IsCommon tree →
     value program source i tree ≡ value program source j tree

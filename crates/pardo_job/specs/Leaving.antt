@@ -1,4 +1,5 @@
--- In which line of a program a processor of its job leaves by an index out of range.
+-- In which line of a program a processor of its job leaves: by an index out of range, or by a
+-- division by 0.
 use Rattle.std.specs.Prelude.{◌≡◌, ◌≢◌, ℕ, ◌+◌, ◌<◌, Option, Some, None}
 use Rattle.pram_job.specs.Job.{JobData}
 use Rattle.pram_machine.specs.Machine.{counter, out_of_range}

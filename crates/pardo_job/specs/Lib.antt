@@ -7,6 +7,7 @@ pub mod Values
 pub mod Sees
 pub mod Lawful
 pub mod Straight
+pub mod Flat
 pub mod Lines
 pub mod Leaves
 pub mod Shows
@@ -16,6 +17,7 @@ pub mod Ends
 pub mod Compiled
 pub mod Printed
 pub mod Refusals
+pub mod Times
 pub mod Drafts
 pub mod Laws
 pub mod Inner

@@ -11,7 +11,7 @@ use Rattle.pardo_text.specs.declared.statement.Statement.TheVariants.{Assign, If
 use Rattle.pardo_text.specs.declared.statement.Statement.TheVariants.{While, EndWhile, For, EndFor}
 use Rattle.pardo_text.specs.declared.statement.Target.TheVariants.{Private, Array}
 use Rattle.pardo_text.specs.Expression.{Tree, number, own, loop, private, place, apply}
-use Rattle.pardo_text.specs.Operations.{operation_value}
+use Rattle.pardo_text.specs.Operations.{operation_value, worked_out}
 use Rattle.pardo_text.specs.Program.{ProgramData}
 
 -- ---- states
@@ -29,7 +29,7 @@ pub record Source : Type 0 where
   -- whether the mask of a line that so many `if`s are open before has a processor
   pub masks : ℕ → ℕ → Bool
   -- the line of the text in which a processor was *gone*, if it is: so is called here who named a
-  -- place that there is not, and does nothing from then on
+  -- place that there is not, or divided by 0, and does nothing from then on
   pub gone : ℕ → Option ℕ
 
 -- the start value of a private variable for processor i
@@ -63,7 +63,8 @@ array_cell program array index = elim (slice_get program.arrays array) [
   | Some held ↦ if nat_lt index (length held.start) then Some (held.base + index) else None
 ]
 
--- the value of an expression for processor i; there is none where an array does not have a place
+-- The value of an expression for processor i. There is none where an array does not have a place,
+-- or a divisor is 0.
 abbrev pub value : ProgramData → Source → ℕ → Tree → Option ℕ
 value program source i (number k) = Some k
 value program source i own = Some i
@@ -73,12 +74,12 @@ value program source i (place array index) =
     option_and_then (λ k. option_map source.cells (array_cell program array k))
     (value program source i index)
 value program source i (apply op first second) =
-    option_and_then (λ a. option_map (operation_value op a) (value program source i second))
+    option_and_then (λ a. option_and_then (worked_out op a) (value program source i second))
     (value program source i first)
 
--- the value of an expression of which each processor has the same
-abbrev pub common_value : ProgramData → Source → Tree → ℕ
-common_value program source tree = unwrap_or (value program source 0 tree) 0
+-- the value of an expression of which each processor has the same, or none
+abbrev pub common_value : ProgramData → Source → Tree → Option ℕ
+common_value program source tree = value program source 0 tree
 
 -- ---- writing
 
@@ -172,12 +173,25 @@ has_none up first last = if up then nat_lt last first else nat_lt first last
 abbrev pub next_turn : Bool → ℕ → ℕ
 next_turn up value = if up then operation_value op.Add value 1 else operation_value op.Sub value 1
 
+-- all that are there are gone in the line of this number, and the program is over
+abbrev pub abandoned : ProgramData → ℕ → Source → Source
+abandoned program text_line source = record source {
+  at = length program.lines;
+  gone = λ i. option_or (source.gone i) (Some text_line);
+}
+
+-- a line of a loop goes by this value, if there is one
+abbrev pub by_common : ProgramData → ℕ → Source → Option ℕ → (ℕ → Source) → Source
+by_common program text_line source None goes = abandoned program text_line source
+by_common program text_line source (Some value) goes = goes value
+
 -- The end of the loop that begins in the line `begin`: the last turn is that of its last value.
-abbrev pub loop_ended : ProgramData → ℕ → Statement → Source → Source
-loop_ended program begin (For nest first last up end) source =
-    if source.loops nest == common_value program source last then on_to (end + 1) source
-    else on_to (begin + 1) (turned nest (next_turn up (source.loops nest)) source)
-loop_ended program begin _ source = source
+abbrev pub loop_ended : ProgramData → ℕ → ℕ → Statement → Source → Source
+loop_ended program text_line begin (For nest first last up end) source =
+    by_common program text_line source (common_value program source last) (λ b.
+    if source.loops nest == b then on_to (end + 1) source
+    else on_to (begin + 1) (turned nest (next_turn up (source.loops nest)) source))
+loop_ended program text_line begin _ source = source
 
 abbrev pub statement_at : ProgramData → ℕ → Statement
 statement_at program at = elim (slice_get program.lines at) [
@@ -197,15 +211,16 @@ after_statement program text_line depth Else source =
     on_to (source.at + 1) (otherwise depth source)
 after_statement program text_line depth EndIf source = on_to (source.at + 1) source
 after_statement program text_line depth (While tree end) source =
-    if common_value program source tree == 0 then on_to (end + 1) source
-    else on_to (source.at + 1) source
+    by_common program text_line source (common_value program source tree) (λ value.
+    if value == 0 then on_to (end + 1) source else on_to (source.at + 1) source)
 after_statement program text_line depth (EndWhile begin) source = on_to begin source
 after_statement program text_line depth (For nest first last up end) source =
-    if has_none up (common_value program source first) (common_value program source last)
-    then on_to (end + 1) source
-    else on_to (source.at + 1) (turned nest (common_value program source first) source)
+    by_common program text_line source (common_value program source first) (λ a.
+    by_common program text_line source (common_value program source last) (λ b.
+    if has_none up a b then on_to (end + 1) source
+    else on_to (source.at + 1) (turned nest a source)))
 after_statement program text_line depth (EndFor begin) source =
-    loop_ended program begin (statement_at program begin) source
+    loop_ended program text_line begin (statement_at program begin) source
 
 -- the state after the line that is next, if there is one
 unfoldable pub next : ProgramData → Source → Source

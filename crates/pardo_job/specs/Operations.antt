@@ -12,7 +12,7 @@ use Rattle.pram_job.specs.declared.instr.Operands.TheVariants.{Target, TargetNum
 use Rattle.pram_job.specs.declared.instr.Operands.TheVariants.{TargetPlace, TargetTwo}
 use Rattle.pram_job.specs.Instructions.{row_of}
 use Rattle.pardo_text.specs.declared.operation.Op.{Op}
-use Rattle.pardo_text.specs.declared.operation.Op.TheVariants.{Add, Sub, Mul, Shl, Shr}
+use Rattle.pardo_text.specs.declared.operation.Op.TheVariants.{Add, Sub, Mul, Div, Rem, Shl, Shr}
 use Rattle.pardo_text.specs.declared.operation.Op.TheVariants.{BitAnd, BitOr, BitXor, Eq, Ne}
 use Rattle.pardo_text.specs.declared.operation.Op.TheVariants.{Lt, Le, Gt, Ge, And, Or, Min, Max}
 
@@ -54,11 +54,13 @@ register_or_spare spare (Number number) = spare
 
 -- ---- one instruction
 
--- `>` has the instruction of its mirror. No division comes into code.
+-- `>` has the instruction of its mirror.
 abbrev pub instruction_of : Op → ℕ → ℕ → Operand → Instr
 instruction_of Add at first second = instr.Add at first second
 instruction_of Sub at first second = instr.Sub at first second
 instruction_of Mul at first second = instr.Mul at first second
+instruction_of Div at first second = instr.Div at first second
+instruction_of Rem at first second = instr.Rem at first second
 instruction_of Shl at first second = instr.Shl at first second
 instruction_of Shr at first second = instr.Shr at first second
 instruction_of BitAnd at first second = instr.And at first second

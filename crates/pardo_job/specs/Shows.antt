@@ -21,7 +21,8 @@ own_cell state cells i = slice_index state (cells.base + i)
 
 -- The shared cells and the private variables are those of the program. A processor that is not
 -- gone has the values of loops and masks in its own cells, its own number in the last register,
--- and stands at the line that is next. One that is gone has named a place that there is not.
+-- and stands at the line that is next. One that is gone has named a place that there is not, or
+-- divided by 0.
 pub record Represents (program : ProgramData) (job : JobData) (source : Source) (state : State) :
     Type 0 where
   pub cells : (cell : ℕ) → cell < (program_layout program).shared →

@@ -1,7 +1,7 @@
 -- What straight code does with the registers of one processor, while memory stands still.
 use Rattle.std.specs.Prelude.{◌≡◌, ℕ, ◌+◌, ◌<◌, ◌⊎◌, ◌==◌, nat_lt, if◌then◌else◌}
 use Rattle.std.specs.Prelude.{List, [], ◌∷◌, Option, Some, None}
-use Rattle.std.specs.Option.{option_and_then}
+use Rattle.std.specs.Option.{option_and_then, option_map}
 use Rattle.pram_job.specs.declared.instr.Instr.{Instr}
 use Rattle.pram_job.specs.declared.instr.Operand.{Operand}
 use Rattle.pram_job.specs.declared.instr.Operand.TheVariants.{Register, Number}
@@ -26,9 +26,10 @@ operand_in held (Register register) = held register
 operand_in held (Number number) = number
 
 -- The registers of processor i after an instruction that has these operands, and computes this of
--- two numbers; none if it reads a place of an array that there is not. Stores and jumps change
--- none.
-abbrev pub registers_after : (ℕ → ℕ) → ℕ → (ℕ → ℕ → ℕ) → Operands → Registers → Option Registers
+-- two numbers; none if it reads a place of an array that there is not, or divides by 0. Stores and
+-- jumps change none.
+abbrev pub registers_after : (ℕ → ℕ) → ℕ → (ℕ → ℕ → Option ℕ) → Operands → Registers →
+    Option Registers
 registers_after memory i computes Bare held = Some held
 registers_after memory i computes (Target target) held = Some (put target i held)
 registers_after memory i computes (TargetNumber target number) held = Some (put target number held)
@@ -38,7 +39,7 @@ registers_after memory i computes (TargetPlace target (Named array index)) held 
     if nat_lt (operand_in held index) array.len
     then Some (put target (memory (array.base + operand_in held index)) held) else None
 registers_after memory i computes (TargetTwo target a b) held =
-    Some (put target (computes (held a) (operand_in held b)) held)
+    option_map (λ value. put target value held) (computes (held a) (operand_in held b))
 registers_after memory i computes (PlaceValue place value) held = Some held
 registers_after memory i computes (RegisterIndex register index) held = Some held
 registers_after memory i computes (Index index) held = Some held

@@ -6,7 +6,7 @@ ghost use Rattle.pram_step.specs.Runs.{IsFirstConflict};
 ghost use Rattle.pardo_text.specs.Lawful.{IsProgram};
 ghost use Rattle.pardo_text.specs.Reading.{program_of};
 ghost use Rattle.pardo_job.specs.Compiled.{IsCompiled};
-ghost use Rattle.pardo_job.specs.Drafts.{IsDraft, IsComplete};
+ghost use Rattle.pardo_job.specs.Drafts.{ArePlacesOf, IsComplete, IsDraft};
 ghost use Rattle.pardo_job.specs.Ends.{HasEnded};
 ghost use Rattle.pardo_job.specs.Inner.Endings.{IsFinished, EndsTooLate, IsRest};
 ghost use Rattle.pardo_job.specs.Layouts.{program_layout, start_values};
@@ -105,28 +105,31 @@ pub fn compile(alloc: Global, text: &[u8]) -> Result<(Program, Compiled), Refusa
     Ok((program, compiled))
 }
 
-/// A program, its job before that is run, which has no steps, and the number of the text's line
-/// that each instruction came from.
+/// A program, its job before that is run, which has no steps, the number of the text's line that
+/// each instruction came from, and where the code of each line begins.
 #[derive(Drop)]
 pub struct Draft {
     pub program: Program,
     pub job: Job,
     pub numbers: Vec<u64>,
+    pub places: Vec<u32>,
 }
 
 /// The first half of `compile`: nothing is run.
 pub fn draft_in(alloc: Global, text: &[u8]) -> Result<Draft, Refusal>
     ensures program { IfOk result (λ draft. program_of text.now ≡ Ok draft.program) }
     ensures draft { IfOk result (λ draft. IsDraft draft.program draft.job draft.numbers.items) }
+    ensures places { IfOk result (λ draft. ArePlacesOf draft.program draft.places.items) }
     ensures refused { IfErr result (IsProgramRefusal text.now) }
 {
     laws::programs_are_lawful();
     let program = read_program(alloc, text)?;
-    let (job, numbers) = draft_of(alloc, &program)?;
+    let (job, numbers, places) = draft_of(alloc, &program)?;
     Ok(Draft {
         program,
         job,
         numbers,
+        places,
     })
 }
 
@@ -148,15 +151,17 @@ pub fn finish<O: Observer + Drop>(
         program,
         job,
         numbers,
+        ..
     } = draft;
     let (compiled, observer) = finished(alloc, job, numbers, observer)?;
     Ok((program, compiled, observer))
 }
 
 // The job of a program, which is not run, or why there is none.
-fn draft_of(alloc: Global, program: &Program) -> Result<(Job, Vec<u64>), JobFault>
+fn draft_of(alloc: Global, program: &Program) -> Result<(Job, Vec<u64>, Vec<u32>), JobFault>
     requires { IsProgram program.now }
     ensures draft { IfOk result (λ given. IsDraft program.now given.0 given.1.items) }
+    ensures places { IfOk result (λ given. ArePlacesOf program.now given.2.items) }
     ensures refused { IfErr result (λ fault. IsProgramFault program.now fault.line fault.kind) }
 {
     let listing = Listing::of(alloc, program)?;
@@ -164,7 +169,8 @@ fn draft_of(alloc: Global, program: &Program) -> Result<(Job, Vec<u64>), JobFaul
     let numbers = listing.numbers(alloc)?;
     let init = start_values(alloc, program, &listing.layout)?;
     let job = Job::of_parts(program.rule(), program.procs(), 0, init, code);
-    Ok((job, numbers))
+    let Listing { places, .. } = listing;
+    Ok((job, numbers, places))
 }
 
 // The job with as many steps as it needs, and how it ends.

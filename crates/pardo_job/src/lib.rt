@@ -14,8 +14,10 @@ mod operations;
 mod pieces;
 mod places;
 mod run;
+mod times;
 mod values;
 
 pub use compiler::{Compiled, Draft, compile, draft_in, finish};
 pub use ended::{Ended, Lines};
 pub use fault::{JobFault, JobKind, Refusal};
+pub use times::{CountedLine, counted_lines};

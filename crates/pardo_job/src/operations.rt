@@ -231,8 +231,7 @@ fn is_turned(op: Op, first: Operand) -> bool
     }
 }
 
-// The instruction of an operation; `>` has that of its mirror. The reader lets no division into
-// code.
+// The instruction of an operation; `>` has that of its mirror.
 fn instruction(op: Op, target: u8, first: u8, second: Operand) -> Instr
     ensures { result ≡ instruction_of op target first second }
 {
@@ -240,6 +239,8 @@ fn instruction(op: Op, target: u8, first: u8, second: Operand) -> Instr
         Op::Add => Instr::Add(target, first, second),
         Op::Sub => Instr::Sub(target, first, second),
         Op::Mul => Instr::Mul(target, first, second),
+        Op::Div => Instr::Div(target, first, second),
+        Op::Rem => Instr::Rem(target, first, second),
         Op::Shl => Instr::Shl(target, first, second),
         Op::Shr => Instr::Shr(target, first, second),
         Op::BitAnd => Instr::And(target, first, second),

@@ -1,6 +1,6 @@
 //! The places of lines in the code, and the whole code.
 ghost use Rattle.std.specs.Prelude.{◌≡◌, ◌≢◌, ◌<◌, ◌≤◌, [], length, IfOk, IfErr, slice_index};
-ghost use Rattle.std.specs.Prelude.vec_len;
+ghost use Rattle.std.specs.Prelude.{vec_len};
 ghost use Rattle.pram_job.specs.declared.limits.TheConstants.{MAX_CODE as MOST};
 ghost use Rattle.pardo_text.specs.Lawful.{IsLine, IsProgram, bounds_of};
 ghost use Rattle.pardo_job.specs.Inner.Listings.{AreAllPlaces, IsFaultAt, IsPlaceAfter};

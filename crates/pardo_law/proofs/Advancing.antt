@@ -7,48 +7,43 @@ use Rattle.std.specs.Option.{is_none, option_map, option_and_then}
 use Rattle.std.proofs.lemmas.Bool.{ne_eqb, eq-eqb, cases_Bool}
 use Rattle.std.proofs.lemmas.Option.{none-some, some_pair_parts}
 use Rattle.pram_job.specs.declared.instr.Instr.{Instr}
-use Rattle.pram_job.specs.declared.instr.Instr.TheVariants.{St, Jz, Jmp, Eq, Lt}
+use Rattle.pram_job.specs.declared.instr.Instr.TheVariants.{St, Eq, Lt}
 use Rattle.pram_job.specs.declared.instr.Operand.TheVariants.{Register, Number}
 use Rattle.pram_job.specs.declared.instr.Place.TheVariants.{Named}
 use Rattle.pram_job.specs.Job.{JobData}
 use Rattle.pardo_text.specs.declared.statement.Statement.TheVariants.{Assign}
 use Rattle.pardo_text.specs.declared.statement.Target.TheVariants.{Array as Shared}
 use Rattle.pardo_text.specs.Expression.{Tree}
-use Rattle.pardo_text.specs.Lawful.{IsExpression, IsCommonTree, bounds_of}
+use Rattle.pardo_text.specs.Lawful.{IsExpression, bounds_of}
 use Rattle.pardo_text.specs.Operations.{bit}
 use Rattle.pardo_text.specs.Program.{ProgramData}
-use Rattle.pardo_job.specs.Layouts.{program_layout, private_cells, loop_cells}
+use Rattle.pardo_job.specs.Layouts.{program_layout, private_cells}
 use Rattle.pardo_job.specs.Layouts.{mask_cells}
 use Rattle.pardo_job.specs.Layouts.{array_cells}
 use Rattle.pardo_job.specs.Lines.{masked, choosing, others, own_store, place_of}
-use Rattle.pardo_job.specs.Lines.{next_value, condition_code, while_code, none_code, first_code}
-use Rattle.pardo_job.specs.Lines.{turn_code}
-use Rattle.pardo_job.specs.Meaning.{Source, value, common_value, is_active, is_true, losing, on_to}
+use Rattle.pardo_job.specs.Lines.{condition_code}
+use Rattle.pardo_job.specs.Meaning.{Source, value, is_active, is_true, losing, on_to}
 use Rattle.pardo_job.specs.Meaning.{asked_in, write_of, private_assigned, shared_assigned, chosen}
-use Rattle.pardo_job.specs.Meaning.{otherwise, turned, has_none, next_turn, array_cell, given_to}
+use Rattle.pardo_job.specs.Meaning.{otherwise, array_cell, given_to}
 use Rattle.pardo_job.specs.Meaning.{first_below}
-use Rattle.pardo_job.specs.Operations.{is_shallow, register_or_spare}
+use Rattle.pardo_job.specs.Operations.{is_shallow}
 use Rattle.pardo_job.specs.Values.{value_code, value_operand, takes, own_place, own_load}
 use Rattle.pardo_job.proofs.Assigning.{both_code}
 use Rattle.pardo_law.specs.Locals.{Local, HasCodeAt, StandsAfter}
 use Rattle.pardo_law.proofs.Bodies.{own_body, with_store}
-use Rattle.pardo_law.proofs.Effects.{private_pictured, masks_pictured, turned_pictured}
-use Rattle.pardo_law.proofs.Effects.{moved_pictured, there_before}
-use Rattle.pardo_law.proofs.Loops.{while_goes, jump_goes, none_goes, turn_makes, for_end_is}
-use Rattle.pardo_law.proofs.Loops.{last_goes, again_makes}
-use Rattle.pardo_law.proofs.Placing.{stands_back}
+use Rattle.pardo_law.proofs.Effects.{private_pictured, masks_pictured}
+use Rattle.pardo_law.proofs.Effects.{there_before}
 use Rattle.pardo_law.proofs.Cutting.{site, Below, PutOnly, StaysIn, Unchanged, made_in}
-use Rattle.pardo_law.proofs.Cutting.{gone_in}
-use Rattle.pardo_law.proofs.Making.{Makes, Goes, IsMade, Went}
+use Rattle.pardo_law.proofs.Making.{Makes, IsMade}
 use Rattle.pardo_law.proofs.Masks.{quiet, quiet_choice, masked_makes, choosing_makes, others_makes}
 use Rattle.pardo_law.proofs.Masks.{active_is}
 use Rattle.pardo_law.proofs.Picturing.{IsOf, IsHere, Pictured, memory_fits, procs_are, procs_same}
-use Rattle.pardo_law.proofs.Picturing.{layout_procs, shared_low, sees, row_low, held_low}
-use Rattle.pardo_law.proofs.Rows.{own_stores, own_agree, after_apart, after_before, place_is}
-use Rattle.pardo_law.proofs.Rows.{own_of, own_high, held_before, held_below}
+use Rattle.pardo_law.proofs.Picturing.{layout_procs, shared_low, sees, row_low}
+use Rattle.pardo_law.proofs.Rows.{own_stores, own_agree, after_apart, place_is}
+use Rattle.pardo_law.proofs.Rows.{own_of, own_high, held_below}
 use Rattle.pardo_law.proofs.Straightness.{value_straight}
 use Rattle.pardo_law.proofs.Values.{decided, value_to, shared_to}
-use Rattle.pardo_law.proofs.Carried.{StillBelow, here_below, place_low, stays_then, still_all, still_then, puts_then, AgreesIn, if_map, Advance}
+use Rattle.pardo_law.proofs.Carried.{StillBelow, here_below, place_low, still_all, AgreesIn, if_map, Advance}
 
 module _ (program : ProgramData) (job : JobData) (of : IsOf program job) (source : Source) (t : ℕ)
     (memory : ℕ → ℕ)
@@ -459,277 +454,3 @@ module _ (program : ProgramData) (job : JobData) (of : IsOf program job) (source
               refl made;
         };
       }
-
-  -- ---- loops
-
-  went_on : (next n : ℕ) → next ≤ length program.lines →
-      ((i : ℕ) → i < job.procs → Goes (site at hi job) memory i n (locals i)
-      (IsHere (source.gone i) (place_of program next) i)) →
-      Advance program job (λ i. None) (on_to next source) t n at hi
-  went_on next n next_low goes =
-      let done : Went job (t + n) memory (λ i. IsHere (source.gone i) (place_of program next) i) ×
-      StaysIn job at hi t n × Unchanged job t n × PutOnly job job.cells t n (λ i. None) =
-      gone_in job of.job_is at hi t n memory locals standing
-      (λ i. IsHere (source.gone i) (place_of program next) i)
-      (λ i l. bounded (place_of program next) i (source.gone i) l (place_low program job of next))
-      goes in
-      let went : Went job (t + n) memory (λ i. IsHere (source.gone i) (place_of program next) i) =
-      done.0 in
-      record {
-        stays = done.1;
-        still = still_all job (held_below (program_layout program)) t n done.2;
-        puts = λ k i cell value lt less low put.
-            done.3 k i cell value lt less (shared_low program job of cell low) put;
-        carried = record {
-          memory = memory;
-          locals = went.places;
-          standing = went.standing;
-          pictured = moved_pictured program job of source memory locals pictured next went.places
-              next_low
-              (λ i lt. went.each i (many i lt));
-        };
-      }
-
-  pub while_advances : (tree : Tree) (end : ℕ) → IsCommonTree (bounds_of program) tree →
-      end < length program.lines →
-      is_shallow (while_code (program_layout program) tree) ≡ true →
-      HasCodeAt (site at hi job) at (while_code (program_layout program) tree ++
-      Jz (register_or_spare 0 (value_operand 0 tree)) (place_of program (end + 1)) ∷ []) →
-      at + length (while_code (program_layout program) tree) + 1
-      ≡ place_of program (source.at + 1) →
-      Advance program job (λ i. None)
-      (if common_value program source tree == 0 then on_to (end + 1) source else on_to
-      (source.at + 1) source)
-      t (length (while_code (program_layout program) tree) + 1) at hi
-  while_advances tree end is end_low shallow stands ends =
-      by_value (common_value program source tree == 0) refl
-    where
-      goes : (b : Bool) → (common_value program source tree == 0) ≡ b → (i : ℕ) → i < job.procs →
-          Goes (site at hi job) memory i (length (while_code (program_layout program) tree) + 1)
-          (locals i)
-          (IsHere (source.gone i) (if b then place_of program (end + 1) else at +
-          length (while_code (program_layout program) tree) + 1) i)
-      goes b e i lt = subst (λ x. Goes (site at hi job) memory i
-          (length (while_code (program_layout program) tree) + 1) (locals i)
-          (IsHere (source.gone i) (if x then place_of program (end + 1) else at +
-          length (while_code (program_layout program) tree) + 1) i)) e
-          (while_goes program (site at hi job) of.program_is source memory locals pictured fits i
-          (few i lt) tree (place_of program (end + 1)) is shallow stands)
-
-      by_value : (b : Bool) → (common_value program source tree == 0) ≡ b →
-          Advance program job (λ i. None)
-          (if b then on_to (end + 1) source else on_to (source.at + 1) source)
-          t (length (while_code (program_layout program) tree) + 1) at hi
-      by_value true e = went_on (end + 1) (length (while_code (program_layout program) tree) + 1)
-          (omega arith)
-          (goes true e)
-      by_value false e = went_on (source.at + 1)
-          (length (while_code (program_layout program) tree) + 1)
-          (omega arith)
-          (λ i lt. subst (λ place. Goes (site at hi job) memory i
-          (length (while_code (program_layout program) tree) + 1) (locals i)
-          (IsHere (source.gone i) place i)) ends (goes false e i lt))
-
-  pub back_advances : (begin : ℕ) → begin < length program.lines →
-      HasCodeAt (site at hi job) at (Jmp (place_of program begin) ∷ []) →
-      Advance program job (λ i. None) (on_to begin source) t 1 at hi
-  back_advances begin begin_low stands = went_on begin 1 (omega arith)
-      (λ i lt. jump_goes (site at hi job) memory i at (place_of program begin) [] stands
-      (source.gone i) (locals i) (pictured.here i (few i lt)))
-
-  pub for_advances : (nest : ℕ) (first last : Tree) (up : Bool) (end : ℕ) →
-      nest < (program_layout program).loops →
-      IsCommonTree (bounds_of program) first → IsCommonTree (bounds_of program) last →
-      end < length program.lines →
-      is_shallow (none_code (program_layout program) up first last) ≡ true →
-      is_shallow (value_code (program_layout program) 0 first) ≡ true →
-      HasCodeAt (site at hi job) at (none_code (program_layout program) up first last
-      ++ (Jz 0 (at + length (none_code (program_layout program) up first last) + 2) ∷
-      (Jmp (place_of program (end + 1))
-      ∷ first_code (program_layout program) nest first))) →
-      at + length (none_code (program_layout program) up first last
-      ++ (Jz 0 (at + length (none_code (program_layout program) up first last) + 2) ∷
-      (Jmp (place_of program (end + 1))
-      ∷ first_code (program_layout program) nest first))) ≡ place_of program (source.at + 1) →
-      Advance program job (λ i. None)
-      (if has_none up (common_value program source first) (common_value program source last) then
-      on_to (end + 1) source
-      else on_to (source.at + 1) (turned nest (common_value program source first) source))
-      t (if has_none up (common_value program source first) (common_value program source last)
-      then length (none_code (program_layout program) up first last) + 1 + 1
-      else suc ((length (none_code (program_layout program) up first last) + 1) +
-      length (value_code (program_layout program) 0 first))) at hi
-  for_advances nest first last up end nest_low is is_too end_low shallow first_shallow stands ends =
-      by_value (has_none up (common_value program source first) (common_value program source last))
-      refl
-    where
-      v : ℕ
-      v = common_value program source first
-
-      n : ℕ
-      n = length (none_code (program_layout program) up first last)
-
-      by_value : (b : Bool) → has_none up (common_value program source first)
-          (common_value program source last) ≡ b →
-          Advance program job (λ i. None)
-          (if b then on_to (end + 1) source else on_to (source.at + 1)
-          (turned nest (common_value program source first) source))
-          t (if b then length (none_code (program_layout program) up first last) + 1 + 1
-          else suc ((length (none_code (program_layout program) up first last) + 1) +
-          length (value_code (program_layout program) 0 first))) at hi
-      by_value true e = went_on (end + 1)
-          (length (none_code (program_layout program) up first last) + 1 + 1) (omega arith)
-          (λ i lt. none_goes program (site at hi job) of.program_is source memory locals pictured
-          fits i (few i lt) nest first last up (place_of program (end + 1))
-          nest_low is is_too shallow first_shallow stands e)
-      by_value false e =
-          let k : ℕ = (length (none_code (program_layout program) up first last) + 1) +
-          length (value_code (program_layout program) 0 first) in
-          let row : ℕ = (program_layout program).privates + nest in
-          let values : (ℕ → Option ℕ) = λ i. if is_none (source.gone i) then Some
-          (common_value program source first) else None in
-          let P : (ℕ → Local → Type 0) = λ i. IsHere (source.gone i)
-          (place_of program (source.at + 1)) i in
-          let done : IsMade job (suc (t + k)) memory
-          (own_stores (program_layout program) row values) P ×
-          StaysIn job at hi t (suc k) × Unchanged job t (suc k)
-          × PutOnly job job.cells t (suc k) (own_stores (program_layout program) row values) =
-          made_in job of.job_is at hi t k memory locals standing
-          (own_stores (program_layout program) row values) P
-          (λ i l. bounded (place_of program (source.at + 1)) i (source.gone i) l
-          (place_low program job of (source.at + 1)))
-          (λ i lt. subst (λ place. Makes (site at hi job) memory i k (locals i)
-          (own_stores (program_layout program) row values i) (IsHere (source.gone i) place i))
-          (sym (for_end_is program (site at hi job) of.program_is source memory locals pictured fits
-          i (few i lt) nest first last up (place_of program (end + 1))
-          nest_low is is_too shallow first_shallow stands) ∙ ends)
-          (turn_makes program (site at hi job) of.program_is source memory locals pictured fits i
-          (few i lt) nest first last up (place_of program (end + 1))
-          nest_low is is_too shallow first_shallow stands e))
-          (own_agree job (program_layout program) row values (procs_same program job of)) in
-          let made : IsMade job (suc (t + k)) memory
-          (own_stores (program_layout program) row values) P =
-          done.0 in
-          record {
-            stays = done.1;
-            still = still_all job (held_below (program_layout program)) t (suc k) done.2;
-            puts = none_put t (suc k) row values done.3;
-            carried = record {
-              memory = made.now;
-              locals = made.locals;
-              standing = subst (λ u. StandsAfter job u made.now made.locals)
-                  (let f : suc (t + k) ≡ t + suc k = omega arith in f) made.standing;
-              pictured = turned_pictured program job of source memory locals pictured (suc (t + k))
-                  nest (source.at + 1) (common_value program source first)
-                  (place_of program (source.at + 1)) (omega arith) nest_low made made.locals
-                  (λ i lt. made.each i (many i lt));
-            };
-          }
-
-  tail_stands : (nest : ℕ) (last : Tree) (up : Bool) (begin end : ℕ) →
-      HasCodeAt (site at hi job) at (turn_code (program_layout program) nest last
-      ++ (Jz 1 (place_of program (end + 1)) ∷
-      (next_value up ∷ (own_store (loop_cells (program_layout program) nest)
-      ∷ (Jmp (place_of program (begin + 1)) ∷ []))))) →
-      HasCodeAt (site at hi job)
-      (at + length (turn_code (program_layout program) nest last) + 1 + 1 + 1)
-      (Jmp (place_of program (begin + 1)) ∷ [])
-  tail_stands nest last up begin end stands =
-      (stands_back (site at hi job) at (turn_code (program_layout program) nest last)
-      (Jz 1 (place_of program (end + 1)) ∷
-      (next_value up ∷ (own_store (loop_cells (program_layout program) nest)
-      ∷ (Jmp (place_of program (begin + 1)) ∷ [])))) stands).1.1.1
-
-  pub turn_advances : (nest : ℕ) (last : Tree) (up : Bool) (begin end : ℕ) →
-      nest < (program_layout program).loops →
-      IsCommonTree (bounds_of program) last → end < length program.lines →
-      begin < length program.lines →
-      is_shallow (turn_code (program_layout program) nest last) ≡ true →
-      HasCodeAt (site at hi job) at (turn_code (program_layout program) nest last
-      ++ (Jz 1 (place_of program (end + 1)) ∷
-      (next_value up ∷ (own_store (loop_cells (program_layout program) nest)
-      ∷ (Jmp (place_of program (begin + 1)) ∷ []))))) →
-      at + length (turn_code (program_layout program) nest last) + 1 + 1 + 1 < hi →
-      Advance program job (λ i. None)
-      (if source.loops nest == common_value program source last then on_to (end + 1) source
-      else on_to (begin + 1) (turned nest (next_turn up (source.loops nest)) source))
-      t (if source.loops nest == common_value program source last
-      then length (turn_code (program_layout program) nest last) + 1
-      else suc ((length (turn_code (program_layout program) nest last) + 1) + 1) + 1) at hi
-  turn_advances nest last up begin end nest_low is end_low begin_low shallow stands inside =
-      by_value (source.loops nest == common_value program source last) refl
-    where
-      by_value : (b : Bool) → (source.loops nest == common_value program source last) ≡ b →
-          Advance program job (λ i. None) (if b then on_to (end + 1) source else on_to (begin + 1)
-          (turned nest (next_turn up (source.loops nest)) source))
-          t (if b then length (turn_code (program_layout program) nest last) + 1
-          else suc ((length (turn_code (program_layout program) nest last) + 1) + 1) + 1) at hi
-      by_value true e = went_on (end + 1)
-          (length (turn_code (program_layout program) nest last) + 1)
-          (omega arith)
-          (λ i lt. last_goes program (site at hi job) of.program_is source memory locals pictured
-          fits i (few i lt) nest last up (place_of program (end + 1))
-          (place_of program (begin + 1)) nest_low is shallow stands e)
-      by_value false e =
-          let k : ℕ = (length (turn_code (program_layout program) nest last) + 1) + 1 in
-          let row : ℕ = (program_layout program).privates + nest in
-          let place : ℕ = at + length (turn_code (program_layout program) nest last) + 1 + 1 + 1 in
-          let place_is_low : place < length job.code = omega arith in
-          let values : (ℕ → Option ℕ) = λ i. if is_none (source.gone i) then Some
-          (next_turn up (source.loops nest)) else None in
-          let P : (ℕ → Local → Type 0) = λ i. IsHere (source.gone i) place i in
-          let done : IsMade job (suc (t + k)) memory
-          (own_stores (program_layout program) row values) P ×
-          StaysIn job at hi t (suc k) × Unchanged job t (suc k)
-          × PutOnly job job.cells t (suc k) (own_stores (program_layout program) row values) =
-          made_in job of.job_is at hi t k memory locals standing
-          (own_stores (program_layout program) row values) P
-          (λ i l. bounded place i (source.gone i) l place_is_low)
-          (λ i lt. again_makes program (site at hi job) of.program_is source memory locals pictured
-          fits i (few i lt) nest last up (place_of program (end + 1))
-          (place_of program (begin + 1)) nest_low is shallow stands e)
-          (own_agree job (program_layout program) row values (procs_same program job of)) in
-          let made : IsMade job (suc (t + k)) memory
-          (own_stores (program_layout program) row values) P =
-          done.0 in
-          let left : Went job (suc (t + k) + 1) made.now
-          (λ i. IsHere (source.gone i) (place_of program (begin + 1)) i)
-          × StaysIn job at hi (suc (t + k)) 1 × Unchanged job (suc (t + k)) 1
-          × PutOnly job job.cells (suc (t + k)) 1 (λ i. None) =
-          gone_in job of.job_is at hi (suc (t + k)) 1 made.now made.locals made.standing
-          (λ i. IsHere (source.gone i) (place_of program (begin + 1)) i)
-          (λ i l. bounded (place_of program (begin + 1)) i (source.gone i) l
-          (place_low program job of (begin + 1)))
-          (λ i lt. jump_goes (site at hi job) made.now i place (place_of program (begin + 1)) []
-          (tail_stands nest last up begin end stands)
-          (source.gone i) (made.locals i) (made.each i lt)) in
-          let went : Went job (suc (t + k) + 1) made.now
-          (λ i. IsHere (source.gone i) (place_of program (begin + 1)) i) = left.0 in
-          record {
-            stays = stays_then job at hi t (suc (t + k)) (suc k) 1
-                (let f : suc (t + k) ≡ t + suc k = omega arith in f) done.1 left.1;
-            still = still_then job (held_below (program_layout program)) t (suc (t + k)) (suc k) 1
-                (let f : suc (t + k) ≡ t + suc k = omega arith in f)
-                (still_all job (held_below (program_layout program)) t (suc k) done.2)
-                (λ cell less. ap (λ (f : ℕ → ℕ). f cell) made.standing.memory_is
-                ∙ made.cells cell (held_low program job of cell less)
-                ∙ after_before (program_layout program) job.procs row cell values memory
-                (held_before (program_layout program) row cell (omega arith) less)
-                ∙ sym (ap (λ (f : ℕ → ℕ). f cell) standing.memory_is))
-                (still_all job (held_below (program_layout program)) (suc (t + k)) 1 left.2);
-            puts = puts_then job (program_layout program).shared t (suc (t + k)) (suc k) 1
-                (λ i. None)
-                (let f : suc (t + k) ≡ t + suc k = omega arith in f)
-                (none_put t (suc k) row values done.3)
-                (λ n i cell value lt less low put.
-                left.3 n i cell value lt less (shared_low program job of cell low) put);
-            carried = record {
-              memory = made.now;
-              locals = went.places;
-              standing = subst (λ u. StandsAfter job u made.now went.places)
-                  (let f : suc (t + k) + 1 ≡ t + (suc k + 1) = omega arith in f) went.standing;
-              pictured = turned_pictured program job of source memory locals pictured (suc (t + k))
-                  nest (begin + 1) (next_turn up (source.loops nest))
-                  place (omega arith) nest_low made went.places (λ i lt. went.each i (many i lt));
-            };
-          }

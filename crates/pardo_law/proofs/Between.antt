@@ -53,7 +53,7 @@ use Rattle.pardo_law.proofs.Theorem.{carries, of}
 
 -- ---- lines never fall
 
-rises_to : (time : ℕ → ℕ) → ((k : ℕ) → time k ≤ time (k + 1)) → (a k : ℕ) → time a ≤ time (a + k)
+pub rises_to : (time : ℕ → ℕ) → ((k : ℕ) → time k ≤ time (k + 1)) → (a k : ℕ) → time a ≤ time (a + k)
 rises_to time rises a zero = let e : a ≡ a + 0 = omega arith in let f = ap time e in omega arith
 rises_to time rises a (suc k) =
     let e : a + k + 1 ≡ a + suc k = omega arith in
@@ -76,9 +76,9 @@ lines_never_fall program time t u n m rises is later le = ⊎_elim
 -- ---- a line
 
 -- before all steps of a line the processors stand in it, and arrays and private variables stay
-record Keeps (program : ProgramData) (job : JobData) (asked : ℕ → Option (ℕ × ℕ))
+pub record Keeps (program : ProgramData) (job : JobData) (asked : ℕ → Option (ℕ × ℕ))
     (source : Source) (t c : ℕ) : Type 0 where
-  stays : StaysIn job (place_of program source.at) (place_of program (source.at + 1)) t c
+  pub stays : StaysIn job (place_of program source.at) (place_of program (source.at + 1)) t c
   still : StillBelow job (held_below (program_layout program)) t c
   puts : PutOnly job (program_layout program).shared t c asked
 
@@ -117,7 +117,7 @@ module _ (program : ProgramData) (job : JobData) (of : IsOf program job) (source
             (subst (λ m. k < m) (sym costs) lt) less (shared_low program job of cell below) put;
       }
 
-  keeps : KeptHere
+  pub keeps : KeptHere
   keeps = ⊎_elim agreed (λ (d : (dispute : Dispute) × IsLineDispute program source dispute).
       disputed d.0 d.1) (decides program job of source t carried line is)
 
@@ -161,7 +161,7 @@ module _ (program : ProgramData) (job : JobData) (of : IsOf program job) (line_o
   low : (i : ℕ) → i < program.procs → i < job.procs
   low i lt = let e = procs_are program job of in omega arith
 
-  out_later : (t u i : ℕ) → t ≤ u → i < job.procs →
+  pub out_later : (t u i : ℕ) → t ≤ u → i < job.procs →
       counter job (state_after job t) i ≡ out_of_range job →
       counter job (state_after job u) i ≡ out_of_range job
   out_later t u i le lt out =
@@ -208,7 +208,7 @@ module _ (program : ProgramData) (job : JobData) (of : IsOf program job) (line_o
       subst (λ (k : ℕ). t < time_of program k) e (omega arith))
       (cases_lt (time_of program n + found.before) t)
 
-  made_at : (t : ℕ) → machine.IsReached job t → (n : ℕ) × Made t n
+  pub made_at : (t : ℕ) → machine.IsReached job t → (n : ℕ) × Made t n
   made_at t reached =
       let over = finishes program job of whole in ⊎_elim
       (λ (is : IsProgramEnd program over.0). find t over.0 is.reached (inl is.over))
@@ -276,10 +276,10 @@ module _ (program : ProgramData) (job : JobData) (of : IsOf program job) (line_o
         ∙ holds.privates x i lt less;
   }
 
-  holds_after : (n : ℕ) → IsLineReached program n →
+  holds_after : (n : ℕ) → Carried program job (after program n) (time_of program n) →
       HoldsVariables program (after program n) (state_after job (time_of program n))
-  holds_after n reached =
-      let s = shows program job of (after program n) (time_of program n) (carried n reached) in
+  holds_after n c =
+      let s = shows program job of (after program n) (time_of program n) c in
       record { cells = s.cells; privates = s.privates }
 
   holds_first : HoldsVariables program (after program 0) (state_after job 0)
@@ -295,10 +295,10 @@ module _ (program : ProgramData) (job : JobData) (of : IsOf program job) (line_o
   }
 
   -- after the end nothing changes
-  holds_end : (n t : ℕ) → IsLineReached program n → IsProgramOver program (after program n) →
+  holds_end : (n t : ℕ) → Carried program job (after program n) (time_of program n) →
+      IsProgramOver program (after program n) →
       time_of program n + 1 ≤ t → HoldsVariables program (after program n) (state_after job t)
-  holds_end n t reached over late =
-      let c = carried n reached in
+  holds_end n t c over late =
       let source : Source = after program n in
       let u : ℕ = time_of program n in
       subst (HoldsVariables program (after program n))
@@ -309,13 +309,14 @@ module _ (program : ProgramData) (job : JobData) (of : IsOf program job) (line_o
         privates = last_privates program job of source u c over;
       })
 
-  holds_over : (n t : ℕ) → IsLineReached program n → IsProgramOver program (after program n) →
+  pub holds_over : (n t : ℕ) → Carried program job (after program n) (time_of program n) →
+      IsProgramOver program (after program n) →
       time_of program n ≤ t → HoldsVariables program (after program n) (state_after job t)
-  holds_over n t reached over late = ⊎_elim
-      (λ (later : time_of program n < t). holds_end n t reached over (omega arith))
+  holds_over n t c over late = ⊎_elim
+      (λ (later : time_of program n < t). holds_end n t c over (omega arith))
       (λ (same : t ≤ time_of program n). let e : time_of program n ≡ t = omega arith in
       subst (λ (k : ℕ). HoldsVariables program (after program n) (state_after job k)) e
-      (holds_after n reached))
+      (holds_after n c))
       (cases_lt (time_of program n) t)
 
   holds_midst : (t n : ℕ) → Made t n → Midst t n →
@@ -324,12 +325,13 @@ module _ (program : ProgramData) (job : JobData) (of : IsOf program job) (line_o
       subst (λ (k : ℕ). HoldsVariables program (after program n) (state_after job k)) m.at_step
       (holds_still (after program n) (state_after job (time_of program n + m.steps))
       (state_after job (time_of program n))
-      (λ cell lt. (kept t n is m).still m.steps cell m.within lt) (holds_after n is.reached))
+      (λ cell lt. (kept t n is m).still m.steps cell m.within lt)
+      (holds_after n (carried n is.reached)))
 
   holds_from : (t n : ℕ) → 1 ≤ t → Made t n →
       HoldsVariables program (after program n) (state_after job t)
   holds_from t n some is = ⊎_elim
-      (λ over. holds_over n t is.reached over (begun t n some is))
+      (λ over. holds_over n t (carried n is.reached) over (begun t n some is))
       (λ on. holds_midst t n is (midst t n some is on.0))
       (decide_over program (after program n))
 
@@ -365,7 +367,7 @@ module _ (program : ProgramData) (job : JobData) (of : IsOf program job) (line_o
       (place_of program (after program n).at) number (c.locals i) gone (c.pictured.here i lt)
       (c.standing.locals_are i (low i lt))
 
-  there_before : (t n i : ℕ) → time_of program n ≤ t → IsLineReached program n → i < program.procs →
+  pub there_before : (t n i : ℕ) → time_of program n ≤ t → IsLineReached program n → i < program.procs →
       counter job (state_after job t) i ≢ out_of_range job → (after program n).gone i ≡ None
   there_before t n i late reached lt there = by_gone ((after program n).gone i) refl
     where
@@ -415,7 +417,7 @@ module _ (program : ProgramData) (job : JobData) (of : IsOf program job) (line_o
       (stands n i reached lt there ∙ sym (over_stands n i over there lt))
       ∙ (end_stands program job (code_is program job of)).0
 
-  ends : (t n i : ℕ) → time_of program n ≤ t → IsLineReached program n →
+  pub ends : (t n i : ℕ) → time_of program n ≤ t → IsLineReached program n →
       IsProgramOver program (after program n) → i < program.procs →
       counter job (state_after job t) i < halted job → Executes job t i Halt
   ends t n i late reached over lt runs = ⊎_elim
@@ -475,7 +477,7 @@ module _ (program : ProgramData) (job : JobData) (of : IsOf program job) (line_o
       ]) is in
       none-some (cell, value) (sym (ap (λ (r : Request). r.put) asks) ∙ put)
 
-  stopped_puts : (t cell i value : ℕ) → halted job ≤ counter job (state_after job t) i →
+  pub stopped_puts : (t cell i value : ℕ) → halted job ≤ counter job (state_after job t) i →
       PutsTo job t cell i value → ⊥
   stopped_puts t cell i value past put = none-some (cell, value)
       (sym (ap (λ (r : Request). r.put) (stopped_request job (state_after job t) i past)) ∙ put)

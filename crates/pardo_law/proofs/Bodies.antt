@@ -128,7 +128,7 @@ module _ (job : JobData) (memory : ℕ → ℕ) (i : ℕ) where
 
   -- ---- the mask of the line comes into register 0
 
-  loads_mask : (layout : ProgramLayoutData) (depth : ℕ) (held : Registers) (v : ℕ) → held 3 ≡ i →
+  pub loads_mask : (layout : ProgramLayoutData) (depth : ℕ) (held : Registers) (v : ℕ) → held 3 ≡ i →
       i < layout.procs →
       memory ((mask_cells layout depth).base + i) ≡ v →
       after_one memory i (own_load 0 (mask_cells layout depth)) held ≡ Some (put 0 v held)

@@ -43,12 +43,18 @@ use Rattle.pardo_law.proofs.Rows.{held_below}
 
 -- ---- how many steps
 
+-- by a value, or where there is none
+abbrev pub cost_by : ℕ → Option ℕ → (ℕ → ℕ) → ℕ
+cost_by otherwise None steps = otherwise
+cost_by otherwise (Some value) steps = steps value
+
 -- those of the end of a loop
 abbrev pub loop_cost : ProgramData → Source → Statement → ℕ
 loop_cost program source (For nest first last up end) =
-    if source.loops nest == common_value program source last
+    cost_by (length (turn_code (program_layout program) nest last) + 1)
+    (common_value program source last) (λ b. if source.loops nest == b
     then length (turn_code (program_layout program) nest last) + 1
-    else suc ((length (turn_code (program_layout program) nest last) + 1) + 1) + 1
+    else suc ((length (turn_code (program_layout program) nest last) + 1) + 1) + 1)
 loop_cost program source _ = 0
 
 abbrev pub cost : ProgramData → Source → ℕ → Statement → ℕ
@@ -63,10 +69,13 @@ cost program source depth EndIf = 0
 cost program source depth (While tree end) = length (while_code (program_layout program) tree) + 1
 cost program source depth (EndWhile begin) = 1
 cost program source depth (For nest first last up end) =
-    if has_none up (common_value program source first) (common_value program source last)
+    cost_by (length (none_code (program_layout program) up first last) + 1)
+    (common_value program source first) (λ a.
+    cost_by (length (none_code (program_layout program) up first last) + 1)
+    (common_value program source last) (λ b. if has_none up a b
     then length (none_code (program_layout program) up first last) + 1 + 1
     else suc ((length (none_code (program_layout program) up first last) + 1) +
-    length (value_code (program_layout program) 0 first))
+    length (value_code (program_layout program) 0 first))))
 cost program source depth (EndFor begin) = loop_cost program source (statement_at program begin)
 
 -- after t steps the machine shows this state of the program

@@ -42,8 +42,9 @@ use Rattle.pardo_law.proofs.Making.{Makes}
 use Rattle.pardo_law.proofs.Masks.{quiet}
 use Rattle.pardo_law.proofs.Advancing.{private_advances, shared_advances, choice_advances}
 use Rattle.pardo_law.proofs.Advancing.{else_advances}
-use Rattle.pardo_law.proofs.Advancing.{shared_makes, while_advances, back_advances, for_advances}
-use Rattle.pardo_law.proofs.Advancing.{turn_advances}
+use Rattle.pardo_law.proofs.Advancing.{shared_makes}
+use Rattle.pardo_law.proofs.AdvancingLoops.{while_advances, back_advances, for_advances}
+use Rattle.pardo_law.proofs.AdvancingLoops.{turn_advances}
 use Rattle.pardo_law.proofs.Effects.{moved_pictured}
 use Rattle.pardo_law.proofs.Lengths.{line_stands, length_is, place_next}
 use Rattle.pardo_law.proofs.Picturing.{IsOf, IsHere, code_is, rule_is, procs_are, private_count}
@@ -94,7 +95,7 @@ module _ (program : ProgramData) (job : JobData) (of : IsOf program job) (source
       HasCodeAt (site at hi job) at
       (loop_end (program_layout program) (place_of program) begin opener) →
       at + length (loop_end (program_layout program) (place_of program) begin opener) ≡ hi →
-      Advance program job (λ i. None) (loop_ended program begin opener source) t
+      Advance program job (λ i. None) (loop_ended program text_line begin opener source) t
       (loop_cost program source opener) at hi
   opened begin (For nest first last up end) begin_low is shallow stands ends =
       let tail : List Instr = Jz 1 (place_of program (end + 1)) ∷
@@ -347,7 +348,7 @@ time_of program (suc n) =
     time_of program n + step_cost program (after program n)
     (slice_get program.lines (after program n).at)
 
-some_line : (program : ProgramData) (k : ℕ) → k < length program.lines → (line : Line) ×
+pub some_line : (program : ProgramData) (k : ℕ) → k < length program.lines → (line : Line) ×
     (slice_get program.lines k ≡ Some line)
 some_line program k lt = found program.lines k lt
   where
@@ -372,6 +373,26 @@ pub time_next : (program : ProgramData) (n : ℕ) (line : Line) →
 unfolding step_cost
 time_next program n line is = ap (λ o. time_of program n + step_cost program (after program n) o) is
 
+-- the lines so far are there, and agree with the rule
+abbrev pub AreMade : ProgramData → ℕ → Type 0
+AreMade program n = (earlier : ℕ) → earlier < n →
+    ((after program earlier).at < length program.lines) × LineAgrees program (after program earlier)
+
+pub carried_made : (program : ProgramData) (job : JobData) → IsOf program job → (n : ℕ) →
+    AreMade program n →
+    Carried program job (after program n) (time_of program n)
+unfolding after
+carried_made program job of zero made = starts_carried program job of
+carried_made program job of (suc n) made =
+    let before : Carried program job (after program n) (time_of program n) =
+    carried_made program job of n (λ earlier lt. made earlier (omega arith)) in
+    let here = made n (omega arith) in
+    let line = some_line program (after program n).at here.0 in
+    subst (λ u. Carried program job (next program (after program n)) u)
+    (sym (time_next program n line.0 line.1))
+    (line_carried program job of (after program n) (time_of program n) before line.0 line.1
+    here.1).carried
+
 pub carried_after : (program : ProgramData) (job : JobData) → IsOf program job → (n : ℕ) →
     IsLineReached program n →
     Carried program job (after program n) (time_of program n)
@@ -386,3 +407,13 @@ carried_after program job of (suc n) reached =
     (sym (time_next program n line.0 line.1))
     (line_carried program job of (after program n) (time_of program n) before line.0 line.1
     here.1).carried
+
+-- those of a run are made
+pub made_so_far : (program : ProgramData) (job : JobData) → IsOf program job → (n : ℕ) →
+    IsLineReached program n → AreMade program n
+made_so_far program job of n reached earlier lt =
+    let c = carried_after program job of earlier (λ before less. reached before (omega arith)) in
+    let line = line_next program (after program earlier) c.pictured.within (reached earlier lt).0 in (
+      slice_get_within program.lines (after program earlier).at line.0 line.1,
+      (reached earlier lt).1,
+    )

@@ -11,9 +11,9 @@ use Rattle.pardo_job.specs.Carries.{EndsAs}
 use Rattle.pardo_job.specs.Compiled.{AreLineNumbers, IsWhole}
 use Rattle.pardo_job.specs.Leaving.{Leaves, GoneIn}
 use Rattle.pardo_job.specs.Meaning.{after}
-use Rattle.pardo_job.specs.Runs.{IsProgramEnd}
+use Rattle.pardo_job.specs.Runs.{IsProgramOver}
 use Rattle.pardo_law.proofs.Carried.{Carried}
-use Rattle.pardo_law.proofs.Carrying.{carried_after, time_of}
+use Rattle.pardo_law.proofs.Carrying.{AreMade, carried_made, time_of}
 use Rattle.pardo_law.proofs.Leaving.{left_after}
 use Rattle.pardo_law.proofs.Picturing.{IsOf}
 use Rattle.pardo_law.proofs.Showing.{Whole, whole_at, all_stopped, reached_last, last_cells}
@@ -21,14 +21,15 @@ use Rattle.pardo_law.proofs.Showing.{last_there, later_same}
 
 module _ (program : ProgramData) (job : JobData) (of : IsOf program job) (whole : IsWhole job)
     (line_of : ℕ → ℕ)
-    (numbers : AreLineNumbers program line_of) (n : ℕ) (is : IsProgramEnd program n) where
+    (numbers : AreLineNumbers program line_of) (n : ℕ) (made : AreMade program n)
+    (over : IsProgramOver program (after program n)) where
   carried : Carried program job (after program n) (time_of program n)
-  carried = carried_after program job of n is.reached
+  carried = carried_made program job of n made
 
   pub done : Whole job (time_of program n + 1)
   done = whole_at job (time_of program n + 1) whole
-      (reached_last program job of (after program n) (time_of program n) carried is.over)
-      (all_stopped program job of (after program n) (time_of program n) carried is.over)
+      (reached_last program job of (after program n) (time_of program n) carried over)
+      (all_stopped program job of (after program n) (time_of program n) carried over)
 
   same_from : (t : ℕ) → job.steps ≤ t → state_after job job.steps ≡ state_after job t
   same_from t le = later_same job job.steps t le done.stops.reached done.stops.stopped
@@ -52,11 +53,11 @@ module _ (program : ProgramData) (job : JobData) (of : IsOf program job) (whole 
   gone_by : (i : ℕ) → i < program.procs → (g : Option ℕ) → (after program n).gone i ≡ g →
       GoneIn job line_of job.steps i g
   gone_by i lt (Some number) e =
-      leaves_within i number (left_after program job of line_of numbers n is.reached i lt number e)
+      leaves_within i number (left_after program job of line_of numbers n made i lt number e)
   gone_by i lt None e = λ out.
       let there : counter job (state_after job job.steps) i ≡ halted job =
       ap (λ (s : State). counter job s i) (same_from (time_of program n + 1) done.within)
-      ∙ last_there program job of (after program n) (time_of program n) carried is.over i lt e in
+      ∙ last_there program job of (after program n) (time_of program n) carried over i lt e in
       omega arith
 
   pub ends_as : EndsAs program job line_of (after program n)
@@ -65,6 +66,6 @@ module _ (program : ProgramData) (job : JobData) (of : IsOf program job) (whole 
     stopped = done.stops.stopped;
     cells = λ cell lt. ap (λ (s : State). slice_index s cell)
         (same_from (time_of program n + 1) done.within)
-        ∙ last_cells program job of (after program n) (time_of program n) carried is.over cell lt;
+        ∙ last_cells program job of (after program n) (time_of program n) carried over cell lt;
     gone = λ i lt. gone_by i lt ((after program n).gone i) refl;
   }

@@ -24,7 +24,7 @@ use Rattle.pardo_job.specs.Meaning.{has_none}
 use Rattle.pardo_job.specs.Runs.{IsProgramOver, AllGone, IsLineReached, IsProgramEnd}
 use Rattle.pardo_job.specs.Runs.{IsProgramConflict}
 use Rattle.pardo_job.proofs.Meanings.{next_at}
-use Rattle.pardo_law.proofs.Carried.{Carried, cost, loop_cost, place_low}
+use Rattle.pardo_law.proofs.Carried.{Carried, cost, cost_by, loop_cost, place_low}
 use Rattle.pardo_law.proofs.Carrying.{carried_after, line_next, time_of, time_next}
 use Rattle.pardo_law.proofs.Disputing.{decides}
 use Rattle.pardo_law.proofs.Picturing.{IsOf, IsFor, procs_are}
@@ -36,10 +36,16 @@ if_least : (b : Bool) (x y : ℕ) → 1 ≤ x → 1 ≤ y → 1 ≤ (if b then x
 if_least true x y p q = p
 if_least false x y p q = q
 
+by_least : (otherwise : ℕ) (o : Option ℕ) (steps : ℕ → ℕ) → 1 ≤ otherwise →
+    ((v : ℕ) → 1 ≤ steps v) → 1 ≤ cost_by otherwise o steps
+by_least otherwise None steps p q = p
+by_least otherwise (Some v) steps p q = q v
+
 loop_rises : (program : ProgramData) (source : Source) (opener : Statement) → IsFor opener →
     1 ≤ loop_cost program source opener
 loop_rises program source (For nest first last up end) is =
-    if_least (source.loops nest == common_value program source last) _ _ (omega arith) (omega arith)
+    by_least _ (common_value program source last) _ (omega arith) (λ b.
+    if_least (source.loops nest == b) _ _ (omega arith) (omega arith))
 loop_rises program source (Assign target tree) is = absurd is
 loop_rises program source (If tree) is = absurd is
 loop_rises program source Else is = absurd is
@@ -65,8 +71,9 @@ rises program source text_line depth EndIf tied = inr (refl, refl)
 rises program source text_line depth (While tree end) tied = inl (omega arith)
 rises program source text_line depth (EndWhile begin) tied = inl (omega arith)
 rises program source text_line depth (For nest first last up end) tied =
-    inl (if_least (has_none up (common_value program source first)
-    (common_value program source last)) _ _ (omega arith) (omega arith))
+    inl (by_least _ (common_value program source first) _ (omega arith) (λ a.
+    by_least _ (common_value program source last) _ (omega arith) (λ b.
+    if_least (has_none up a b) _ _ (omega arith) (omega arith))))
 rises program source text_line depth (EndFor begin) tied =
     inl (loop_rises program source (statement_at program begin) (tied begin refl))
 

@@ -3,6 +3,7 @@ use Rattle.std.proofs.Common.{◌≡◌, ◌≢◌, ℕ, zero, suc, ◌+◌, ◌
 use Rattle.std.proofs.Common.{not, Option, Some, None}
 use Rattle.std.proofs.Common.{refl, sym, ap, ◌∙◌, subst, inl, inr, ⊎_elim, arith, if◌then◌else◌}
 use Rattle.std.specs.Prelude.{slice_get, is_some}
+use Rattle.std.specs.Option.{option_or}
 use Rattle.std.proofs.lemmas.Bool.{cases_eq, cases_Bool}
 use Rattle.std.proofs.lemmas.Option.{none-some, same_Some}
 use Rattle.pram_job.specs.Job.{JobData}
@@ -19,11 +20,12 @@ use Rattle.pardo_job.specs.Leaving.{Leaves}
 use Rattle.pardo_job.specs.Lines.{place_of}
 use Rattle.pardo_job.specs.Meaning.{Source, after, next, after_statement, losing, loop_ended}
 use Rattle.pardo_job.specs.Meaning.{statement_at}
-use Rattle.pardo_job.specs.Meaning.{asked_in, common_value, has_none, is_active, value, write_of}
-use Rattle.pardo_job.specs.Runs.{IsLineReached}
+use Rattle.pardo_job.specs.Meaning.{asked_in, by_common, common_value, has_none, is_active}
+use Rattle.pardo_job.specs.Meaning.{value, write_of}
 use Rattle.pardo_job.proofs.Meanings.{next_at, gone_for_good}
 use Rattle.pardo_law.proofs.Carried.{Carried, Advance, cost, place_low}
-use Rattle.pardo_law.proofs.Carrying.{carried_after, line_carried, line_next, time_of, time_next}
+use Rattle.pardo_law.proofs.Carrying.{AreMade, carried_made, line_carried, some_line, time_next}
+use Rattle.pardo_law.proofs.Carrying.{time_of}
 use Rattle.pardo_law.proofs.Cutting.{is_inside}
 use Rattle.pardo_law.proofs.Disputing.{number_at}
 use Rattle.pardo_law.proofs.Picturing.{IsOf, procs_are}
@@ -50,17 +52,36 @@ if_gone : (b : Bool) (x y : Source) (i : ℕ) (g : Option ℕ) → x.gone i ≡ 
 if_gone true x y i g p q = p
 if_gone false x y i g p q = q
 
-loop_gone : (program : ProgramData) (begin i : ℕ) (opener : Statement) (source : Source) →
-    (loop_ended program begin opener source).gone i ≡ source.gone i
-loop_gone program begin i (For nest first last up end) source =
-    if_gone (source.loops nest == common_value program source last) _ _ i (source.gone i) refl refl
-loop_gone program begin i (Assign target tree) source = refl
-loop_gone program begin i (If tree) source = refl
-loop_gone program begin i Else source = refl
-loop_gone program begin i EndIf source = refl
-loop_gone program begin i (While tree end) source = refl
-loop_gone program begin i (EndWhile line) source = refl
-loop_gone program begin i (EndFor line) source = refl
+-- without a value all are gone in the line, and with one nobody is
+common_gone : (program : ProgramData) (text_line i number : ℕ) (source : Source) (o : Option ℕ)
+    (goes : ℕ → Source) → source.gone i ≡ None →
+    ((v : ℕ) → (goes v).gone i ≡ Some number → text_line ≡ number) →
+    (by_common program text_line source o goes).gone i ≡ Some number → text_line ≡ number
+common_gone program text_line i number source None goes there stays e =
+    same_Some text_line number (sym (ap (λ g. option_or g (Some text_line)) there) ∙ e)
+common_gone program text_line i number source (Some v) goes there stays e = stays v e
+
+loop_gone : (program : ProgramData) (text_line begin i number : ℕ) (opener : Statement)
+    (source : Source) → source.gone i ≡ None →
+    (loop_ended program text_line begin opener source).gone i ≡ Some number → text_line ≡ number
+loop_gone program text_line begin i number (For nest first last up end) source there e =
+    common_gone program text_line i number source (common_value program source last) _ there
+    (λ b gone. stays_there number (source.gone i) there
+    (sym (if_gone (source.loops nest == b) _ _ i (source.gone i) refl refl) ∙ gone)) e
+loop_gone program text_line begin i number (Assign target tree) source there e =
+    stays_there number (source.gone i) there e
+loop_gone program text_line begin i number (If tree) source there e =
+    stays_there number (source.gone i) there e
+loop_gone program text_line begin i number Else source there e =
+    stays_there number (source.gone i) there e
+loop_gone program text_line begin i number EndIf source there e =
+    stays_there number (source.gone i) there e
+loop_gone program text_line begin i number (While tree end) source there e =
+    stays_there number (source.gone i) there e
+loop_gone program text_line begin i number (EndWhile line) source there e =
+    stays_there number (source.gone i) there e
+loop_gone program text_line begin i number (EndFor line) source there e =
+    stays_there number (source.gone i) there e
 
 -- who is gone after a line, and was there before it, is gone in that line
 pub lost_in : (program : ProgramData) (text_line depth i number : ℕ) (statement : Statement)
@@ -79,17 +100,18 @@ lost_in program text_line depth i number Else source there e =
 lost_in program text_line depth i number EndIf source there e =
     stays_there number (source.gone i) there e
 lost_in program text_line depth i number (While tree end) source there e =
-    stays_there number (source.gone i) there
-    (sym (if_gone (common_value program source tree == 0) _ _ i (source.gone i) refl refl) ∙ e)
+    common_gone program text_line i number source (common_value program source tree) _ there
+    (λ v gone. stays_there number (source.gone i) there
+    (sym (if_gone (v == 0) _ _ i (source.gone i) refl refl) ∙ gone)) e
 lost_in program text_line depth i number (EndWhile begin) source there e =
     stays_there number (source.gone i) there e
 lost_in program text_line depth i number (For nest first last up end) source there e =
-    stays_there number (source.gone i) there
-    (sym (if_gone (has_none up (common_value program source first)
-    (common_value program source last)) _ _ i (source.gone i) refl refl) ∙ e)
+    common_gone program text_line i number source (common_value program source first) _ there
+    (λ a. common_gone program text_line i number source (common_value program source last) _ there
+    (λ b gone. stays_there number (source.gone i) there
+    (sym (if_gone (has_none up a b) _ _ i (source.gone i) refl refl) ∙ gone))) e
 lost_in program text_line depth i number (EndFor begin) source there e =
-    stays_there number (source.gone i) there
-    (sym (loop_gone program begin i (statement_at program begin) source) ∙ e)
+    loop_gone program text_line begin i number (statement_at program begin) source there e
 
 -- ---- in the steps of the line
 
@@ -171,16 +193,16 @@ module _ (program : ProgramData) (job : JobData) (of : IsOf program job) (line_o
             (counter job (state_after job (t + found.step)) i) line is inside ∙ named;
       }
 
-  pub left_after : (n : ℕ) → IsLineReached program n → (i : ℕ) → i < program.procs → (number : ℕ) →
+  pub left_after : (n : ℕ) → AreMade program n → (i : ℕ) → i < program.procs → (number : ℕ) →
       (after program n).gone i ≡ Some number → Leaves job line_of (time_of program n) i number
   unfolding after
   left_after zero reached i lt number gone = absurd (none-some number gone)
   left_after (suc n) reached i lt number gone =
-      let so_far : IsLineReached program n = λ earlier low. reached earlier (omega arith) in
+      let so_far : AreMade program n = λ earlier low. reached earlier (omega arith) in
       let here = reached n (omega arith) in
       let c : Carried program job (after program n) (time_of program n) =
-      carried_after program job of n so_far in
-      let line = line_next program (after program n) c.pictured.within here.0 in
+      carried_made program job of n so_far in
+      let line = some_line program (after program n).at here.0 in
       let t : ℕ = time_of program n in
       let later : t + cost program (after program n) line.0.depth line.0.statement ≡
       time_of program (suc n) =

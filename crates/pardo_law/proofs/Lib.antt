@@ -9,6 +9,7 @@ pub mod Making
 pub mod Cutting
 pub mod Rows
 pub mod Bodies
+pub mod Leading
 pub mod Picturing
 pub mod Values
 pub mod Masks
@@ -16,6 +17,7 @@ pub mod Loops
 pub mod Effects
 pub mod Carried
 pub mod Advancing
+pub mod AdvancingLoops
 pub mod Starting
 pub mod Carrying
 pub mod Showing
@@ -27,3 +29,16 @@ pub mod Ending
 pub mod Ruling
 pub mod Answering
 pub mod Between
+pub mod Splitting
+pub mod FlatLines
+pub mod FlatStates
+pub mod FlatLawful
+pub mod Flattening
+pub mod FlatCarrying
+pub mod FlatBetween
+pub mod Gathering
+pub mod Counting
+pub mod Telling
+pub mod FlatLevel
+pub mod FlatLineLevels
+pub mod Summing

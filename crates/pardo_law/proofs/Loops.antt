@@ -3,7 +3,7 @@ use Rattle.std.proofs.Common.{◌≡◌, ◌≢◌, ℕ, ◌+◌, ◌-◌, ◌%�
 use Rattle.std.proofs.Common.{[], ◌∷◌, ◌++◌, Option, Some, None}
 use Rattle.std.proofs.Common.{refl, sym, ap, ◌∙◌, subst, arith, if◌then◌else◌, length}
 use Rattle.std.proofs.Common.{length-append}
-use Rattle.std.specs.Option.{option_map, is_none}
+use Rattle.std.specs.Option.{option_map, option_or, is_none}
 use Rattle.std.proofs.lemmas.Bool.{eqb-true, eq-eqb, ne_eqb}
 use Rattle.pram_job.specs.declared.instr.Instr.{Instr}
 use Rattle.pram_job.specs.declared.instr.Instr.TheVariants.{St, Jz, Jmp}
@@ -111,9 +111,43 @@ module _ (program : ProgramData) (job : JobData) (of : IsProgram program) (sourc
       (goes_here job memory i _ _ (ap
       (λ x. Some (if x == 0 then target else place + length code + 1, now)) gives)))
 
+  -- ---- a line without a value
+
+  leaves_all : (place n : ℕ) (held : Registers) (code rest : List Instr) (P : Local → Type 0) →
+      AreStraight code → HasCodeAt job place (code ++ rest) → after_all memory i code held ≡ None →
+      P None → Goes job memory i (length code + n) (Some (place, held)) P
+  leaves_all place n held code rest P straight stands runs p =
+      goes_then job memory i (length code) n (Some (place, held)) None P
+      (runs_to job memory i code place held None straight (stands_front job place code rest stands)
+      runs) (goes_out job memory i n P p)
+
+  pub all_out : (text_line place n : ℕ) (code rest : List Instr) → AreStraight code →
+      HasCodeAt job at (code ++ rest) →
+      ((held : Registers) → held 3 ≡ i → source.gone i ≡ None → after_all memory i code held ≡ None) →
+      Goes job memory i (length code + n) (locals i)
+      (IsHere (option_or (source.gone i) (Some text_line)) place i)
+  all_out text_line place n code rest straight stands leaves =
+      by_gone (source.gone i) refl (pictured.here i lt)
+    where
+      by_gone : (g : Option ℕ) → source.gone i ≡ g → IsHere g at i (locals i) →
+          Goes job memory i (length code + n) (locals i)
+          (IsHere (option_or (source.gone i) (Some text_line)) place i)
+      by_gone (Some line) gone here =
+          goes_as job memory i (length code + n) place (locals i) None
+          (option_or (source.gone i) (Some text_line)) (Some line) here
+          (ap (λ g. option_or g (Some text_line)) gone)
+          (goes_out job memory i (length code + n) (IsHere (Some line) place i) refl)
+      by_gone None gone here =
+          goes_as job memory i (length code + n) place (locals i) (Some (at, here.held))
+          (option_or (source.gone i) (Some text_line)) (Some text_line) here.is
+          (ap (λ g. option_or g (Some text_line)) gone)
+          (leaves_all at n here.held code rest (IsHere (Some text_line) place i) straight stands
+          (leaves here.held here.own gone) refl)
+
   -- ---- `while`
 
-  module _ (tree : Tree) (target : ℕ) (is : IsCommonTree (bounds_of program) tree)
+  module _ (tree : Tree) (v target : ℕ) (is : IsCommonTree (bounds_of program) tree)
+      (has : common_value program source tree ≡ Some v)
       (shallow : is_shallow (while_code (program_layout program) tree) ≡ true)
       (stands : HasCodeAt job at (while_code (program_layout program) tree ++
       Jz (register_or_spare 0 (value_operand 0 tree)) target ∷ [])) where
@@ -121,7 +155,7 @@ module _ (program : ProgramData) (job : JobData) (of : IsProgram program) (sourc
     test = while_code (program_layout program) tree
 
     abbrev after_while : ℕ
-    after_while = if common_value program source tree == 0 then target else at + length test + 1
+    after_while = if v == 0 then target else at + length test + 1
 
     while_by : (g : Option ℕ) → source.gone i ≡ g → IsHere g at i (locals i) →
         Goes job memory i (length test + 1) (locals i) (IsHere (source.gone i) after_while i)
@@ -130,19 +164,16 @@ module _ (program : ProgramData) (job : JobData) (of : IsProgram program) (sourc
         here gone
         (goes_out job memory i (length test + 1) (IsHere (Some line) after_while i) refl)
     while_by None gone here =
-        let found : HasIn memory i here.held test (register_or_spare 0 (value_operand 0 tree))
-        (common_value program source tree) =
+        let found : HasIn memory i here.held test (register_or_spare 0 (value_operand 0 tree)) v =
         while_to program job of source memory i
-        (sees program of source memory locals pictured fits i lt gone) tree here.held here.own is
-        shallow in
+        (sees program of source memory locals pictured fits i lt gone) tree v here.held here.own is
+        shallow has in
         let own_now : found.now 3 ≡ i = found.keeps ∙ here.own in
         goes_as job memory i (length test + 1) after_while (locals i) (Some (at, here.held))
         (source.gone i) None here.is gone
         (goes_map job memory i (length test + 1) (Some (at, here.held)) _ _
         (λ l e. subst (IsThere after_while i) (sym e) (there_at after_while i found.now own_now))
-        (jumps at target (register_or_spare 0 (value_operand 0 tree))
-        (common_value program source tree)
-        here.held found.now test []
+        (jumps at target (register_or_spare 0 (value_operand 0 tree)) v here.held found.now test []
         (while_straight (program_layout program) tree) stands found.runs found.gives own_now))
 
     pub while_goes : Goes job memory i (length test + 1) (locals i)
@@ -151,9 +182,11 @@ module _ (program : ProgramData) (job : JobData) (of : IsProgram program) (sourc
 
   -- ---- `for`
 
-  module _ (nest : ℕ) (first last : Tree) (up : Bool) (target : ℕ)
+  module _ (nest : ℕ) (first last : Tree) (up : Bool) (a b target : ℕ)
       (nest_low : nest < (program_layout program).loops)
       (is : IsCommonTree (bounds_of program) first) (is_too : IsCommonTree (bounds_of program) last)
+      (first_has : common_value program source first ≡ Some a)
+      (last_has : common_value program source last ≡ Some b)
       (shallow : is_shallow (none_code (program_layout program) up first last) ≡ true)
       (first_shallow : is_shallow (value_code (program_layout program) 0 first) ≡ true)
       (stands : HasCodeAt job at (none_code (program_layout program) up first last
@@ -169,7 +202,7 @@ module _ (program : ProgramData) (job : JobData) (of : IsProgram program) (sourc
     turns_at = at + length asks_none + 2
 
     abbrev none : Bool
-    none = has_none up (common_value program source first) (common_value program source last)
+    none = has_none up a b
 
     back_stands : HasCodeAt job (at + length asks_none) (Jz 0 turns_at ∷ (Jmp target ∷ begins))
     back_stands = stands_back job at asks_none (Jz 0 turns_at ∷ (Jmp target ∷ begins)) stands
@@ -178,7 +211,7 @@ module _ (program : ProgramData) (job : JobData) (of : IsProgram program) (sourc
         HasIn memory i held asks_none 0 (bit none)
     tested held own there = none_to program job of source memory i
         (sees program of source memory locals pictured fits i lt there)
-        up first last held own is is_too shallow
+        up first last a b held own is is_too shallow first_has last_has
 
     -- where there is no turn
     none_by : none ≡ true → (g : Option ℕ) → source.gone i ≡ g → IsHere g at i (locals i) →
@@ -211,7 +244,7 @@ module _ (program : ProgramData) (job : JobData) (of : IsProgram program) (sourc
 
     -- where there is one
     abbrev first_value : Option ℕ
-    first_value = if is_none (source.gone i) then Some (common_value program source first) else None
+    first_value = if is_none (source.gone i) then Some a else None
 
     abbrev loop_stored : Option ℕ → Option (ℕ × ℕ)
     loop_stored o = option_map {U = ℕ × ℕ}
@@ -239,35 +272,33 @@ module _ (program : ProgramData) (job : JobData) (of : IsProgram program) (sourc
         makes_as job memory i ((length asks_none + 1) + length first_front) for_end (locals i) None
         (loop_stored first_value) None
         (source.gone i) (Some line) here
-        (ap (λ x. loop_stored (if is_none x then Some (common_value program source first) else
-        None)) gone) gone
+        (ap (λ x. loop_stored (if is_none x then Some a else None)) gone) gone
         (makes_out job memory i ((length asks_none + 1) + length first_front)
         (IsHere (Some line) for_end i) refl)
     turn_by e None gone here =
         let found : HasIn memory i here.held asks_none 0 (bit none) =
         tested here.held here.own gone in
         let own_now : found.now 3 ≡ i = found.keeps ∙ here.own in
-        let v : ℕ = common_value program source first in
         let c = jumps at turns_at 0 0 here.held found.now asks_none (Jmp target ∷ begins)
         (none_straight (program_layout program) up first last)
         stands found.runs (found.gives ∙ ap bit e) own_now in
-        let leaves : ValueTo memory i first_front found.now (value_operand 0 first) (Some v) =
+        let leaves : ValueTo memory i first_front found.now (value_operand 0 first) (Some a) =
         subst (ValueTo memory i first_front found.now (value_operand 0 first))
-        (common_is program source of first is i)
+        (common_is program source first is i ∙ first_has)
         (value_to program job of source memory i
         (sees program of source memory locals pictured fits i lt gone) first found.now own_now
         is.0 first_shallow) in
         makes_as job memory i ((length asks_none + 1) + length first_front) for_end (locals i)
         (Some (at, here.held))
-        (loop_stored first_value) (loop_stored (Some v)) (source.gone i) None here.is
-        (ap (λ x. loop_stored (if is_none x then Some v else None)) gone) gone
+        (loop_stored first_value) (loop_stored (Some a)) (source.gone i) None here.is
+        (ap (λ x. loop_stored (if is_none x then Some a else None)) gone) gone
         (makes_then job memory i (length asks_none + 1) (length first_front) (Some (at, here.held))
-        c.now (loop_stored (Some v)) (IsThere for_end i) c.runs
-        (subst (λ l. Makes job memory i (length first_front) l (loop_stored (Some v))
+        c.now (loop_stored (Some a)) (IsThere for_end i) c.runs
+        (subst (λ l. Makes job memory i (length first_front) l (loop_stored (Some a))
         (IsThere for_end i)) (sym c.goes)
         (own_body job memory i turns_at found.now first_front
         (loop_cells (program_layout program) nest)
-        (value_operand 0 first) (Some v)
+        (value_operand 0 first) (Some a)
         (value_straight (program_layout program) 0 first) first_stands low leaves)))
 
     pub turn_makes : none ≡ false →
@@ -285,9 +316,10 @@ module _ (program : ProgramData) (job : JobData) (of : IsProgram program) (sourc
 
   -- ---- the end of a `for`
 
-  module _ (nest : ℕ) (last : Tree) (up : Bool) (out again : ℕ)
+  module _ (nest : ℕ) (last : Tree) (up : Bool) (b out again : ℕ)
       (nest_low : nest < (program_layout program).loops)
       (is : IsCommonTree (bounds_of program) last)
+      (has : common_value program source last ≡ Some b)
       (shallow : is_shallow (turn_code (program_layout program) nest last) ≡ true)
       (stands : HasCodeAt job at (turn_code (program_layout program) nest last
       ++ (Jz 1 out ∷ (next_value up ∷
@@ -301,9 +333,6 @@ module _ (program : ProgramData) (job : JobData) (of : IsProgram program) (sourc
     abbrev a : ℕ
     a = source.loops nest
 
-    abbrev b : ℕ
-    b = common_value program source last
-
     end_stands : HasCodeAt job (at + length turn) (Jz 1 out ∷ tail)
     end_stands = stands_back job at turn (Jz 1 out ∷ tail) stands
 
@@ -311,7 +340,7 @@ module _ (program : ProgramData) (job : JobData) (of : IsProgram program) (sourc
         HasTurn memory i held turn a b
     turned_to held own there = turn_to program job of source memory i
         (sees program of source memory locals pictured fits i lt there)
-        nest last held own nest_low is shallow
+        nest last b held own nest_low is shallow has
 
     last_by : (a == b) ≡ true → (g : Option ℕ) → source.gone i ≡ g → IsHere g at i (locals i) →
         Goes job memory i (length turn + 1) (locals i) (IsHere (source.gone i) out i)

@@ -77,7 +77,7 @@ straight_named (Jmp index) is = absurd is
 straight_named Halt is = absurd is
 straight_named _ is = tt
 
-straight_instr : (job : JobData) (memory : ℕ → ℕ) (i at : ℕ) (held : Registers) (one : Instr) →
+pub straight_instr : (job : JobData) (memory : ℕ → ℕ) (i at : ℕ) (held : Registers) (one : Instr) →
     IsStraight one → after_instr job memory i at held one ≡
     standing_at (at + 1) (after_one memory i one held)
 straight_instr job memory i at held (Ld target (Named array index)) is = refl

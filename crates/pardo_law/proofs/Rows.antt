@@ -265,32 +265,3 @@ module _ (program : ProgramData) (arrays_are : AreArrays program.arrays 0) where
   pub place_outside : (array index : ℕ) → array_cell program array index ≡ None →
       (array_cells (program_layout program) array).len ≤ index
   place_outside array index is = outside_from array index (slice_get program.arrays array) refl is
-
-  -- an array has its first place
-  first_by : (array : ℕ) (held : ArrayData) → slice_get program.arrays array ≡ Some held →
-      (cell : ℕ) × (array_cell program array 0 ≡ Some cell)
-  first_by array held found =
-      let some : 0 < length held.start =
-      (array_within program.arrays 0 array held arrays_are found).1 in (
-        held.base + 0,
-        ap (λ (o : Option ArrayData). elim o as (λ (x : Option ArrayData). Option ℕ) [
-          | None ↦ None
-          | Some h ↦ if nat_lt 0 (length h.start) then Some (h.base + 0) else None
-        ]) found ∙ ap (λ b. if b then Some (held.base + 0) else None)
-            (lt-ltb 0 (length held.start) some),
-      )
-
-  first_from : (array : ℕ) (o : Option ArrayData) → slice_get program.arrays array ≡ o →
-      array < length program.arrays → (cell : ℕ) × (array_cell program array 0 ≡ Some cell)
-  first_from array None found lt = absurd (none_past program.arrays array found lt)
-    where
-      none_past : (arrays : List ArrayData) (k : ℕ) → slice_get arrays k ≡ None →
-          k < length arrays → ⊥
-      none_past [] k e lt = omega arith
-      none_past (a ∷ arrays) zero e lt = none-some a (sym e)
-      none_past (a ∷ arrays) (suc k) e lt = none_past arrays k e (omega arith)
-  first_from array (Some held) found lt = first_by array held found
-
-  pub first_place : (array : ℕ) → array < length program.arrays → (cell : ℕ) ×
-      (array_cell program array 0 ≡ Some cell)
-  first_place array lt = first_from array (slice_get program.arrays array) refl lt

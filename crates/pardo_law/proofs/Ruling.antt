@@ -17,12 +17,12 @@ use Rattle.pardo_text.specs.declared.statement.Target.TheVariants.{Private, Arra
 use Rattle.pardo_text.specs.Program.{ProgramData}
 use Rattle.pram_step.proofs.Disputing.{one_least_clash}
 use Rattle.pram_step.specs.Disputes.{Forbids}
-use Rattle.pardo_job.specs.Conflicts.{LineAgrees, LineClashes, Assigns, asked}
+use Rattle.pardo_job.specs.Conflicts.{LineAgrees, Assigns, asked}
 use Rattle.pardo_job.specs.Laws.{by_rule, RuleChangesNoState, CrewIsAccepted, AnyWriterCounts}
 use Rattle.pardo_job.specs.Laws.{UnwrittenIsKept, OneLineDispute}
 use Rattle.pardo_job.specs.Meaning.{Source, after, next, after_statement, asked_in, first_below}
 use Rattle.pardo_job.specs.Meaning.{given_to, loop_ended, statement_at}
-use Rattle.pardo_job.specs.Meaning.{common_value, has_none}
+use Rattle.pardo_job.specs.Meaning.{by_common, common_value, has_none}
 use Rattle.pardo_job.specs.Runs.{IsProgramOver}
 use Rattle.pardo_job.proofs.Meanings.{next_at, asked_at}
 use Rattle.pardo_law.specs.Theorem.{RuleChangesNoRun}
@@ -131,18 +131,25 @@ if_cells : (b : Bool) (x y : Source) (cell v : ℕ) → x.cells cell ≡ v → y
 if_cells true x y cell v p q = p
 if_cells false x y cell v p q = q
 
-loop_cells_same : (program : ProgramData) (begin cell : ℕ) (opener : Statement) (source : Source) →
-    (loop_ended program begin opener source).cells cell ≡ source.cells cell
-loop_cells_same program begin cell (For nest first last up end) source =
-    if_cells (source.loops nest == common_value program source last) _ _ cell (source.cells cell)
-    refl refl
-loop_cells_same program begin cell (Assign target tree) source = refl
-loop_cells_same program begin cell (If tree) source = refl
-loop_cells_same program begin cell Else source = refl
-loop_cells_same program begin cell EndIf source = refl
-loop_cells_same program begin cell (While tree end) source = refl
-loop_cells_same program begin cell (EndWhile line) source = refl
-loop_cells_same program begin cell (EndFor line) source = refl
+common_cells : (program : ProgramData) (text_line cell : ℕ) (source : Source) (o : Option ℕ)
+    (goes : ℕ → Source) → ((v : ℕ) → (goes v).cells cell ≡ source.cells cell) →
+    (by_common program text_line source o goes).cells cell ≡ source.cells cell
+common_cells program text_line cell source None goes same = refl
+common_cells program text_line cell source (Some v) goes same = same v
+
+loop_cells_same : (program : ProgramData) (text_line begin cell : ℕ) (opener : Statement)
+    (source : Source) →
+    (loop_ended program text_line begin opener source).cells cell ≡ source.cells cell
+loop_cells_same program text_line begin cell (For nest first last up end) source =
+    common_cells program text_line cell source (common_value program source last) _ (λ b.
+    if_cells (source.loops nest == b) _ _ cell (source.cells cell) refl refl)
+loop_cells_same program text_line begin cell (Assign target tree) source = refl
+loop_cells_same program text_line begin cell (If tree) source = refl
+loop_cells_same program text_line begin cell Else source = refl
+loop_cells_same program text_line begin cell EndIf source = refl
+loop_cells_same program text_line begin cell (While tree end) source = refl
+loop_cells_same program text_line begin cell (EndWhile line) source = refl
+loop_cells_same program text_line begin cell (EndFor line) source = refl
 
 none_given : (program : ProgramData) (source : Source) (cell : ℕ) →
     source.cells cell ≡ unwrap_or (first_below program.procs (λ i. given_to cell None))
@@ -162,15 +169,17 @@ cells_after program text_line depth cell (If tree) source = none_given program s
 cells_after program text_line depth cell Else source = none_given program source cell
 cells_after program text_line depth cell EndIf source = none_given program source cell
 cells_after program text_line depth cell (While tree end) source =
-    if_cells (common_value program source tree == 0) _ _ cell (source.cells cell) refl refl ∙
+    common_cells program text_line cell source (common_value program source tree) _ (λ v.
+    if_cells (v == 0) _ _ cell (source.cells cell) refl refl) ∙
     none_given program source cell
 cells_after program text_line depth cell (EndWhile begin) source = none_given program source cell
 cells_after program text_line depth cell (For nest first last up end) source =
-    if_cells (has_none up (common_value program source first) (common_value program source last)) _
-    _ cell (source.cells cell) refl refl
+    common_cells program text_line cell source (common_value program source first) _ (λ a.
+    common_cells program text_line cell source (common_value program source last) _ (λ b.
+    if_cells (has_none up a b) _ _ cell (source.cells cell) refl refl))
     ∙ none_given program source cell
 cells_after program text_line depth cell (EndFor begin) source =
-    loop_cells_same program begin cell (statement_at program begin) source ∙
+    loop_cells_same program text_line begin cell (statement_at program begin) source ∙
     none_given program source cell
 
 module _ (program : ProgramData) (source : Source) (line : Line)

@@ -3,6 +3,7 @@ use Rattle.std.proofs.Common.{◌≡◌, ℕ, ◌+◌, ◌<◌, ◌≤◌, ◌==
 use Rattle.std.proofs.Common.{true, false, ◌∷◌, Option, Some, None}
 use Rattle.std.proofs.Common.{refl, sym, ap, ◌∙◌, arith, if◌then◌else◌, length, map, ⊎_elim}
 use Rattle.std.specs.Prelude.{slice_get, slice_index}
+use Rattle.std.specs.Option.{option_map}
 use Rattle.std.proofs.lemmas.Bool.{lt-ltb, le-ltb, cases_lt}
 use Rattle.pram_job.specs.declared.instr.Array.{Array}
 use Rattle.pram_job.specs.declared.instr.Instr.{Instr}
@@ -72,6 +73,13 @@ module _ (job : JobData) (is_job : IsJob job) (s : State) (len : length s ≡ pl
       FollowsByItself job s i (Some (at + 1, put target w held)) None
   given target v w few e asks = follows_gives job is_job s len i lt at target w held few
       (asks ∙ ap (λ c. gives job i c target v) counter_is ∙ ap (gives job i at target) e) held_is
+
+  -- or has none for it
+  computed_or_out : (target : ℕ) (o : Option ℕ) → target < 4 →
+      request_in job s i ≡ within o (out_of_range job) (gives job i (counter job s i) target) →
+      FollowsByItself job s i (standing_at (at + 1) (option_map (λ v. put target v held) o)) None
+  computed_or_out target None few asks = follows_out job is_job s len i lt asks
+  computed_or_out target (Some v) few asks = given target v v few refl asks
 
   here : (which : ℕ) → which < 4 → register job s i which ≡ held which
   here which few = same_register job s i which few ∙ ap (λ (f : Registers). f which) held_is
@@ -154,14 +162,14 @@ module _ (job : JobData) (is_job : IsJob job) (s : State) (len : length s ≡ pl
   jump n m e asks = follows_goes job is_job s len i lt m held (asks ∙ ap goes_to e) held_is
 
   -- what is asked for by an instruction with these operands, and where that goes
-  abbrev AsksWith : (ℕ → ℕ → ℕ) → Operands → Type 0
+  abbrev AsksWith : (ℕ → ℕ → Option ℕ) → Operands → Type 0
   AsksWith computes operands = request_in job s i ≡ request_with job i (counter job s i) computes operands
       (slice_index (map (register job s i) (read_by operands)) 0)
       (slice_index (map (register job s i) (read_by operands)) 1)
       (elim (read_at job operands (slice_index (map (register job s i) (read_by operands)) 0))
       [ None ↦ 0 | Some cell ↦ slice_index s cell ])
 
-  follows_with : (computes : ℕ → ℕ → ℕ) (operands : Operands) →
+  follows_with : (computes : ℕ → ℕ → Option ℕ) (operands : Operands) →
       AreOperands job.cells (length job.code) operands → NamesArrays operands →
       AsksWith computes operands →
       FollowsByItself job s i (local_after job (memory_of job s) i at held computes operands)
@@ -170,8 +178,10 @@ module _ (job : JobData) (is_job : IsJob job) (s : State) (len : length s ≡ pl
   follows_with computes (TargetNumber target number) is named asks =
       given target number number is.0 refl asks
   follows_with computes (Target target) is named asks = given target i i is refl asks
-  follows_with computes (TargetTwo target a b) is named asks = given target _ _ is.0
-      (λ k. computes (here a is.1 k) (there a b is.2 k)) asks
+  follows_with computes (TargetTwo target a b) is named asks =
+      computed_or_out target (computes (held a) (operand_in held b)) is.0
+      (asks ∙ (λ k. within (computes (here a is.1 k) (there a b is.2 k)) (out_of_range job)
+      (gives job i (counter job s i) target)))
   follows_with computes (TargetPlace target (Named array index)) is named asks =
       load target array index is.0 is.1.0 is.1.1 asks
   follows_with computes (TargetPlace target (Cell index)) is named asks = absurd named

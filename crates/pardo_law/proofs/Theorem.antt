@@ -1,26 +1,29 @@
 -- The theorem: the job of a program carries its run.
-use Rattle.std.proofs.Common.{◌≡◌, ℕ, suc, ◌+◌, refl, sym, ap, ◌∙◌, arith}
+use Rattle.std.proofs.Common.{◌≡◌, ℕ, suc, ◌+◌, Some, refl, sym, ap, ◌∙◌, arith}
+use Rattle.std.specs.Prelude.{slice_get}
 use Rattle.pram_job.specs.Job.{JobData}
 use Rattle.pram_step.specs.Runs.{IsFault}
+use Rattle.pardo_text.specs.declared.statement.Line.{Line}
 use Rattle.pardo_text.specs.Lawful.{IsProgram}
 use Rattle.pardo_text.specs.Nested.{IsNested}
 use Rattle.pardo_text.specs.Program.{ProgramData}
 use Rattle.pardo_text.proofs.LawFors.{turns_tied}
 use Rattle.pardo_job.specs.Carries.{Carries, ComesFrom}
-use Rattle.pardo_job.specs.Compiled.{IsCompiled}
+use Rattle.pardo_job.specs.Compiled.{AreLineNumbers, IsCompiled, IsWhole}
+use Rattle.pardo_job.specs.Conflicts.{IsLineDispute}
 use Rattle.pram_step.specs.declared.answer.Dispute.{Dispute}
 use Rattle.pardo_job.specs.Meaning.{after}
 use Rattle.pardo_job.specs.Runs.{IsProgramConflict, line_number}
 use Rattle.pardo_law.specs.Theorem.{JobsCarryPrograms}
 use Rattle.pardo_law.proofs.Carried.{Carried}
-use Rattle.pardo_law.proofs.Carrying.{carried_after, line_next, time_of, time_next}
+use Rattle.pardo_law.proofs.Carrying.{carried_after, line_next, made_so_far, time_next, time_of}
 use Rattle.pardo_law.proofs.Disputing.{InConflict, in_conflict, line_number_is}
 use Rattle.pardo_law.proofs.Finishing.{finishes}
 use Rattle.pardo_law.proofs.Picturing.{IsOf, TurnsAreTied}
 use Rattle.pardo_law.proofs.Showing.{shows, conflict_is_last}
 use Rattle.pardo_law.proofs.Ending.{ends_as, done}
 
-tied : (program : ProgramData) → IsNested program.lines → TurnsAreTied program
+pub tied : (program : ProgramData) → IsNested program.lines → TurnsAreTied program
 tied program nested j begin e = turns_tied program.lines nested j begin e
 
 -- the step of a line in conflict
@@ -39,6 +42,29 @@ pub record IsStep (program : ProgramData) (job : JobData) (line_of : ℕ → ℕ
   pub comes_too : ComesFrom job line_of before dispute.second
       (line_number program (after program n))
 
+module _ (program : ProgramData) (job : JobData) (line_of : ℕ → ℕ) (of : IsOf program job)
+    (whole : IsWhole job) (numbers : AreLineNumbers program line_of) (n : ℕ)
+    (c : Carried program job (after program n) (time_of program n)) (line : Line)
+    (is : slice_get program.lines (after program n).at ≡ Some line) where
+  pub step_in : (dispute : Dispute) → IsLineDispute program (after program n) dispute →
+      IsStep program job line_of n dispute
+  step_in dispute disputed =
+      let t : ℕ = time_of program n in
+      let found : InConflict program job (after program n) t line line_of dispute =
+      in_conflict program job of (after program n) t c line is line_of numbers dispute disputed in
+      let last : job.steps ≡ t + found.before + 1 =
+      conflict_is_last job (t + found.before) whole found.reached found.against in
+      let named = line_number_is program (after program n) line is in
+      record {
+        before = t + found.before;
+        time_is = ap (time_of program) (let e : n + 1 ≡ suc n = omega arith in e)
+            ∙ time_next program n line is ∙ (let e = found.costs in omega arith);
+        steps_are = last;
+        fault = record { first = found.first; within = let e = last in omega arith };
+        comes = found.comes ∙ sym named;
+        comes_too = found.comes_too ∙ sym named;
+      }
+
 module _ (program : ProgramData) (job : JobData) (line_of : ℕ → ℕ) (lawful : IsProgram program)
     (nested : IsNested program.lines)
     (compiled : IsCompiled program job line_of) where
@@ -54,24 +80,10 @@ module _ (program : ProgramData) (job : JobData) (line_of : ℕ → ℕ) (lawful
   pub step_of : (n : ℕ) (dispute : Dispute) → IsProgramConflict program n dispute →
       IsStep program job line_of n dispute
   step_of n dispute is =
-      let t : ℕ = time_of program n in
-      let c : Carried program job (after program n) t = carried_after program job of n is.reached in
+      let c = carried_after program job of n is.reached in
       let line = line_next program (after program n) c.pictured.within is.goes_on in
-      let found : InConflict program job (after program n) t line.0 line_of dispute =
-      in_conflict program job of (after program n) t c line.0 line.1 line_of compiled.numbers
-      dispute is.disputed in
-      let last : job.steps ≡ t + found.before + 1 =
-      conflict_is_last job (t + found.before) compiled.whole found.reached found.against in
-      let named = line_number_is program (after program n) line.0 line.1 in
-      record {
-        before = t + found.before;
-        time_is = ap (time_of program) (let e : n + 1 ≡ suc n = omega arith in e)
-            ∙ time_next program n line.0 line.1 ∙ (let e = found.costs in omega arith);
-        steps_are = last;
-        fault = record { first = found.first; within = let e = last in omega arith };
-        comes = found.comes ∙ sym named;
-        comes_too = found.comes_too ∙ sym named;
-      }
+      step_in program job line_of of compiled.whole compiled.numbers n c line.0 line.1 dispute
+      is.disputed
 
   unfoldable pub carries : Carries program job line_of
   carries = record {
@@ -84,8 +96,10 @@ module _ (program : ProgramData) (job : JobData) (line_of : ℕ → ℕ) (lawful
     shows = λ n reached. let c = carried_after program job of n reached in
         (c.standing.reached, shows program job of (after program n) (time_of program n) c);
     ends = λ n is. (
-      ends_as program job of compiled.whole line_of compiled.numbers n is,
-      (done program job of compiled.whole line_of compiled.numbers n is).within,
+      ends_as program job of compiled.whole line_of compiled.numbers n
+          (made_so_far program job of n is.reached) is.over,
+      (done program job of compiled.whole line_of compiled.numbers n
+          (made_so_far program job of n is.reached) is.over).within,
     );
     disputes = λ n dispute is. let s = step_of n dispute is in
         (s.before, s.time_is, s.steps_are, s.fault, s.comes, s.comes_too);

@@ -2,7 +2,8 @@
 use Rattle.std.proofs.Common.{◌≡◌, ℕ, ◌+◌, ◌-◌, ◌%◌, ◌^◌, ◌<◌, ◌≤◌, ◌==◌, nat_lt, Bool, true, false}
 use Rattle.std.proofs.Common.{not, List, [], ◌∷◌, ◌++◌, Option, Some, None}
 use Rattle.std.proofs.Common.{refl, sym, ap, ◌∙◌, subst, inl, inr, arith, if◌then◌else◌, length}
-use Rattle.std.proofs.Common.{append_assoc, unwrap_or}
+use Rattle.std.proofs.Common.{append_assoc, ◌⊎◌}
+use Rattle.std.proofs.lemmas.Option.{none-some}
 use Rattle.std.specs.Option.{option_map, option_and_then}
 use Rattle.std.proofs.lemmas.Bool.{lt-ltb, le-ltb}
 use Rattle.pram_job.specs.declared.instr.Array.{Array}
@@ -12,9 +13,9 @@ use Rattle.pram_job.specs.declared.instr.Operand.{Operand}
 use Rattle.pram_job.specs.declared.instr.Operand.TheVariants.{Register}
 use Rattle.pram_job.specs.declared.instr.Place.TheVariants.{Named}
 use Rattle.pram_job.specs.Job.{JobData}
-use Rattle.pardo_text.specs.Expression.{Tree, number, own, loop, private, place, apply}
+use Rattle.pardo_text.specs.Expression.{Tree}
 use Rattle.pardo_text.specs.Lawful.{IsExpression, IsCommonTree, IsProgram, bounds_of}
-use Rattle.pardo_text.specs.Operations.{bit, operation_value}
+use Rattle.pardo_text.specs.Operations.{bit}
 use Rattle.pardo_text.specs.Program.{ProgramData}
 use Rattle.pardo_job.specs.Layouts.{ProgramLayoutData, program_layout, loop_cells, array_cells}
 use Rattle.pardo_job.specs.Leaves.{DecidesTo}
@@ -24,10 +25,11 @@ use Rattle.pardo_job.specs.Operations.{is_shallow, register_or_spare}
 use Rattle.pardo_job.specs.Sees.{Sees}
 use Rattle.pardo_job.specs.Straight.{Registers, put, operand_in, after_one, after_all}
 use Rattle.pardo_job.specs.Values.{value_code, value_operand, takes, own_load}
-use Rattle.pardo_job.proofs.Assigning.{both_code, HasBoth, BothTo, both_evaluate, HasIn}
+use Rattle.pardo_job.proofs.Assigning.{both_code, BothTo, both_evaluate, HasIn}
 use Rattle.pardo_job.proofs.Assigning.{while_evaluates, none_evaluates}
 use Rattle.pardo_job.proofs.Deciding.{conditions_decide}
 use Rattle.pardo_job.proofs.Evaluating.{Evaluated, EvaluatesTo, evaluates, load_within}
+use Rattle.pardo_job.proofs.Evaluating.{none_after}
 use Rattle.pardo_job.proofs.Meanings.{loops_are_common}
 use Rattle.pardo_job.proofs.Shallow.{shallow_front, shallow_rest}
 use Rattle.pardo_job.proofs.Straight.{put_same, put_other, after_front}
@@ -36,7 +38,7 @@ use Rattle.pardo_law.specs.Locals.{Local, after_instr, store_by, HasCodeAt, AreS
 use Rattle.pardo_law.proofs.Bodies.{IsThere, Arrives, ValueTo, there_at, with_store}
 use Rattle.pardo_law.proofs.Making.{Makes, makes_body}
 use Rattle.pardo_law.proofs.Placing.{straight_append}
-use Rattle.pardo_law.proofs.Rows.{place_is, place_outside, first_place}
+use Rattle.pardo_law.proofs.Rows.{place_is, place_outside}
 use Rattle.pardo_law.proofs.Straightness.{value_straight}
 
 value_from : (memory : ℕ → ℕ) (i : ℕ) (layout : ProgramLayoutData) (tree : Tree) (held : Registers)
@@ -66,38 +68,13 @@ decided_from memory i code held (Some v) own_i e = record {
   own = e.keeps ∙ own_i;
 }
 
--- ---- what is common has a value
+-- ---- what is common
 
-common_some : (program : ProgramData) (source : Source) → IsProgram program → (tree : Tree) →
-    IsCommonTree (bounds_of program) tree → (v : ℕ) × (value program source 0 tree ≡ Some v)
-common_some program source of (number k) is = (k, refl)
-common_some program source of own is = absurd is.1
-common_some program source of (loop nest) is = (source.loops nest, refl)
-common_some program source of (private x) is = absurd is.1
-common_some program source of (place array index) is =
-    let first = first_place program of.arrays array is.0.0 in (
-      source.cells first.0,
-      ap (λ t. option_and_then (λ k. option_map source.cells (array_cell program array k))
-          (value program source 0 t)) is.1
-          ∙ ap (option_map source.cells) first.1,
-    )
-common_some program source of (apply op first second) is =
-    let a = common_some program source of first (is.0.1, is.1.0) in
-    let b = common_some program source of second (is.0.2, is.1.1) in (
-      operation_value op a.0 b.0,
-      ap (option_and_then (λ x. option_map (operation_value op x) (value program source 0 second)))
-          a.1
-          ∙ ap (option_map (operation_value op a.0)) b.1,
-    )
-
--- and all processors have it
-pub common_is : (program : ProgramData) (source : Source) → IsProgram program → (tree : Tree) →
+-- all processors have the value, if there is one
+pub common_is : (program : ProgramData) (source : Source) (tree : Tree) →
     IsCommonTree (bounds_of program) tree → (i : ℕ) →
-    value program source i tree ≡ Some (common_value program source tree)
-common_is program source of tree is i =
-    let found = common_some program source of tree is in
-    loops_are_common program source tree i 0 is.1 ∙ found.1
-    ∙ ap Some (sym (ap (λ o. unwrap_or o 0) found.1))
+    value program source i tree ≡ common_value program source tree
+common_is program source tree is i = loops_are_common program source tree i 0 is.1
 
 -- the end of a loop: its variable, and whether that is the last one
 pub record HasTurn (memory : ℕ → ℕ) (i : ℕ) (held : Registers) (code : List Instr) (a b : ℕ) :
@@ -234,29 +211,40 @@ module _ (program : ProgramData) (job : JobData) (of : IsProgram program) (sourc
 
   -- ---- loops
 
-  evaluated_as : (tree : Tree) (at v : ℕ) (held : Registers) → held 3 ≡ i →
-      IsExpression (bounds_of program) tree →
+  -- the code of an expression that all have, by its value
+  common_to : (tree : Tree) (at : ℕ) (o : Option ℕ) (held : Registers) → held 3 ≡ i →
+      IsCommonTree (bounds_of program) tree →
       is_shallow (value_code (program_layout program) at tree) ≡ true →
-      value program source i tree ≡
-      Some v →
-      Evaluated memory i held (program_layout program) at tree v
-  evaluated_as tree at v held own_i is shallow e =
-      subst (EvaluatesTo memory i held (program_layout program) at tree) e
+      common_value program source tree ≡ o →
+      EvaluatesTo memory i held (program_layout program) at tree o
+  common_to tree at o held own_i is shallow e =
+      subst (EvaluatesTo memory i held (program_layout program) at tree)
+      (common_is program source tree is i ∙ e)
       (evaluates program (program_layout program) source memory i sees tree at held own_i
-      (lawful_tree program tree is) shallow)
+      (lawful_tree program tree is.0) shallow)
 
-  pub while_to : (tree : Tree) (held : Registers) → held 3 ≡ i →
+  pub while_to : (tree : Tree) (v : ℕ) (held : Registers) → held 3 ≡ i →
       IsCommonTree (bounds_of program) tree →
       is_shallow (while_code (program_layout program) tree) ≡ true →
+      common_value program source tree ≡ Some v →
       HasIn memory i held (while_code (program_layout program) tree)
-      (register_or_spare 0 (value_operand 0 tree))
-      (common_value program source tree)
+      (register_or_spare 0 (value_operand 0 tree)) v
   unfolding while_code
-  while_to tree held own_i is shallow =
-      while_evaluates memory i (common_value program source tree) (program_layout program) tree held
-      (evaluated_as tree 0 (common_value program source tree) held own_i is.0
-      (shallow_front (value_code (program_layout program) 0 tree) _ shallow)
-      (common_is program source of tree is i))
+  while_to tree v held own_i is shallow e =
+      while_evaluates memory i v (program_layout program) tree held
+      (common_to tree 0 (Some v) held own_i is
+      (shallow_front (value_code (program_layout program) 0 tree) _ shallow) e)
+
+  pub while_out : (tree : Tree) (held : Registers) → held 3 ≡ i →
+      IsCommonTree (bounds_of program) tree →
+      is_shallow (while_code (program_layout program) tree) ≡ true →
+      common_value program source tree ≡ None →
+      after_all memory i (while_code (program_layout program) tree) held ≡ None
+  unfolding while_code
+  while_out tree held own_i is shallow e =
+      none_after memory i (value_code (program_layout program) 0 tree) _ held
+      (common_to tree 0 None held own_i is
+      (shallow_front (value_code (program_layout program) 0 tree) _ shallow) e)
 
   none_shallow : (up : Bool) (first last : Tree) →
       is_shallow (none_code (program_layout program) up first last) ≡ true →
@@ -267,64 +255,98 @@ module _ (program : ProgramData) (job : JobData) (of : IsProgram program) (sourc
       (ap is_shallow (append_assoc (value_code (program_layout program) 0 first)
       (value_code (program_layout program) (takes first) last) _) ∙ shallow)
 
-  as_both : (first last : Tree) (held : Registers) (a b : ℕ) → value program source i first ≡
-      Some a →
-      value program source i last ≡ Some b →
-      BothTo memory i held (program_layout program) first last (value program source i first)
-      (value program source i last) →
-      HasBoth memory i held (program_layout program) first last a b
-  as_both first last held a b e f both =
-      subst (λ x. BothTo memory i held (program_layout program) first last (Some a) x) f
-      (subst (λ x. BothTo memory i held (program_layout program) first last x
-      (value program source i last)) e both)
-
-  pub none_to : (up : Bool) (first last : Tree) (held : Registers) → held 3 ≡ i →
-      IsCommonTree (bounds_of program) first → IsCommonTree (bounds_of program) last →
+  common_both : (up : Bool) (first last : Tree) (held : Registers) (a b : Option ℕ) →
+      held 3 ≡ i → IsCommonTree (bounds_of program) first →
+      IsCommonTree (bounds_of program) last →
       is_shallow (none_code (program_layout program) up first last) ≡ true →
-      HasIn memory i held (none_code (program_layout program) up first last) 0
-      (bit (has_none up (common_value program source first) (common_value program source last)))
-  none_to up first last held own_i is is_too shallow =
-      let a : ℕ = common_value program source first in
-      let b : ℕ = common_value program source last in
-      none_evaluates memory i a b (program_layout program) up first last held
-      (as_both first last held a b (common_is program source of first is i)
-      (common_is program source of last is_too i)
+      common_value program source first ≡ a → common_value program source last ≡ b →
+      BothTo memory i held (program_layout program) first last a b
+  common_both up first last held a b own_i is is_too shallow e f =
+      subst (λ x. BothTo memory i held (program_layout program) first last a x)
+      (common_is program source last is_too i ∙ f)
+      (subst (λ x. BothTo memory i held (program_layout program) first last x
+      (value program source i last)) (common_is program source first is i ∙ e)
       (both_evaluate program (program_layout program) source memory i sees first last held own_i
       (lawful_tree program first is.0) (lawful_tree program last is_too.0)
-      (none_shallow up first last shallow))) shallow
+      (none_shallow up first last shallow)))
 
-  pub turn_to : (nest : ℕ) (last : Tree) (held : Registers) → held 3 ≡ i →
+  pub none_to : (up : Bool) (first last : Tree) (a b : ℕ) (held : Registers) → held 3 ≡ i →
+      IsCommonTree (bounds_of program) first → IsCommonTree (bounds_of program) last →
+      is_shallow (none_code (program_layout program) up first last) ≡ true →
+      common_value program source first ≡ Some a → common_value program source last ≡ Some b →
+      HasIn memory i held (none_code (program_layout program) up first last) 0
+      (bit (has_none up a b))
+  none_to up first last a b held own_i is is_too shallow e f =
+      none_evaluates memory i a b (program_layout program) up first last held
+      (common_both up first last held (Some a) (Some b) own_i is is_too shallow e f) shallow
+
+  -- where the first or the last value is none
+  pub none_out : (up : Bool) (first last : Tree) (held : Registers) → held 3 ≡ i →
+      IsCommonTree (bounds_of program) first → IsCommonTree (bounds_of program) last →
+      is_shallow (none_code (program_layout program) up first last) ≡ true →
+      (common_value program source first ≡ None) ⊎ (common_value program source last ≡ None) →
+      after_all memory i (none_code (program_layout program) up first last) held ≡ None
+  unfolding none_code
+  none_out up first last held own_i is is_too shallow lacks =
+      ap (λ code. after_all memory i code held)
+      (sym (append_assoc (value_code (program_layout program) 0 first)
+      (value_code (program_layout program) (takes first) last) _))
+      ∙ none_after memory i (both_code (program_layout program) first last) _ held
+      (neither (common_value program source first) (common_value program source last) lacks
+      (common_both up first last held (common_value program source first)
+      (common_value program source last) own_i is is_too shallow refl refl))
+    where
+      neither : (a b : Option ℕ) → (a ≡ None) ⊎ (b ≡ None) →
+          BothTo memory i held (program_layout program) first last a b →
+          after_all memory i (both_code (program_layout program) first last) held ≡ None
+      neither None b lacks c = c
+      neither (Some a) None lacks c = c
+      neither (Some a) (Some b) (inl e) c = absurd (none-some a (sym e))
+      neither (Some a) (Some b) (inr e) c = absurd (none-some b (sym e))
+
+  -- the variable of a loop is loaded first
+  loop_loaded : (nest : ℕ) (held : Registers) → held 3 ≡ i →
+      nest < (program_layout program).loops →
+      after_one memory i (own_load 0 (loop_cells (program_layout program) nest)) held
+      ≡ Some (put 0 (source.loops nest) held)
+  loop_loaded nest held own_i low =
+      load_within memory i 0 i held (loop_cells (program_layout program) nest) (Register 3) own_i
+      sees.is_processor
+      ∙ ap (λ v. Some (put 0 v held)) (sees.loops nest low)
+
+  turn_shallow : (nest : ℕ) (last : Tree) →
+      is_shallow (turn_code (program_layout program) nest last) ≡ true →
+      is_shallow (value_code (program_layout program) 1 last) ≡ true
+  unfolding turn_code
+  turn_shallow nest last shallow =
+      let front : List Instr = value_code (program_layout program) 1 last in
+      let sub : Instr = Sub 1 0 (value_operand 1 last) in
+      shallow_front front (sub ∷ [])
+      (shallow_rest (own_load 0 (loop_cells (program_layout program) nest)) (front ++ sub ∷ [])
+      shallow)
+
+  pub turn_to : (nest : ℕ) (last : Tree) (b : ℕ) (held : Registers) → held 3 ≡ i →
       nest < (program_layout program).loops →
       IsCommonTree (bounds_of program) last →
-      is_shallow (turn_code (program_layout program) nest last) ≡
-      true →
-      HasTurn memory i held (turn_code (program_layout program) nest last) (source.loops nest)
-      (common_value program source last)
+      is_shallow (turn_code (program_layout program) nest last) ≡ true →
+      common_value program source last ≡ Some b →
+      HasTurn memory i held (turn_code (program_layout program) nest last) (source.loops nest) b
   unfolding turn_code
-  turn_to nest last held own_i low is shallow =
+  turn_to nest last b held own_i low is shallow e =
       let a : ℕ = source.loops nest in
-      let b : ℕ = common_value program source last in
       let front : List Instr = value_code (program_layout program) 1 last in
       let sub : Instr = Sub 1 0 (value_operand 1 last) in
       let first : Registers = put 0 a held in
-      let loads : after_one memory i (own_load 0 (loop_cells (program_layout program) nest)) held ≡
-      Some first =
-      load_within memory i 0 i held (loop_cells (program_layout program) nest) (Register 3) own_i
-      sees.is_processor
-      ∙ ap (λ v. Some (put 0 v held)) (sees.loops nest low) in
       let own_first : first 3 ≡ i = put_other 0 a 3 held (λ e. omega arith) ∙ own_i in
       let c : Evaluated memory i first (program_layout program) 1 last b =
-      evaluated_as last 1 b first own_first is.0
-      (shallow_front front (sub ∷ [])
-      (shallow_rest (own_load 0 (loop_cells (program_layout program) nest)) (front ++ sub ∷ [])
-      shallow))
-      (common_is program source of last is i) in
+      common_to last 1 (Some b) first own_first is (turn_shallow nest last shallow) e in
       let variable : c.now 0 ≡ a = c.keeps 0 (inl (omega arith)) ∙ put_same 0 a held in
       let end : Registers = put 1
       ((c.now 0 + (2 ^ 32 - operand_in c.now (value_operand 1 last))) % 2 ^
       32) c.now in record {
         now = end;
-        runs = ap (option_and_then (after_all memory i (front ++ sub ∷ []))) loads
+        runs = ap (option_and_then (after_all memory i (front ++ sub ∷ [])))
+            (loop_loaded nest held own_i low)
             ∙ after_front memory i front (sub ∷ []) first c.now c.runs;
         variable = put_other 1 ((c.now 0 + (2 ^ 32 - operand_in c.now (value_operand 1 last))) % 2 ^
             32) 0 c.now (λ e. omega arith) ∙ variable;
@@ -339,3 +361,21 @@ module _ (program : ProgramData) (job : JobData) (of : IsProgram program) (sourc
             (sees.fits ((loop_cells (program_layout program) nest).base + i));
         last_low = c.fits;
       }
+
+  pub turn_out : (nest : ℕ) (last : Tree) (held : Registers) → held 3 ≡ i →
+      nest < (program_layout program).loops →
+      IsCommonTree (bounds_of program) last →
+      is_shallow (turn_code (program_layout program) nest last) ≡ true →
+      common_value program source last ≡ None →
+      after_all memory i (turn_code (program_layout program) nest last) held ≡ None
+  unfolding turn_code
+  turn_out nest last held own_i low is shallow e =
+      let first : Registers = put 0 (source.loops nest) held in
+      let front : List Instr = value_code (program_layout program) 1 last in
+      let sub : Instr = Sub 1 0 (value_operand 1 last) in
+      ap (option_and_then (after_all memory i (front ++ sub ∷ [])))
+      (loop_loaded nest held own_i low)
+      ∙ none_after memory i front (sub ∷ []) first
+      (common_to last 1 None first
+      (put_other 0 (source.loops nest) 3 held (λ e. omega arith) ∙ own_i) is
+      (turn_shallow nest last shallow) e)

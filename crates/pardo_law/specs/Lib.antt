@@ -1,3 +1,6 @@
 pub mod Locals
 pub mod Theorem
 pub mod Between
+pub mod Flattening
+pub mod Counted
+pub mod FlatLevels

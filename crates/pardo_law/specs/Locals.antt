@@ -26,7 +26,7 @@ use Rattle.pardo_job.specs.Values.{value_code}
 -- ---- what a state holds
 
 -- Its place in the code and its registers; none for a processor that named a place that there is
--- not, which stays so.
+-- not, or divided by 0, which stays so.
 abbrev pub Local : Type 0
 Local = Option (ℕ × Registers)
 
@@ -49,7 +49,8 @@ standing_at at (Some held) = Some (at, held)
 
 -- where processor i goes from `at` by an instruction that has these operands, and computes this of
 -- two numbers
-abbrev pub local_after : JobData → (ℕ → ℕ) → ℕ → ℕ → Registers → (ℕ → ℕ → ℕ) → Operands → Local
+abbrev pub local_after : JobData → (ℕ → ℕ) → ℕ → ℕ → Registers → (ℕ → ℕ → Option ℕ) → Operands →
+    Local
 local_after job memory i at held computes (PlaceValue (Named array index) value) =
     if nat_lt (operand_in held index) array.len then Some (at + 1, held) else None
 local_after job memory i at held computes (RegisterIndex register index) =

@@ -3,6 +3,11 @@
 ghost use Rattle.pardo_job.specs.Laws.{AnyWriterCounts, CrewIsAccepted, OneLineDispute};
 ghost use Rattle.pardo_job.specs.Laws.{RuleChangesNoState, UnwrittenIsKept};
 ghost use Rattle.pardo_law.specs.Between.{JobsGoThrough, LinesNeverFall};
+ghost use Rattle.pardo_law.specs.Counted.{JobsTellLines, LinesAddUp};
+ghost use Rattle.pardo_law.specs.FlatLevels.{FlatLinesAreLevel, PiecesAreSmall, RoomIsEnough};
+ghost use Rattle.pardo_law.specs.FlatLevels.{SmallIsWhole};
+ghost use Rattle.pardo_law.specs.Flattening.{FlatJobsCarryPrograms, FlatJobsGoThrough};
+ghost use Rattle.pardo_law.specs.Flattening.{FlatteningKeepsRuns};
 ghost use Rattle.pardo_law.specs.Locals.{EachByItself, ExpressionsAreStraight, IdlingStays};
 ghost use Rattle.pardo_law.specs.Locals.{StoresAreMade, StraightCodeRuns};
 ghost use Rattle.pardo_law.specs.Theorem.{AnswersAreThePrograms, JobsCarryPrograms};
@@ -19,6 +24,17 @@ pub fn jobs_carry_programs()
 /// line.
 pub fn jobs_go_through()
     ensures { JobsGoThrough }
+{}
+
+/// The run of the job that the compiler makes of a program tells of each counted line how often it
+/// is executed, how often some processor takes part in it, and how many do.
+pub fn jobs_tell_lines()
+    ensures { JobsTellLines }
+{}
+
+/// The operations of the counted lines are together those of the program, and so is their time.
+pub fn lines_add_up()
+    ensures { LinesAddUp }
 {}
 
 /// With the steps of a job the number of lines that are made never falls.
@@ -91,4 +107,42 @@ pub fn one_dispute()
 /// By every rule the states of a run are the same, as far as there are some.
 pub fn rule_changes_no_run()
     ensures { RuleChangesNoRun }
+{}
+
+/// Flattening keeps runs: the flat program makes hidden lines and then the line, and its states
+/// show those of the program.
+pub fn flattening_keeps_runs()
+    ensures { FlatteningKeepsRuns }
+{}
+
+/// What the compiler makes of a flat program carries the run of the program: the job's states show
+/// flat states that stand for those of the program, and it ends as the program does, or in its
+/// first conflict.
+pub fn flat_jobs_carry_programs()
+    ensures { FlatJobsCarryPrograms }
+{}
+
+/// What the compiler makes of a flat program goes through the lines of the program.
+pub fn flat_jobs_go_through()
+    ensures { FlatJobsGoThrough }
+{}
+
+/// Three registers are enough for an expression that is said to need no more.
+pub fn room_is_enough()
+    ensures { RoomIsEnough }
+{}
+
+/// Three registers are enough for each piece of an expression, and for what is left of it.
+pub fn pieces_are_small()
+    ensures { PiecesAreSmall }
+{}
+
+/// Nothing is split off an expression for which three registers are enough.
+pub fn small_is_whole()
+    ensures { SmallIsWhole }
+{}
+
+/// Three registers are enough for each of the flat lines of an assignment or an `if`.
+pub fn flat_lines_are_level()
+    ensures { FlatLinesAreLevel }
 {}

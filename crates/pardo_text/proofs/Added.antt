@@ -1,7 +1,6 @@
 -- Expressions that were read onto others.
 use Rattle.std.proofs.Common.{◌≡◌, List, ◌∷◌, drop, Result, sym, ap, ◌∙◌, subst}
 use Rattle.pardo_text.specs.declared.fault.PardoKind.{PardoKind}
-use Rattle.pardo_text.specs.declared.names.Scope.{Scope}
 use Rattle.pardo_text.specs.declared.operation.Op.{Op}
 use Rattle.pardo_text.specs.Expression.{Tree, first_of}
 use Rattle.pardo_text.specs.Expressions.{Read, joined}
@@ -19,12 +18,12 @@ pub below_is : (trees rest : List Tree) → trees ≡ first_of trees ∷ rest �
 below_is trees rest e = ap (λ all. drop 1 all) e
 
 -- the last two, joined
-pub joined_under : (scope : Scope) (op : Op) (one two : List Tree)
+pub joined_under : (op : Op) (one two : List Tree)
     (read : Result Tree PardoKind) → two ≡ first_of two ∷ one →
-    joined scope op (first_of (drop 1 two)) (first_of two) ≡ read →
-    joined scope op (first_of one) (first_of two) ≡ read
-joined_under scope op one two read e f =
-    ap (λ first. joined scope op first (first_of two))
+    joined op (first_of (drop 1 two)) (first_of two) ≡ read →
+    joined op (first_of one) (first_of two) ≡ read
+joined_under op one two read e f =
+    ap (λ first. joined op first (first_of two))
     (sym (ap (λ all. first_of (drop 1 all)) e)) ∙ f
 
 pub kept_below : (rest one two three : List Tree) → one ≡ first_of one ∷ rest →

@@ -40,7 +40,7 @@ level_at_zero operand level scope tokens e = rw e refl
 pub level_at_more : (operand : Inner) (level : ℕ) (scope : Scope) (tokens : List Token) →
     0 < level → level_at operand level scope tokens
     ≡ (level_at operand (level - 1) scope tokens >>= λ first.
-    chained (level_at operand (level - 1) scope) scope level (turns_at level first.1) first.0
+    chained (level_at operand (level - 1) scope) level (turns_at level first.1) first.0
     first.1)
 unfolding level_at
 level_at_more operand zero scope tokens lt = absurd (omega arith)
@@ -49,54 +49,54 @@ level_at_more operand (suc level) scope tokens lt =
 
 -- ---- chains
 
-chained_none : (operand : List Token → Read Tree) (scope : Scope) (level turns : ℕ)
+chained_none : (operand : List Token → Read Tree) (level turns : ℕ)
     (first : Tree) (tokens : List Token) → operator_at level tokens ≡ None →
-    chained operand scope level turns first tokens ≡ Ok (first, tokens)
-chained_none operand scope level zero first tokens e = refl
-chained_none operand scope level (suc turns) first tokens e = rw (e, chained) refl
+    chained operand level turns first tokens ≡ Ok (first, tokens)
+chained_none operand level zero first tokens e = refl
+chained_none operand level (suc turns) first tokens e = rw (e, chained) refl
 
 -- where no operation of the level comes next, with the tokens that are left
-pub chained_ends : (operand : List Token → Read Tree) (scope : Scope) (level turns : ℕ)
+pub chained_ends : (operand : List Token → Read Tree) (level turns : ℕ)
     (first : Tree) (tokens rest : List Token) → operator_at level tokens ≡ None → rest ≡ tokens →
-    chained operand scope level turns first tokens ≡ Ok (first, rest)
-chained_ends operand scope level turns first tokens rest e f =
-    chained_none operand scope level turns first tokens e
+    chained operand level turns first tokens ≡ Ok (first, rest)
+chained_ends operand level turns first tokens rest e f =
+    chained_none operand level turns first tokens e
     ∙ ap (λ left. Ok (first, left)) (sym f)
 
-pub chained_operand : (operand : List Token → Read Tree) (scope : Scope) (level n i : ℕ)
+pub chained_operand : (operand : List Token → Read Tree) (level n i : ℕ)
     (first : Tree) (tokens rest : List Token) (op : Op) (kind : PardoKind) → i < n →
     operator_at level tokens ≡ Some (op, rest) → operand rest ≡ Err kind →
-    chained operand scope level (n - i) first tokens ≡ Err kind
-chained_operand operand scope level n i first tokens rest op kind lt e f =
+    chained operand level (n - i) first tokens ≡ Err kind
+chained_operand operand level n i first tokens rest op kind lt e f =
     let more : n - i ≡ suc (n - (i + 1)) = omega arith in rw (more, chained, e, f) refl
 
-pub chained_join : (operand : List Token → Read Tree) (scope : Scope) (level n i : ℕ)
+pub chained_join : (operand : List Token → Read Tree) (level n i : ℕ)
     (first second : Tree) (tokens rest after : List Token) (op : Op) (kind : PardoKind) → i < n →
     operator_at level tokens ≡ Some (op, rest) → operand rest ≡ Ok (second, after) →
-    joined scope op first second ≡ Err kind →
-    chained operand scope level (n - i) first tokens ≡ Err kind
-chained_join operand scope level n i first second tokens rest after op kind lt e f g =
+    joined op first second ≡ Err kind →
+    chained operand level (n - i) first tokens ≡ Err kind
+chained_join operand level n i first second tokens rest after op kind lt e f g =
     let more : n - i ≡ suc (n - (i + 1)) = omega arith in rw (more, chained, e, f, g) refl
 
-pub chained_more : (operand : List Token → Read Tree) (scope : Scope) (level n i : ℕ)
+pub chained_more : (operand : List Token → Read Tree) (level n i : ℕ)
     (first second tree : Tree) (tokens rest after : List Token) (op : Op) → i < n →
     operator_at level tokens ≡ Some (op, rest) → operand rest ≡ Ok (second, after) →
-    joined scope op first second ≡ Ok tree →
-    chained operand scope level (n - i) first tokens
-    ≡ chained operand scope level (n - (i + 1)) tree after
-chained_more operand scope level n i first second tree tokens rest after op lt e f g =
+    joined op first second ≡ Ok tree →
+    chained operand level (n - i) first tokens
+    ≡ chained operand level (n - (i + 1)) tree after
+chained_more operand level n i first second tree tokens rest after op lt e f g =
     let more : n - i ≡ suc (n - (i + 1)) = omega arith in rw (more, chained, e, f, g) refl
 
-pub chained_begins : (operand : List Token → Read Tree) (scope : Scope) (level n m : ℕ)
-    (first : Tree) (tokens : List Token) → n ≡ m → chained operand scope level m first tokens
-    ≡ chained operand scope level (n - 0) first tokens
-chained_begins operand scope level n m first tokens e =
+pub chained_begins : (operand : List Token → Read Tree) (level n m : ℕ)
+    (first : Tree) (tokens : List Token) → n ≡ m → chained operand level m first tokens
+    ≡ chained operand level (n - 0) first tokens
+chained_begins operand level n m first tokens e =
     let same : n - 0 ≡ m = omega arith in rw same refl
 
-pub chained_over : (operand : List Token → Read Tree) (scope : Scope) (level n i : ℕ)
+pub chained_over : (operand : List Token → Read Tree) (level n i : ℕ)
     (first : Tree) (tokens : List Token) → n ≤ i →
-    chained operand scope level (n - i) first tokens ≡ Ok (first, tokens)
-chained_over operand scope level n i first tokens few =
+    chained operand level (n - i) first tokens ≡ Ok (first, tokens)
+chained_over operand level n i first tokens few =
     let none : n - i ≡ 0 = omega arith in rw none refl
 
 -- ---- what stands before its operands

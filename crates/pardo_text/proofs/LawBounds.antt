@@ -1,12 +1,11 @@
 -- What is within bounds stays within greater ones.
-use Rattle.std.proofs.Common.{◌≡◌, ℕ, ◌^◌, ◌<◌, ◌≤◌, true, false, Some}
+use Rattle.std.proofs.Common.{◌≡◌, ℕ, ◌^◌, ◌<◌, ◌≤◌, true, false, ◌&&◌, Some}
 use Rattle.std.proofs.Common.{IfOk, refl, sym, subst, ◌∙◌, arith}
 use Rattle.pardo_text.specs.declared.names.Named.{Named}
 use Rattle.pardo_text.specs.declared.names.Named.TheVariants as thing
 use Rattle.pardo_text.specs.declared.names.Scope.{Scope}
 use Rattle.pardo_text.specs.declared.names.Scope.TheVariants.{Start}
 use Rattle.pardo_text.specs.declared.operation.Op.{Op}
-use Rattle.pardo_text.specs.declared.operation.Op.TheVariants.{Div, Rem}
 use Rattle.pardo_text.specs.declared.statement.Line.{Line}
 use Rattle.pardo_text.specs.declared.statement.Statement.{Statement}
 use Rattle.pardo_text.specs.declared.statement.Statement.TheVariants as statement
@@ -17,8 +16,8 @@ use Rattle.pardo_text.specs.Expressions.{applied, joined, constant_of, is_zero}
 use Rattle.pardo_text.specs.Lawful.{Bounds, IsExpression, IsCommonTree, IsTarget, IsStatement}
 use Rattle.pardo_text.specs.Lawful.{IsLine}
 use Rattle.text_lines.specs.Lines.{Word}
-use Rattle.pardo_text.specs.Names.{Names, admits, divides, tree_from}
-use Rattle.pardo_text.specs.Operations.{level_of, is_division, operation_value}
+use Rattle.pardo_text.specs.Names.{Names, admits, tree_from}
+use Rattle.pardo_text.specs.Operations.{is_division, operation_value}
 use Rattle.pardo_text.proofs.Ifs.{ok_if}
 use Rattle.pardo_text.proofs.LawTrees.{Keeps, IsBare}
 use Rattle.pardo_text.proofs.LawValues.{value_small}
@@ -61,7 +60,7 @@ module _ (b c : Bounds) (g : Grows b c) where
   tree_more (private x) is = omega (arith, is, g.privates)
   tree_more (place array index) is = (omega (arith, is.0, g.arrays), tree_more index is.1)
   tree_more (apply op first second) is =
-      (is.0, tree_more first is.1, tree_more second is.2)
+      (tree_more first is.0, tree_more second is.1)
 
   pub common_more : (tree : Tree) → IsCommonTree b tree → IsCommonTree c tree
   common_more tree is = (tree_more tree is.0, is.1)
@@ -112,17 +111,11 @@ as_number : (b : Bounds) (tree : Tree) (value : ℕ) → tree ≡ number value �
     value < 2 ^ 32
 as_number b tree value e is = subst (IsExpression b) e is
 
-applied_tree : (b : Bounds) (op : Op) (first second : Tree) → is_division op ≡ false →
-    IsExpression b first → IsExpression b second → IsExpression b (applied op first second)
-applied_tree b op first second whole p q = applied_keeps (IsExpression b) op first second
+applied_tree : (b : Bounds) (op : Op) (first second : Tree) → IsExpression b first →
+    IsExpression b second → IsExpression b (applied op first second)
+applied_tree b op first second p q = applied_keeps (IsExpression b) op first second
     (λ x y e f. value_small op x y (as_number b first x e p) (as_number b second y f q))
-    (whole, p, q)
-
-before_no_division : (op : Op) → level_of op ≡ 0 → is_division op ≡ false
-unfolding level_of is_division
-before_no_division Div e = absurd (omega arith)
-before_no_division Rem e = absurd (omega arith)
-before_no_division op e = refl
+    (p, q)
 
 bare_tree : (b : Bounds) (found : Named) → IsBare found → IsThing b found →
     IsExpression b (tree_from found)
@@ -133,25 +126,23 @@ bare_tree b (thing.Array array) bare is = absurd bare
 bare_tree b (thing.Private x) bare is = is
 bare_tree b (thing.Loop nest) bare is = is
 
-joined_tree : (b : Bounds) (scope : Scope) (op : Op) (first second : Tree) →
-    divides scope ≡ false → IsExpression b first → IsExpression b second →
-    IfOk (joined scope op first second) (IsExpression b)
+-- what keeps P where an operation is applied keeps it where two expressions are joined
+joined_keeps : (P : Tree → Type 0) (op : Op) (first second : Tree) → P (applied op first second) →
+    IfOk (joined op first second) P
 unfolding joined
-joined_tree b scope op first second code p q =
-    ok_if (is_division op) _ _ (IsExpression b)
-    (λ _. ok_if (divides scope) _ _ (IsExpression b)
-    (λ yet. absurd (let both : true ≡ false = sym yet ∙ code in cc)) (λ _. tt))
-    (λ whole. applied_tree b op first second whole p q)
+joined_keeps P op first second both =
+    ok_if (is_division op && is_zero (constant_of second)) _ _ P (λ _. tt) (λ _. both)
 
 -- expressions in code
-pub keeps_tree : (b : Bounds) (names : Names) (scope : Scope) → divides scope ≡ false →
-    AreThings b names → Keeps names scope (IsExpression b)
-keeps_tree b names scope code are = record {
+pub keeps_tree : (b : Bounds) (names : Names) (scope : Scope) → AreThings b names →
+    Keeps names scope (IsExpression b)
+keeps_tree b names scope are = record {
   numbers = λ value few. few;
   bare = λ word found e f is. bare_tree b found is (are word found e);
   placed = λ word array index e f p. (are word (thing.Array array) e, p);
-  joins = λ op first second p q. joined_tree b scope op first second code p q;
-  pairs = λ op first second e p q. applied_tree b op first second (before_no_division op e) p q;
+  joins = λ op first second p q.
+      joined_keeps (IsExpression b) op first second (applied_tree b op first second p q);
+  pairs = λ op first second e p q. applied_tree b op first second p q;
 }
 
 -- ---- expressions that are the same for all processors
@@ -162,11 +153,11 @@ IsCommonScope scope =
     (admits scope thing.Own ≡ false) × ((x : ℕ) → admits scope (thing.Private x) ≡ false)
     × ((array : ℕ) → admits scope (thing.Array array) ≡ false)
 
-applied_common : (b : Bounds) (op : Op) (first second : Tree) → is_division op ≡ false →
-    IsCommonTree b first → IsCommonTree b second → IsCommonTree b (applied op first second)
-applied_common b op first second whole p q = applied_keeps (IsCommonTree b) op first second
+applied_common : (b : Bounds) (op : Op) (first second : Tree) → IsCommonTree b first →
+    IsCommonTree b second → IsCommonTree b (applied op first second)
+applied_common b op first second p q = applied_keeps (IsCommonTree b) op first second
     (λ x y e f. (value_small op x y (as_number b first x e p.0) (as_number b second y f q.0), tt))
-    ((whole, p.0, q.0), (p.1, q.1))
+    ((p.0, q.0), (p.1, q.1))
 
 bare_common : (b : Bounds) (scope : Scope) (found : Named) → IsCommonScope scope → IsBare found →
     admits scope found ≡ true → IsThing b found → IsCommonTree b (tree_from found)
@@ -179,25 +170,16 @@ bare_common b scope (thing.Private x) common bare e is =
     absurd (let no : false ≡ true = sym (common.1 x) ∙ e in cc)
 bare_common b scope (thing.Loop nest) common bare e is = (is, tt)
 
-joined_common : (b : Bounds) (scope : Scope) (op : Op) (first second : Tree) →
-    divides scope ≡ false → IsCommonTree b first → IsCommonTree b second →
-    IfOk (joined scope op first second) (IsCommonTree b)
-unfolding joined
-joined_common b scope op first second code p q =
-    ok_if (is_division op) _ _ (IsCommonTree b)
-    (λ _. ok_if (divides scope) _ _ (IsCommonTree b)
-    (λ yet. absurd (let both : true ≡ false = sym yet ∙ code in cc)) (λ _. tt))
-    (λ whole. applied_common b op first second whole p q)
-
-pub keeps_common : (b : Bounds) (names : Names) (scope : Scope) → divides scope ≡ false →
-    IsCommonScope scope → AreThings b names → Keeps names scope (IsCommonTree b)
-keeps_common b names scope code common are = record {
+pub keeps_common : (b : Bounds) (names : Names) (scope : Scope) → IsCommonScope scope →
+    AreThings b names → Keeps names scope (IsCommonTree b)
+keeps_common b names scope common are = record {
   numbers = λ value few. (few, tt);
   bare = λ word found e f is. bare_common b scope found common is f (are word found e);
   placed = λ word array index e f p. absurd
       (let no : false ≡ true = sym (common.2 array) ∙ f in cc);
-  joins = λ op first second p q. joined_common b scope op first second code p q;
-  pairs = λ op first second e p q. applied_common b op first second (before_no_division op e) p q;
+  joins = λ op first second p q.
+      joined_keeps (IsCommonTree b) op first second (applied_common b op first second p q);
+  pairs = λ op first second e p q. applied_common b op first second p q;
 }
 
 -- ---- start values
@@ -216,14 +198,6 @@ applied_start : (op : Op) (first second : Tree) → IsStart first → IsStart se
 applied_start op first second p q = applied_keeps IsStart op first second
     (λ x y e f. value_small op x y (subst IsStart e p) (subst IsStart f q)) (p, q)
 
-joined_start : (op : Op) (first second : Tree) → IsStart first → IsStart second →
-    IfOk (joined Start op first second) IsStart
-unfolding joined
-joined_start op first second p q =
-    let both = applied_start op first second p q in
-    ok_if (is_division op) _ _ IsStart
-    (λ _. ok_if (is_zero (constant_of second)) _ _ IsStart (λ _. tt) (λ _. both)) (λ _. both)
-
 bare_start : (b : Bounds) (found : Named) → admits Start found ≡ true → IsThing b found →
     IsStart (tree_from found)
 bare_start b (thing.Constant value) e is = is
@@ -238,6 +212,7 @@ keeps_start b names are = record {
   numbers = λ value few. few;
   bare = λ word found e f is. bare_start b found f (are word found e);
   placed = λ word array index e f p. absurd (let no : false ≡ true = f in cc);
-  joins = joined_start;
+  joins = λ op first second p q.
+      joined_keeps IsStart op first second (applied_start op first second p q);
   pairs = λ op first second e p q. applied_start op first second p q;
 }

@@ -1,7 +1,8 @@
 -- Lines of code make lawful drafts of lawful ones.
-use Rattle.std.proofs.Common.{◌≡◌, ℕ, ◌+◌, ◌*◌, ◌<◌, ◌≤◌, Bool, false, List, [], ◌∷◌}
+use Rattle.std.proofs.Common.{◌≡◌, ℕ, ◌+◌, ◌*◌, ◌<◌, ◌≤◌, Bool, true, false, List, [], ◌∷◌}
 use Rattle.std.proofs.Common.{length, max, Option, Some, None, IfOk, refl, sym, ap}
-use Rattle.std.proofs.Common.{subst, arith, is_some}
+use Rattle.std.proofs.Common.{subst, arith, is_some, if◌then◌else◌}
+use Rattle.std.proofs.lemmas.Result.{IfOk-weaker}
 use Rattle.std.specs.List.{All}
 use Rattle.std.proofs.lemmas.List.Elements.{All-head}
 use Rattle.pardo_text.specs.declared.block.Block.{Block}
@@ -15,11 +16,12 @@ use Rattle.pardo_text.specs.declared.statement.Statement.{Statement}
 use Rattle.pardo_text.specs.declared.statement.Statement.TheVariants as statement
 use Rattle.pardo_text.specs.declared.statement.Target.{Target}
 use Rattle.pardo_text.specs.declared.symbol.Symbol.TheVariants as the
-use Rattle.pardo_text.specs.Blocks.{choice_depth}
+use Rattle.pardo_text.specs.Blocks.{choice_depth, is_choice}
 use Rattle.pardo_text.specs.Code.{whole_at, array_place, bare_target, assignment_target}
 use Rattle.pardo_text.specs.Code.{assignment_at}
 use Rattle.pardo_text.specs.Code.{if_line}
-use Rattle.pardo_text.specs.Code.{while_line, way_at, for_line, else_of, end_block, statement_line}
+use Rattle.pardo_text.specs.Code.{while_line, way_at, for_line, else_of, elsif_line, elsifs_ended}
+use Rattle.pardo_text.specs.Code.{end_block, is_elsif, assignment_line, statement_line}
 use Rattle.pardo_text.specs.Drafts.{Draft, cells_needed, fitting, with_line, with_block, with_loop}
 use Rattle.pardo_text.specs.Drafts.{without, with_end}
 use Rattle.pardo_text.specs.Expression.{Tree}
@@ -28,7 +30,7 @@ use Rattle.pardo_text.specs.Expressions.{indexed, expression_at}
 use Rattle.pardo_text.specs.Lawful.{Bounds, IsExpression, IsCommonTree, IsTarget, IsStatement}
 use Rattle.pardo_text.specs.Lawful.{masks_of}
 use Rattle.text_lines.specs.Lines.{Word}
-use Rattle.pardo_text.specs.Names.{Names, divides}
+use Rattle.pardo_text.specs.Names.{Names}
 use Rattle.pardo_text.specs.Program.{shared_cells}
 use Rattle.pardo_text.specs.Tokens.{Token, name, symbol}
 use Rattle.pardo_text.proofs.Ifs.{ok_bind, ok_after, ok_if}
@@ -44,33 +46,32 @@ use Rattle.pardo_text.specs.declared.part.Mark.TheVariants as mark
 -- ---- expressions
 
 read_kept : (b : Bounds) (names : Names) (scope : Scope) (tokens : List Token) →
-    divides scope ≡ false → AreThings b names →
-    IfOk (expression_at names scope tokens) (λ read. IsExpression b read.0)
-read_kept b names scope tokens code are =
-    expression_kept names scope (IsExpression b) (keeps_tree b names scope code are) tokens
+    AreThings b names → IfOk (expression_at names scope tokens) (λ read. IsExpression b read.0)
+read_kept b names scope tokens are =
+    expression_kept names scope (IsExpression b) (keeps_tree b names scope are) tokens
 
 whole_kept : (b : Bounds) (names : Names) (scope : Scope) (tokens : List Token) →
-    divides scope ≡ false → AreThings b names → IfOk (whole_at names scope tokens) (IsExpression b)
+    AreThings b names → IfOk (whole_at names scope tokens) (IsExpression b)
 unfolding whole_at
-whole_kept b names scope tokens code are =
+whole_kept b names scope tokens are =
     ok_bind (expression_at names scope tokens) _ (λ read. IsExpression b read.0) (IsExpression b)
-    (read_kept b names scope tokens code are)
+    (read_kept b names scope tokens are)
     (λ tree p. ended_kept (IsExpression b) tree.0 tree.1 p)
 
 -- the same of expressions that loops depend on
 common_kept : (b : Bounds) (names : Names) (scope : Scope) (tokens : List Token) →
-    divides scope ≡ false → IsCommonScope scope → AreThings b names →
+    IsCommonScope scope → AreThings b names →
     IfOk (expression_at names scope tokens) (λ read. IsCommonTree b read.0)
-common_kept b names scope tokens code common are =
-    expression_kept names scope (IsCommonTree b) (keeps_common b names scope code common are) tokens
+common_kept b names scope tokens common are =
+    expression_kept names scope (IsCommonTree b) (keeps_common b names scope common are) tokens
 
 common_whole_kept : (b : Bounds) (names : Names) (scope : Scope) (tokens : List Token) →
-    divides scope ≡ false → IsCommonScope scope → AreThings b names →
+    IsCommonScope scope → AreThings b names →
     IfOk (whole_at names scope tokens) (IsCommonTree b)
 unfolding whole_at
-common_whole_kept b names scope tokens code common are =
+common_whole_kept b names scope tokens common are =
     ok_bind (expression_at names scope tokens) _ (λ read. IsCommonTree b read.0) (IsCommonTree b)
-    (common_kept b names scope tokens code common are)
+    (common_kept b names scope tokens common are)
     (λ tree p. ended_kept (IsCommonTree b) tree.0 tree.1 p)
 
 bound_is_common : IsCommonScope Bound
@@ -87,7 +88,7 @@ place_kept : (b : Bounds) (names : Names) (array : ℕ) (inside : Option (List T
 place_kept b names array None few are = tt
 place_kept b names array (Some inside) few are =
     ok_bind (expression_at names Any inside) _ (λ read. IsExpression b read.0)
-    (λ read. IsTarget b read.0) (read_kept b names Any inside refl are)
+    (λ read. IsTarget b read.0) (read_kept b names Any inside are)
     (λ index p. ok_after (rest_after_mark mark.CloseIndex index.1) _ (λ read. IsTarget b read.0)
     (λ rest. (few, p)))
 
@@ -123,7 +124,7 @@ assignment_kept b names word tokens are =
     (target_kept b names word (names word) tokens refl are) (λ to p.
     ok_after (rest_after_mark mark.Assign to.1) _ (IsAssignment b) (λ after.
     ok_bind (whole_at names Any after) _ (IsExpression b) (IsAssignment b)
-    (whole_kept b names Any after refl are) (λ value q. ((p, q), refl))))
+    (whole_kept b names Any after are) (λ value q. ((p, q), refl))))
 
 -- ---- lines in which no block is opened
 
@@ -184,7 +185,7 @@ if_kept : (n : ℕ) (d : Draft) (tokens : List Token) → 0 < d.procs → IsLawf
 unfolding if_line
 if_kept n d tokens some is =
     ok_bind (whole_at d.names Any tokens) _ (IsExpression (bounds_in d)) IsLawful
-    (whole_kept (bounds_in d) d.names Any tokens refl is.0.names) (λ condition p.
+    (whole_kept (bounds_in d) d.names Any tokens is.0.names) (λ condition p.
     let lined = with_line n (statement.If condition) d in
     let next = with_block block.If lined in
     fitting_kept next (opened_line n (statement.If condition) block.If d some
@@ -218,7 +219,7 @@ while_kept : (n : ℕ) (d : Draft) (tokens : List Token) → 0 < d.procs → IsL
 unfolding while_line
 while_kept n d tokens some is =
     ok_bind (whole_at d.names Uniform tokens) _ (IsCommonTree (bounds_in d)) IsLawful
-    (common_whole_kept (bounds_in d) d.names Uniform tokens refl uniform_is_common is.0.names)
+    (common_whole_kept (bounds_in d) d.names Uniform tokens uniform_is_common is.0.names)
     (λ condition p.
     let said : Statement = statement.While condition 0 in
     let opened : Block = block.While (length d.lines) in
@@ -273,28 +274,55 @@ for_kept n d tokens some is =
     ok_after (rest_after_mark mark.Equals word.1) _ IsLawful (λ after.
     ok_bind (expression_at d.names Bound after) _ (λ read. IsCommonTree (bounds_in d) read.0)
     IsLawful
-    (common_kept (bounds_in d) d.names Bound after refl bound_is_common is.0.names) (λ first p.
+    (common_kept (bounds_in d) d.names Bound after bound_is_common is.0.names) (λ first p.
     ok_after (way_at first.1) _ IsLawful (λ way.
     ok_bind (whole_at d.names Bound way.1) _ (IsCommonTree (bounds_in d)) IsLawful
-    (common_whole_kept (bounds_in d) d.names Bound way.1 refl bound_is_common is.0.names) (λ last q.
+    (common_whole_kept (bounds_in d) d.names Bound way.1 bound_is_common is.0.names) (λ last q.
     for_made n d word.0 first.0 last way.0 some p q is)))))
 
 -- ---- lines that close one
 
-else_kept : (n : ℕ) (d : Draft) (blocks : List Block) → d.blocks ≡ blocks → 0 < d.procs →
-    IsLawful d → IfOk (else_of n d blocks) IsLawful
-else_kept n d [] e some is = tt
-else_kept n d (block.Else ∷ blocks) e some is = tt
-else_kept n d (block.While begin ∷ blocks) e some is = tt
-else_kept n d (block.For begin ∷ blocks) e some is = tt
-else_kept n d (block.If ∷ blocks) e some is =
+-- what a block is that an `else` opens
+abbrev IsElse : Block → Type 0
+IsElse opened = (is_choice opened ≡ true) × ((m : ℕ) → IsBlock m opened)
+
+-- it is as deep as its `if`
+else_depth : (choosing : Bool) (depth : ℕ) → choosing ≡ true →
+    (if choosing then depth + 1 else depth) ≡ depth + 1
+else_depth true depth e = refl
+else_depth false depth e = absurd (cc e)
+
+-- a lawful draft with processors
+abbrev IsStarted : Draft → Type 0
+IsStarted d = IsLawful d × (0 < d.procs)
+
+else_kept : (opened : Block) (n : ℕ) (d : Draft) (blocks : List Block) → d.blocks ≡ blocks →
+    IsElse opened → IsStarted d → IfOk (else_of opened n d blocks) IsStarted
+else_kept opened n d [] e one is = tt
+else_kept opened n d (block.Else ∷ blocks) e one is = tt
+else_kept opened n d (block.Elsif ∷ blocks) e one is = tt
+else_kept opened n d (block.While begin ∷ blocks) e one is = tt
+else_kept opened n d (block.For begin ∷ blocks) e one is = tt
+else_kept opened n d (block.If ∷ blocks) e one is =
     let less : Draft = record d { blocks = blocks } in
     let deep : choice_depth blocks + 1 ≤ d.most_choices =
-    omega (arith, ap choice_depth e, is.0.depth) in (
-      opened_line n statement.Else block.Else less some tt (omega (arith, deep)) (λ m lt. tt)
-          (popped_kept (bounds_in d) block.If blocks d e is.0),
-      same_cells d (choice_depth blocks + 1) deep is.1,
+    omega (arith, ap choice_depth e, is.0.0.depth) in
+    let same = else_depth (is_choice opened) (choice_depth blocks) one.0 in (
+      (
+        opened_line n statement.Else opened less is.1 tt (omega (arith, deep)) (λ m lt. one.1 m)
+            (popped_kept (bounds_in d) block.If blocks d e is.0.0),
+        same_cells d (choice_depth (opened ∷ blocks)) (omega (arith, deep, same)) is.0.1,
+      ),
+      is.1,
     )
+
+elsif_kept : (n : ℕ) (d : Draft) (tokens : List Token) → 0 < d.procs → IsLawful d →
+    IfOk (elsif_line n d tokens) IsLawful
+unfolding elsif_line
+elsif_kept n d tokens some is =
+    ok_bind (else_of block.Elsif n d d.blocks) _ IsStarted IsLawful
+    (else_kept block.Elsif n d d.blocks refl (refl, λ m. tt) (is, some))
+    (λ within p. if_kept n within tokens p.1 p.0)
 
 -- an end in which the first line of its loop is told
 loop_ended : (n begin : ℕ) (said : Statement) (d : Draft) →
@@ -329,15 +357,34 @@ ended_for n begin d (word ∷ loops) few begun is =
     loop_ended n begin (statement.EndFor begin) (without (word ∷ loops) d) (λ b more. omega arith)
     refl (without_kept (bounds_in d) (word ∷ loops) d few is.0, is.1)
 
+-- the end of an `if`, and of the `elsif`s around it
+choice_kept : (n : ℕ) (choice : Block) (blocks : List Block) (d : Draft) →
+    d.blocks ≡ choice ∷ blocks → IsLawful d →
+    IsLawful (with_line n statement.EndIf (record d { blocks = blocks }))
+choice_kept n choice blocks d e is =
+    plain_line n statement.EndIf (record d { blocks = blocks }) tt refl
+    (popped_kept (bounds_in d) choice blocks d e is.0, is.1)
+
+elsifs_kept : (n : ℕ) (blocks : List Block) (d : Draft) → d.blocks ≡ blocks → IsLawful d →
+    IsLawful (elsifs_ended n blocks d)
+elsifs_kept n [] d e is = is
+elsifs_kept n (block.If ∷ blocks) d e is = is
+elsifs_kept n (block.Else ∷ blocks) d e is = is
+elsifs_kept n (block.While begin ∷ blocks) d e is = is
+elsifs_kept n (block.For begin ∷ blocks) d e is = is
+elsifs_kept n (block.Elsif ∷ blocks) d e is =
+    elsifs_kept n blocks (with_line n statement.EndIf (record d { blocks = blocks })) refl
+    (choice_kept n block.Elsif blocks d e is)
+
 end_line_kept : (n : ℕ) (d : Draft) (blocks : List Block) → d.blocks ≡ blocks → IsLawful d →
     IfOk (end_block n d blocks) IsLawful
 end_line_kept n d [] e is = tt
 end_line_kept n d (block.If ∷ blocks) e is =
-    plain_line n statement.EndIf (record d { blocks = blocks }) tt refl
-    (popped_kept (bounds_in d) block.If blocks d e is.0, is.1)
+    elsifs_kept n blocks _ refl (choice_kept n block.If blocks d e is)
 end_line_kept n d (block.Else ∷ blocks) e is =
-    plain_line n statement.EndIf (record d { blocks = blocks }) tt refl
-    (popped_kept (bounds_in d) block.Else blocks d e is.0, is.1)
+    elsifs_kept n blocks _ refl (choice_kept n block.Else blocks d e is)
+end_line_kept n d (block.Elsif ∷ blocks) e is =
+    elsifs_kept n blocks _ refl (choice_kept n block.Elsif blocks d e is)
 end_line_kept n d (block.While begin ∷ blocks) e is =
     let begun : begin < length d.lines =
     All-head (IsBlock (length d.lines)) (block.While begin) blocks
@@ -357,16 +404,24 @@ end_line_kept n d (block.For begin ∷ blocks) e is =
 
 -- ---- any line of code
 
+assignment_line_kept : (n : ℕ) (d : Draft) (word : Word) (tokens : List Token) → IsLawful d →
+    IfOk (assignment_line n d word tokens) IsLawful
+assignment_line_kept n d word tokens is =
+    ok_bind (assignment_at d.names word tokens) _ (IsAssignment (bounds_in d)) IsLawful
+    (assignment_kept (bounds_in d) d.names word tokens is.0.names)
+    (λ said p. plain_line n said d p.0 p.1 is)
+
 pub statement_kept : (n : ℕ) (d : Draft) (tokens : List Token) → 0 < d.procs → IsLawful d →
     IfOk (statement_line n d tokens) IsLawful
 unfolding statement_line
 statement_kept n d (symbol the.If ∷ tokens) some is = if_kept n d tokens some is
 statement_kept n d (symbol the.While ∷ tokens) some is = while_kept n d tokens some is
 statement_kept n d (symbol the.For ∷ tokens) some is = for_kept n d tokens some is
-statement_kept n d (symbol the.Else ∷ []) some is = else_kept n d d.blocks refl some is
+statement_kept n d (symbol the.Else ∷ []) some is =
+    IfOk-weaker (else_of block.Else n d d.blocks) IsStarted IsLawful (λ _ p. p.0)
+    (else_kept block.Else n d d.blocks refl (refl, λ m. tt) (is, some))
 statement_kept n d (symbol the.End ∷ []) some is = end_line_kept n d d.blocks refl is
 statement_kept n d (name word ∷ tokens) some is =
-    ok_bind (assignment_at d.names word tokens) _ (IsAssignment (bounds_in d)) IsLawful
-    (assignment_kept (bounds_in d) d.names word tokens is.0.names)
-    (λ said p. plain_line n said d p.0 p.1 is)
+    ok_if (is_elsif word tokens) _ _ IsLawful (λ _. elsif_kept n d tokens some is)
+    (λ _. assignment_line_kept n d word tokens is)
 statement_kept n d _ some is = tt

@@ -1,5 +1,5 @@
 -- Where a number must be known at once, an expression is a number.
-use Rattle.std.proofs.Common.{◌≡◌, ℕ, true, false, List, IfOk, refl, ap, ◌∙◌, sym}
+use Rattle.std.proofs.Common.{◌≡◌, ℕ, true, false, ◌&&◌, List, IfOk, refl, ap, ◌∙◌, sym}
 use Rattle.std.proofs.Common.{subst, Ok, Some, None}
 use Rattle.pardo_text.specs.declared.names.Named.{Named}
 use Rattle.pardo_text.specs.declared.names.Named.TheVariants as thing
@@ -26,12 +26,11 @@ applied_number op first second a b = (
 )
 
 joined_number : (op : Op) (first second : Tree) → IsNumber first → IsNumber second →
-    IfOk (joined Fixed op first second) IsNumber
+    IfOk (joined op first second) IsNumber
 unfolding joined
 joined_number op first second a b =
     let both = applied_number op first second a b in
-    ok_if (is_division op) _ _ IsNumber
-    (λ _. ok_if (is_zero (constant_of second)) _ _ IsNumber (λ _. tt) (λ _. both)) (λ _. both)
+    ok_if (is_division op && is_zero (constant_of second)) _ _ IsNumber (λ _. tt) (λ _. both)
 
 bare_number : (found : Named) → admits Fixed found ≡ true → IsNumber (tree_from found)
 bare_number (thing.Constant value) e = (value, refl)

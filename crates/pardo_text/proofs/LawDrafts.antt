@@ -218,6 +218,7 @@ private_kept b word start d few some many are is = record {
 block_more : (n m : ℕ) → n ≤ m → (block : Block) → IsBlock n block → IsBlock m block
 block_more n m few block.If is = tt
 block_more n m few block.Else is = tt
+block_more n m few block.Elsif is = tt
 block_more n m few (block.While begin) is = omega arith
 block_more n m few (block.For begin) is = omega arith
 
@@ -274,6 +275,7 @@ depth_less : (opened : Block) (blocks : List Block) →
     choice_depth blocks ≤ choice_depth (opened ∷ blocks)
 depth_less block.If blocks = omega arith
 depth_less block.Else blocks = omega arith
+depth_less block.Elsif blocks = omega arith
 depth_less (block.While begin) blocks = omega arith
 depth_less (block.For begin) blocks = omega arith
 

@@ -26,6 +26,7 @@ AreFors whole (block.For begin ∷ blocks) = IsFor (statement_in whole begin) ×
 AreFors whole (block.While begin ∷ blocks) = AreFors whole blocks
 AreFors whole (block.If ∷ blocks) = AreFors whole blocks
 AreFors whole (block.Else ∷ blocks) = AreFors whole blocks
+AreFors whole (block.Elsif ∷ blocks) = AreFors whole blocks
 
 fors_drop : (whole : List Line) (blocks : List Block) → AreFors whole blocks →
     AreFors whole (drop 1 blocks)
@@ -34,6 +35,7 @@ fors_drop whole (block.For begin ∷ blocks) are = are.1
 fors_drop whole (block.While begin ∷ blocks) are = are
 fors_drop whole (block.If ∷ blocks) are = are
 fors_drop whole (block.Else ∷ blocks) are = are
+fors_drop whole (block.Elsif ∷ blocks) are = are
 
 fors_around : (whole : List Line) (statement : Statement) (blocks : List Block) →
     AreFors whole blocks →

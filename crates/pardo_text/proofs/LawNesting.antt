@@ -1,5 +1,5 @@
 -- The blocks of programs are nested.
-use Rattle.std.proofs.Common.{◌≡◌, ℕ, ◌+◌, ◌<◌, ◌==◌, not, nat_le, List, [], ◌∷◌, ◌++◌}
+use Rattle.std.proofs.Common.{◌≡◌, ℕ, ◌+◌, ◌<◌, ◌==◌, true, not, nat_le, List, [], ◌∷◌, ◌++◌}
 use Rattle.std.proofs.Common.{inl, inr, length, Some, None, IfOk, refl, sym, ap}
 use Rattle.std.proofs.Common.{subst, ◌∙◌, arith, is_none, unwrap_or}
 use Rattle.std.specs.List.{list_all}
@@ -16,9 +16,10 @@ use Rattle.pardo_text.specs.declared.statement.Statement.{Statement}
 use Rattle.pardo_text.specs.declared.statement.Statement.TheVariants as statement
 use Rattle.pardo_text.specs.declared.statement.Target.{Target}
 use Rattle.pardo_text.specs.declared.symbol.Symbol.TheVariants as the
-use Rattle.pardo_text.specs.Blocks.{choice_depth}
+use Rattle.pardo_text.specs.Blocks.{choice_depth, is_choice}
 use Rattle.pardo_text.specs.Code.{whole_at, assignment_target, assignment_at, if_line}
-use Rattle.pardo_text.specs.Code.{while_line, way_at, for_line, else_of, end_block, statement_line}
+use Rattle.pardo_text.specs.Code.{while_line, way_at, for_line, else_of, elsif_line, elsifs_ended}
+use Rattle.pardo_text.specs.Code.{end_block, is_elsif, assignment_line, statement_line}
 use Rattle.pardo_text.specs.Drafts.{Draft, empty, cells_needed, fitting, with_line, with_block}
 use Rattle.pardo_text.specs.Drafts.{with_loop}
 use Rattle.pardo_text.specs.Drafts.{without, with_end, with_name, with_array, with_private}
@@ -49,9 +50,26 @@ use Rattle.pardo_text.proofs.LawTied.{end_at, leads_last, tied_push, Among, begi
 use Rattle.pardo_text.proofs.LawTied.{begins_last}
 use Rattle.pardo_text.specs.declared.part.Mark.TheVariants as mark
 
+-- the blocks as lines open them: an `elsif` opens an `else`
+abbrev spelled_out : List Block → List Block
+spelled_out [] = []
+spelled_out (block.Elsif ∷ blocks) = block.Else ∷ spelled_out blocks
+spelled_out (block.If ∷ blocks) = block.If ∷ spelled_out blocks
+spelled_out (block.Else ∷ blocks) = block.Else ∷ spelled_out blocks
+spelled_out (block.While begin ∷ blocks) = block.While begin ∷ spelled_out blocks
+spelled_out (block.For begin ∷ blocks) = block.For begin ∷ spelled_out blocks
+
+depth_spelled : (blocks : List Block) → choice_depth blocks ≡ choice_depth (spelled_out blocks)
+depth_spelled [] = refl
+depth_spelled (block.Elsif ∷ blocks) = ap (λ n. n + 1) (depth_spelled blocks)
+depth_spelled (block.If ∷ blocks) = ap (λ n. n + 1) (depth_spelled blocks)
+depth_spelled (block.Else ∷ blocks) = ap (λ n. n + 1) (depth_spelled blocks)
+depth_spelled (block.While begin ∷ blocks) = depth_spelled blocks
+depth_spelled (block.For begin ∷ blocks) = depth_spelled blocks
+
 -- what a draft says of its code
 abbrev Code : Draft → Type 0
-Code d = IsCode d.lines d.blocks (length d.loops)
+Code d = IsCode d.lines (spelled_out d.blocks) (length d.loops)
 
 fitting_code : (d : Draft) → Code d → IfOk (fitting d) Code
 fitting_code d is = ok_if (nat_le (cells_needed d) MAX_CELLS) _ _ Code (λ _. is) (λ _. tt)
@@ -169,12 +187,14 @@ assigned n d to value is =
       depth = choice_depth d.blocks;
       number = n;
     } in
-    let more = pushed d.lines d.blocks line is.leads is.tied (tt, refl) refl in record {
+    let outer = spelled_out d.blocks in
+    let more = pushed d.lines outer line is.leads is.tied (tt, depth_spelled d.blocks) refl in
+    record {
       leads = more.0;
       tied = more.1;
-      begun = begins_push d.lines line d.blocks d.blocks (λ k among. among)
+      begun = begins_push d.lines line outer outer (λ k among. among)
           (λ end e. absurd (let none : None ≡ Some end = e in cc)) is.begun;
-      opened = still_open d.lines line d.blocks is.opened;
+      opened = still_open d.lines line outer is.opened;
       loops = is.loops;
     }
 
@@ -187,13 +207,14 @@ if_code n d tokens is =
       depth = choice_depth d.blocks;
       number = n;
     } in
-    let more = pushed d.lines d.blocks line is.leads is.tied (tt, refl) refl in
+    let outer = spelled_out d.blocks in
+    let more = pushed d.lines outer line is.leads is.tied (tt, depth_spelled d.blocks) refl in
     fitting_code (with_block block.If (with_line n (statement.If condition) d)) (record {
       leads = more.0;
       tied = more.1;
-      begun = begins_push d.lines line d.blocks (block.If ∷ d.blocks) (λ k among. among)
+      begun = begins_push d.lines line outer (block.If ∷ outer) (λ k among. among)
           (λ end e. absurd (let none : None ≡ Some end = e in cc)) is.begun;
-      opened = still_open d.lines line d.blocks is.opened;
+      opened = still_open d.lines line outer is.opened;
       loops = is.loops;
     }))
 
@@ -206,15 +227,17 @@ while_code n d tokens is =
       depth = choice_depth d.blocks;
       number = n;
     } in
-    let more = pushed d.lines d.blocks line is.leads is.tied (tt, refl) refl in record {
+    let outer = spelled_out d.blocks in
+    let more = pushed d.lines outer line is.leads is.tied (tt, depth_spelled d.blocks) refl in
+    record {
       leads = more.0;
       tied = more.1;
-      begun = begins_push d.lines line d.blocks (block.While (length d.lines) ∷ d.blocks)
+      begun = begins_push d.lines line outer (block.While (length d.lines) ∷ outer)
           (λ k among. inr among) (λ end e. inl refl) is.begun;
       opened = (
         longer d.lines line,
         end_last d.lines line,
-        open_push d.lines line (length d.lines) d.blocks (omega arith) is.opened,
+        open_push d.lines line (length d.lines) outer (omega arith) is.opened,
       );
       loops = is.loops;
     })
@@ -229,60 +252,94 @@ for_code n d tokens is =
     ok_after (whole_at d.names Bound way.1) _ Code (λ last.
     let said : Statement = statement.For (length d.loops) first.0 last way.0 0 in
     let line : Line = record { statement = said; depth = choice_depth d.blocks; number = n } in
-    let more = pushed d.lines d.blocks line is.leads is.tied (is.loops, refl) refl in
+    let outer = spelled_out d.blocks in
+    let more = pushed d.lines outer line is.leads is.tied (is.loops, depth_spelled d.blocks) refl
+    in
     fitting_code (with_loop word.0 (with_block (block.For (length d.lines)) (with_line n said d)))
     (record {
       leads = more.0;
       tied = more.1;
-      begun = begins_push d.lines line d.blocks (block.For (length d.lines) ∷ d.blocks)
+      begun = begins_push d.lines line outer (block.For (length d.lines) ∷ outer)
           (λ k among. inr among) (λ end e. inl refl) is.begun;
       opened = (
         longer d.lines line,
         end_last d.lines line,
-        open_push d.lines line (length d.lines) d.blocks (omega arith) is.opened,
+        open_push d.lines line (length d.lines) outer (omega arith) is.opened,
       );
       loops = omega (arith, is.loops);
     }))))))
 
-else_code : (n : ℕ) (d : Draft) (blocks : List Block) → d.blocks ≡ blocks → Code d →
-    IfOk (else_of n d blocks) Code
-else_code n d [] e is = tt
-else_code n d (block.Else ∷ blocks) e is = tt
-else_code n d (block.While begin ∷ blocks) e is = tt
-else_code n d (block.For begin ∷ blocks) e is = tt
-else_code n d (block.If ∷ blocks) e is =
-    let now : IsCode d.lines (block.If ∷ blocks) (length d.loops) =
-    subst (λ (opening : List Block). IsCode d.lines opening (length d.loops)) e is in
+-- the draft's blocks by another name
+code_at : (d : Draft) (blocks : List Block) → d.blocks ≡ blocks → Code d →
+    IsCode d.lines (spelled_out blocks) (length d.loops)
+code_at d blocks e is =
+    subst (λ (opening : List Block). IsCode d.lines (spelled_out opening) (length d.loops)) e is
+
+else_code : (opened : Block) (n : ℕ) (d : Draft) (blocks : List Block) → d.blocks ≡ blocks →
+    ((others : List Block) → block.Else ∷ spelled_out others ≡ spelled_out (opened ∷ others)) →
+    Code d → IfOk (else_of opened n d blocks) Code
+else_code opened n d [] e opens is = tt
+else_code opened n d (block.Else ∷ blocks) e opens is = tt
+else_code opened n d (block.Elsif ∷ blocks) e opens is = tt
+else_code opened n d (block.While begin ∷ blocks) e opens is = tt
+else_code opened n d (block.For begin ∷ blocks) e opens is = tt
+else_code opened n d (block.If ∷ blocks) e opens is =
+    let now = code_at d (block.If ∷ blocks) e is in
     let line : Line =
     record { statement = statement.Else; depth = choice_depth blocks; number = n } in
-    let more = pushed d.lines (block.If ∷ blocks) line now.leads now.tied ((blocks, refl), refl)
-    refl in record {
+    let outer = spelled_out blocks in
+    let more = pushed d.lines (block.If ∷ outer) line now.leads now.tied
+    ((outer, refl), depth_spelled blocks) refl in
+    subst (λ (opening : List Block). IsCode (d.lines ++ line ∷ []) opening (length d.loops))
+    (opens blocks) (record {
       leads = more.0;
       tied = more.1;
-      begun = begins_push d.lines line (block.If ∷ blocks) (block.Else ∷ blocks) (λ k among. among)
+      begun = begins_push d.lines line (block.If ∷ outer) (block.Else ∷ outer) (λ k among. among)
           (λ end e. absurd (let none : None ≡ Some end = e in cc)) now.begun;
-      opened = still_open d.lines line blocks now.opened;
+      opened = still_open d.lines line outer now.opened;
       loops = now.loops;
-    }
+    })
+
+elsif_code : (n : ℕ) (d : Draft) (tokens : List Token) → Code d → IfOk (elsif_line n d tokens) Code
+unfolding elsif_line
+elsif_code n d tokens is =
+    ok_bind (else_of block.Elsif n d d.blocks) _ Code Code
+    (else_code block.Elsif n d d.blocks refl (λ others. refl) is)
+    (λ within p. if_code n within tokens p)
 
 -- the end of an `if`
 choice_code : (n : ℕ) (d : Draft) (choice : Block) (blocks : List Block) →
-    IsCode d.lines (choice ∷ blocks) (length d.loops) → StandsInBlocks (choice ∷ blocks)
-    (record { statement = statement.EndIf; depth = choice_depth blocks; number = n }) →
-    AreOpen d.lines (length d.lines) blocks → length d.loops ≡ loops_of blocks →
-    ((k : ℕ) → Among k (choice ∷ blocks) → Among k blocks) →
+    IsCode d.lines (choice ∷ spelled_out blocks) (length d.loops) → is_choice choice ≡ true →
+    AreOpen d.lines (length d.lines) (spelled_out blocks) →
+    length d.loops ≡ loops_of (spelled_out blocks) →
+    ((k : ℕ) → Among k (choice ∷ spelled_out blocks) → Among k (spelled_out blocks)) →
     Code (with_line n statement.EndIf (record d { blocks = blocks }))
-choice_code n d choice blocks is stands opened loops same =
+choice_code n d choice blocks is choosing opened loops same =
     let line : Line =
     record { statement = statement.EndIf; depth = choice_depth blocks; number = n } in
-    let more = pushed d.lines (choice ∷ blocks) line is.leads is.tied stands refl in record {
+    let outer = spelled_out blocks in
+    let more = pushed d.lines (choice ∷ outer) line is.leads is.tied
+    ((choice, outer, refl, choosing), depth_spelled blocks) refl in record {
       leads = more.0;
       tied = more.1;
-      begun = begins_push d.lines line (choice ∷ blocks) blocks same
+      begun = begins_push d.lines line (choice ∷ outer) outer same
           (λ end e. absurd (let none : None ≡ Some end = e in cc)) is.begun;
-      opened = still_open d.lines line blocks opened;
+      opened = still_open d.lines line outer opened;
       loops = loops;
     }
+
+-- and of the `elsif`s around it
+elsifs_code : (n : ℕ) (blocks : List Block) (d : Draft) → d.blocks ≡ blocks → Code d →
+    Code (elsifs_ended n blocks d)
+elsifs_code n [] d e is = is
+elsifs_code n (block.If ∷ blocks) d e is = is
+elsifs_code n (block.Else ∷ blocks) d e is = is
+elsifs_code n (block.While begin ∷ blocks) d e is = is
+elsifs_code n (block.For begin ∷ blocks) d e is = is
+elsifs_code n (block.Elsif ∷ blocks) d e is =
+    let now = code_at d (block.Elsif ∷ blocks) e is in
+    elsifs_code n blocks (with_line n statement.EndIf (record d { blocks = blocks })) refl
+    (choice_code n d block.Else blocks now refl now.opened now.loops (λ k among. among))
 
 -- the end of a loop
 loop_code : (lines : List Line) (begin : ℕ) (closed : Block) (blocks : List Block) (line : Line)
@@ -307,7 +364,7 @@ loop_code lines begin closed blocks line end loops is told few stands ends plain
     }
 
 for_end_code : (n begin : ℕ) (d : Draft) (loops : List Word) (blocks : List Block) →
-    d.loops ≡ loops → IsCode d.lines (block.For begin ∷ blocks) (length d.loops) →
+    d.loops ≡ loops → IsCode d.lines (block.For begin ∷ spelled_out blocks) (length d.loops) →
     Code (with_line n (statement.EndFor begin)
     (with_end begin (without loops (record d { blocks = blocks }))))
 for_end_code n begin d [] blocks e is =
@@ -319,42 +376,52 @@ for_end_code n begin d (word ∷ loops) blocks e is =
       number =
           n;
     } in
-    let left = loop_left d.lines begin (block.For begin) blocks is.opened.0 is.opened.1 is.opened.2
+    let outer = spelled_out blocks in
+    let left = loop_left d.lines begin (block.For begin) outer is.opened.0 is.opened.1 is.opened.2
     is.leads is.tied is.begun in
     let many : length d.loops ≡ length (word ∷ loops) = ap length e in
-    loop_code _ begin (block.For begin) blocks line (length d.lines) (length loops) left.0 left.1
-    is.opened.0 ((blocks, refl), refl) refl refl refl (omega (arith, many, is.loops))
+    loop_code _ begin (block.For begin) outer line (length d.lines) (length loops) left.0 left.1
+    is.opened.0 ((outer, refl), depth_spelled blocks) refl refl refl
+    (omega (arith, many, is.loops))
 
 end_code : (n : ℕ) (d : Draft) (blocks : List Block) → d.blocks ≡ blocks → Code d →
     IfOk (end_block n d blocks) Code
 end_code n d [] e is = tt
 end_code n d (block.If ∷ blocks) e is =
-    let now : IsCode d.lines (block.If ∷ blocks) (length d.loops) =
-    subst (λ (opening : List Block). IsCode d.lines opening (length d.loops)) e is in
-    choice_code n d block.If blocks now ((block.If, blocks, refl, refl), refl) now.opened now.loops
-    (λ k among. among)
+    let now = code_at d (block.If ∷ blocks) e is in
+    elsifs_code n blocks (with_line n statement.EndIf (record d { blocks = blocks })) refl
+    (choice_code n d block.If blocks now refl now.opened now.loops (λ k among. among))
 end_code n d (block.Else ∷ blocks) e is =
-    let now : IsCode d.lines (block.Else ∷ blocks) (length d.loops) =
-    subst (λ (opening : List Block). IsCode d.lines opening (length d.loops)) e is in
-    choice_code n d block.Else blocks now ((block.Else, blocks, refl, refl), refl) now.opened
-    now.loops (λ k among. among)
+    let now = code_at d (block.Else ∷ blocks) e is in
+    elsifs_code n blocks (with_line n statement.EndIf (record d { blocks = blocks })) refl
+    (choice_code n d block.Else blocks now refl now.opened now.loops (λ k among. among))
+end_code n d (block.Elsif ∷ blocks) e is =
+    let now = code_at d (block.Elsif ∷ blocks) e is in
+    elsifs_code n blocks (with_line n statement.EndIf (record d { blocks = blocks })) refl
+    (choice_code n d block.Else blocks now refl now.opened now.loops (λ k among. among))
 end_code n d (block.While begin ∷ blocks) e is =
-    let now : IsCode d.lines (block.While begin ∷ blocks) (length d.loops) =
-    subst (λ (opening : List Block). IsCode d.lines opening (length d.loops)) e is in
+    let now = code_at d (block.While begin ∷ blocks) e is in
+    let outer = spelled_out blocks in
     let line : Line = record {
       statement = statement.EndWhile begin;
       depth = choice_depth blocks;
       number = n;
     } in
-    let left = loop_left d.lines begin (block.While begin) blocks now.opened.0 now.opened.1
+    let left = loop_left d.lines begin (block.While begin) outer now.opened.0 now.opened.1
     now.opened.2 now.leads now.tied now.begun in
-    loop_code _ begin (block.While begin) blocks line (length d.lines) (length d.loops) left.0
+    loop_code _ begin (block.While begin) outer line (length d.lines) (length d.loops) left.0
     left.1
-    now.opened.0 ((blocks, refl), refl) refl refl refl now.loops
+    now.opened.0 ((outer, refl), depth_spelled blocks) refl refl refl now.loops
 end_code n d (block.For begin ∷ blocks) e is =
-    let now : IsCode d.lines (block.For begin ∷ blocks) (length d.loops) =
-    subst (λ (opening : List Block). IsCode d.lines opening (length d.loops)) e is in
-    for_end_code n begin d d.loops blocks refl now
+    for_end_code n begin d d.loops blocks refl (code_at d (block.For begin ∷ blocks) e is)
+
+assignment_code : (n : ℕ) (d : Draft) (word : Word) (tokens : List Token) → Code d →
+    IfOk (assignment_line n d word tokens) Code
+assignment_code n d word tokens is =
+    ok_bind (assignment_at d.names word tokens) _ IsAssignment Code
+    (assignment_is d.names word tokens)
+    (λ said p. subst (λ (other : Statement). Code (with_line n other d)) (sym p.2)
+    (assigned n d p.0 p.1 is))
 
 statement_code : (n : ℕ) (d : Draft) (tokens : List Token) → Code d →
     IfOk (statement_line n d tokens) Code
@@ -362,13 +429,12 @@ unfolding statement_line
 statement_code n d (symbol the.If ∷ tokens) is = if_code n d tokens is
 statement_code n d (symbol the.While ∷ tokens) is = while_code n d tokens is
 statement_code n d (symbol the.For ∷ tokens) is = for_code n d tokens is
-statement_code n d (symbol the.Else ∷ []) is = else_code n d d.blocks refl is
+statement_code n d (symbol the.Else ∷ []) is =
+    else_code block.Else n d d.blocks refl (λ others. refl) is
 statement_code n d (symbol the.End ∷ []) is = end_code n d d.blocks refl is
 statement_code n d (name word ∷ tokens) is =
-    ok_bind (assignment_at d.names word tokens) _ IsAssignment Code
-    (assignment_is d.names word tokens)
-    (λ said p. subst (λ (other : Statement). Code (with_line n other d)) (sym p.2)
-    (assigned n d p.0 p.1 is))
+    ok_if (is_elsif word tokens) _ _ Code (λ _. elsif_code n d tokens is)
+    (λ _. assignment_code n d word tokens is)
 statement_code n d _ is = tt
 
 -- ---- any line, and all of them
@@ -402,10 +468,10 @@ finished_code stage.Header blocks lines d e is = tt
 finished_code stage.Code (block ∷ blocks) lines d e is = tt
 finished_code stage.Code [] [] d e is = tt
 finished_code stage.Code [] (first ∷ lines) d e is = (
-  subst (LinesLead 0 [] d.lines) e is.leads,
+  subst (LinesLead 0 [] d.lines) (ap spelled_out e) is.leads,
   is.tied,
   λ begin end said. elim (is.begun begin end said) [
-    | inl among ↦ absurd (subst (Among begin) e among)
+    | inl among ↦ absurd (subst (Among begin) (ap spelled_out e) among)
     | inr there ↦ there
   ],
 )

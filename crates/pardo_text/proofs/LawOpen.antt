@@ -22,6 +22,7 @@ AreOpen lines bound (block.For begin ∷ blocks) =
     (begin < bound) × (end_at lines begin ≡ Some 0) × AreOpen lines begin blocks
 AreOpen lines bound (block.If ∷ blocks) = AreOpen lines bound blocks
 AreOpen lines bound (block.Else ∷ blocks) = AreOpen lines bound blocks
+AreOpen lines bound (block.Elsif ∷ blocks) = AreOpen lines bound blocks
 
 pub record IsCode (lines : List Line) (blocks : List Block) (nest : ℕ) : Type 0 where
   pub leads : LinesLead 0 [] lines blocks
@@ -45,6 +46,7 @@ pub open_push : (lines : List Line) (line : Line) (bound : ℕ) (blocks : List B
 open_push lines line bound [] few is = tt
 open_push lines line bound (block.If ∷ blocks) few is = open_push lines line bound blocks few is
 open_push lines line bound (block.Else ∷ blocks) few is = open_push lines line bound blocks few is
+open_push lines line bound (block.Elsif ∷ blocks) few is = open_push lines line bound blocks few is
 open_push lines line bound (block.While begin ∷ blocks) few is = (
   is.0,
   end_push lines line begin (omega (arith, is.0)) ∙ is.1,
@@ -62,6 +64,7 @@ pub open_more : (lines : List Line) (bound more : ℕ) (blocks : List Block) →
 open_more lines bound more [] few is = tt
 open_more lines bound more (block.If ∷ blocks) few is = open_more lines bound more blocks few is
 open_more lines bound more (block.Else ∷ blocks) few is = open_more lines bound more blocks few is
+open_more lines bound more (block.Elsif ∷ blocks) few is = open_more lines bound more blocks few is
 open_more lines bound more (block.While begin ∷ blocks) few is =
     (omega (arith, is.0), is.1, is.2)
 open_more lines bound more (block.For begin ∷ blocks) few is =
@@ -73,6 +76,7 @@ open_set : (lines : List Line) (i : ℕ) (new : Line) (bound : ℕ) (blocks : Li
 open_set lines i new bound [] few is = tt
 open_set lines i new bound (block.If ∷ blocks) few is = open_set lines i new bound blocks few is
 open_set lines i new bound (block.Else ∷ blocks) few is = open_set lines i new bound blocks few is
+open_set lines i new bound (block.Elsif ∷ blocks) few is = open_set lines i new bound blocks few is
 open_set lines i new bound (block.While begin ∷ blocks) few is = (
   is.0,
   end_set_other lines i new begin (λ e. omega (arith, is.0, e)) ∙ is.1,

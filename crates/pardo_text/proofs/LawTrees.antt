@@ -41,7 +41,7 @@ pub record Keeps (names : Names) (scope : Scope) (P : Tree → Type 0) : Type 0 
   pub placed : (word : Word) (array : ℕ) (index : Tree) → names word ≡ Some (thing.Array array) →
       admits scope (thing.Array array) ≡ true → P index → P (place array index)
   pub joins : (op : Op) (first second : Tree) → P first → P second →
-      IfOk (joined scope op first second) P
+      IfOk (joined op first second) P
   pub pairs : (op : Op) (first second : Tree) → level_of op ≡ 0 → P first → P second →
       P (applied op first second)
 
@@ -126,20 +126,20 @@ module _ (names : Names) (scope : Scope) (P : Tree → Type 0) (keeps : Keeps na
       (first : Tree) (tokens : List Token) (found : Option (Op × List Token)) → KeptIn inner →
       KeptAfter more → P first → IfOk (elim found as (λ x. Read Tree) [
         | None ↦ Ok (first, tokens)
-        | Some found ↦ (inner found.1 >>= λ second. joined scope found.0 first second.0 >>=
+        | Some found ↦ (inner found.1 >>= λ second. joined found.0 first second.0 >>=
             λ tree. more tree second.1)
       ]) Kept
   after_operator inner more first tokens None kept after p = p
   after_operator inner more first tokens (Some found) kept after p =
       ok_bind (inner found.1) _ Kept Kept (kept found.1) (λ second q.
-      ok_bind (joined scope found.0 first second.0) _ P Kept
+      ok_bind (joined found.0 first second.0) _ P Kept
       (keeps.joins found.0 first second.0 p q) (λ tree both. after tree second.1 both))
 
   chain : (inner : List Token → Read Tree) (level turns : ℕ) → KeptIn inner →
-      KeptAfter (chained inner scope level turns)
+      KeptAfter (chained inner level turns)
   chain inner level zero kept first tokens p = p
   chain inner level (suc turns) kept first tokens p =
-      after_operator inner (chained inner scope level turns) first tokens
+      after_operator inner (chained inner level turns) first tokens
       (operator_at level tokens) kept (chain inner level turns kept) p
 
   leveled : (inner : Inner) (level : ℕ) → KeptIn (inner scope) →

@@ -12,6 +12,11 @@ pub mod Finished
 pub mod Judged
 pub mod Columns
 pub mod Starts
+pub mod Fields
+pub mod Joined
+pub mod Setting
+pub mod SetLines
+pub mod SetInPlace
 pub mod Ifs
 pub mod LawConstants
 pub mod LawReading

@@ -7,6 +7,7 @@ use Rattle.pardo_text.specs.declared.block.Block.TheVariants as block
 abbrev pub is_choice : Block → Bool
 is_choice block.If = true
 is_choice block.Else = true
+is_choice block.Elsif = true
 is_choice _ = false
 
 -- how many of the open blocks are

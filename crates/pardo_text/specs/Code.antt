@@ -1,6 +1,7 @@
 -- Lines of code.
-use Rattle.std.specs.Prelude.{ℕ, Bool, true, false, if◌then◌else◌, List, [], ◌∷◌, length}
+use Rattle.std.specs.Prelude.{ℕ, Bool, true, false, if◌then◌else◌, List, [], ◌∷◌, length, codes}
 use Rattle.std.specs.Prelude.{is_some, Option, Some, None, Result, Ok, Err}
+use Rattle.std.specs.Str.{bytes_eq}
 use Rattle.pardo_text.specs.declared.fault.PardoKind.{PardoKind}
 use Rattle.pardo_text.specs.declared.fault.PardoKind.TheVariants.{BadLine, UnknownName, WrongKind}
 use Rattle.pardo_text.specs.declared.fault.PardoKind.TheVariants.{BadBlock}
@@ -62,6 +63,12 @@ assignment_at names word tokens = do
   value ← whole_at names Any after
   Ok (statement.Assign place.0 value)
 
+-- what follows the name of a target, and is a line
+abbrev pub assignment_line : ℕ → Draft → Word → List Token → Result Draft PardoKind
+assignment_line number draft word tokens = do
+  said ← assignment_at draft.names word tokens
+  Ok (with_line number said draft)
+
 -- ---- lines that open a block
 
 -- what follows `if`
@@ -96,11 +103,24 @@ for_line number draft tokens = do
 
 -- ---- lines that close one
 
--- an `else` belongs to the innermost block, which is an `if`
-abbrev pub else_of : ℕ → Draft → List Block → Result Draft PardoKind
-else_of number draft (block.If ∷ blocks) =
-    Ok (with_block block.Else (with_line number statement.Else (record draft { blocks = blocks })))
-else_of number draft _ = Err BadBlock
+-- an `else` belongs to the innermost block, which is an `if`, and opens this block
+abbrev pub else_of : Block → ℕ → Draft → List Block → Result Draft PardoKind
+else_of opened number draft (block.If ∷ blocks) =
+    Ok (with_block opened (with_line number statement.Else (record draft { blocks = blocks })))
+else_of opened number draft _ = Err BadBlock
+
+-- what follows `elsif`: it is an `else`, and in that an `if`
+unfoldable pub elsif_line : ℕ → Draft → List Token → Result Draft PardoKind
+elsif_line number draft tokens = do
+  within ← else_of block.Elsif number draft draft.blocks
+  if_line number within tokens
+
+-- the `elsif`s that are now the innermost blocks end, too
+abbrev pub elsifs_ended : ℕ → List Block → Draft → Draft
+elsifs_ended number (block.Elsif ∷ blocks) draft =
+    elsifs_ended number blocks
+    (with_line number statement.EndIf (record draft { blocks = blocks }))
+elsifs_ended number blocks draft = draft
 
 -- an `end` belongs to the innermost block
 abbrev pub end_block : ℕ → Draft → List Block → Result Draft PardoKind
@@ -112,18 +132,25 @@ end_block number draft (block.For begin ∷ blocks) =
     Ok (with_line number (statement.EndFor begin)
     (with_end begin (without draft.loops (record draft { blocks = blocks }))))
 end_block number draft (choice ∷ blocks) =
-    Ok (with_line number statement.EndIf (record draft { blocks = blocks }))
+    Ok (elsifs_ended number blocks
+    (with_line number statement.EndIf (record draft { blocks = blocks })))
 
 -- ---- any line
+
+-- whether a line that begins with a name is an `elsif`: no assignment goes on so
+abbrev pub is_elsif : Word → List Token → Bool
+is_elsif word (symbol the.Assign ∷ tokens) = false
+is_elsif word (symbol the.OpenIndex ∷ tokens) = false
+is_elsif word tokens = bytes_eq word (codes "elsif")
 
 -- a line of this number
 unfoldable pub statement_line : ℕ → Draft → List Token → Result Draft PardoKind
 statement_line number draft (symbol the.If ∷ tokens) = if_line number draft tokens
 statement_line number draft (symbol the.While ∷ tokens) = while_line number draft tokens
 statement_line number draft (symbol the.For ∷ tokens) = for_line number draft tokens
-statement_line number draft (symbol the.Else ∷ []) = else_of number draft draft.blocks
+statement_line number draft (symbol the.Else ∷ []) = else_of block.Else number draft draft.blocks
 statement_line number draft (symbol the.End ∷ []) = end_block number draft draft.blocks
-statement_line number draft (name word ∷ tokens) = do
-  said ← assignment_at draft.names word tokens
-  Ok (with_line number said draft)
+statement_line number draft (name word ∷ tokens) =
+    if is_elsif word tokens then elsif_line number draft tokens
+    else assignment_line number draft word tokens
 statement_line number draft _ = Err BadLine

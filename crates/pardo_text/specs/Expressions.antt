@@ -1,12 +1,12 @@
 -- Expressions, read from tokens.
-use Rattle.std.specs.Prelude.{ℕ, zero, suc, ◌-◌, ◌^◌, Bool, false, ◌||◌, ◌==◌, nat_lt}
+use Rattle.std.specs.Prelude.{ℕ, zero, suc, ◌-◌, ◌^◌, Bool, false, ◌&&◌, ◌||◌, ◌==◌, nat_lt}
 use Rattle.std.specs.Prelude.{if◌then◌else◌, List, [], ◌∷◌, length, Option, Some, None, unwrap_or}
 use Rattle.std.specs.Prelude.{is_some, Result, Ok, Err}
 use Rattle.std.specs.Int.{w32, leading_zeros}
 use Rattle.pardo_text.specs.declared.fault.PardoKind.{PardoKind}
 use Rattle.pardo_text.specs.declared.fault.PardoKind.TheVariants.{BadLine, UnknownName}
 use Rattle.pardo_text.specs.declared.fault.PardoKind.TheVariants.{DuplicateName, WrongKind}
-use Rattle.pardo_text.specs.declared.fault.PardoKind.TheVariants.{NotConstant, OutOfLimits, TooDeep}
+use Rattle.pardo_text.specs.declared.fault.PardoKind.TheVariants.{OutOfLimits, TooDeep}
 use Rattle.pardo_text.specs.declared.names.Named.{Named}
 use Rattle.pardo_text.specs.declared.names.Named.TheVariants.{Array}
 use Rattle.pardo_text.specs.declared.names.Scope.{Scope}
@@ -16,7 +16,7 @@ use Rattle.pardo_text.specs.declared.operation.Op.TheVariants as op
 use Rattle.pardo_text.specs.declared.symbol.Symbol.TheVariants as the
 use Rattle.pardo_text.specs.Expression.{Tree, number, place, apply}
 use Rattle.text_lines.specs.Lines.{Word}
-use Rattle.pardo_text.specs.Names.{Names, admits, divides, tree_from}
+use Rattle.pardo_text.specs.Names.{Names, admits, tree_from}
 use Rattle.pardo_text.specs.Operations.{level_of, is_division, operation_value, comparisons}
 use Rattle.pardo_text.specs.Operations.{loosest}
 use Rattle.text_lines.specs.Reads.{◌>>=◌}
@@ -73,12 +73,11 @@ abbrev pub is_zero : Option ℕ → Bool
 is_zero (Some value) = value == 0
 is_zero None = false
 
-unfoldable pub joined : Scope → Op → Tree → Tree → Result Tree PardoKind
-joined scope op first second =
-    if is_division op
-    then (if divides scope
-    then (if is_zero (constant_of second) then Err OutOfLimits else Ok (applied op first second))
-    else Err NotConstant) else Ok (applied op first second)
+-- No number divides that is 0.
+unfoldable pub joined : Op → Tree → Tree → Result Tree PardoKind
+joined op first second =
+    if is_division op && is_zero (constant_of second) then Err OutOfLimits
+    else Ok (applied op first second)
 
 -- the number that an expression of constants is: it always is one
 abbrev pub fixed_value : Tree → ℕ
@@ -161,13 +160,13 @@ operator_at level _ = None
 
 -- At most so many operations of a level follow, each with its second operand; all that stands
 -- before is its first.
-abbrev pub chained : (List Token → Read Tree) → Scope → ℕ → ℕ → Tree → List Token → Read Tree
-chained operand scope level zero first tokens = Ok (first, tokens)
-chained operand scope level (suc turns) first tokens =
+abbrev pub chained : (List Token → Read Tree) → ℕ → ℕ → Tree → List Token → Read Tree
+chained operand level zero first tokens = Ok (first, tokens)
+chained operand level (suc turns) first tokens =
     elim (operator_at level tokens) [
       | None ↦ Ok (first, tokens)
-      | Some found ↦ (operand found.1 >>= λ second. joined scope found.0 first second.0 >>=
-          λ tree. chained operand scope level turns tree second.1)
+      | Some found ↦ (operand found.1 >>= λ second. joined found.0 first second.0 >>=
+          λ tree. chained operand level turns tree second.1)
     ]
 
 -- A comparison has two operands alone.
@@ -180,7 +179,7 @@ unfoldable pub level_at : Inner → ℕ → Inner
 level_at operand zero scope tokens = operand scope tokens
 level_at operand (suc level) scope tokens = do
   first ← level_at operand level scope tokens
-  chained (level_at operand level scope) scope (suc level) (turns_at (suc level) first.1)
+  chained (level_at operand level scope) (suc level) (turns_at (suc level) first.1)
       first.0 first.1
 
 -- where so many brackets may still be opened

@@ -8,3 +8,4 @@ pub mod Columns
 pub mod Drafts
 pub mod Postfixes
 pub mod Exprs
+pub mod Settings

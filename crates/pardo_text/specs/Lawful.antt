@@ -1,5 +1,5 @@
 -- What holds of every program that a text spells.
-use Rattle.std.specs.Prelude.{◌≡◌, ℕ, ◌+◌, ◌*◌, ◌^◌, ◌<◌, ◌≤◌, false, List, [], ◌∷◌, length}
+use Rattle.std.specs.Prelude.{◌≡◌, ℕ, ◌+◌, ◌*◌, ◌^◌, ◌<◌, ◌≤◌, List, [], ◌∷◌, length}
 use Rattle.std.specs.List.{All}
 use Rattle.pardo_text.specs.declared.limits.TheConstants.{MAX_CELLS, MAX_PROCS}
 use Rattle.pardo_text.specs.declared.statement.Line.{Line}
@@ -8,7 +8,6 @@ use Rattle.pardo_text.specs.declared.statement.Statement.TheVariants as statemen
 use Rattle.pardo_text.specs.declared.statement.Target.{Target}
 use Rattle.pardo_text.specs.declared.statement.Target.TheVariants as target
 use Rattle.pardo_text.specs.Expression.{Tree, number, own, loop, private, place, apply}
-use Rattle.pardo_text.specs.Operations.{is_division}
 use Rattle.pardo_text.specs.Program.{ArrayData, PrivateData, ProgramData, shared_cells}
 
 -- how many arrays, private variables and lines of code there are, and how many loops and `if`s
@@ -20,18 +19,17 @@ pub record Bounds : Type 0 where
   pub choices : ℕ
   pub lines : ℕ
 
--- An expression in code: it names what is there, its numbers have 32 bits, and it does not divide.
+-- An expression in code: it names what is there, and its numbers have 32 bits.
 abbrev pub IsExpression : Bounds → Tree → Type 0
 IsExpression b (number value) = value < 2 ^ 32
 IsExpression b own = Unit {0}
 IsExpression b (loop nest) = nest < b.loops
 IsExpression b (private x) = x < b.privates
 IsExpression b (place array index) = (array < b.arrays) × IsExpression b index
-IsExpression b (apply op first second) = (is_division op ≡ false) × IsExpression b first
-    × IsExpression b second
+IsExpression b (apply op first second) = IsExpression b first × IsExpression b second
 
--- No own number and no private variable stands in it, so its value is one for all processors; and
--- of arrays only scalars, which have no place but the first, so it has a value.
+-- No own number and no private variable stands in it, and of arrays only scalars, which have no
+-- place but the first: so all processors have one value of it, or none has one.
 abbrev pub IsCommon : Tree → Type 0
 IsCommon (number value) = Unit {0}
 IsCommon own = ⊥

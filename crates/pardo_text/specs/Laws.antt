@@ -1,7 +1,7 @@
 -- What the laws say of texts.
 use Rattle.std.specs.Prelude.{◌≡◌, ◌⊎◌, ℕ, ◌+◌, ◌≤◌, ◌<◌, ◌^◌, List, [], ◌∷◌, ◌++◌}
-use Rattle.std.specs.Prelude.{length, IsTrue, IfOk, Some, Result, Ok, Err}
-use Rattle.std.specs.List.{list_all}
+use Rattle.std.specs.Prelude.{length, map, IsTrue, IfOk, Some, Result, Ok, Err}
+use Rattle.std.specs.List.{All, list_all}
 use Rattle.pardo_text.specs.declared.fault.PardoFault.{PardoFault}
 use Rattle.pardo_text.specs.declared.fault.PardoKind.{PardoKind}
 use Rattle.pardo_text.specs.declared.limits.TheConstants.{MAX_CELLS, MAX_PROCS, MAX_OPEN}
@@ -9,13 +9,14 @@ use Rattle.pardo_text.specs.declared.names.Scope.TheVariants.{Fixed}
 use Rattle.pardo_text.specs.Drafts.{Draft, empty}
 use Rattle.pardo_text.specs.Expression.{number}
 use Rattle.pardo_text.specs.Expressions.{expression_at, log_of}
-use Rattle.pardo_text.specs.Lawful.{IsProgram}
+use Rattle.pardo_text.specs.Lawful.{AreNumbers, IsProgram}
 use Rattle.text_lines.specs.Lines.{HasOtherLine}
 use Rattle.text_lines.specs.Lines.{lines_of, is_allowed, is_blank, said_in}
 use Rattle.pardo_text.specs.Names.{Names}
 use Rattle.pardo_text.specs.Nested.{IsNested}
 use Rattle.pardo_text.specs.Program.{ProgramData}
 use Rattle.pardo_text.specs.Reading.{with_text_line, program_in, program_of}
+use Rattle.pardo_text.specs.Settings.{SettingData, line_as_set, text_as_set}
 use Rattle.text_lines.specs.Reads.{◌>>=◌}
 use Rattle.pardo_text.specs.Tokens.{Token, token_at, tokens_of}
 
@@ -114,3 +115,17 @@ ProgramsAreLawful = (text : List ℕ) → IfOk (program_of text) IsProgram
 -- each block is closed by its own `end`
 abbrev pub ProgramsAreNested : Type 0
 ProgramsAreNested = (text : List ℕ) → IfOk (program_of text) (λ program. IsNested program.lines)
+
+-- ---- settings
+
+abbrev pub NothingSetChangesNothing : Type 0
+NothingSetChangesNothing = (text : List ℕ) → text_as_set [] text ≡ text
+
+-- settings to values of 32 bits
+abbrev pub AreSettings : List SettingData → Type 0
+AreSettings settings = All (λ setting. AreNumbers setting.values) settings
+
+-- The lines of the text as it is set are its lines as they are set, in their places.
+abbrev pub SetLinesStay : Type 0
+SetLinesStay = (settings : List SettingData) (text : List ℕ) → AreSettings settings →
+    lines_of (text_as_set settings text) ≡ map (line_as_set settings) (lines_of text)

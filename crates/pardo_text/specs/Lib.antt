@@ -10,6 +10,7 @@ pub mod Drafts
 pub mod Header
 pub mod Code
 pub mod Reading
+pub mod Settings
 pub mod Lawful
 pub mod Nested
 pub mod Laws

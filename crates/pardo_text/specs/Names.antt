@@ -5,7 +5,7 @@ use Rattle.pardo_text.specs.declared.names.Named.{Named}
 use Rattle.pardo_text.specs.declared.names.Named.TheVariants.{Constant, Own, Scalar, Array}
 use Rattle.pardo_text.specs.declared.names.Named.TheVariants.{Private, Loop}
 use Rattle.pardo_text.specs.declared.names.Scope.{Scope}
-use Rattle.pardo_text.specs.declared.names.Scope.TheVariants.{Fixed, Start, Bound, Uniform, Any}
+use Rattle.pardo_text.specs.declared.names.Scope.TheVariants.{Start, Bound, Uniform, Any}
 use Rattle.pardo_text.specs.Expression.{Tree, number, own, loop, private, place}
 use Rattle.text_lines.specs.Lines.{Word}
 
@@ -32,12 +32,6 @@ admits Uniform (Loop nest) = true
 admits Uniform (Scalar array) = true
 admits Any thing = true
 admits _ _ = false
-
--- Divisors are known before the program runs.
-abbrev pub divides : Scope → Bool
-divides Fixed = true
-divides Start = true
-divides _ = false
 
 -- what a name without an index says
 abbrev pub tree_from : Named → Tree

@@ -1,7 +1,7 @@
 -- The operations of two numbers below 2^32.
 use Rattle.std.specs.Prelude.{ℕ, ◌+◌, ◌-◌, ◌*◌, ◌/◌, ◌%◌, ◌^◌, Bool, true, false, not, ◌&&◌, ◌||◌}
 use Rattle.std.specs.Prelude.{◌==◌, nat_lt, nat_le, if◌then◌else◌, bit_and, bit_or, bit_xor}
-use Rattle.std.specs.Prelude.{min, max}
+use Rattle.std.specs.Prelude.{min, max, Option, Some, None}
 use Rattle.pardo_text.specs.declared.operation.Op.{Op}
 use Rattle.pardo_text.specs.declared.operation.Op.TheVariants.{Add, Sub, Mul, Div, Rem, Shl, Shr}
 use Rattle.pardo_text.specs.declared.operation.Op.TheVariants.{BitAnd, BitOr, BitXor, Eq, Ne}
@@ -48,7 +48,7 @@ is_division _ = false
 abbrev pub bit : Bool → ℕ
 bit truth = if truth then 1 else 0
 
--- The value of an operation; a divisor is not 0.
+-- The value of an operation, where there is one.
 unfoldable pub operation_value : Op → ℕ → ℕ → ℕ
 operation_value Add a b = (a + b) % 2 ^ 32
 operation_value Sub a b = (a + (2 ^ 32 - b)) % 2 ^ 32
@@ -70,3 +70,7 @@ operation_value And a b = bit (not (a == 0) && not (b == 0))
 operation_value Or a b = bit (not (a == 0) || not (b == 0))
 operation_value Min a b = min a b
 operation_value Max a b = max a b
+
+-- what is worked out by an operation: a division by 0 has no value
+abbrev pub worked_out : Op → ℕ → ℕ → Option ℕ
+worked_out op a b = if is_division op && (b == 0) then None else Some (operation_value op a b)

@@ -31,7 +31,8 @@ keywords =
     ∷ (codes "downto", the.Downto) ∷ (codes "while", the.While) ∷ (codes "if", the.If)
     ∷ (codes "else", the.Else) ∷ (codes "end", the.End) ∷ (codes "lg", the.Lg)
     ∷ (codes "and", the.Operator op.And) ∷ (codes "or", the.Operator op.Or)
-    ∷ (codes "min", the.Operator op.Min) ∷ (codes "max", the.Operator op.Max) ∷ []
+    ∷ (codes "xor", the.Operator op.BitXor) ∷ (codes "min", the.Operator op.Min)
+    ∷ (codes "max", the.Operator op.Max) ∷ []
 
 -- the other symbols: where one begins another, the longer one first
 abbrev pub marks : List (Word × Symbol)
@@ -42,10 +43,10 @@ marks =
     ∷ (codes "+", the.Operator op.Add) ∷ (codes "-", the.Operator op.Sub)
     ∷ (codes "*", the.Operator op.Mul) ∷ (codes "/", the.Operator op.Div)
     ∷ (codes "%", the.Operator op.Rem) ∷ (codes "&", the.Operator op.BitAnd)
-    ∷ (codes "|", the.Operator op.BitOr) ∷ (codes "^", the.Operator op.BitXor)
-    ∷ (codes "<", the.Operator op.Lt) ∷ (codes ">", the.Operator op.Gt)
-    ∷ (codes "=", the.Operator op.Eq) ∷ (codes "(", the.Open) ∷ (codes ")", the.Close)
-    ∷ (codes "[", the.OpenIndex) ∷ (codes "]", the.CloseIndex) ∷ (codes ",", the.Comma) ∷ []
+    ∷ (codes "|", the.Operator op.BitOr) ∷ (codes "<", the.Operator op.Lt)
+    ∷ (codes ">", the.Operator op.Gt) ∷ (codes "=", the.Operator op.Eq)
+    ∷ (codes "(", the.Open) ∷ (codes ")", the.Close) ∷ (codes "[", the.OpenIndex)
+    ∷ (codes "]", the.CloseIndex) ∷ (codes ",", the.Comma) ∷ []
 
 -- the first row that is spelled so, or else a name
 abbrev pub word_by : List (Word × Symbol) → Word → Token

@@ -1,5 +1,5 @@
 //! Blocks of code.
-ghost use Rattle.std.specs.Prelude.{◌≡◌, [], ◌∷◌, ◌==◌, length, IfOk, MatchOption};
+ghost use Rattle.std.specs.Prelude.{◌≡◌, List, [], ◌∷◌, ◌==◌, length, IfOk, MatchOption};
 ghost use Rattle.pardo_text.specs.Blocks.{is_choice, choice_depth};
 
 use std::alloc::{AllocError, Global};
@@ -10,6 +10,8 @@ use std::marker::Model;
 pub(crate) enum Block {
     If,
     Else,
+    /// The `else` that an `elsif` is. It ends where the `if` in it ends.
+    Elsif,
     While(usize),
     For(usize),
 }
@@ -19,7 +21,7 @@ impl Block {
     fn is_choice(self) -> bool
         ensures { result ≡ is_choice self }
     {
-        matches!(self, Block::If | Block::Else)
+        matches!(self, Block::If | Block::Else | Block::Elsif)
     }
 }
 
@@ -66,6 +68,14 @@ impl Blocks {
         ensures { result ≡ choice_depth self.now }
     {
         self.depth
+    }
+
+    /// The innermost block.
+    pub(crate) fn last(&self) -> Option<Block>
+        ensures { MatchOption result (self.now ≡ [])
+            (λ block. (outer : List Block) × (self.now ≡ block ∷ outer)) }
+    {
+        self.blocks.last().copied()
     }
 
     /// Opens a block in the innermost one.

@@ -1,7 +1,7 @@
 //! Lines of code.
 ghost use Rattle.std.specs.Prelude.{◌≡◌, ◌∷◌, length, Some};
 ghost use Rattle.pardo_text.specs.Code.{whole_at, way_at, array_place, assignment_target};
-ghost use Rattle.pardo_text.specs.Code.{assignment_at};
+ghost use Rattle.pardo_text.specs.Code.{assignment_at, is_elsif};
 ghost use Rattle.pardo_text.specs.Inner.Names.{names_in};
 ghost use Rattle.pardo_text.specs.Inner.Tokens.{GivesAsRead};
 
@@ -17,10 +17,13 @@ use crate::statement::{Statement, Target};
 use crate::symbol::Symbol;
 use crate::token::Token;
 use std::alloc::Global;
+use text_lines::is_word;
 
 impl<'t> Draft<'t> {
     ghost use Rattle.pardo_text.specs.Code.{statement_line, if_line, while_line, for_line};
-    ghost use Rattle.pardo_text.specs.Tokens.{symbol, name as word};
+    ghost use Rattle.pardo_text.specs.Code.{assignment_line, else_of, elsif_line, elsifs_ended};
+    ghost use Rattle.pardo_text.specs.declared.statement.Statement.TheVariants.{EndIf};
+    ghost use Rattle.pardo_text.specs.Tokens.{symbol};
     ghost use Rattle.pardo_text.specs.Drafts.{fitting, with_line, with_block, with_loop};
     ghost use Rattle.pardo_text.specs.declared.block.Block.TheVariants.{For as ForBlock};
     ghost use Rattle.pardo_text.specs.declared.symbol.Symbol.TheVariants.{Else, End};
@@ -42,6 +45,7 @@ impl<'t> Draft<'t> {
             Some(Token::Symbol(Symbol::For)) => self.take_for(number, tokens),
             Some(Token::Symbol(Symbol::Else)) => self.take_else(number, tokens),
             Some(Token::Symbol(Symbol::End)) => self.take_end(number, tokens),
+            Some(Token::Name(name)) if is_elsif(name, tokens) => self.take_elsif(number, tokens),
             Some(Token::Name(name)) => self.take_assignment(number, name, tokens),
             _ => Err(PardoKind::BadLine),
         }
@@ -113,10 +117,28 @@ impl<'t> Draft<'t> {
             (statement_line number (draft_of self.old) (symbol Else ∷ tokens.now)) }
     {
         ended(tokens)?;
+        self.add_else(number, Block::Else)
+    }
+
+    // Reads what follows `elsif`.
+    #[tactic(auto, unfolding(crate::specs::Code::elsif_line))]
+    fn take_elsif(&mut self, number: u64, tokens: &mut Cursor<'t>) -> Result<(), PardoKind>
+        ensures { GivesAsRead (λ _. draft_of self.new) result
+            (elsif_line number (draft_of self.old) tokens.old) }
+    {
+        self.add_else(number, Block::Elsif)?;
+        self.take_if(number, tokens)
+    }
+
+    // The `else` of the innermost block, which opens this block.
+    fn add_else(&mut self, number: u64, block: Block) -> Result<(), PardoKind>
+        ensures { GivesAsRead (λ _. draft_of self.new) result
+            (else_of block number (draft_of self.old) (draft_of self.old).blocks) }
+    {
         match self.blocks.pop() {
             Some(Block::If) => {
                 self.add_line(number, Statement::Else)?;
-                self.open(Block::Else)?;
+                self.open(block)?;
                 Ok(())
             }
             _ => Err(PardoKind::BadBlock),
@@ -132,7 +154,7 @@ impl<'t> Draft<'t> {
         ended(tokens)?;
         let statement = match self.blocks.pop() {
             None => return Err(PardoKind::BadBlock),
-            Some(Block::If | Block::Else) => Statement::EndIf,
+            Some(Block::If | Block::Else | Block::Elsif) => return self.end_choice(number),
             Some(Block::While(begin)) => {
                 self.end_at(begin);
                 Statement::EndWhile(begin)
@@ -147,8 +169,21 @@ impl<'t> Draft<'t> {
         Ok(())
     }
 
+    // The end of an `if` that was closed, and of the `elsif`s around it.
+    fn end_choice(&mut self, number: u64) -> Result<(), PardoKind>
+        ensures { GivesAsRead (λ _. draft_of self.new) result
+            (Ok (elsifs_ended number (draft_of self.old).blocks
+            (with_line number EndIf (draft_of self.old)))) }
+    {
+        self.add_line(number, Statement::EndIf)?;
+        while let Some(Block::Elsif) = self.blocks.last() {
+            self.blocks.pop();
+            self.add_line(number, Statement::EndIf)?;
+        }
+        Ok(())
+    }
+
     // Reads what follows the name of the target of an assignment.
-    #[tactic(auto, unfolding(crate::specs::Code::statement_line))]
     fn take_assignment(
         &mut self,
         number: u64,
@@ -156,11 +191,21 @@ impl<'t> Draft<'t> {
         tokens: &mut Cursor<'t>,
     ) -> Result<(), PardoKind>
         ensures { GivesAsRead (λ _. draft_of self.new) result
-            (statement_line number (draft_of self.old) (word name.now ∷ tokens.old)) }
+            (assignment_line number (draft_of self.old) name.now tokens.old) }
     {
         let statement = assignment(self.alloc, &self.names, name, tokens)?;
         self.add_line(number, statement)?;
         Ok(())
+    }
+}
+
+// Whether a line of code that begins with a name is an `elsif`: no assignment.
+fn is_elsif(name: &[u8], tokens: &Cursor<'_>) -> bool
+    ensures { result ≡ is_elsif name.now tokens.now }
+{
+    match tokens.peek() {
+        Some(Token::Symbol(Symbol::Assign | Symbol::OpenIndex)) => false,
+        _ => is_word(name, "elsif"),
     }
 }
 

@@ -28,8 +28,6 @@ pub enum PardoKind {
     DuplicateName,
     /// A name is used where one of its kind must not stand.
     WrongKind,
-    /// A division stands where its divisor is not known before the program runs.
-    NotConstant,
     /// A number is outside its limits, or a divisor is 0.
     OutOfLimits,
     /// An array is given too many values, or too few without `...`.

@@ -5,7 +5,8 @@ ghost use Rattle.pardo_text.specs.Laws.{TokensAreLongest, LgIsLeast, ConstantsAr
 ghost use Rattle.pardo_text.specs.Laws.{ProgramCommentsSayNothing, IndentationSaysNothing};
 ghost use Rattle.pardo_text.specs.Laws.{EmptyLinesSayNothing, LinesAreWhatTheySay};
 ghost use Rattle.pardo_text.specs.Laws.{FirstBadLine, AllLinesAreTaken, ProgramsAreLawful};
-ghost use Rattle.pardo_text.specs.Laws.{ProgramsAreNested};
+ghost use Rattle.pardo_text.specs.Laws.{NothingSetChangesNothing, ProgramsAreNested};
+ghost use Rattle.pardo_text.specs.Laws.{SetLinesStay};
 
 /// The limits by their numbers.
 pub fn limits_are()
@@ -65,4 +66,14 @@ pub fn programs_are_lawful()
 /// Each block of a program is closed by its own `end`, and each loop and its end know each other.
 pub fn programs_are_nested()
     ensures { ProgramsAreNested }
+{}
+
+/// A text in which nothing is set is as it was.
+pub fn nothing_set_changes_nothing()
+    ensures { NothingSetChangesNothing }
+{}
+
+/// The lines of a text as it is set stay in their places.
+pub fn set_lines_stay()
+    ensures { SetLinesStay }
 {}

@@ -1,6 +1,6 @@
 //! What names stand for.
 ghost use Rattle.std.specs.Prelude.{◌≡◌};
-ghost use Rattle.pardo_text.specs.Names.{admits, divides};
+ghost use Rattle.pardo_text.specs.Names.{admits};
 
 use std::collections::BTreeMap;
 
@@ -47,16 +47,6 @@ impl Scope {
             (Scope::Uniform, Named::Loop(_) | Named::Scalar(_)) => true,
             (Scope::Any, _) => true,
             _ => false,
-        }
-    }
-
-    /// Whether divisors are known here before the program runs.
-    pub(crate) fn divides(self) -> bool
-        ensures { result ≡ divides self }
-    {
-        match self {
-            Scope::Fixed | Scope::Start => true,
-            Scope::Bound | Scope::Uniform | Scope::Any => false,
         }
     }
 }

@@ -23,7 +23,7 @@ pub enum Op {
     BitAnd,
     /// `|`
     BitOr,
-    /// `^`
+    /// `xor`
     BitXor,
     /// `=`
     Eq,

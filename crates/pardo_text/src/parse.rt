@@ -125,14 +125,14 @@ fn chain(around: &Around<'_, '_>, level: u8, exprs: &mut Exprs, tokens: &mut Cur
         (chained (level_at (operand_at (names_in around.now.names.now)
         (within_at (names_in around.now.names.now) around.now.brackets)) (level - 1)
         around.now.scope)
-        around.now.scope level (turns_at level tokens.old) (first_of exprs.old) tokens.old) }
+        level (turns_at level tokens.old) (first_of exprs.old) tokens.old) }
 {
     for _turn in 0..turns(level, tokens) {
         let Some(op) = operator(level, tokens) else {
             return Ok(());
         };
         leveled(around, level - 1, exprs, tokens)?;
-        join(around.scope, op, exprs)?;
+        join(op, exprs)?;
     }
     Ok(())
 }
@@ -165,20 +165,15 @@ fn operator(level: u8, tokens: &mut Cursor<'_>) -> Option<Op>
     }
 }
 
-// The last two expressions become an operation of them, if it may stand here.
+// The last two expressions become an operation of them, if it divides by no number 0.
 #[tactic(auto, unfolding(crate::specs::Expressions::joined))]
-fn join(scope: Scope, op: Op, exprs: &mut Exprs) -> Parsed
+fn join(op: Op, exprs: &mut Exprs) -> Parsed
     requires { 1 < length exprs.old }
     ensures { Joins exprs.old exprs.new result
-        (joined scope op (first_of (drop 1 exprs.old)) (first_of exprs.old)) }
+        (joined op (first_of (drop 1 exprs.old)) (first_of exprs.old)) }
 {
-    if op.is_division() {
-        if !scope.divides() {
-            return Err(PardoKind::NotConstant);
-        }
-        if exprs.constant() == Some(0) {
-            return Err(PardoKind::OutOfLimits);
-        }
+    if op.is_division() && exprs.constant() == Some(0) {
+        return Err(PardoKind::OutOfLimits);
     }
     exprs.apply(op)?;
     Ok(())

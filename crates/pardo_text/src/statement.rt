@@ -20,9 +20,9 @@ pub enum Statement {
     Assign(Target, Expr),
     /// `if CONDITION`
     If(Expr),
-    /// `else`
+    /// `else`. An `elsif` is one, and an `If` in it.
     Else,
-    /// The `end` of an `if`.
+    /// The `end` of an `if`. An `end` is one for each `elsif`, too.
     EndIf,
     /// `while CONDITION`, and the place of its `end`.
     While(Expr, usize),
@@ -55,6 +55,6 @@ pub struct Line {
     /// How many `if`s are open before the line; without its own where it is an `else` or the `end`
     /// of an `if`.
     pub depth: usize,
-    /// The number of the line in the text, counted from 1.
+    /// The number of the line in the text, counted from 1; several may have it.
     pub number: u64,
 }

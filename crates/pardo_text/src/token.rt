@@ -123,6 +123,8 @@ fn operation_word(word: &[u8]) -> Option<Symbol>
         Some(Symbol::Operator(Op::And))
     } else if is_word(word, "or") {
         Some(Symbol::Operator(Op::Or))
+    } else if is_word(word, "xor") {
+        Some(Symbol::Operator(Op::BitXor))
     } else if is_word(word, "min") {
         Some(Symbol::Operator(Op::Min))
     } else if is_word(word, "max") {
@@ -192,7 +194,6 @@ fn byte_operation(byte: u8) -> Option<Symbol>
         b'%' => Op::Rem,
         b'&' => Op::BitAnd,
         b'|' => Op::BitOr,
-        b'^' => Op::BitXor,
         b'<' => Op::Lt,
         b'>' => Op::Gt,
         b'=' => Op::Eq,
@@ -235,6 +236,17 @@ fn next_token(line: &[u8]) -> Option<(Token<'_>, &[u8])>
     }
 }
 
+/// The first token of a line, as it is spelled, if the line begins with one after blanks; and what
+/// is after it.
+pub fn first_spelled(line: &[u8]) -> Option<(&[u8], &[u8])>
+    ensures { IfSome result (λ x. 0 < length x.0.now) }
+{
+    let line = after_blanks(line);
+    let (_, rest) = next_token(line)?;
+    let (spelled, rest) = line.split_at(line.len() - rest.len());
+    Some((spelled, rest))
+}
+
 /// How many tokens a line has that has no comment.
 pub(crate) fn count_tokens(line: &[u8]) -> Result<usize, PardoKind>
     ensures tokens { GivesAsRead (λ count. tokens_cut count line.now) result (tokens_of line.now) }
@@ -263,8 +275,8 @@ pub(crate) fn first_token(line: &[u8]) -> Option<(Token<'_>, &[u8])>
     next_token(after_blanks(line))
 }
 
-// What stands after the blanks with which a line begins.
-fn after_blanks(line: &[u8]) -> &[u8]
+/// What stands after the blanks with which a line begins.
+pub(crate) fn after_blanks(line: &[u8]) -> &[u8]
     ensures { result.now ≡ after_blanks line.now }
 {
     let mut rest = line;
@@ -278,7 +290,7 @@ fn after_blanks(line: &[u8]) -> &[u8]
 }
 
 /// What stands before the comment of a line.
-pub(crate) fn said(line: &[u8]) -> &[u8]
+pub fn said(line: &[u8]) -> &[u8]
     ensures { result.now ≡ said_in line.now }
 {
     line.split_at(comment_start(line).unwrap_or(line.len())).0

@@ -3,7 +3,7 @@ use Rattle.std.proofs.Common.{◌≡◌, ◌⊎◌, ℕ, Bool, true, false, List
 use Rattle.std.proofs.Common.{Result, Ok, Err, IsTrue, MatchOption, refl, sym, ap, subst, inl, inr}
 use Rattle.std.proofs.KnownBytes.{Appends-trans}
 use Rattle.std.specs.Io.KnownBytes.{Appends}
-use Rattle.std.specs.Prelude.{◌↔◌, IsErrOf, ⊤}
+use Rattle.std.specs.Prelude.{◌↔◌, IsErrOf, OnOk, ⊤}
 use Rattle.std.specs.Result.{IsErr, IsErrAnd}
 use Rattle.pram_job.specs.Job.{JobData}
 use Rattle.pram_step.specs.declared.answer.RunAnswer.{RunAnswer}
@@ -13,7 +13,7 @@ use Rattle.pram_streams.specs.declared.print.PrintFault.{PrintFault}
 use Rattle.pram_streams.specs.declared.print.PrintFault.TheVariants as print
 use Rattle.stop_plan.specs.Plan.{PlanData}
 use Rattle.pram_commands.specs.Did.{Command, Did, Given, Showing, Writing}
-use Rattle.pram_commands.specs.Did.{ending, ends_with, tells, tells_status}
+use Rattle.pram_commands.specs.Did.{ending, ends_with, tells, tells_none, tells_status}
 use Rattle.pram_commands.specs.Inner.Puts.{PutBeginning, PutsAnswer, printed_as, status_result}
 use Rattle.pram_commands.specs.Inputs.{Taking}
 use Rattle.pram_commands.specs.Names.{AreNames, NamingData}
@@ -85,6 +85,22 @@ put_failed {A} Comes InPieces w Tells result print.Memory is begins memory faile
           elim (memory refl) [ inl unwritten ↦ inl unwritten | inr pieces ↦ inr (pieces, begins) ];
       failed = ((λ f. absurd (other_fault (failed.0 f))), (λ e. absurd (other_fault e)));
     })
+
+-- where a call prints one text, and no answer is given
+pub text_put : (Comes : List ℕ → Option RunAnswer → Type 0) (InPieces : Type 0) (w : Writing)
+    (text : List ℕ) (result : Result (Unit {0}) PrintFault) → Comes text None →
+    OnOk result (Appends w.out w.out' text) → AppendsBeginning w.out w.out' text →
+    (IsErrOf result print.Memory → w.Unwritten) → (IsTrue w.failed ↔ IsErrOf result print.Device) →
+    PutsAnswer Comes InPieces w tells_none result
+text_put Comes InPieces w text (Ok done) comes takes begins memory failed = record {
+  done = record { text = text; answer = None; comes = comes; takes = takes; is = refl };
+  wrote = tt;
+  failed = failed;
+}
+text_put Comes InPieces w text (Err fault) comes takes begins memory failed =
+    put_failed Comes InPieces w tells_none (Err fault) fault refl
+    (record { text = text; answer = None; comes = comes; takes = begins })
+    (λ e. inl (memory (ap (λ (x : PrintFault). Err x) e))) failed
 
 module _ {A : Type 0} (command : Command) (taken : Taking) (w : Writing)
     (Tells : A → Option RunAnswer → Type 0) where

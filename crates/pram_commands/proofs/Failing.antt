@@ -10,7 +10,7 @@ use Rattle.pram_commands.specs.Did.{Writing}
 use Rattle.pram_commands.specs.Files.{ArePlanBytes, MayFail, ServesFiles}
 use Rattle.pram_commands.specs.Inputs.{reading}
 use Rattle.pram_commands.specs.Served.{Served}
-use Rattle.pram_commands.specs.declared.bytes.PlanFile.{PlanFile}
+use Rattle.pram_commands.specs.declared.files.PlanFile.{PlanFile}
 use Rattle.pram_commands.specs.declared.sources.Sources.{Sources}
 
 either : (a b : Bool) → IsTrue (a || b) → IsTrue a ⊎ IsTrue b

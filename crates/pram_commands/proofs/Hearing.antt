@@ -58,7 +58,7 @@ module _ {P H : Type 0} (Hears : Hearing P H) (first : P) (inputs : Inputs) (cel
   Ends = IfOk ended.0 (SomeRunEndsIn inputs.spelled.job inputs.plan) × Hears first ended.0 ended.1
 
   pub ends_unread : HasHeardAlone Hears first ended
-      ⊎ IsWatchedBy Nothing Hears inputs cells rounds ended → Ends
+      ⊎ IsWatchedBy Nothing Hears inputs.spelled.job inputs.plan cells rounds ended → Ends
   ends_unread (inl alone) = (never ended.0 alone.0, alone.1)
     where
       never : (r : Ended) → OnOk r ⊥ → IfOk r (SomeRunEndsIn inputs.spelled.job inputs.plan)

@@ -72,7 +72,7 @@ watched_as task plan given later ended heard Reads Hears Reads' Hears' of reads 
 -- what a watch tells whose reads were put
 pub told_by : {P H : Type 0} (Reads : CellReading P) (Hears : Hearing P H) (inputs : Inputs)
     (cells : List ℕ) (rounds : ℕ) (ended : Ended × H) (a b : Option (List ℕ))
-    (printed : Printing) (names : Option NamingData) (by : IsWatchedBy Reads Hears inputs cells rounds ended) →
+    (printed : Printing) (names : Option NamingData) (by : IsWatchedBy Reads Hears inputs.spelled.job inputs.plan cells rounds ended) →
     (put : PutWatch (cell_words names) by.made.0.task cells rounds by.on.watched.ran.beside.before
     by.on.watched.ran.beside.reader a b printed) →
     TellsSights names inputs.spelled.job inputs.plan cells rounds by.on.watched.answer

@@ -39,6 +39,7 @@ spot_in naming meeting =
 abbrev pub cost_words : Option NamingData → CostWords
 cost_words None = by_cells
 cost_words (Some naming) = record {
+  head = [];
   spot = spot_in naming;
   conflict = λ fault. printed_answer (Some naming) (Conflict fault) 0;
 }

@@ -174,7 +174,7 @@ pub record Took (workers : ℕ) (taken : Taking) (result : Result Inputs Command
     : Type 0 where
   pub both : IfOk result
       (λ inputs. GivesBoth taken.reads workers inputs.spelled.text.items inputs.spelled.job
-        inputs.plan)
+      inputs.plan)
   pub names : IfOk result (λ inputs. AreNames inputs.spelled.text.items inputs.spelled.job
       inputs.spelled.names)
   pub explains : IfErr result (ExplainsBoth workers taken.reads)

@@ -25,7 +25,8 @@ command_alone Cost = costing
 command_alone (Steps from to alone) = stepping alone (record { from = from; to = to })
 command_alone (Replay workers alone) = replaying alone workers.count
 
--- what threads are asked, so
+-- what is asked on threads: the command says which bytes it prints on a job and a plan, and how it
+-- ends
 abbrev pub command_on_threads : AskOnThreads → Command
 command_on_threads (Run run) = running run.why run.manner.workers.count
 command_on_threads (Watch watch) =

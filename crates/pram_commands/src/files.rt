@@ -6,11 +6,10 @@ ghost use Rattle.command_data.specs.declared.line.Ask.TheVariants.{Alone};
 ghost use Rattle.pram_commands.specs.Did.{writing};
 ghost use Rattle.pram_commands.specs.Files.{ArePlanBytes, MayFail, ServesFiles};
 
-use crate::bytes::PlanFile;
 use crate::server::{serve, serve_alone};
 use crate::sources::{Console, Sources};
 use command_data::{AskAlone, Line};
-use pram_streams::{Sink, Source};
+use pram_streams::{Failed, Reason, Sink, Source};
 use std::alloc::Global;
 use std::rt::Clock;
 use std::sync::Wait;
@@ -28,6 +27,32 @@ pub trait Folder {
     fn open(&self, name: &str) -> Self::File
         ensures unfailed { Self.File.has_failed result ≡ false }
         ensures bytes { holds self.now name.now (Self.File.remaining result) };
+}
+
+/// The file of a plan, if a line names one; else there are no bytes, and nothing fails.
+#[derive(Drop)]
+pub(crate) struct PlanFile<S> {
+    pub file: Option<S>,
+}
+
+impl<S: Source> Source for PlanFile<S> {
+    ghost has_failed = { λ s. option_map_or S.has_failed s.file false };
+
+    ghost remaining = { λ s. option_map_or S.remaining s.file (Some []) };
+
+    fn pull(&mut self, into: &mut [u8]) -> Result<usize, Failed> {
+        match &mut self.file {
+            Some(file) => file.pull(into),
+            None => Ok(0),
+        }
+    }
+
+    fn reason(&self) -> Reason {
+        match &self.file {
+            Some(file) => file.reason(),
+            None => Reason::Unknown,
+        }
+    }
 }
 
 /// Does what `serve` does, over the files that the line names.

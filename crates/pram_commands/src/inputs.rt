@@ -63,7 +63,8 @@ pub(crate) fn take_text<J: Source>(alloc: Global, source: &mut J) -> Result<Spel
     Ok(Spelled { text, job, names })
 }
 
-/// The same, and what the run of the job costs.
+/// The job of the text that a source gives, the text itself, what its answers are told by, and what
+/// the run of the job costs.
 pub(crate) fn take_costed<J: Source>(
     alloc: Global,
     source: &mut J,

@@ -4,7 +4,7 @@
 
 mod bytes;
 mod cell_list;
-mod commands;
+pub mod commands;
 mod files;
 mod inputs;
 mod names;
@@ -20,7 +20,7 @@ pub use bytes::Bytes;
 pub use command_data::{
     Ask, AskAlone, AskOnThreads, AskRun, AskWatch, Block, CellList, Line, Manner, Telling, Workers,
 };
-pub use commands::{check, compile, cost, do_alone, plain, replay, run, steps, take_answer, watch};
+pub use commands::{do_alone, take_answer};
 pub use files::{Folder, serve_files, serve_files_alone};
 pub use inputs::{take_inputs, take_job, take_plan};
 pub use names::Naming;

@@ -107,6 +107,13 @@ impl CellNames for Spelled {
 impl CostNames for Spelled {
     ghost words = { λ spelled. cost_words spelled.names };
 
+    fn push_head(&self, text: &mut Vec<u8>) -> Result<(), AllocError> {
+        match &self.names {
+            None => ByCells.push_head(text),
+            Some(_) => Ok(()),
+        }
+    }
+
     fn push_spot(
         &self,
         alloc: Global,

@@ -13,7 +13,7 @@ use crate::names::print_told;
 use crate::sources::Spelled;
 use crate::why::put_told;
 use pram_board::Seat;
-use pram_run::{Listener, Observation, Reads, Sight, print_reads};
+use pram_run::{Listener, Reads, Shared, Sight, print_reads};
 use pram_step::RunAnswer;
 use pram_streams::{PrintFault, Sink};
 use std::alloc::{AllocError, Global};
@@ -98,7 +98,7 @@ impl<O: Sink> Reads for PrintingReads<'_, O> {
 
     fn read<G: Gate>(
         self,
-        observation: &Observation<'_, '_, G>,
+        shared: &Shared<'_, G>,
         seat: &mut Seat,
         sights: &mut Vec<Sight>,
     ) -> Self {
@@ -108,7 +108,7 @@ impl<O: Sink> Reads for PrintingReads<'_, O> {
             out,
             ..
         } = self;
-        let printed = print_reads(observation, seat, sights, out, spelled);
+        let printed = print_reads(shared, seat, sights, out, spelled);
         PrintingReads {
             alloc,
             spelled,

@@ -4,6 +4,7 @@ ghost use Rattle.pram_commands.specs.Progress.{TellsProgress, progress_text};
 
 use command_data::Telling;
 use pram_board::{Board, Seat};
+use pram_run::Shared;
 use std::rt::Clock;
 use std::sync::atomic::{AtomicBool, Ordering};
 use std::thread::Scope;
@@ -110,23 +111,24 @@ fn nap<R: Clock>(rt: &R) {
     thread::sleep(rt, Duration::from_millis(NAP));
 }
 
-/// Starts a thread of the scope that tells on standard error how far the board is, until the work
-/// is done; a silent teller starts none, and one whose thread is refused tells nothing. It asks
-/// about four times a second, and tells each step once.
-pub(crate) fn start_teller<'s, E, R: Clock + Eprint + Sync>(
+/// Starts a thread of the scope that tells on standard error how far the run's board is, until the
+/// work is done; a silent teller starts none, and one whose thread is refused tells nothing. It
+/// asks about four times a second, and tells each step once.
+pub(crate) fn start_teller<'s, E, R: Clock + Eprint + Sync, G>(
     scope: &Scope<'s, E>,
     rt: &'s R,
-    board: &'s Board,
+    shared: &Shared<'s, G>,
     seat: Seat,
     teller: &'s Teller,
 ) -> Seat
-    requires seat { seat.desk ≡ board.now }
-    requires steps { teller.now.steps ≡ board.now.task.job.steps }
+    requires seat { seat.desk ≡ shared.now.board.now }
+    requires steps { teller.now.steps ≡ shared.now.board.now.task.job.steps }
     ensures { result ≡ seat }
 {
     if teller.telling == Telling::Silent {
         return seat;
     }
+    let board = shared.board;
     let (seat, theirs) = board.split(seat);
     let tell = move || -> ()
         requires seat { theirs.desk ≡ board.now }

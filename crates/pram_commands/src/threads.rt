@@ -3,6 +3,7 @@ ghost use Rattle.std.specs.Prelude.{◌≡◌, ◌⊎◌, ◌<◌, ◌*◌, All,
 ghost use Rattle.std.specs.Duration.{as_nanos};
 ghost use Rattle.pram_words.specs.declared.layout.Form.TheVariants.{Wide};
 ghost use Rattle.pram_board.specs.Seats.{IsOpened};
+ghost use Rattle.pram_run.specs.Running.{IsBoardFor};
 ghost use Rattle.pram_commands.specs.Inner.Watching.{HasHeardAlone, IsWatchedBy};
 ghost use Rattle.pram_commands.specs.Threads.{IsNewBoard, grain_by};
 
@@ -10,7 +11,7 @@ use crate::progress::{Teller, start_teller};
 use crate::sources::Inputs;
 use command_data::{Block, Manner};
 use pram_board::{Board, Seat};
-use pram_run::{Assignment, Listener, Observation, Reads, Sight, run_heard};
+use pram_run::{Bell, Listener, Reads, Shared, Sight, run_beside};
 use pram_step::RunAnswer;
 use std::alloc::{AllocError, Global};
 use std::rt::Clock;
@@ -52,7 +53,8 @@ fn open(alloc: Global, inputs: &Inputs, block: Option<Block>) -> Result<(Board, 
 
 /// Runs the plan's workers, with a reader beside them, which takes a pause before each read too,
 /// and then hears how the job ended, as soon as a worker knows it. Where the board is refused, or
-/// so many threads that the others do not come to the end, it hears that alone.
+/// so many threads that the others do not come to the end, it hears that alone. With a pace each
+/// round of the reader goes out as it is read, and else 2,048 reads at once.
 pub(crate) fn run_job<R: Threads + Wait + Clock + Eprint + Sync, H, P: Reads<Heard = H>>(
     rt: &R,
     alloc: Global,
@@ -62,97 +64,64 @@ pub(crate) fn run_job<R: Threads + Wait + Clock + Eprint + Sync, H, P: Reads<Hea
 ) -> (Result<RunAnswer, AllocError>, H)
     requires reader { P.can_read reader }
     requires listener { P.can_hear reader }
-    ensures { HasHeardAlone P.hears reader result ⊎ IsWatchedBy (P.reads reader) P.hears
-        watched.now.inputs.now watched.now.cells.now watched.now.rounds result }
+    ensures { let inputs = watched.now.inputs.now in HasHeardAlone P.hears reader result
+        ⊎ IsWatchedBy (P.reads reader) P.hears inputs.spelled.job inputs.plan watched.now.cells.now
+        watched.now.rounds result }
 {
-    let inputs = watched.inputs;
+    let (inputs, cells, rounds) = (watched.inputs, watched.cells, watched.rounds);
     let Ok((board, seat)) = open(alloc, inputs, manner.block) else {
         let heard = reader.hear(&Err(AllocError));
         return (Err(AllocError), heard);
     };
-    let teller = Teller::new(manner.progress, inputs.spelled.job.steps());
-    let execution = Execution {
-        alloc,
-        inputs,
-        board: &board,
-        teller: &teller,
-        cells: watched.cells,
-        rounds: watched.rounds,
-        piece: piece_at(manner.pace),
-    };
+    let (job, plan) = (&inputs.spelled.job, &inputs.plan);
+    let teller = Teller::new(manner.progress, job.steps());
+    let bell = Bell::new();
     let Some(micros) = manner.pace else {
-        return run_past(rt, &execution, &Open, seat, reader);
+        let run = Shared::new(alloc, job, &board, plan, &Open, &bell);
+        return run_past(rt, &teller, &run.reading(cells, rounds, 2048), seat, reader);
     };
-    run_past(rt, &execution, &paced(rt, micros), seat, reader)
+    let gate = paced(rt, micros);
+    let run = Shared::new(alloc, job, &board, plan, &gate, &bell);
+    run_past(rt, &teller, &run.reading(cells, rounds, 1), seat, reader)
 }
 
-// How many reads wait until they are printed. With a pace each round is printed as it is read.
-fn piece_at(pace: Option<u32>) -> usize {
-    match pace {
-        None => 2048,
-        Some(_) => 1,
-    }
-}
-
-// A board that was opened for a job and its plan, who tells how far it is, and what a reader beside
-// its workers reads: so many rounds through cells of the job, printed once so many reads wait.
-#[derive(Drop)]
-struct Execution<'a> {
-    alloc: Global,
-    inputs: &'a Inputs,
-    board: &'a Board,
-    teller: &'a Teller,
-    cells: &'a [u32],
-    rounds: u32,
-    piece: usize,
-    ghost opened: { board.now.task.job ≡ inputs.now.spelled.job },
-    ghost workers: { board.now.task.layout.workers ≡ inputs.now.plan.workers },
-    ghost steps: { teller.now.steps ≡ board.now.task.job.steps },
-    ghost within: { All (λ cell. cell < inputs.now.spelled.job.cells) cells.now },
-}
-
-// Runs the plan's workers on a new board, past a gate, beside the teller and the reader.
+// Runs the workers of what is shared, beside a teller of how far their board is, and a reader.
 fn run_past<R: Threads + Wait + Clock + Eprint + Sync, G: Gate + Sync, H, P: Reads<Heard = H>>(
     rt: &R,
-    execution: &Execution<'_>,
-    gate: &G,
+    teller: &Teller,
+    shared: &Shared<'_, G>,
     seat: Seat,
     reader: P,
 ) -> (Result<RunAnswer, AllocError>, H)
-    requires opened { IsNewBoard execution.now.inputs.now.spelled.job execution.now.inputs.now.plan
-        (execution.now.board.now, seat) }
+    requires opened { IsNewBoard shared.now.job.now shared.now.plan.now
+        (shared.now.board.now, seat) }
+    requires steps { teller.now.steps ≡ shared.now.board.now.task.job.steps }
     requires reader { P.can_read reader }
     requires listener { P.can_hear reader }
     ensures { HasHeardAlone P.hears reader result ⊎ IsWatchedBy (P.reads reader) P.hears
-        execution.now.inputs.now execution.now.cells.now execution.now.rounds result }
+        shared.now.job.now shared.now.plan.now shared.now.cells.now shared.now.rounds result }
 {
+    let (job, board, plan) = (shared.job, shared.board, shared.plan);
+    let (alloc, gate, bell) = (shared.alloc, shared.gate, shared.bell);
+    let (cells, rounds, piece) = (shared.cells, shared.rounds, shared.piece);
     thread::scope(
         thread::scope_env(),
         rt,
         |scope| -> (Result<RunAnswer, AllocError>, H)
-            requires opened { IsNewBoard execution.now.inputs.now.spelled.job
-                execution.now.inputs.now.plan (execution.now.board.now, seat) }
+            requires opened { IsNewBoard job.now plan.now (board.now, seat) }
+            requires given { IsBoardFor job.now plan.now board.now seat }
+            requires within { All (λ cell. cell < board.now.task.job.cells) cells.now }
+            requires steps { teller.now.steps ≡ board.now.task.job.steps }
             requires reader { P.can_read reader }
             requires listener { P.can_hear reader }
             ensures { HasHeardAlone P.hears reader result ⊎ IsWatchedBy (P.reads reader) P.hears
-                execution.entry.now.inputs.now execution.entry.now.cells.now
-                execution.entry.now.rounds result }
+                job.entry.now plan.entry.now cells.entry.now rounds result }
         {
-            let (board, teller) = (execution.board, execution.teller);
-            let observation = Observation {
-                assignment: Assignment {
-                    job: &execution.inputs.spelled.job,
-                    board,
-                    plan: &execution.inputs.plan,
-                    gate,
-                },
-                cells: execution.cells,
-                rounds: execution.rounds,
-                piece: execution.piece,
-            };
-            let seat = start_teller(scope, rt, board, seat, teller);
+            let shared = Shared::new(alloc, job, board, plan, gate, bell);
+            let shared = shared.reading(cells, rounds, piece);
+            let seat = start_teller(scope, rt, &shared, seat, teller);
             let reader = StopsTeller { rt, teller, reader };
-            let (_seat, ended, heard) = run_heard(rt, execution.alloc, &observation, seat, reader);
+            let (_seat, ended, heard) = run_beside(scope, rt, &shared, seat, reader);
             (ended, heard)
         },
     )
@@ -188,12 +157,12 @@ impl<R: Clock, L: Reads> Reads for StopsTeller<'_, R, L> {
 
     fn read<G: Gate>(
         self,
-        observation: &Observation<'_, '_, G>,
+        shared: &Shared<'_, G>,
         seat: &mut Seat,
         sights: &mut Vec<Sight>,
     ) -> Self {
         StopsTeller {
-            reader: self.reader.read(observation, seat, sights),
+            reader: self.reader.read(shared, seat, sights),
             ..self
         }
     }

@@ -11,3 +11,4 @@ pub mod LawOne
 pub mod Needed
 pub mod Ending
 pub mod Sized
+pub mod Tallying

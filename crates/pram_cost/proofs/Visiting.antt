@@ -1,12 +1,12 @@
 -- What a processor does in a step, by the instruction at which it stands.
-use Rattle.std.proofs.Common.{◌≡◌, ℕ, ◌<◌, ◌≤◌, Bool, true, cond, length, Option, Some, None}
+use Rattle.std.proofs.Common.{◌≡◌, ℕ, ◌/◌, ◌%◌, ◌<◌, ◌≤◌, Bool, true, cond, length, Option, Some, None}
 use Rattle.std.proofs.Common.{refl, sym, ap, ◌∙◌, arith}
 use Rattle.std.specs.Prelude.{slice_get}
 use Rattle.std.specs.Option.{option_map}
 use Rattle.std.proofs.lemmas.Bool.{lt-ltb, le-ltb}
 use Rattle.std.proofs.lemmas.Option.{same_Some, slice_get_within}
 use Rattle.pram_job.specs.declared.instr.Instr.{Instr}
-use Rattle.pram_job.specs.declared.instr.Instr.TheVariants.{Ld, St, Jz, Jmp, Halt}
+use Rattle.pram_job.specs.declared.instr.Instr.TheVariants.{Div, Rem, Ld, St, Jz, Jmp, Halt}
 use Rattle.pram_job.specs.declared.instr.Operand.{Operand}
 use Rattle.pram_job.specs.declared.instr.Place.{Place}
 use Rattle.pram_job.specs.Job.{JobData}
@@ -14,7 +14,7 @@ use Rattle.pram_machine.specs.declared.requests.Request.{Request}
 use Rattle.pram_machine.specs.declared.turn.Put.{Put}
 use Rattle.pram_machine.specs.declared.turn.Put.TheVariants.{Nothing, Register, Cell}
 use Rattle.pram_machine.specs.Instructions.{cell_of, cell_read, decided, gives, within}
-use Rattle.pram_machine.specs.Instructions.{operand_held}
+use Rattle.pram_machine.specs.Instructions.{divided, operand_held, value_of}
 use Rattle.pram_machine.specs.Machine.{State, counter, halted, out_of_range, register_place}
 use Rattle.pram_machine.specs.Turns.{put_of, IsSorted}
 use Rattle.pram_machine.proofs.Shapes.{request_by}
@@ -45,12 +45,19 @@ module _ (job : JobData) (i next a b v : ℕ) where
   of_load None r = refl
   of_load (Some cell) r = to_register r v
 
+  of_division : (o : Option ℕ) (r : ℕ) →
+      put_to_cell job (within o (out_of_range job) (gives job i next r)).put ≡ None
+  of_division None r = refl
+  of_division (Some value) r = to_register r value
+
   pub puts_by_store : (instr : Instr) →
       ((place : Place) (value : Operand) → instr ≡ St place value → ⊥) →
       put_to_cell job (decided job i next instr a b v).put ≡ None
   unfolding decided
   puts_by_store (St place value) other = absurd (other place value refl)
   puts_by_store (Ld r place) other = of_load (cell_of job place a) r
+  puts_by_store (Div r _ c) other = of_division (divided (value_of c b) (a / value_of c b)) r
+  puts_by_store (Rem r _ c) other = of_division (divided (value_of c b) (a % value_of c b)) r
   puts_by_store (Jz r index) other = refl
   puts_by_store (Jmp index) other = refl
   puts_by_store Halt other = refl

@@ -1,3 +1,4 @@
 -- What private contracts alone cite.
 pub mod Found
 pub mod Seen
+pub mod Tallied

@@ -2,6 +2,8 @@ pub mod Accesses
 pub mod Meetings
 pub mod Models
 pub mod Costs
+pub mod Profiles
+pub mod Profiled
 pub mod Tallies
 pub mod Printed
 pub mod Laws

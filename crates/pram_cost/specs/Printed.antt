@@ -1,5 +1,5 @@
 -- What a run costs, as text.
-use Rattle.std.specs.Prelude.{ℕ, ◌*◌, List, ◌++◌, Option, Some, None, codes, decimal}
+use Rattle.std.specs.Prelude.{ℕ, ◌*◌, List, [], ◌++◌, Option, Some, None, codes, decimal}
 use Rattle.pram_step.specs.declared.answer.Fault.{Fault}
 use Rattle.pram_streams.specs.Printed.{conflict_line}
 use Rattle.pram_cost.specs.declared.cost.Cost.{Cost}
@@ -29,14 +29,16 @@ work_text work =
     ++ codes "\nreading " ++ decimal work.reading ++ codes "\nwriting " ++ decimal work.writing
     ++ codes "\n"
 
--- how the cell of a meeting is told, and the conflict of a run
+-- what is told before all else, how the cell of a meeting is told, and the conflict of a run
 pub record CostWords : Type 0 where
+  pub head : List ℕ
   pub spot : Meeting → List ℕ
   pub conflict : Fault → List ℕ
 
 -- by cells and steps: `cell=2`, and the line of a conflict
 abbrev pub by_cells : CostWords
 by_cells = record {
+  head = [];
   spot = λ meeting. codes " cell=" ++ decimal meeting.cell;
   conflict = conflict_line;
 }
@@ -60,8 +62,11 @@ run_end_line words steps None = codes "done steps=" ++ decimal steps ++ codes "\
 run_end_line words steps (Some fault) = words.conflict fault
 
 -- what the run costs, the model that it needs, and how it ended
-abbrev pub cost_text : CostWords → Cost → Pram → List ℕ
-cost_text words cost pram =
+abbrev pub run_text : CostWords → Cost → Pram → List ℕ
+run_text words cost pram =
     codes "cost of this input\n" ++ size_text cost ++ work_text cost.work ++ codes "needs "
     ++ name_of pram ++ codes "\n" ++ meetings_text words cost.meetings
     ++ run_end_line words cost.steps cost.conflict
+
+abbrev pub cost_text : CostWords → Cost → Pram → List ℕ
+cost_text words cost pram = words.head ++ run_text words cost pram

@@ -11,6 +11,10 @@ use std::alloc::{AllocError, Global};
 pub trait CostNames {
     ghost words: { Self → CostWords };
 
+    /// Adds what is told before all else.
+    fn push_head(&self, text: &mut Vec<u8>) -> Result<(), AllocError>
+        ensures { OnOk result (text.new.items ≡ text.old.items ++ (words self.now).head) };
+
     /// Adds what tells the cell of a meeting.
     fn push_spot(
         &self,
@@ -33,6 +37,10 @@ pub struct ByCells;
 
 impl CostNames for ByCells {
     ghost words = { λ _. by_cells };
+
+    fn push_head(&self, _text: &mut Vec<u8>) -> Result<(), AllocError> {
+        Ok(())
+    }
 
     fn push_spot(
         &self,

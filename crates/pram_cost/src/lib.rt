@@ -10,6 +10,7 @@ mod meeting;
 mod moment;
 mod pram;
 mod print;
+mod profile;
 mod work;
 
 pub use access::{is_running, read_of, write_of};
@@ -18,4 +19,5 @@ pub use cost_names::{ByCells, CostNames};
 pub use meeting::{Meeting, Meetings, Sharing};
 pub use pram::Pram;
 pub use print::print_cost;
+pub use profile::{Executed, Measure, Profile};
 pub use work::Work;

@@ -3,7 +3,7 @@ ghost use Rattle.std.specs.Prelude.{◌≡◌, ◌++◌, ◌↔◌, false, strin
 ghost use Rattle.std.specs.Prelude.{IfOk, OnOk, IsErrOf, IsTrue};
 ghost use Rattle.std.specs.Io.KnownBytes.{Appends};
 ghost use Rattle.pram_cost.specs.Printed.{cost_text, run_end_line, meeting_text, meetings_text};
-ghost use Rattle.pram_cost.specs.Printed.{size_text, work_text};
+ghost use Rattle.pram_cost.specs.Printed.{run_text, size_text, work_text};
 ghost use Rattle.pram_streams.specs.Transfer.{AppendsBeginning};
 
 use crate::cost::Cost;
@@ -43,6 +43,21 @@ fn cost_text<C: CostNames>(
     names: &C,
 ) -> Result<Vec<u8>, AllocError>
     ensures { IfOk result (λ text. text.items ≡ cost_text (C.words names.now) cost.now pram) }
+{
+    let run = run_text(alloc, cost, pram, names)?;
+    let mut text = Vec::new(alloc);
+    names.push_head(&mut text)?;
+    text.extend_from_slice(run.as_slice())?;
+    Ok(text)
+}
+
+fn run_text<C: CostNames>(
+    alloc: Global,
+    cost: &Cost,
+    pram: Pram,
+    names: &C,
+) -> Result<Vec<u8>, AllocError>
+    ensures { IfOk result (λ text. text.items ≡ run_text (C.words names.now) cost.now pram) }
 {
     let size = size_text(alloc, cost)?;
     let work = work_text(alloc, &cost.work)?;

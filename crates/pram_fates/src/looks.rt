@@ -59,7 +59,7 @@ pub(crate) fn first_running(standing: &Standing<'_>) -> Option<u32>
     ensures { MatchOption result
         (AllStopped standing.now.job.now (state_after standing.now.job.now standing.now.steps))
         (IsFirstRunning standing.now.job.now
-            (state_after standing.now.job.now standing.now.steps)) }
+        (state_after standing.now.job.now standing.now.steps)) }
 {
     for processor in 0..standing.job.procs() {
         if is_running(standing, processor) {

@@ -5,8 +5,8 @@ use Rattle.std.specs.Str.{bytes_eq}
 use Rattle.pram_job.specs.declared.instr.Array.{Array}
 use Rattle.pram_job.specs.declared.instr.Instr.{Instr}
 use Rattle.pram_job.specs.declared.instr.Instr.TheVariants.{Set, Pid, Add, Sub, Mul, And, Or, Xor}
-use Rattle.pram_job.specs.declared.instr.Instr.TheVariants.{Lt, Eq, Shl, Shr, Ld, St, Jz, Jmp}
-use Rattle.pram_job.specs.declared.instr.Instr.TheVariants.{Halt}
+use Rattle.pram_job.specs.declared.instr.Instr.TheVariants.{Lt, Eq, Shl, Shr, Div, Rem, Ld}
+use Rattle.pram_job.specs.declared.instr.Instr.TheVariants.{St, Jz, Jmp, Halt}
 use Rattle.pram_job.specs.declared.instr.Operand.{Operand}
 use Rattle.pram_job.specs.declared.instr.Operand.TheVariants.{Register, Number}
 use Rattle.pram_job.specs.declared.instr.Operands.{Operands}
@@ -32,6 +32,8 @@ row_of (Lt target first second) = (codes "lt", TargetTwo target first second)
 row_of (Eq target first second) = (codes "eq", TargetTwo target first second)
 row_of (Shl target first second) = (codes "shl", TargetTwo target first second)
 row_of (Shr target first second) = (codes "shr", TargetTwo target first second)
+row_of (Div target first second) = (codes "div", TargetTwo target first second)
+row_of (Rem target first second) = (codes "rem", TargetTwo target first second)
 row_of (Ld target place) = (codes "ld", TargetPlace target place)
 row_of (St place value) = (codes "st", PlaceValue place value)
 row_of (Jz register index) = (codes "jz", RegisterIndex register index)
@@ -56,6 +58,8 @@ abbrev pub later_rows : List (List ℕ × Form)
 later_rows =
     (codes "shl", target_two (λ target first second. Shl target first second))
     ∷ (codes "shr", target_two (λ target first second. Shr target first second))
+    ∷ (codes "div", target_two (λ target first second. Div target first second))
+    ∷ (codes "rem", target_two (λ target first second. Rem target first second))
     ∷ []
 
 -- those of all versions, and where they are wanted those of version 3 alone

@@ -31,6 +31,10 @@ pub enum Instr {
     Shl(u8, u8, Operand),
     /// `shr r a b`: r becomes a divided by 2^b, rounded down.
     Shr(u8, u8, Operand),
+    /// `div r a b`: r becomes a divided by b, rounded down. If b is 0 the processor leaves.
+    Div(u8, u8, Operand),
+    /// `rem r a b`: r becomes what is left of a divided by b. If b is 0 the processor leaves.
+    Rem(u8, u8, Operand),
     /// `ld r a` or `ld r NAME a`: r becomes what the place holds.
     Ld(u8, Place),
     /// `st a b` or `st NAME a b`: the place becomes b.
@@ -108,6 +112,8 @@ impl Instr {
             Instr::Eq(r, a, b) => ("eq", Operands::TargetTwo(r, a, b)),
             Instr::Shl(r, a, b) => ("shl", Operands::TargetTwo(r, a, b)),
             Instr::Shr(r, a, b) => ("shr", Operands::TargetTwo(r, a, b)),
+            Instr::Div(r, a, b) => ("div", Operands::TargetTwo(r, a, b)),
+            Instr::Rem(r, a, b) => ("rem", Operands::TargetTwo(r, a, b)),
             Instr::Ld(r, place) => ("ld", Operands::TargetPlace(r, place)),
             Instr::St(place, b) => ("st", Operands::PlaceValue(place, b)),
             Instr::Jz(r, index) => ("jz", Operands::RegisterIndex(r, index)),

@@ -1,5 +1,5 @@
 -- The requests of a state, one of each processor, and what they may be.
-use Rattle.std.proofs.Common.{◌≡◌, ℕ, zero, suc, ◌+◌, ◌^◌, ◌<◌, ◌≤◌, Bool, true}
+use Rattle.std.proofs.Common.{◌≡◌, ℕ, zero, suc, ◌+◌, ◌/◌, ◌%◌, ◌^◌, ◌<◌, ◌≤◌, Bool, true}
 use Rattle.std.proofs.Common.{false, cond, List, [], ◌∷◌, length, map, Option, Some}
 use Rattle.std.proofs.Common.{None, refl, sym, ap, subst, ◌∙◌, inl, inr, arith}
 use Rattle.std.specs.Prelude.{slice_get, slice_index, nat_lt, ◌==◌, All, IfSome}
@@ -8,11 +8,13 @@ use Rattle.std.proofs.lemmas.List.{get_or_past}
 use Rattle.std.proofs.lemmas.List.FromFn.{length-map-range_with_len, get_or-map-range_with_len}
 use Rattle.std.proofs.lemmas.Bool.{cases_lt}
 use Rattle.std.proofs.lemmas.Nat.{and_le_l, or_lt, xor_lt}
-use Rattle.std.proofs.Math.Nat.{div-le_self}
+use Rattle.std.proofs.Math.Nat.{div-le_self, mod-le}
 use Rattle.std.proofs.lemmas.Option.{none-some, same_Some, some_pair_parts, slice_get_within}
 use Rattle.std.proofs.lemmas.Option.{slice_get-get_or, get_or_from_slice_get}
 use Rattle.pram_job.specs.declared.instr.Instr.{Instr}
-use Rattle.pram_job.specs.declared.instr.Instr.TheVariants.{And, Or, Xor, Lt, Eq, Shl, Shr}
+use Rattle.pram_job.specs.declared.instr.Instr.TheVariants.{Set, Pid, Add, Sub, Mul, And, Or, Xor}
+use Rattle.pram_job.specs.declared.instr.Instr.TheVariants.{Lt, Eq, Shl, Shr, Div, Rem, Ld}
+use Rattle.pram_job.specs.declared.instr.Instr.TheVariants.{St, Jz, Jmp, Halt}
 use Rattle.pram_job.specs.declared.instr.Operand.{Operand}
 use Rattle.pram_job.specs.declared.instr.Operand.TheVariants.{Register, Number}
 use Rattle.pram_job.specs.declared.instr.Operands.{Operands}
@@ -28,7 +30,7 @@ use Rattle.pram_machine.specs.Machine.{State, IsDataPlace, register_place}
 use Rattle.pram_machine.specs.Machine.{counter_place, register, counter, out_of_range}
 use Rattle.pram_machine.specs.Instructions.{value_of, held_after, index_of, reached, cell_of}
 use Rattle.pram_machine.specs.Instructions.{sources_of, cell_read, gives, goes_to, within, shifted}
-use Rattle.pram_machine.specs.Instructions.{computed, request_with}
+use Rattle.pram_machine.specs.Instructions.{computed, divided, request_with}
 use Rattle.pram_machine.specs.Instructions.{decided, HasShape, operand_held, decided_in, request_in}
 use Rattle.pram_machine.specs.Instructions.{requests_in}
 
@@ -112,7 +114,19 @@ reached_below job (Named array _) index cell is =
 shifted_fits : (by n : ℕ) → n < 2 ^ 32 → shifted by n < 2 ^ 32
 shifted_fits by n low = either (λ n. n < 2 ^ 32) (nat_lt by 32) n 0 low (omega arith)
 
-computed_fits : (instr : Instr) (a b : ℕ) → a < 2 ^ 32 → b < 2 ^ 32 → computed instr a b < 2 ^ 32
+-- a quotient and a remainder are at most the number that is divided
+divided_fits : (by n a : ℕ) → n ≤ a → a < 2 ^ 32 → IfSome (divided by n) (λ v. v < 2 ^ 32)
+divided_fits by n a most low = tested_fits (by == 0)
+  where
+    tested_fits : (b : Bool) → IfSome (cond b None (Some n)) (λ v. v < 2 ^ 32)
+    tested_fits true = tt
+    tested_fits false = omega (arith, most, low)
+
+computed_fits : (instr : Instr) (a b : ℕ) → a < 2 ^ 32 → b < 2 ^ 32 →
+    IfSome (computed instr a b) (λ v. v < 2 ^ 32)
+computed_fits (Add _ _ _) a b fits fits_too = omega arith
+computed_fits (Sub _ _ _) a b fits fits_too = omega arith
+computed_fits (Mul _ _ _) a b fits fits_too = omega arith
 computed_fits (And _ _ _) a b fits fits_too = omega (arith, and_le_l a b)
 computed_fits (Or _ _ _) a b fits fits_too = or_lt 32 a b fits fits_too
 computed_fits (Xor _ _ _) a b fits fits_too = xor_lt 32 a b fits fits_too
@@ -123,17 +137,25 @@ computed_fits (Eq _ _ _) a b fits fits_too =
 computed_fits (Shl _ _ _) a b fits fits_too = shifted_fits b _ (omega arith)
 computed_fits (Shr _ _ _) a b fits fits_too =
     shifted_fits b _ (omega (arith, div-le_self a (2 ^ b)))
-computed_fits _ a b fits fits_too = omega arith
+computed_fits (Div _ _ _) a b fits fits_too = divided_fits b (a / b) a (div-le_self a b) fits
+computed_fits (Rem _ _ _) a b fits fits_too = divided_fits b (a % b) a (mod-le a b) fits
+computed_fits (Set _ _) a b fits fits_too = tt
+computed_fits (Pid _) a b fits fits_too = tt
+computed_fits (Ld _ _) a b fits fits_too = tt
+computed_fits (St _ _) a b fits fits_too = tt
+computed_fits (Jz _ _) a b fits fits_too = tt
+computed_fits (Jmp _) a b fits fits_too = tt
+computed_fits Halt a b fits fits_too = tt
 
 -- ---- what an instruction may ask for
 
 module _ (job : JobData) (i counter a b v : ℕ) where
-  -- what holds where there is a cell, and where there is none
+  -- what holds where there is a cell or a value, and where there is none
   by_cell : (P : Request → Type 0) (o : Option ℕ) (asks : ℕ → Request) →
       P (goes_to (out_of_range job)) → ((cell : ℕ) → o ≡ Some cell → P (asks cell)) →
       P (within o (out_of_range job) asks)
   by_cell P None asks none some = none
-  by_cell P (Some cell) asks none some = some cell refl
+  by_cell P (Some found) asks none some = some found refl
 
   -- data of the request goes to a cell or an own register
   abbrev GoesWell : Request → Type 0
@@ -152,7 +174,7 @@ module _ (job : JobData) (i counter a b v : ℕ) where
   to_none : GoesWell (goes_to 0)
   to_none place v h = absurd (none-some (place, v) h)
 
-  asked_place : (computes : ℕ → ℕ → ℕ) (operands : Operands) →
+  asked_place : (computes : ℕ → ℕ → Option ℕ) (operands : Operands) →
       AreOperands job.cells (length job.code) operands →
       GoesWell (request_with job i counter computes operands a b v)
   asked_place computes Bare is = to_none
@@ -160,7 +182,8 @@ module _ (job : JobData) (i counter a b v : ℕ) where
   asked_place computes (TargetNumber r k) is = to_register r k is.0
   asked_place computes (TargetPlace r place) is = by_cell GoesWell (cell_of job place a) _ to_none
       (λ cell e. to_register r v is.0)
-  asked_place computes (TargetTwo r _ c) is = to_register r _ is.0
+  asked_place computes (TargetTwo r _ c) is = by_cell GoesWell (computes a (value_of c b)) _ to_none
+      (λ found e. to_register r found is.0)
   asked_place computes (PlaceValue place _) is = by_cell GoesWell (cell_of job place a) _ to_none
       (λ cell e. to_cell cell _ (reached_below job place _ cell is.0 e))
   asked_place computes (RegisterIndex _ index) is = to_none
@@ -182,8 +205,8 @@ module _ (job : JobData) (i counter a b v : ℕ) where
   of_none : HasValue (goes_to 0)
   of_none place v h = absurd (none-some (place, v) h)
 
-  asked_value : (computes : ℕ → ℕ → ℕ) (operands : Operands) →
-      ((x y : ℕ) → x < 2 ^ 32 → y < 2 ^ 32 → computes x y < 2 ^ 32) →
+  asked_value : (computes : ℕ → ℕ → Option ℕ) (operands : Operands) →
+      ((x y : ℕ) → x < 2 ^ 32 → y < 2 ^ 32 → IfSome (computes x y) (λ found. found < 2 ^ 32)) →
       AreOperands job.cells (length job.code) operands →
       i < 2 ^ 32 → a < 2 ^ 32 → b < 2 ^ 32 → v < 2 ^ 32 →
       HasValue (request_with job i counter computes operands a b v)
@@ -193,7 +216,9 @@ module _ (job : JobData) (i counter a b v : ℕ) where
   asked_value computes (TargetPlace r place) small is low fits fits_too held =
       by_cell HasValue (cell_of job place a) _ of_none (λ cell e. of_value _ _ held)
   asked_value computes (TargetTwo r _ c) small is low fits fits_too held =
-      of_value _ _ (small a (value_of c b) fits (value_fits c b is.2 fits_too))
+      by_cell HasValue (computes a (value_of c b)) _ of_none (λ found e. of_value _ _
+      (subst (λ o. IfSome o (λ found. found < 2 ^ 32)) e
+      (small a (value_of c b) fits (value_fits c b is.2 fits_too))))
   asked_value computes (PlaceValue place c) small is low fits fits_too held =
       by_cell HasValue (cell_of job place a) _ of_none (λ cell e. of_value _ _
       (value_fits c (held_after (index_of place) a b) is.1
@@ -208,11 +233,13 @@ module _ (job : JobData) (i counter a b v : ℕ) where
   decided_value instr is low fits fits_too held =
       asked_value (computed instr) (row_of instr).1 (computed_fits instr) is low fits fits_too held
 
-  asked_next : (computes : ℕ → ℕ → ℕ) (operands : Operands) →
+  asked_next : (computes : ℕ → ℕ → Option ℕ) (operands : Operands) →
       AreOperands job.cells (length job.code) operands → counter < length job.code →
       (request_with job i counter computes operands a b v).next ≤ out_of_range job
   asked_next computes (TargetPlace r place) is low = by_cell (λ r. r.next ≤ out_of_range job)
       (cell_of job place a) _ (omega arith) (λ cell e. omega arith)
+  asked_next computes (TargetTwo r _ c) is low = by_cell (λ r. r.next ≤ out_of_range job)
+      (computes a (value_of c b)) _ (omega arith) (λ found e. omega arith)
   asked_next computes (PlaceValue place _) is low = by_cell (λ r. r.next ≤ out_of_range job)
       (cell_of job place a) _ (omega arith) (λ cell e. omega arith)
   asked_next computes (RegisterIndex r index) is low =
@@ -230,10 +257,12 @@ module _ (job : JobData) (i counter a b v : ℕ) where
   abbrev Stays : Request → Type 0
   Stays r = r.next ≡ counter → r ≡ goes_to counter
 
-  asked_idle : (computes : ℕ → ℕ → ℕ) (operands : Operands) →
+  asked_idle : (computes : ℕ → ℕ → Option ℕ) (operands : Operands) →
       Stays (request_with job i counter computes operands a b v)
   asked_idle computes (TargetPlace r place) = by_cell Stays (cell_of job place a) _
       (λ e. ap goes_to e) (λ cell is (e : counter + 1 ≡ counter). absurd (omega arith))
+  asked_idle computes (TargetTwo r _ c) = by_cell Stays (computes a (value_of c b)) _
+      (λ e. ap goes_to e) (λ found is (e : counter + 1 ≡ counter). absurd (omega arith))
   asked_idle computes (PlaceValue place _) = by_cell Stays (cell_of job place a) _
       (λ e. ap goes_to e) (λ cell is (e : counter + 1 ≡ counter). absurd (omega arith))
   asked_idle computes (RegisterIndex r index) = λ e. ap goes_to e

@@ -5,8 +5,8 @@ use Rattle.std.specs.Prelude.{slice_get, slice_index, Option, Some, None, bit_an
 use Rattle.std.specs.List.{range_with_len}
 use Rattle.pram_job.specs.declared.instr.Instr.{Instr}
 use Rattle.pram_job.specs.declared.instr.Instr.TheVariants.{Set, Pid, Add, Sub, Mul, And, Or, Xor}
-use Rattle.pram_job.specs.declared.instr.Instr.TheVariants.{Lt, Eq, Shl, Shr, Ld, St, Jz, Jmp}
-use Rattle.pram_job.specs.declared.instr.Instr.TheVariants.{Halt}
+use Rattle.pram_job.specs.declared.instr.Instr.TheVariants.{Lt, Eq, Shl, Shr, Div, Rem, Ld}
+use Rattle.pram_job.specs.declared.instr.Instr.TheVariants.{St, Jz, Jmp, Halt}
 use Rattle.pram_job.specs.declared.instr.Operand.{Operand}
 use Rattle.pram_job.specs.declared.instr.Operand.TheVariants.{Register, Number}
 use Rattle.pram_job.specs.declared.instr.Place.{Place}
@@ -93,40 +93,46 @@ gives job i counter register value =
 abbrev pub goes_to : ℕ → Request
 goes_to next = record { put = None; next = next }
 
--- what is asked for of a cell, and where there is none the next counter
+-- what is asked for of a cell or a value, and where there is none the next counter
 abbrev pub within : Option ℕ → ℕ → (ℕ → Request) → Request
 within None otherwise asks = goes_to otherwise
-within (Some cell) otherwise asks = asks cell
+within (Some found) otherwise asks = asks found
 
 -- shifted by 32 bits or more, nothing is left of a number
 abbrev pub shifted : ℕ → ℕ → ℕ
 shifted by value = if nat_lt by 32 then value else 0
 
--- What an instruction computes of two numbers. Only those with a target and two operands compute:
--- for the others this is 0.
-abbrev pub computed : Instr → ℕ → ℕ → ℕ
-computed (Add _ _ _) a b = (a + b) % 2 ^ 32
-computed (Sub _ _ _) a b = (a + (2 ^ 32 - b)) % 2 ^ 32
-computed (Mul _ _ _) a b = (a * b) % 2 ^ 32
-computed (And _ _ _) a b = bit_and a b
-computed (Or _ _ _) a b = bit_or a b
-computed (Xor _ _ _) a b = bit_xor a b
-computed (Lt _ _ _) a b = if nat_lt a b then 1 else 0
-computed (Eq _ _ _) a b = if a == b then 1 else 0
-computed (Shl _ _ _) a b = shifted b ((a * 2 ^ b) % 2 ^ 32)
-computed (Shr _ _ _) a b = shifted b (a / 2 ^ b)
-computed (Set _ _) a b = 0
-computed (Pid _) a b = 0
-computed (Ld _ _) a b = 0
-computed (St _ _) a b = 0
-computed (Jz _ _) a b = 0
-computed (Jmp _) a b = 0
-computed Halt a b = 0
+-- what comes of a division by this number, if it is not 0
+abbrev pub divided : ℕ → ℕ → Option ℕ
+divided by value = if by == 0 then None else Some value
+
+-- What an instruction computes of two numbers: a division by 0 has no value. Only those with a
+-- target and two operands compute.
+abbrev pub computed : Instr → ℕ → ℕ → Option ℕ
+computed (Add _ _ _) a b = Some ((a + b) % 2 ^ 32)
+computed (Sub _ _ _) a b = Some ((a + (2 ^ 32 - b)) % 2 ^ 32)
+computed (Mul _ _ _) a b = Some ((a * b) % 2 ^ 32)
+computed (And _ _ _) a b = Some (bit_and a b)
+computed (Or _ _ _) a b = Some (bit_or a b)
+computed (Xor _ _ _) a b = Some (bit_xor a b)
+computed (Lt _ _ _) a b = Some (if nat_lt a b then 1 else 0)
+computed (Eq _ _ _) a b = Some (if a == b then 1 else 0)
+computed (Shl _ _ _) a b = Some (shifted b ((a * 2 ^ b) % 2 ^ 32))
+computed (Shr _ _ _) a b = Some (shifted b (a / 2 ^ b))
+computed (Div _ _ _) a b = divided b (a / b)
+computed (Rem _ _ _) a b = divided b (a % b)
+computed (Set _ _) a b = None
+computed (Pid _) a b = None
+computed (Ld _ _) a b = None
+computed (St _ _) a b = None
+computed (Jz _ _) a b = None
+computed (Jmp _) a b = None
+computed Halt a b = None
 
 -- What processor i asks for by an instruction at its counter that has these operands, and computes
 -- this of two numbers. The first and the second register that it reads hold these, and the cell
 -- that it reads holds this value.
-abbrev pub request_with : JobData → ℕ → ℕ → (ℕ → ℕ → ℕ) → Operands → ℕ → ℕ → ℕ → Request
+abbrev pub request_with : JobData → ℕ → ℕ → (ℕ → ℕ → Option ℕ) → Operands → ℕ → ℕ → ℕ → Request
 request_with job i counter computes Bare first second value = goes_to (halted job)
 request_with job i counter computes (Target target) first second value =
     gives job i counter target i
@@ -135,7 +141,7 @@ request_with job i counter computes (TargetNumber target number) first second va
 request_with job i counter computes (TargetPlace target place) first second value =
     within (cell_of job place first) (out_of_range job) (λ cell. gives job i counter target value)
 request_with job i counter computes (TargetTwo target _ b) first second value =
-    gives job i counter target (computes first (value_of b second))
+    within (computes first (value_of b second)) (out_of_range job) (gives job i counter target)
 request_with job i counter computes (PlaceValue place b) first second value =
     within (cell_of job place first) (out_of_range job) (λ cell. record {
       put = Some (cell, value_of b (held_after (index_of place) first second));

@@ -34,7 +34,7 @@ counter job state i = slice_index state (counter_place job i)
 
 -- A counter below K is the index of an instruction. K says that the processor has halted, K + 1
 -- that an address was *out of range*: so it is called here where a processor names a cell that
--- there is not, or a place that its array has not.
+-- there is not, or a place that its array has not, or divides by 0.
 abbrev pub halted : JobData → ℕ
 halted job = length job.code
 

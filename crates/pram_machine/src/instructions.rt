@@ -6,7 +6,8 @@ ghost use Rattle.pram_job.specs.Job.{IsInstr};
 ghost use Rattle.pram_machine.specs.Machine.{out_of_range, register_place};
 ghost use Rattle.pram_machine.specs.Instructions.{registers_in, value_of, held_after, index_of};
 ghost use Rattle.pram_machine.specs.Instructions.{reached, sources_of, listed, cell_read};
-ghost use Rattle.pram_machine.specs.Instructions.{goes_to, computed, decided, cell_of, HasShape};
+ghost use Rattle.pram_machine.specs.Instructions.{gives, goes_to, within, computed, decided};
+ghost use Rattle.pram_machine.specs.Instructions.{cell_of, HasShape};
 ghost use Rattle.pram_machine.specs.Turns.{IsTurnOf};
 ghost use Rattle.pram_machine.specs.declared.turn.Put.TheVariants.{Nothing, Register, Cell};
 
@@ -174,9 +175,11 @@ pub(crate) fn decide<H: Held>(
         | Instr::Lt(r, a, b)
         | Instr::Eq(r, a, b)
         | Instr::Shl(r, a, b)
-        | Instr::Shr(r, a, b) => {
+        | Instr::Shr(r, a, b)
+        | Instr::Div(r, a, b)
+        | Instr::Rem(r, a, b) => {
             let value = computed(instr, held.first(a), second(held, b));
-            gives(job, processor, counter, r, value)
+            gives_or_leaves(job, processor, counter, r, value)
         }
         Instr::Ld(r, ref place) => match cell_at(job, place, held) {
             Some(cell) => gives(job, processor, counter, r, held.cell(cell)),
@@ -196,24 +199,26 @@ pub(crate) fn decide<H: Held>(
     }
 }
 
-// What an instruction that computes makes of two numbers.
+// What an instruction that computes makes of two numbers, if that has a value.
 #[inline(always)]
-fn computed(instr: &Instr, a: u32, b: u32) -> u32
+fn computed(instr: &Instr, a: u32, b: u32) -> Option<u32>
     ensures { result ≡ computed instr.now a b }
 {
     match *instr {
-        Instr::Add(..) => a.wrapping_add(b),
-        Instr::Sub(..) => a.wrapping_sub(b),
-        Instr::Mul(..) => a.wrapping_mul(b),
-        Instr::And(..) => a & b,
-        Instr::Or(..) => a | b,
-        Instr::Xor(..) => a ^ b,
-        Instr::Lt(..) => u32::from(a < b),
-        Instr::Eq(..) => u32::from(a == b),
-        Instr::Shl(..) => a.checked_shl(b).unwrap_or(0),
-        Instr::Shr(..) => a.checked_shr(b).unwrap_or(0),
-        Instr::Set(..) | Instr::Pid(..) | Instr::Ld(..) | Instr::St(..) => 0,
-        Instr::Jz(..) | Instr::Jmp(..) | Instr::Halt => 0,
+        Instr::Add(..) => Some(a.wrapping_add(b)),
+        Instr::Sub(..) => Some(a.wrapping_sub(b)),
+        Instr::Mul(..) => Some(a.wrapping_mul(b)),
+        Instr::And(..) => Some(a & b),
+        Instr::Or(..) => Some(a | b),
+        Instr::Xor(..) => Some(a ^ b),
+        Instr::Lt(..) => Some(u32::from(a < b)),
+        Instr::Eq(..) => Some(u32::from(a == b)),
+        Instr::Shl(..) => Some(a.checked_shl(b).unwrap_or(0)),
+        Instr::Shr(..) => Some(a.checked_shr(b).unwrap_or(0)),
+        Instr::Div(..) => a.checked_div(b),
+        Instr::Rem(..) => a.checked_rem(b),
+        Instr::Set(..) | Instr::Pid(..) | Instr::Ld(..) | Instr::St(..) => None,
+        Instr::Jz(..) | Instr::Jmp(..) | Instr::Halt => None,
     }
 }
 
@@ -235,7 +240,7 @@ fn cell_at<H: Held>(job: &Job, place: &Place, held: &H) -> Option<u32>
     }
 }
 
-// The turn of a processor that names no cell.
+// The turn of a processor that names no cell, or divides by 0.
 #[inline(always)]
 fn leaves(job: &Job) -> Turn
     ensures { result ≡ record { put = Nothing; next = out_of_range job.now } }
@@ -354,6 +359,27 @@ fn gives(job: &Job, processor: u32, counter: u32, register: u8, value: u32) -> T
     Turn {
         put: Put::Register(job.register_place(processor, register), value),
         next: counter + 1,
+    }
+}
+
+// A register takes a value, or the processor leaves where there is none.
+#[inline(always)]
+fn gives_or_leaves(
+    job: &Job,
+    processor: u32,
+    counter: u32,
+    register: u8,
+    value: Option<u32>,
+) -> Turn
+    requires processor { processor < job.now.procs }
+    requires counter { counter < length job.now.code }
+    requires register { register < 4 }
+    ensures { IsTurnOf job.now (within value (out_of_range job.now)
+        (gives job.now processor counter register)) result }
+{
+    match value {
+        Some(value) => gives(job, processor, counter, register, value),
+        None => leaves(job),
     }
 }
 

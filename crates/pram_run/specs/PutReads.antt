@@ -7,7 +7,7 @@ use Rattle.pram_board.specs.declared.task.Task.{Task}
 use Rattle.pram_board.specs.Seats.{SeatData}
 use Rattle.pram_run.specs.Printed.{CellWords, sights_text}
 use Rattle.pram_run.specs.Watching.{IsWatch}
-use Rattle.pram_run.specs.declared.assignment.Observation.{Observation}
+use Rattle.pram_run.specs.declared.shared.Shared.{Shared}
 use Rattle.pram_run.specs.declared.sight.Sight.{Sight}
 
 -- how printing went
@@ -23,7 +23,7 @@ pub record PutWatch (words : CellWords) (task : Task) (cells : List ℕ) (rounds
   pub ok : OnOk printed (Appends sink sink' (sights_text words sights))
   pub beginning : AppendsBeginning sink sink' (sights_text words sights)
 
--- the sights of what is observed were put into a sink, or a beginning of their text
-abbrev pub PutReads : {G : Type 0} → CellWords → Observation G → SeatData → SeatData
+-- the sights of the reader of a run were put into a sink, or a beginning of their text
+abbrev pub PutReads : {G : Type 0} → CellWords → Shared G → SeatData → SeatData
     → Option (List ℕ) → Option (List ℕ) → Printing → Type 0
-PutReads words seen = PutWatch words seen.assignment.board.now.task seen.cells.now seen.rounds
+PutReads words seen = PutWatch words seen.board.now.task seen.cells.now seen.rounds

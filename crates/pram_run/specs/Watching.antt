@@ -12,7 +12,7 @@ use Rattle.stop_plan.specs.Plan.{PlanData}
 use Rattle.pram_board.specs.Seats.{SeatData, WasRead, unites}
 use Rattle.pram_run.specs.Heard.{Ended, HasRunWith}
 use Rattle.pram_run.specs.Obeyed.{AllObeyed, HasLooked, IsAnswered}
-use Rattle.pram_run.specs.declared.assignment.Observation.{Observation}
+use Rattle.pram_run.specs.declared.shared.Shared.{Shared}
 use Rattle.pram_run.specs.declared.sight.Sight.{Sight}
 
 -- the cells that were read, in order
@@ -96,5 +96,5 @@ ReadsUnlessRefused task plan given reader Reads Hears later ended heard =
     ⊎ HasWatchedWith task plan given later (ReadsAndHears Reads Hears ended heard) ended
 
 -- how many reads wait at most: a piece, and a round
-abbrev pub most_waiting : {G : Type 0} → Observation G → ℕ
-most_waiting observation = observation.piece + length observation.cells.now
+abbrev pub most_waiting : {G : Type 0} → Shared G → ℕ
+most_waiting shared = shared.piece + length shared.cells.now

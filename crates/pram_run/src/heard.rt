@@ -11,8 +11,6 @@ ghost use Rattle.pram_run.specs.Running.{IsBoardFor, IsUnfinished, Tells};
 ghost use Rattle.pram_run.specs.Watching.{ReadsUnlessRefused, most_waiting};
 ghost use Rattle.pram_step.specs.declared.answer.RunAnswer.{RunAnswer};
 
-use crate::assignment::{Assignment, Observation};
-use crate::bell::Bell;
 use crate::ending::answer;
 use crate::listener::{Listener, Reads};
 use crate::runner::{Team, join_all, start_all};
@@ -33,25 +31,22 @@ use stop_plan::Gate;
 /// the reader hears it, and does not read.
 pub fn run_heard<R: Threads + Wait, G: Gate + Sync, H, P: Reads<Heard = H>>(
     rt: &R,
-    alloc: Global,
-    observation: &Observation<'_, '_, G>,
+    shared: &Shared<'_, G>,
     seat: Seat,
     reader: P,
 ) -> (Seat, Result<RunAnswer, AllocError>, H)
     requires reader { P.can_read reader }
     requires listener { P.can_hear reader }
-    requires seat { seat.desk ≡ observation.now.assignment.board.now }
-    ensures ran { let seen = observation.now in let task = seen.assignment.board.now.task in
-        ReadsUnlessRefused task seen.assignment.plan.now seat reader
+    requires seat { seat.desk ≡ shared.now.board.now }
+    ensures ran { let seen = shared.now in let task = seen.board.now.task in
+        ReadsUnlessRefused task seen.plan.now seat reader
         (P.reads reader task seen.cells.now seen.rounds) P.hears result.0 result.1 result.2 }
     ensures begins { BeginsWith seat.record_of result.0.record_of }
-    ensures desk { result.0.desk ≡ observation.now.assignment.board.now }
+    ensures desk { result.0.desk ≡ shared.now.board.now }
 {
-    let (cells, rounds, piece) = (observation.cells, observation.rounds, observation.piece);
-    let assignment = &observation.assignment;
-    let (job, board) = (assignment.job, assignment.board);
-    let (plan, gate) = (assignment.plan, assignment.gate);
-    let bell = &Bell::new();
+    let (job, board, plan) = (shared.job, shared.board, shared.plan);
+    let (alloc, gate, bell) = (shared.alloc, shared.gate, shared.bell);
+    let (cells, rounds, piece) = (shared.cells, shared.rounds, shared.piece);
     thread::scope(
         thread::scope_env(),
         rt,
@@ -65,36 +60,31 @@ pub fn run_heard<R: Threads + Wait, G: Gate + Sync, H, P: Reads<Heard = H>>(
                 P.hears result.0 result.1 result.2 }
             ensures goes_on { GoesOn seat result.0 }
         {
-            let observation = Observation {
-                assignment: Assignment::new(job, board, plan, gate),
-                cells,
-                rounds,
-                piece,
-            };
-            let shared = Shared {
-                alloc,
-                observation,
-                bell,
-            };
-            work_beside(scope, rt, &shared, seat, reader)
+            let shared = Shared::new(alloc, job, board, plan, gate, bell);
+            run_beside(
+                scope,
+                rt,
+                &shared.reading(cells, rounds, piece),
+                seat,
+                reader,
+            )
         },
     )
 }
 
-// Starts a thread of the scope for each worker, and reads beside them, once that is sure to have an
-// answer.
-fn work_beside<'s, E, R: Threads + Wait, G: Gate + Sync, H, P: Reads<Heard = H>>(
+/// Does what `run_heard` does, on threads of this scope.
+pub fn run_beside<'s, E, R: Threads + Wait, G: Gate + Sync, H, P: Reads<Heard = H>>(
     scope: &Scope<'s, E>,
     rt: &R,
-    shared: &Shared<'s, 's, 's, G>,
+    shared: &Shared<'s, G>,
     seat: Seat,
     reader: P,
 ) -> (Seat, Result<RunAnswer, AllocError>, H)
     requires reader { P.can_read reader }
     requires listener { P.can_hear reader }
-    requires seat { seat.desk ≡ board_of shared.now }
-    ensures ran { let seen = shared.now.observation in let task = shared_task shared.now in
-        ReadsUnlessRefused task (plan_of shared.now) seat reader
+    requires seat { seat.desk ≡ shared.now.board.now }
+    ensures ran { let seen = shared.now in let task = seen.board.now.task in
+        ReadsUnlessRefused task seen.plan.now seat reader
         (P.reads reader task seen.cells.now seen.rounds) P.hears result.0 result.1 result.2 }
     ensures goes_on { GoesOn seat result.0 }
 {
@@ -103,8 +93,7 @@ fn work_beside<'s, E, R: Threads + Wait, G: Gate + Sync, H, P: Reads<Heard = H>>
         let heard = reader.hear(&refused);
         return (seat, refused, heard);
     };
-    let observation = &shared.observation;
-    let (seat, theirs) = observation.assignment.board.split(seat);
+    let (seat, theirs) = shared.board.split(seat);
     let team = start_all(scope, shared, seat);
     let (mut theirs, answers) = await_missing(rt, shared, &team, theirs);
     if !answers {
@@ -112,17 +101,16 @@ fn work_beside<'s, E, R: Threads + Wait, G: Gate + Sync, H, P: Reads<Heard = H>>
         let seat = join_beside(rt, shared, team, theirs);
         return (seat, refused, heard);
     }
-    let reader = reader.read(observation, &mut theirs, &mut sights);
+    let reader = reader.read(shared, &mut theirs, &mut sights);
     hear_end(rt, shared, team, theirs, reader)
 }
 
 // An empty list with room for the reads that wait, and for a round.
-fn room_for_pieces<G>(shared: &Shared<'_, '_, '_, G>) -> Result<Vec<Sight>, AllocError>
+fn room_for_pieces<G>(shared: &Shared<'_, G>) -> Result<Vec<Sight>, AllocError>
     ensures empty { IfOk result (λ v. vec_len v ≡ 0) }
-    ensures room { IfOk result (λ v. most_waiting shared.now.observation ≤ vec_capacity v) }
+    ensures room { IfOk result (λ v. most_waiting shared.now ≤ vec_capacity v) }
 {
-    let observation = &shared.observation;
-    let waiting = observation.piece.checked_add(observation.cells.len());
+    let waiting = shared.piece.checked_add(shared.cells.len());
     Vec::with_capacity(shared.alloc, waiting.ok_or(AllocError)?)
 }
 
@@ -130,7 +118,7 @@ fn room_for_pieces<G>(shared: &Shared<'_, '_, '_, G>) -> Result<Vec<Sight>, Allo
 // there is sure to be an answer.
 fn await_missing<R: Wait, G>(
     rt: &R,
-    shared: &Shared<'_, '_, '_, G>,
+    shared: &Shared<'_, G>,
     team: &Team<'_>,
     seat: Seat,
 ) -> (Seat, bool)
@@ -152,7 +140,7 @@ fn await_missing<R: Wait, G>(
 // by then, and joins them all.
 fn hear_end<'s, R: Threads + Wait, G: Gate + Sync, L: Listener>(
     rt: &R,
-    shared: &Shared<'s, 's, 's, G>,
+    shared: &Shared<'s, G>,
     team: Team<'s>,
     seat: Seat,
     listener: L,
@@ -185,7 +173,7 @@ fn hear_end<'s, R: Threads + Wait, G: Gate + Sync, L: Listener>(
 // that were started have left.
 fn await_end<R: Wait, G>(
     rt: &R,
-    shared: &Shared<'_, '_, '_, G>,
+    shared: &Shared<'_, G>,
     team: &Team<'_>,
     mut seat: Seat,
 ) -> (Seat, Result<RunAnswer, AllocError>)
@@ -194,13 +182,9 @@ fn await_end<R: Wait, G>(
     ensures looked { HasLooked seat result.0 }
 {
     let workers = team.threads.len() as u64;
-    let (job, board) = (
-        shared.observation.assignment.job,
-        shared.observation.assignment.board,
-    );
     for _ in rt.forever() {
         let all_left = shared.bell.left() >= workers;
-        let told = answer(shared.alloc, job, board, &mut seat);
+        let told = answer(shared.alloc, shared.job, shared.board, &mut seat);
         if all_left || !may_end_yet(&told) {
             return (seat, told);
         }
@@ -227,7 +211,7 @@ fn tells_end(ended: &Result<RunAnswer, AllocError>) -> bool
 // Joins the threads, and then the seat that looked at the board beside them.
 fn join_beside<'s, R: Threads, G: Gate + Sync>(
     rt: &R,
-    shared: &Shared<'s, 's, 's, G>,
+    shared: &Shared<'s, G>,
     team: Team<'s>,
     looker: Seat,
 ) -> Seat
@@ -238,7 +222,7 @@ fn join_beside<'s, R: Threads, G: Gate + Sync>(
         (vec_len team.entry.threads) result }
 {
     let seat = join_all(rt, shared, team);
-    let seat = shared.observation.assignment.board.join(seat, looker);
+    let seat = shared.board.join(seat, looker);
     seat.facts();
     seat
 }
@@ -246,7 +230,7 @@ fn join_beside<'s, R: Threads, G: Gate + Sync>(
 // What the board tells after the last join. Where a worker is missing, an end that was not reached
 // is out of memory.
 fn last_answer<G>(
-    shared: &Shared<'_, '_, '_, G>,
+    shared: &Shared<'_, G>,
     mut seat: Seat,
     all_started: bool,
 ) -> (Seat, Result<RunAnswer, AllocError>)
@@ -256,8 +240,7 @@ fn last_answer<G>(
     ensures all { IfOk result.1 (λ answer. IsUnfinished answer → IsTrue all_started) }
     ensures some { (answer : RunAnswer) × HasTold (shared_task shared.now) seat result.0 answer }
 {
-    let assignment = &shared.observation.assignment;
-    let told = answer(shared.alloc, assignment.job, assignment.board, &mut seat);
+    let told = answer(shared.alloc, shared.job, shared.board, &mut seat);
     if all_started {
         return (seat, told);
     }

@@ -1,8 +1,6 @@
 //! Runs of a job under a plan: on one thread in the plan's order, and on threads.
 #![tactic(auto)]
 
-mod assignment;
-mod bell;
 mod cell_names;
 mod ending;
 mod heard;
@@ -16,14 +14,14 @@ mod sight;
 mod trace;
 mod watcher;
 
-pub use assignment::{Assignment, Observation};
 pub use cell_names::{CellNames, Numbers};
-pub use heard::run_heard;
+pub use heard::{run_beside, run_heard};
 pub use listener::{Listener, Reads, ReadsNothing};
 pub use observation::print_reads;
 pub use print::{OutFault, print_sights, print_trace, write_trace};
 pub use runner::run;
 pub use schedule::{replay, replay_to};
+pub use shared::{Bell, Shared};
 pub use sight::Sight;
 pub use trace::{StepKind, Trace, TraceRow};
 pub use watcher::watch;

@@ -6,7 +6,7 @@ ghost use Rattle.pram_run.specs.Heard.{Ended};
 ghost use Rattle.pram_run.specs.Inner.Obeying.{GoesOn};
 ghost use Rattle.pram_run.specs.Watching.{most_waiting};
 
-use crate::assignment::Observation;
+use crate::shared::Shared;
 use crate::sight::Sight;
 use pram_board::Seat;
 use pram_step::RunAnswer;
@@ -38,18 +38,13 @@ pub trait Reads: Listener {
     ghost reads: { Self → Task → List ℕ → ℕ → SeatData → SeatData → Self → Type 0 };
 
     /// Reads from the seat, and keeps what waits in the list, which has room for it.
-    fn read<G: Gate>(
-        self,
-        observation: &Observation<'_, '_, G>,
-        seat: &mut Seat,
-        sights: &mut Vec<Sight>,
-    ) -> Self
+    fn read<G: Gate>(self, shared: &Shared<'_, G>, seat: &mut Seat, sights: &mut Vec<Sight>) -> Self
         requires reader { can_read self }
-        requires seat { seat.old.desk ≡ observation.now.assignment.board.now }
+        requires seat { seat.old.desk ≡ shared.now.board.now }
         requires empty { vec_len sights.old ≡ 0 }
-        requires room { most_waiting observation.now ≤ vec_capacity sights.old }
-        ensures reads { reads self observation.now.assignment.board.now.task
-            observation.now.cells.now observation.now.rounds seat.old seat.new result }
+        requires room { most_waiting shared.now ≤ vec_capacity sights.old }
+        ensures reads { reads self shared.now.board.now.task
+            shared.now.cells.now shared.now.rounds seat.old seat.new result }
         ensures goes_on { GoesOn seat.old seat.new }
         ensures can_hear { Self.can_hear result };
 }
@@ -79,7 +74,7 @@ impl<L: Listener> Reads for ReadsNothing<L> {
 
     fn read<G: Gate>(
         self,
-        _observation: &Observation<'_, '_, G>,
+        _shared: &Shared<'_, G>,
         _seat: &mut Seat,
         _sights: &mut Vec<Sight>,
     ) -> Self {

@@ -6,11 +6,11 @@ ghost use Rattle.pram_run.specs.Inner.Reading.{PassedSights, PutAfter, ReadsRoun
 ghost use Rattle.pram_run.specs.PutReads.{PutReads};
 ghost use Rattle.pram_run.specs.Watching.{most_waiting};
 
-use crate::assignment::Observation;
 use crate::cell_names::CellNames;
 use crate::print::{begin_sights, put_sights};
+use crate::shared::Shared;
 use crate::sight::Sight;
-use crate::watcher::{Round, read_round};
+use crate::watcher::read_round;
 use pram_board::Seat;
 use pram_streams::{PrintFault, Sink};
 use std::alloc::Global;
@@ -20,69 +20,52 @@ use stop_plan::{Gate, Open};
 /// Where that fails, the rounds that are left are read at once: without printing, and without the
 /// gate.
 pub fn print_reads<G: Gate, W: Sink, C: CellNames>(
-    observation: &Observation<'_, '_, G>,
+    shared: &Shared<'_, G>,
     seat: &mut Seat,
     sights: &mut Vec<Sight>,
     sink: &mut W,
     names: &C,
 ) -> Result<(), PrintFault>
     requires sink { W.has_failed sink.old ≡ false }
-    requires seat { seat.old.desk ≡ observation.now.assignment.board.now }
+    requires seat { seat.old.desk ≡ shared.now.board.now }
     requires empty { vec_len sights.old ≡ 0 }
-    requires room { most_waiting observation.now ≤ vec_capacity sights.old }
-    ensures reads { PutReads (C.words names.now) observation.now seat.old seat.new
+    requires room { most_waiting shared.now ≤ vec_capacity sights.old }
+    ensures reads { PutReads (C.words names.now) shared.now seat.old seat.new
         (W.taken sink.old) (W.taken sink.new) result }
     ensures failed { IsTrue (W.has_failed sink.new) ↔ IsErrOf result PrintFault.Device }
     ensures goes_on { GoesOn seat.old seat.new }
 {
     let mut printed = begin_sights(sink, names);
     let mut reads = 0u64;
-    for _ in 0..observation.rounds {
-        read_next(observation, printed.is_ok(), seat, reads, sights);
-        reads = reads.saturating_add(observation.cells.len() as u64);
-        printed = pass_sights(sink, printed, sights, observation.piece, names);
+    for _ in 0..shared.rounds {
+        read_next(shared, printed.is_ok(), seat, reads, sights);
+        reads = reads.saturating_add(shared.cells.len() as u64);
+        printed = pass_sights(sink, printed, sights, shared.piece, names);
     }
     put_after(*sights.allocator(), sink, printed, sights.as_slice(), names)
 }
 
 // Reads each of the cells, past the gate or not.
 fn read_next<G: Gate>(
-    observation: &Observation<'_, '_, G>,
+    shared: &Shared<'_, G>,
     past_the_gate: bool,
     seat: &mut Seat,
     reads: u64,
     sights: &mut Vec<Sight>,
 )
-    requires seat { seat.old.desk ≡ observation.now.assignment.board.now }
-    requires room { vec_len sights.old + length observation.now.cells.now
+    requires seat { seat.old.desk ≡ shared.now.board.now }
+    requires room { vec_len sights.old + length shared.now.cells.now
         ≤ vec_capacity sights.old }
-    ensures desk { seat.new.desk ≡ observation.now.assignment.board.now }
-    ensures reads { ReadsRound observation.now.assignment.board.now.task observation.now.cells.now
+    ensures desk { seat.new.desk ≡ shared.now.board.now }
+    ensures reads { ReadsRound shared.now.board.now.task shared.now.cells.now
         sights.old.items seat.old sights.new.items seat.new }
     ensures capacity { vec_capacity sights.new ≡ vec_capacity sights.old }
 {
-    let assignment = &observation.assignment;
-    let board = assignment.board;
-    let number = assignment.plan.workers();
-    let cells = observation.cells;
     if past_the_gate {
-        let gate = assignment.gate;
-        let round = Round {
-            board,
-            gate,
-            number,
-            cells,
-        };
-        read_round(&round, seat, reads, sights);
+        read_round(shared, shared.gate, seat, reads, sights);
         return;
     }
-    let round = Round {
-        board,
-        gate: &Open,
-        number,
-        cells,
-    };
-    read_round(&round, seat, reads, sights);
+    read_round(shared, &Open, seat, reads, sights);
 }
 
 // Prints the sights and lets them go, once there are so many.

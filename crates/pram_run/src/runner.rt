@@ -9,10 +9,8 @@ ghost use Rattle.pram_run.specs.Inner.Teams.{IsAtWork};
 ghost use Rattle.pram_run.specs.Obeyed.{AllObeyed, DoesRow, HasRun, Obeys};
 ghost use Rattle.pram_run.specs.Running.{IsBoardFor};
 
-use crate::assignment::{Assignment, Observation};
-use crate::bell::Bell;
 use crate::ending::answer;
-use crate::shared::{Pacing, Shared};
+use crate::shared::{Bell, Shared};
 use pram_board::{Board, Seat};
 use pram_job::Job;
 use pram_step::RunAnswer;
@@ -53,17 +51,7 @@ pub fn run<R: Threads + Wait, G: Gate + Sync>(
                 (AllWorked board.entry.now.task plan.entry.now seat result.0) }
             ensures goes_on { GoesOn seat result.0 }
         {
-            let observation = Observation {
-                assignment: Assignment::new(job, board, plan, gate),
-                cells: &[],
-                rounds: 0,
-                piece: 0,
-            };
-            let shared = Shared {
-                alloc,
-                observation,
-                bell,
-            };
+            let shared = Shared::new(alloc, job, board, plan, gate, bell);
             work_in(scope, rt, &shared, seat)
         },
     );
@@ -78,7 +66,7 @@ pub fn run<R: Threads + Wait, G: Gate + Sync>(
 pub(crate) fn work_in<'s, E, R: Threads, G: Gate + Sync>(
     scope: &Scope<'s, E>,
     rt: &R,
-    shared: &Shared<'s, 's, 's, G>,
+    shared: &Shared<'s, G>,
     seat: Seat,
 ) -> (Seat, Result<(), AllocError>)
     requires { seat.desk ≡ board_of shared.now }
@@ -118,28 +106,27 @@ pub(crate) struct Team<'s> {
 
 impl Team<'_> {
     /// Whether no worker is missing.
-    pub fn is_whole<G>(&self, shared: &Shared<'_, '_, '_, G>) -> bool
+    pub fn is_whole<G>(&self, shared: &Shared<'_, G>) -> bool
         ensures { IsTrue result ↔ (vec_len self.now.threads ≡ (plan_of shared.now).workers) }
     {
-        self.threads.len() == shared.observation.assignment.plan.workers() as usize
+        self.threads.len() == shared.plan.workers() as usize
     }
 }
 
 /// Starts a thread for each worker, until one is refused. Each rings the bell as it leaves.
 pub(crate) fn start_all<'s, E, G: Gate + Sync>(
     scope: &Scope<'s, E>,
-    shared: &Shared<'s, 's, 's, G>,
+    shared: &Shared<'s, G>,
     mut seat: Seat,
 ) -> Team<'s>
     requires { seat.desk ≡ board_of shared.now }
     ensures { IsAtWork (plan_of shared.now) seat result }
 {
-    let assignment = &shared.observation.assignment;
-    let (board, plan) = (assignment.board, assignment.plan);
-    let (gate, bell) = (assignment.gate, shared.bell);
+    let (job, board, plan) = (shared.job, shared.board, shared.plan);
+    let (alloc, gate, bell) = (shared.alloc, shared.gate, shared.bell);
     let count = plan.workers() as usize;
-    let Ok(mut threads) = Vec::with_capacity(shared.alloc, count) else {
-        let threads = Vec::new(shared.alloc);
+    let Ok(mut threads) = Vec::with_capacity(alloc, count) else {
+        let threads = Vec::new(alloc);
         return Team { seat, threads };
     };
     for worker in 0..plan.workers() {
@@ -153,13 +140,14 @@ pub(crate) fn start_all<'s, E, G: Gate + Sync>(
         };
         let work = move || -> Seat
             requires worker { worker < board.now.task.layout.workers }
-            requires seat { theirs.desk ≡ board.now }
+            requires given { IsBoardFor job.now plan.now board.now theirs }
             ensures goes_on { GoesOn theirs result }
             ensures ends { EndsOrStops rows.entry.now worker result }
             ensures obeys { Obeys theirs.desk.task worker rows.entry.now theirs (started worker)
                 result }
         {
-            let seat = obey_rows(board, theirs, worker, rows, &Pacing { gate, bell });
+            let shared = Shared::new(alloc, job, board, plan, gate, bell);
+            let seat = obey_rows(&shared, theirs, worker, rows);
             bell.ring();
             seat
         };
@@ -172,11 +160,7 @@ pub(crate) fn start_all<'s, E, G: Gate + Sync>(
 }
 
 /// Joins the threads, and their seats to the one that they were split from.
-pub(crate) fn join_all<'s, R: Threads, G>(
-    rt: &R,
-    shared: &Shared<'s, 's, 's, G>,
-    team: Team<'s>,
-) -> Seat
+pub(crate) fn join_all<'s, R: Threads, G>(rt: &R, shared: &Shared<'s, G>, team: Team<'s>) -> Seat
     requires seat { team.seat.desk ≡ board_of shared.now }
     requires team { IsAtWork (plan_of shared.now) team.seat team }
     ensures ends { (k : ℕ) → k < vec_len team.entry.threads →
@@ -185,7 +169,7 @@ pub(crate) fn join_all<'s, R: Threads, G>(
         (vec_len team.entry.threads) result }
     ensures goes_on { GoesOn team.entry.seat result }
 {
-    let board = shared.observation.assignment.board;
+    let board = shared.board;
     let Team { mut seat, threads } = team;
     for thread in threads {
         seat = board.join(seat, thread.join(rt));
@@ -194,15 +178,9 @@ pub(crate) fn join_all<'s, R: Threads, G>(
 }
 
 // Obeys the worker's rows, and then goes on without a limit.
-fn obey_rows<G: Gate>(
-    board: &Board,
-    mut seat: Seat,
-    number: u32,
-    rows: &[Row],
-    pacing: &Pacing<'_, G>,
-) -> Seat
-    requires worker { number < board.now.task.layout.workers }
-    requires seat { seat.desk ≡ board.now }
+fn obey_rows<G: Gate>(shared: &Shared<'_, G>, mut seat: Seat, number: u32, rows: &[Row]) -> Seat
+    requires worker { number < (shared_task shared.now).layout.workers }
+    requires seat { seat.desk ≡ board_of shared.now }
     ensures goes_on { GoesOn seat result }
     ensures ends { EndsOrStops rows.now number result }
     ensures obeys { Obeys seat.desk.task number rows.now seat (started number) result }
@@ -213,34 +191,29 @@ fn obey_rows<G: Gate>(
             if row.act == Act::Stop {
                 return seat;
             }
-            obey_row(board, &mut seat, &mut worker, row, pacing);
+            obey_row(shared, &mut seat, &mut worker, row);
         }
     }
-    let stay = board.work(&mut seat, &mut worker, pacing.gate, None);
-    pacing.note(stay);
+    let stay = shared.board.work(&mut seat, &mut worker, shared.gate, None);
+    shared.note(stay);
     seat
 }
 
 // Obeys a row of the worker. What stops it, its caller looks after.
-fn obey_row<G: Gate>(
-    board: &Board,
-    seat: &mut Seat,
-    worker: &mut Worker,
-    row: &Row,
-    pacing: &Pacing<'_, G>,
-)
-    requires worker { row.now.worker < board.now.task.layout.workers }
-    requires works { Works board.now seat.old worker.old }
-    ensures does { DoesRow board.now.task row.now seat.old worker.old.walking seat.new
+fn obey_row<G: Gate>(shared: &Shared<'_, G>, seat: &mut Seat, worker: &mut Worker, row: &Row)
+    requires worker { row.now.worker < (shared_task shared.now).layout.workers }
+    requires works { Works (board_of shared.now) seat.old worker.old }
+    ensures does { DoesRow (shared_task shared.now) row.now seat.old worker.old.walking seat.new
         worker.new.walking }
-    ensures works { Works board.now seat.new worker.new }
+    ensures works { Works (board_of shared.now) seat.new worker.new }
 {
     match row.act {
         Act::Go => {
-            let stay = board.work(seat, worker, pacing.gate, Some(u64::from(row.ticks)));
-            pacing.note(stay);
+            let limit = Some(u64::from(row.ticks));
+            let stay = shared.board.work(seat, worker, shared.gate, limit);
+            shared.note(stay);
         }
-        Act::Sleep => pacing.sleep(row.worker, row.ticks),
+        Act::Sleep => shared.sleep(row.worker, row.ticks),
         Act::Back => *worker = Worker::back(row.worker),
         Act::Stop => {}
     }

@@ -9,11 +9,9 @@ ghost use Rattle.pram_run.specs.Inner.Sharing.{board_of, plan_of, shared_task};
 ghost use Rattle.pram_run.specs.Running.{IsBoardFor};
 ghost use Rattle.pram_run.specs.Watching.{HasWatched, IsWatch};
 
-use crate::assignment::{Assignment, Observation};
-use crate::bell::Bell;
 use crate::ending::answer;
 use crate::runner::work_in;
-use crate::shared::Shared;
+use crate::shared::{Bell, Shared};
 use crate::sight::Sight;
 use pram_board::{Board, Seat};
 use pram_job::Job;
@@ -60,18 +58,8 @@ pub fn watch<R: Threads + Wait, G: Gate + Sync>(
                 plan.entry.now cells.entry.now rounds seat sights.items result.0) }
             ensures goes_on { GoesOn seat result.0 }
         {
-            let observation = Observation {
-                assignment: Assignment::new(job, board, plan, gate),
-                cells,
-                rounds,
-                piece: 0,
-            };
-            let shared = Shared {
-                alloc,
-                observation,
-                bell,
-            };
-            watch_in(scope, rt, &shared, seat)
+            let shared = Shared::new(alloc, job, board, plan, gate, bell);
+            watch_in(scope, rt, &shared.reading(cells, rounds, 0), seat)
         },
     );
     let sights = match watched {
@@ -101,17 +89,17 @@ impl<'a> Promise<(Seat, Vec<Sight>)> for Watched<'a> {
 fn watch_in<'s, E, R: Threads, G: Gate + Sync>(
     scope: &Scope<'s, E>,
     rt: &R,
-    shared: &Shared<'s, 's, 's, G>,
+    shared: &Shared<'s, G>,
     seat: Seat,
 ) -> (Seat, Result<Vec<Sight>, AllocError>)
     requires { seat.desk ≡ board_of shared.now }
     ensures ends { IfOk result.1 (λ sights. AllEndOrStop (plan_of shared.now) result.0) }
     ensures sights { IfOk result.1 (λ sights. let seen = shared.now in
-        IsWatchJoined (shared_task seen) (plan_of seen) seen.observation.cells.now
-        seen.observation.rounds seat sights.items result.0) }
+        IsWatchJoined (shared_task seen) (plan_of seen) seen.cells.now seen.rounds seat sights.items
+        result.0) }
     ensures goes_on { GoesOn seat result.0 }
 {
-    let board = shared.observation.assignment.board;
+    let board = shared.board;
     let (seat, theirs) = board.split(seat);
     let Ok(reader) = start_reader(scope, shared, theirs) else {
         return (seat, Err(AllocError));
@@ -128,26 +116,24 @@ fn watch_in<'s, E, R: Threads, G: Gate + Sync>(
 // Starts a thread of the scope that reads from this seat.
 fn start_reader<'s, E, G: Gate + Sync>(
     scope: &Scope<'s, E>,
-    shared: &Shared<'s, 's, 's, G>,
+    shared: &Shared<'s, G>,
     seat: Seat,
 ) -> Result<PromisedHandle<(Seat, Vec<Sight>), Watched<'s>>, AllocError>
     requires { seat.desk ≡ board_of shared.now }
-    ensures { IfOk result (λ reader. IsToWatch shared.now.observation.cells.now
-        shared.now.observation.rounds seat reader.promise) }
+    ensures { IfOk result (λ reader. IsToWatch shared.now.cells.now shared.now.rounds seat
+        reader.promise) }
 {
-    let observation = &shared.observation;
-    let (cells, rounds) = (observation.cells, observation.rounds);
-    let assignment = &observation.assignment;
-    let (board, gate) = (assignment.board, assignment.gate);
-    let number = assignment.plan.workers();
-    let sights = room_for(shared.alloc, cells, rounds)?;
+    let (job, board, plan) = (shared.job, shared.board, shared.plan);
+    let (alloc, gate, bell) = (shared.alloc, shared.gate, shared.bell);
+    let (cells, rounds) = (shared.cells, shared.rounds);
+    let sights = room_for(alloc, cells, rounds)?;
     let promise = Watched {
         before: Snapshot::of(&seat),
         cells,
         rounds,
     };
     let reads = move || -> (Seat, Vec<Sight>)
-        requires seat { seat.desk ≡ board.now }
+        requires given { IsBoardFor job.now plan.now board.now seat }
         requires within { All (λ c. c < board.now.task.job.cells) cells.now }
         requires empty { vec_len sights ≡ 0 }
         requires room { rounds * length cells.now ≤ vec_capacity sights }
@@ -155,13 +141,8 @@ fn start_reader<'s, E, G: Gate + Sync>(
         ensures watch { IsWatch board.entry.now.task cells.entry.now rounds seat result.1.items
             result.0 }
     {
-        let round = Round {
-            board,
-            gate,
-            number,
-            cells,
-        };
-        read_all(&round, rounds, seat, sights)
+        let shared = Shared::new(alloc, job, board, plan, gate, bell);
+        read_all(&shared.reading(cells, rounds, 0), seat, sights)
     };
     Ok(scope.spawn_with(promise, reads)?)
 }
@@ -177,59 +158,49 @@ fn room_for(alloc: Global, cells: &[u32], rounds: u32) -> Result<Vec<Sight>, All
     Vec::with_capacity(alloc, count)
 }
 
-/// A round of the reader: a read of each of the cells, after it passed the gate as the worker of
-/// this number.
-#[derive(Drop)]
-pub(crate) struct Round<'a, G> {
-    pub board: &'a Board,
-    pub gate: &'a G,
-    pub number: u32,
-    pub cells: &'a [u32],
-    pub ghost within: { All (λ c. c < board.now.task.job.cells) cells.now },
-}
-
-// Goes so many rounds through the cells.
+// Goes through the cells as many times as there are rounds.
 fn read_all<G: Gate>(
-    round: &Round<'_, G>,
-    rounds: u32,
+    shared: &Shared<'_, G>,
     mut seat: Seat,
     mut sights: Vec<Sight>,
 ) -> (Seat, Vec<Sight>)
-    requires seat { seat.desk ≡ round.now.board.now }
+    requires seat { seat.desk ≡ board_of shared.now }
     requires empty { vec_len sights ≡ 0 }
-    requires room { rounds * length round.now.cells.now ≤ vec_capacity sights }
+    requires room { shared.now.rounds * length shared.now.cells.now ≤ vec_capacity sights }
     ensures goes_on { GoesOn seat result.0 }
-    ensures watch { IsWatch round.now.board.now.task round.now.cells.now rounds seat
+    ensures watch { IsWatch (shared_task shared.now) shared.now.cells.now shared.now.rounds seat
         result.1.items result.0 }
 {
-    for _ in 0..rounds {
+    for _ in 0..shared.rounds {
         let reads = sights.len() as u64;
-        read_round(round, &mut seat, reads, &mut sights);
+        read_round(shared, shared.gate, &mut seat, reads, &mut sights);
     }
     (seat, sights)
 }
 
-/// Reads each of the cells, and notes what was read, so many reads having gone before.
-pub(crate) fn read_round<G: Gate>(
-    round: &Round<'_, G>,
+/// Reads each of the cells, and notes what was read, so many reads having gone before. Before each
+/// read it passes the gate as the worker after the plan's last one.
+pub(crate) fn read_round<G, P: Gate>(
+    shared: &Shared<'_, G>,
+    gate: &P,
     seat: &mut Seat,
     reads: u64,
     sights: &mut Vec<Sight>,
 )
-    requires seat { seat.old.desk ≡ round.now.board.now }
-    requires room { vec_len sights.old + length round.now.cells.now ≤ vec_capacity sights.old }
-    ensures desk { seat.new.desk ≡ round.now.board.now }
-    ensures reads { ReadsRound round.now.board.now.task round.now.cells.now
-        sights.old.items seat.old sights.new.items seat.new }
-    ensures len { vec_len sights.new ≡ vec_len sights.old + length round.now.cells.now }
+    requires seat { seat.old.desk ≡ board_of shared.now }
+    requires room { vec_len sights.old + length shared.now.cells.now ≤ vec_capacity sights.old }
+    ensures desk { seat.new.desk ≡ board_of shared.now }
+    ensures reads { ReadsRound (shared_task shared.now) shared.now.cells.now sights.old.items
+        seat.old sights.new.items seat.new }
+    ensures len { vec_len sights.new ≡ vec_len sights.old + length shared.now.cells.now }
     ensures capacity { vec_capacity sights.new ≡ vec_capacity sights.old }
 {
     let mut passes = reads;
-    for cell in round.cells {
+    for cell in shared.cells {
         let cell = *cell;
-        round.gate.pass(round.number, passes);
+        gate.pass(shared.plan.workers(), passes);
         passes = passes.saturating_add(1);
-        let sight = sight_of(cell, round.board.read(seat, cell));
+        let sight = sight_of(cell, shared.board.read(seat, cell));
         sights.push_reserved(sight);
     }
 }

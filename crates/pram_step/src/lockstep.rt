@@ -95,6 +95,8 @@ fn take_form(stand: Stand<'_>, places: &mut [u32], running: &[u32], asked: &mut 
         Instr::Mul(r, a, b) => take_as(stand, Instr::Mul(r, a, b), places, running, asked),
         Instr::Shl(r, a, b) => take_as(stand, Instr::Shl(r, a, b), places, running, asked),
         Instr::Shr(r, a, b) => take_as(stand, Instr::Shr(r, a, b), places, running, asked),
+        Instr::Div(r, a, b) => take_as(stand, Instr::Div(r, a, b), places, running, asked),
+        Instr::Rem(r, a, b) => take_as(stand, Instr::Rem(r, a, b), places, running, asked),
         Instr::And(r, a, b) => take_as(stand, Instr::And(r, a, b), places, running, asked),
         Instr::Or(r, a, b) => take_as(stand, Instr::Or(r, a, b), places, running, asked),
         Instr::Xor(r, a, b) => take_as(stand, Instr::Xor(r, a, b), places, running, asked),

@@ -298,6 +298,10 @@ fn later_of<'a>(
         two_operands_in(operands, later).map(|(r, a, b)| plain(Instr::Shl(r, a, b)))
     } else if later && is_word(name, "shr") {
         two_operands_in(operands, later).map(|(r, a, b)| plain(Instr::Shr(r, a, b)))
+    } else if later && is_word(name, "div") {
+        two_operands_in(operands, later).map(|(r, a, b)| plain(Instr::Div(r, a, b)))
+    } else if later && is_word(name, "rem") {
+        two_operands_in(operands, later).map(|(r, a, b)| plain(Instr::Rem(r, a, b)))
     } else {
         Err(TextKind::UnknownInstruction)
     }

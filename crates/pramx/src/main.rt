@@ -1,6 +1,4 @@
-//! Runs programs of a synchronous parallel machine: `pramx check FILE`, `pramx plain FILE`,
-//! `pramx steps FILE`, `pramx run FILE --workers W`, `pramx replay FILE --workers W` and
-//! `pramx watch FILE --workers W --cells C,C,.. --rounds R`.
+//! The program `pramx`: does what its words ask over files, standard output and standard error.
 #![tactic(auto)]
 
 ghost use Rattle.std.specs.Prelude.{◌≡◌, ◌≤◌, false, IfOk, OnErr};

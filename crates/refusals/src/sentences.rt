@@ -45,8 +45,6 @@ fn of_program_text(kind: PardoKind) -> &'static str {
         PardoKind::UnknownName => "a name here is not known",
         PardoKind::DuplicateName => "the name that is declared here is known already",
         PardoKind::WrongKind => "a name here stands for something that has no place here",
-        PardoKind::NotConstant =>
-            "what a division divides by must be known before the program runs",
         PardoKind::OutOfLimits => "a number is outside its limits, or something is divided by 0",
         PardoKind::WrongLength => "the array gets too many values, or too few without ...",
         PardoKind::TooManyCells => "a program has at most 65,536 cells",

@@ -34,7 +34,8 @@ block_words =
 abbrev pub operation_words : List (List ℕ × Symbol)
 operation_words =
     (codes "lg", the.Lg) ∷ (codes "and", the.Operator op.And) ∷ (codes "or", the.Operator op.Or)
-    ∷ (codes "min", the.Operator op.Min) ∷ (codes "max", the.Operator op.Max) ∷ []
+    ∷ (codes "xor", the.Operator op.BitXor) ∷ (codes "min", the.Operator op.Min)
+    ∷ (codes "max", the.Operator op.Max) ∷ []
 
 -- the marks of several bytes
 abbrev pub long_marks : List (List ℕ × Symbol)
@@ -43,13 +44,13 @@ long_marks =
     ∷ (codes "<=", the.Operator op.Le) ∷ (codes ">=", the.Operator op.Ge)
     ∷ (codes "<<", the.Operator op.Shl) ∷ (codes ">>", the.Operator op.Shr) ∷ []
 
--- the operations that are marks of one byte: `+-*/%&|^<>=`
+-- the operations that are marks of one byte: `+-*/%&|<>=`
 abbrev pub operation_bytes : List (ℕ × Symbol)
 operation_bytes =
     (43, the.Operator op.Add) ∷ (45, the.Operator op.Sub) ∷ (42, the.Operator op.Mul)
     ∷ (47, the.Operator op.Div) ∷ (37, the.Operator op.Rem) ∷ (38, the.Operator op.BitAnd)
-    ∷ (124, the.Operator op.BitOr) ∷ (94, the.Operator op.BitXor) ∷ (60, the.Operator op.Lt)
-    ∷ (62, the.Operator op.Gt) ∷ (61, the.Operator op.Eq) ∷ []
+    ∷ (124, the.Operator op.BitOr) ∷ (60, the.Operator op.Lt) ∷ (62, the.Operator op.Gt)
+    ∷ (61, the.Operator op.Eq) ∷ []
 
 -- the other marks of one byte: `()[],`
 abbrev pub other_bytes : List (ℕ × Symbol)

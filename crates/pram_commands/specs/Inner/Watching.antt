@@ -1,5 +1,6 @@
 -- What comes of a watch whose reads are printed as they are made.
 use Rattle.std.specs.Prelude.{◌≡◌, ℕ, List, Option, Ok, Err, OnOk}
+use Rattle.pram_job.specs.Job.{JobData}
 use Rattle.stop_plan.specs.Plan.{PlanData}
 use Rattle.pram_board.specs.declared.task.Task.{Task}
 use Rattle.pram_board.specs.Seats.{Desk, SeatData}
@@ -10,7 +11,6 @@ use Rattle.pram_commands.specs.Did.{Writing}
 use Rattle.pram_commands.specs.Inner.Hearing.{HasPrinted}
 use Rattle.pram_commands.specs.Names.{NamingData}
 use Rattle.pram_commands.specs.Threads.{IsNewBoard}
-use Rattle.pram_commands.specs.declared.sources.Inputs.{Inputs}
 
 -- What reading comes to, of a task, cells and rounds, from a seat to a later one.
 abbrev pub CellReading : Type 0 → Type 1
@@ -33,12 +33,11 @@ pub record HasWatchedOn {P H : Type 0} (Reads : CellReading P) (Hears : Hearing 
       (ReadsAndHears (Reads desk.task cells rounds) Hears ended.0 ended.1) ended.0
 
 -- A watch on a new board of the job: its reader read, and heard how it ended.
-pub record IsWatchedBy {P H : Type 0} (Reads : CellReading P) (Hears : Hearing P H)
-    (inputs : Inputs)
-    (cells : List ℕ) (rounds : ℕ) (ended : Ended × H) : Type 0 where
+pub record IsWatchedBy {P H : Type 0} (Reads : CellReading P) (Hears : Hearing P H) (job : JobData)
+    (plan : PlanData) (cells : List ℕ) (rounds : ℕ) (ended : Ended × H) : Type 0 where
   pub made : Desk × SeatData
-  pub opened : IsNewBoard inputs.spelled.job inputs.plan made
-  pub on : HasWatchedOn Reads Hears made.0 inputs.plan cells rounds made.1 ended
+  pub opened : IsNewBoard job plan made
+  pub on : HasWatchedOn Reads Hears made.0 plan cells rounds made.1 ended
 
 -- what printing comes to after reads that were printed so
 abbrev pub HasPrintedAfter : Printing → Writing → Option NamingData → ℕ → Ended → Printing → Type 0

@@ -46,13 +46,13 @@ pub fn check<J: Source, P: Source, O: Sink>(
     printed(put_summary(alloc, &job, out))
 }
 
+#[tactic(auto, using(crate::proofs::Doing::text_put))]
 fn put_summary<O: Sink>(alloc: Global, job: &Job, out: &mut O) -> Result<(), PrintFault>
     requires { O.has_failed out.old ≡ false }
     ensures { PutsAnswer (TellsSummary job.now) ⊥ (writing O.Sink out.old out.new) tells_none
         result }
 {
-    print_summary(alloc, out, job)?;
-    Ok(())
+    print_summary(alloc, out, job)
 }
 
 /// Reads a job, and prints it as a text of version 3 of the machine, which spells that very job.
@@ -70,12 +70,12 @@ pub fn compile<J: Source, P: Source, O: Sink>(
     printed(put_job(alloc, &job, out))
 }
 
+#[tactic(auto, using(crate::proofs::Doing::text_put))]
 fn put_job<O: Sink>(alloc: Global, job: &Job, out: &mut O) -> Result<(), PrintFault>
     requires { O.has_failed out.old ≡ false }
     ensures { PutsAnswer (TellsText job.now) ⊥ (writing O.Sink out.old out.new) tells_none result }
 {
-    print_text(alloc, out, job)?;
-    Ok(())
+    print_text(alloc, out, job)
 }
 
 /// Reads a job, and prints its answer, and if it is asked for what became of the processors. The

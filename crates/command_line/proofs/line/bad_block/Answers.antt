@@ -1,16 +1,15 @@
-use Rattle.std.proofs.Common.{codes}
-use Rattle.clap.specs.Words.{found_of, one_text}
-use Rattle.clap.proofs.WalkLemmas.{one_text-rows}
-use Rattle.command_line.proofs.Matches.{number_of}
+use Rattle.std.proofs.Common.{◌≡◌, ◌∙◌, ℕ, Option, Some, ap, codes, subst, sym}
+use Rattle.clap.specs.Words.{found_of, rows_of}
+use Rattle.command_data.specs.Manner.{size_of}
+use Rattle.command_line.specs.CommandLine.{IsNumberIfSet}
+use Rattle.command_line.proofs.Values.{no_block}
 use Rattle.command_line.proofs.line.bad_block.Goals as goal
 
-pub returns-in-None : goal.returns-in-None
-returns-in-None c =
-    let found = found_of c.args.inner.now in
-    record {
-      size = c.in_ok-size.size;
-      has_block = rw (← one_text-rows found (codes "block"))
-          (number_of (one_text found (codes "block")) _ c.in_ok-size.ensures.none
-          (λ text is. (c.in_ok-size.ensures.value text is).0.1));
-      bad = c.of.ensures.none c.in-None.is;
-    }
+pub returns-in-Some-of : goal.returns-in-Some-of
+returns-in-Some-of c =
+    let rows = rows_of (found_of c.args.inner.now) in
+    let block = c.in-Some-of.field-0 in
+    let same : c.in_ok-size.field-0 ≡ Some (size_of block) =
+    c.in-Some.is ∙ ap (λ (n : ℕ). Some n) (sym c.in-Some-of.ensures.some) in
+    no_block rows (Some block)
+    (subst (λ (n : Option ℕ). IsNumberIfSet (codes "block") rows n) same c.in_ok-size.ensures)

@@ -3,18 +3,6 @@ use Rattle.clap.specs.Words.{found_of}
 use Rattle.command_line.proofs.Matches.{flag_of, has_flag, met_file, pair_of}
 use Rattle.command_line.proofs.line.line_of.Goals as goal
 
-pub returns-in-check-clause-met : goal.returns-in-check-clause-met
-returns-in-check-clause-met c = rw (← c.in-check.is) (
-  met_file _ _ _ _ c.in_ok-name.ensures.name c.in_ok-name.ensures.rows c.in_ok-file.ensures,
-  refl,
-)
-
-pub returns-in-compile-clause-met : goal.returns-in-compile-clause-met
-returns-in-compile-clause-met c = rw (← c.in-compile.is) (
-  met_file _ _ _ _ c.in_ok-name.ensures.name c.in_ok-name.ensures.rows c.in_ok-file.ensures,
-  refl,
-)
-
 pub returns-in-plain-clause-met : goal.returns-in-plain-clause-met
 returns-in-plain-clause-met c = rw (← c.in-plain.is) (
   met_file _ _ _ _ c.in_ok-name.ensures.name c.in_ok-name.ensures.rows c.in_ok-file.ensures,
@@ -22,11 +10,5 @@ returns-in-plain-clause-met c = rw (← c.in-plain.is) (
       (pair_of _ _ _ _ _ c.in_ok-name.ensures.name c.in_ok-name.ensures.rows)
       (flag_of (found_of c.in_ok-name.inner.now) (codes "why") _ c.get_flag-why.ensures.none
       c.get_flag-why.ensures.value c.get_flag-why.ensures.other),
-  refl,
-)
-
-pub returns-in-cost-clause-met : goal.returns-in-cost-clause-met
-returns-in-cost-clause-met c = rw (← c.in-cost.is) (
-  met_file _ _ _ _ c.in_ok-name.ensures.name c.in_ok-name.ensures.rows c.in_ok-file.ensures,
   refl,
 )

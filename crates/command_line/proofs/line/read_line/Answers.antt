@@ -1,16 +1,15 @@
-use Rattle.std.proofs.Common.{◌≡◌, ◌≢◌, ◌&&◌, ◌⊎◌, ℕ, map, Bool, true, false, Result}
+use Rattle.std.proofs.Common.{◌≡◌, ◌&&◌, ◌⊎◌, Bool, true, false, Result}
 use Rattle.std.proofs.Common.{Ok, Err, IsErrAnd, IfErr, List, [], inl, inr, refl, subst, sym}
+use Rattle.std.proofs.Common.{MatchOption, Option, Some, None}
 use Rattle.clap.proofs.OnLiterals.{clap_on_literals}
 use Rattle.clap.specs.Words.{App, FailsBy, HasKind, HasMatchesOf, IsAmong, Kinds}
 use Rattle.clap.specs.Words.{Text, fault_of, is_simple_and_free}
-use Rattle.clap.specs.Words.{kind_of, subcommand_of, subcommand_rows_of, takes}
+use Rattle.clap.specs.Words.{subcommand_of, subcommand_rows_of, takes}
 use Rattle.clap.specs.declared.ArgMatches.{ArgMatches}
 use Rattle.clap.specs.declared.error.Error.{Error}
 use Rattle.clap.specs.declared.error.kind.ErrorKind.{ErrorKind}
 use Rattle.clap.specs.declared.error.kind.ErrorKind.TheVariants.{OutOfMemory}
-use Rattle.std.specs.Borrow.{Bor}
-use Rattle.command_line.specs.CommandLine.{AreRefused, HasBadValue, IsAskedLine, pramx}
-use Rattle.command_line.proofs.Values.{no_bad_value}
+use Rattle.command_line.specs.CommandLine.{HasBadValue, IsAskedLine, pramx}
 use Rattle.command_line.proofs.line.read_line.Goals as goal
 
 err_from : {T E : Type 0} (r : Result T E) (P Q : E → Type 0) → IsErrAnd r P →
@@ -76,37 +75,11 @@ fails_by : {T : Type 0} (kinds : Kinds) (r : Result T Error) (P : Error → Type
 fails_by kinds (Ok v) P has from = absurd has
 fails_by kinds (Err e) P has from = from e has
 
-err_any : {T E : Type 0} (r : Result T E) (P : E → Type 0) → ((e : E) → P e) → IfErr r P
-err_any (Ok v) P from = tt
-err_any (Err e) P from = from e
-
 pub returns-in_err-matches-clause-kinds : goal.returns-in_err-matches-clause-kinds
 returns-in_err-matches-clause-kinds c =
     inl (fails_by _ c.from_residual-in_err-matches.result _ c.from_residual-in_err-matches.ensures.1
     (λ e same. rw same
     (kinds_at _ pramx _ _ c.in_ok-command.ensures is_simple_pramx c.in_err-matches.ensures.kinds)))
-
-pub returns-in_err-value_error-clause-refused : goal.returns-in_err-value_error-clause-refused
-returns-in_err-value_error-clause-refused c =
-    let bad = bad_in_words _ pramx _
-    _ c.in_ok-command.ensures is_simple_pramx c.in_ok-matches.ensures.matches
-    c.in-Some.ensures in
-    err_any c.from_residual-in_err-value_error.result (λ (e : Error).
-    kind_of e ≢ OutOfMemory → AreRefused (map (λ (word : Bor (List ℕ)). word.now) c.args.words.now))
-    (λ e other. inr bad)
-
-pub returns-in-Some-clause-refused : goal.returns-in-Some-clause-refused
-returns-in-Some-clause-refused c = λ other.
-    inr (bad_in_words _ pramx _ _ c.in_ok-command.ensures is_simple_pramx
-    c.in_ok-matches.ensures.matches c.in-Some.ensures)
-
-pub returns-in-Some-clause-kinds : goal.returns-in-Some-clause-kinds
-returns-in-Some-clause-kinds c =
-    inr (
-      bad_in_words _ pramx _ _ c.in_ok-command.ensures is_simple_pramx
-          c.in_ok-matches.ensures.matches c.in-Some.ensures,
-      inr c.in_ok-value_error.ensures,
-    )
 
 pub returns-in-Some-asked_of-clause-met : goal.returns-in-Some-asked_of-clause-met
 returns-in-Some-asked_of-clause-met c =
@@ -114,17 +87,46 @@ returns-in-Some-asked_of-clause-met c =
     (same_subcommand _ pramx _ _ c.in_ok-command.ensures is_simple_pramx
     c.in_ok-matches.ensures.matches) c.in-Some-asked_of.ensures
 
+pub returns-in-Some-asked_of-clause-kinds : goal.returns-in-Some-asked_of-clause-kinds
+returns-in-Some-asked_of-clause-kinds c =
+    inl (no_fault _ pramx _ c.in_ok-command.ensures is_simple_pramx c.in_ok-matches.ensures.kinds)
+
+-- what was looked for among the values
+found_bad : {T : Type 0} (found : Option T) (bad : T) (B : Type 0) →
+    MatchOption found (B → ⊥) (λ _. B) → found ≡ Some bad → B
+found_bad None bad B holds is = cc is
+found_bad (Some it) bad B holds is = holds
+
+found_none : {T : Type 0} (found : Option T) (B : Type 0) →
+    MatchOption found (B → ⊥) (λ _. B) → found ≡ None → B → ⊥
+found_none None B holds is = holds
+found_none (Some it) B holds is = cc is
+
+pub returns-in-Some-found-clause-refused : goal.returns-in-Some-found-clause-refused
+returns-in-Some-found-clause-refused c = λ other.
+    inr (bad_in_words _ pramx _ _ c.in_ok-command.ensures is_simple_pramx
+    c.in_ok-matches.ensures.matches (found_bad _ _ _ c.in-Some.ensures c.in-Some-found.is))
+
+pub returns-in-Some-found-clause-kinds : goal.returns-in-Some-found-clause-kinds
+returns-in-Some-found-clause-kinds c =
+    inr (
+      bad_in_words _ pramx _ _ c.in_ok-command.ensures is_simple_pramx
+          c.in_ok-matches.ensures.matches (found_bad _ _ _ c.in-Some.ensures c.in-Some-found.is),
+      inr c.in_ok-value_error.ensures,
+    )
+
+-- a simple command's words have a bad value only where its matches do
+bad_in_matches : (a b : App) (words : List Text) (m : ArgMatches) → a ≡ b →
+    is_simple_and_free b ≡ true → HasMatchesOf a words m → HasBadValue (subcommand_of b words) →
+    HasBadValue (subcommand_rows_of m)
+bad_in_matches a b words m same simple matches bad =
+    subst (λ met. HasBadValue met) (sym (same_subcommand a b words m same simple matches)) bad
+
 pub returns-in-Some-asked_of-clause-taken : goal.returns-in-Some-asked_of-clause-taken
 returns-in-Some-asked_of-clause-taken c = λ none. elim none [
   | inl fault ↦ fault (no_fault _ pramx _ c.in_ok-command.ensures is_simple_pramx
       c.in_ok-matches.ensures.kinds)
-  | inr bad ↦
-      let asked = subst (λ met. IsAskedLine c.args.on_terminal met c.in-Some-asked_of.asked)
-      (same_subcommand _ pramx _ _ c.in_ok-command.ensures is_simple_pramx
-      c.in_ok-matches.ensures.matches) c.in-Some-asked_of.ensures in
-      no_bad_value _ c.in-Some-asked_of.asked.line asked.line bad
+  | inr bad ↦ found_none _ _ c.in-Some.ensures c.in_default-found.is
+      (bad_in_matches _ pramx _ _ c.in_ok-command.ensures is_simple_pramx
+      c.in_ok-matches.ensures.matches bad)
 ]
-
-pub returns-in-Some-asked_of-clause-kinds : goal.returns-in-Some-asked_of-clause-kinds
-returns-in-Some-asked_of-clause-kinds c =
-    inl (no_fault _ pramx _ c.in_ok-command.ensures is_simple_pramx c.in_ok-matches.ensures.kinds)

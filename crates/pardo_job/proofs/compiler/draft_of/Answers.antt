@@ -1,4 +1,4 @@
-use Rattle.std.proofs.Common.{◌∙◌, ap}
+use Rattle.std.proofs.Common.{◌∙◌, ap, arith}
 use Rattle.pardo_text.specs.Program.{ProgramData}
 use Rattle.pardo_job.specs.Lines.{code_of}
 use Rattle.pardo_job.specs.Refusals.{line_numbers}
@@ -28,3 +28,9 @@ returns-clause-draft c =
       numbers_are = c.in_ok-numbers.ensures ∙
           ap (λ (p : ProgramData). line_numbers p) c.in_ok-listing.ensures.program;
     }
+
+pub returns-clause-places : goal.returns-clause-places
+returns-clause-places c = record {
+  each = λ j lt. c.in_ok-listing.ensures.places.each j (omega arith);
+  short = c.in_ok-listing.ensures.places.short;
+}

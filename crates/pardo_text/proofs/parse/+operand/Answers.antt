@@ -36,21 +36,21 @@ leveled-returns t c =
 pub chain-loop-turn-init : goal.chain-loop-turn-init
 chain-loop-turn-init t c = (
   top_is _ c.requires.first,
-  chained_begins _ _ _ _ _ _ _ c.turns-turn-end.ensures,
+  chained_begins _ _ _ _ _ _ c.turns-turn-end.ensures,
 )
 
 pub chain-returns-in_default : goal.chain-returns-in_default
 chain-returns-in_default t c =
     let none = c.in_default.ensures in (
       c.loop-turn.invariant.0,
-      c.loop-turn.invariant.1 ∙ chained_ends _ _ _ _ _ _ _ none.0 none.1,
+      c.loop-turn.invariant.1 ∙ chained_ends _ _ _ _ _ _ none.0 none.1,
     )
 
 pub chain-returns-in_err-leveled : goal.chain-returns-in_err-leveled
 chain-returns-in_err-leveled t c =
     let p = err_from_is_err_and c.from_residual.result c.from_residual.ensures.1 in
     rw (p.1, p.2) (λ ne. c.loop-turn.invariant.1
-    ∙ chained_operand _ _ _ c.turns-turn-end.result c.loop-turn._turn _ _ _ _ _
+    ∙ chained_operand _ _ c.turns-turn-end.result c.loop-turn._turn _ _ _ _ _
     c.loop-turn-test.true c.in-Some.ensures (c.in_err-leveled.ensures ne))
 
 pub chain-returns-in_err-join : goal.chain-returns-in_err-join
@@ -58,24 +58,24 @@ chain-returns-in_err-join t c =
     let p = err_from_is_err_and c.from_residual-in_err-join.result
     c.from_residual-in_err-join.ensures.1 in
     rw (p.1, p.2) (λ ne. c.loop-turn.invariant.1
-    ∙ chained_join _ _ _ c.turns-turn-end.result c.loop-turn._turn _ _ _ _ _ _ _
+    ∙ chained_join _ _ c.turns-turn-end.result c.loop-turn._turn _ _ _ _ _ _ _
     c.loop-turn-test.true c.in-Some.ensures c.in_ok-leveled.ensures.1
-    (joined_under _ _ _ _ _ c.in_ok-leveled.ensures.0 (c.in_err-join.ensures ne)))
+    (joined_under _ _ _ _ c.in_ok-leveled.ensures.0 (c.in_err-join.ensures ne)))
 
 pub chain-loop-turn-preserved : goal.chain-loop-turn-preserved
 chain-loop-turn-preserved t c = (
   kept_below _ _ _ _ c.loop-turn.invariant.0 c.in_ok-leveled.ensures.0 c.in_ok-join.ensures.0,
   c.loop-turn.invariant.1
-      ∙ chained_more _ _ _ c.turns-turn-end.result c.loop-turn._turn _ _ _ _ _ _ _
+      ∙ chained_more _ _ c.turns-turn-end.result c.loop-turn._turn _ _ _ _ _ _ _
       c.loop-turn-test.true c.in-Some.ensures c.in_ok-leveled.ensures.1
-      (joined_under _ _ _ _ _ c.in_ok-leveled.ensures.0 c.in_ok-join.ensures.1),
+      (joined_under _ _ _ _ c.in_ok-leveled.ensures.0 c.in_ok-join.ensures.1),
 )
 
 pub chain-returns : goal.chain-returns
 chain-returns t c = (
   c.loop-turn.invariant.0,
   c.loop-turn.invariant.1
-      ∙ chained_over _ _ _ c.turns-turn-end.result c.loop-turn._turn _ _ c.loop-turn-test.false,
+      ∙ chained_over _ _ c.turns-turn-end.result c.loop-turn._turn _ _ c.loop-turn-test.false,
 )
 
 pub pair-apply-requires-clause-divisor : goal.pair-apply-requires-clause-divisor

@@ -37,6 +37,6 @@ invariant-chain-loop-turn l =
     let operand = level_at (operand_at (names_in l.around.names.now)
     (within_at (names_in l.around.names.now) l.around.brackets)) (l.level - 1) l.around.scope in
     (l.exprs ≡ first_of l.exprs ∷ drop 1 l.initial.exprs)
-    × (chained operand l.around.scope l.level (turns_at l.level l.initial.tokens)
+    × (chained operand l.level (turns_at l.level l.initial.tokens)
     (first_of l.initial.exprs) l.initial.tokens
-    ≡ chained operand l.around.scope l.level (l._turn-end - l._turn) (first_of l.exprs) l.tokens)
+    ≡ chained operand l.level (l._turn-end - l._turn) (first_of l.exprs) l.tokens)

@@ -11,6 +11,6 @@ returns-in-Add g c =
     grind (arith, c.in-Add.is) in
     computed_turn c.args.job.now c.args.processor c.args.counter _
     (g.H.Held.operand c.args.held.now) c.in-Add.r c.in-Add.a c.in-Add.b c.args.instr.now
-    c.first-in-Add.result c.second.result c.computed-value.result c.gives-in-Add.result two
+    c.first-in-Add.result c.second.result c.computed-value.result c.gives_or_leaves.result two
     (c.first-in-Add.ensures (registers_in c.in-Add.b)) (c.second.ensures c.in-Add.a)
-    c.computed-value.ensures c.gives-in-Add.ensures
+    c.computed-value.ensures c.gives_or_leaves.ensures

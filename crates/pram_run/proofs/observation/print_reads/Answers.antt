@@ -10,7 +10,7 @@ loop-init g c = record {
   desk = c.requires.seat;
   few = omega arith;
   room = c.requires.room;
-  put = put_begun _ c.args.observation.now.assignment.board.now.task c.args.observation.now.cells.now
+  put = put_begun _ c.args.shared.now.board.now.task c.args.shared.now.cells.now
       0 c.args.seat.now _ _ _ _
       (nil_from_length _ (omega (arith, c.requires.empty, c.args.sights.now.ok)))
       c.begin_sights-printed.ensures.ok c.begin_sights-printed.ensures.beginning;
@@ -33,9 +33,9 @@ loop-preserved g c =
 
 pub returns-clause-reads : goal.returns-clause-reads
 returns-clause-reads g c =
-    let observation = c.args.observation.now in
-    let all : c.loop.counter ≡ observation.rounds = omega arith in
-    subst (λ (n : ℕ). PutWatch (g.C.CellNames.words c.args.names.now) observation.assignment.board.now.task observation.cells.now n
+    let shared = c.args.shared.now in
+    let all : c.loop.counter ≡ shared.rounds = omega arith in
+    subst (λ (n : ℕ). PutWatch (g.C.CellNames.words c.args.names.now) shared.board.now.task shared.cells.now n
     c.args.seat.now c.loop.seat (g.W.Sink.taken c.args.sink.now)
     (g.W.Sink.taken c.put_after.new.sink) c.put_after.result) all
     (put_watch _ _ _ _ _ _ _ _ _

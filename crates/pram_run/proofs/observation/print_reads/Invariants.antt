@@ -6,10 +6,10 @@ use Rattle.pram_run.proofs.observation.print_reads.Given as goal
 
 abbrev pub invariant-loop : goal.invariant-loop
 invariant-loop g l = record {
-  desk : l.seat.desk ≡ l.observation.assignment.board.now;
-  few : vec_len l.sights ≤ l.observation.piece;
-  room : l.observation.piece + length l.observation.cells.now ≤ vec_capacity l.sights;
-  put : HasPut (g.C.CellNames.words l.names) l.observation.assignment.board.now.task l.observation.cells.now l.counter l.fn.seat
+  desk : l.seat.desk ≡ l.shared.board.now;
+  few : vec_len l.sights ≤ l.shared.piece;
+  room : l.shared.piece + length l.shared.cells.now ≤ vec_capacity l.sights;
+  put : HasPut (g.C.CellNames.words l.names) l.shared.board.now.task l.shared.cells.now l.counter l.fn.seat
       l.seat (vec_items l.sights) (g.W.Sink.taken l.fn.sink) (g.W.Sink.taken l.sink) l.printed;
   failed : IsTrue (g.W.Sink.has_failed l.sink) ↔ IsErrOf l.printed Device;
 }

@@ -13,10 +13,10 @@ loop-row-init g c = record {
   goes_on = goes_self c.args.seat;
   works = record {
     desk = c.requires.seat;
-    serves = c.start-worker.ensures.serves c.args.board.now.task.job
-        c.args.board.now.task.layout c.requires.worker;
-    knows = c.start-worker.ensures.known c.args.board.now.task.job
-        c.args.board.now.task.layout c.args.seat.record_of;
+    serves = c.start-worker.ensures.serves c.args.shared.now.board.now.task.job
+        c.args.shared.now.board.now.task.layout c.requires.worker;
+    knows = c.start-worker.ensures.known c.args.shared.now.board.now.task.job
+        c.args.shared.now.board.now.task.layout c.args.seat.record_of;
   };
   obeys = λ q h. rw (← c.start-worker.ensures.value) h;
 }

@@ -10,8 +10,8 @@ use Rattle.pram_run.proofs.runner.obey_rows.Given as goal
 abbrev pub invariant-loop-row : goal.invariant-loop-row
 invariant-loop-row g l = record {
   goes_on : GoesOn l.fn.seat l.seat;
-  works : Works l.board l.seat l.worker;
+  works : Works l.shared.board.now l.seat l.worker;
   obeys : (q : SeatData) →
-      Obeys l.board.task l.number (drop l.row-index l.rows) l.seat l.worker.walking q →
-      Obeys l.board.task l.number l.rows l.fn.seat (started l.number) q;
+      Obeys l.shared.board.now.task l.number (drop l.row-index l.rows) l.seat l.worker.walking q →
+      Obeys l.shared.board.now.task l.number l.rows l.fn.seat (started l.number) q;
 }

@@ -14,7 +14,7 @@ loop-init g c =
     record {
       desk = c.requires.seat;
       reads = subst (λ (ss : List Sight).
-          HasRead c.args.round.now.board.now.task c.args.seat ss c.args.seat) (sym none) refl;
+          HasRead c.args.shared.now.board.now.task c.args.seat ss c.args.seat) (sym none) refl;
       listed = ap (map (λ (s : Sight). s.cell)) none;
       len = omega arith;
       capacity = refl;
@@ -23,7 +23,7 @@ loop-init g c =
 pub read_round-requires-clause-room : goal.read_round-requires-clause-room
 read_round-requires-clause-room g c =
     let was = c.loop.invariant in
-    let more = room_more c.loop.counter c.args.rounds (length c.args.round.now.cells.now)
+    let more = room_more c.loop.counter c.args.shared.now.rounds (length c.args.shared.now.cells.now)
     (vec_capacity c.args.sights) c.loop-test.true c.requires.room in
     omega (arith, was.len, was.capacity)
 
@@ -33,10 +33,10 @@ loop-preserved g c =
     let now = c.read_round.ensures in record {
       desk = now.desk;
       reads = now.reads.reads [] c.args.seat was.reads;
-      listed = round_more c.loop.counter c.args.round.now.cells.now _ _ now.reads.cells was.listed;
+      listed = round_more c.loop.counter c.args.shared.now.cells.now _ _ now.reads.cells was.listed;
       len = omega (
         arith,
-        count_more c.loop.counter (length c.args.round.now.cells.now),
+        count_more c.loop.counter (length c.args.shared.now.cells.now),
         was.len,
         now.len,
       );
@@ -45,13 +45,13 @@ loop-preserved g c =
 
 pub returns-clause-goes_on : goal.returns-clause-goes_on
 returns-clause-goes_on g c =
-    reads_go c.args.round.now.board.now.task c.args.seat c.loop.seat _ c.loop.invariant.reads
+    reads_go c.args.shared.now.board.now.task c.args.seat c.loop.seat _ c.loop.invariant.reads
 
 pub returns-clause-watch : goal.returns-clause-watch
 returns-clause-watch g c =
     let was = c.loop.invariant in
-    let all : c.loop.counter ≡ c.args.rounds = omega arith in
-    is_watch c.args.round.now.board.now.task
-    c.args.round.now.cells.now c.args.rounds c.args.seat c.loop.sights.items c.loop.seat
+    let all : c.loop.counter ≡ c.args.shared.now.rounds = omega arith in
+    is_watch c.args.shared.now.board.now.task
+    c.args.shared.now.cells.now c.args.shared.now.rounds c.args.seat c.loop.sights.items c.loop.seat
     (subst (λ (n : ℕ). map (λ (s : Sight). s.cell) c.loop.sights.items
-    ≡ repeat n c.args.round.now.cells.now) all was.listed) was.reads
+    ≡ repeat n c.args.shared.now.cells.now) all was.listed) was.reads

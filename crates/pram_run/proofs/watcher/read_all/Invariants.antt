@@ -6,9 +6,9 @@ use Rattle.pram_run.proofs.watcher.read_all.Given as goal
 
 abbrev pub invariant-loop : goal.invariant-loop
 invariant-loop g l = record {
-  desk : l.seat.desk ≡ l.round.board.now;
-  reads : HasRead l.round.board.now.task l.fn.seat (vec_items l.sights) l.seat;
-  listed : map (λ (s : Sight). s.cell) (vec_items l.sights) ≡ repeat l.counter l.round.cells.now;
-  len : vec_len l.sights ≡ l.counter * length l.round.cells.now;
+  desk : l.seat.desk ≡ l.shared.board.now;
+  reads : HasRead l.shared.board.now.task l.fn.seat (vec_items l.sights) l.seat;
+  listed : map (λ (s : Sight). s.cell) (vec_items l.sights) ≡ repeat l.counter l.shared.cells.now;
+  len : vec_len l.sights ≡ l.counter * length l.shared.cells.now;
   capacity : vec_capacity l.sights ≡ vec_capacity l.initial.sights;
 }

@@ -21,11 +21,11 @@ loop-cell-init g c = record {
 pub loop-cell-preserved : goal.loop-cell-preserved
 loop-cell-preserved g c =
     let was = c.loop-cell.invariant in
-    let task = c.args.round.now.board.now.task in
+    let task = c.args.shared.now.board.now.task in
     let seat = c.loop-cell.seat in
     let next = c.read.new.seat in
     let sight : Sight = c.sight_of-sight.result in
-    let cell : sight.cell ≡ get_or c.args.round.now.cells.now c.loop-cell.cell-index 0 =
+    let cell : sight.cell ≡ get_or c.args.shared.now.cells.now c.loop-cell.cell-index 0 =
     c.sight_of-sight.ensures.cell in
     let read : WasRead task seat next sight.cell (At sight.step sight.value) =
     subst (λ (r : Reading). WasRead task seat next sight.cell r) c.sight_of-sight.ensures.tells
@@ -39,7 +39,7 @@ loop-cell-preserved g c =
           (has_read_more task p seat next (front ++ c.loop-cell.sights.items) sight
           (was.reads front p h) read));
       listed =
-          listed_more _ c.args.round.now.cells.now c.loop-cell.cell-index c.loop-cell.sights.items
+          listed_more _ c.args.shared.now.cells.now c.loop-cell.cell-index c.loop-cell.sights.items
           c.push_reserved.new.self.items sight c.loop-cell-test.true items cell was.listed;
       len = omega (arith, c.push_reserved.ensures.len, was.len);
       capacity = c.push_reserved.ensures.capacity ∙ was.capacity;

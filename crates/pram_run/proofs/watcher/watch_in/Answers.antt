@@ -23,8 +23,8 @@ pub returns-in-Ok-worked-clause-sights : goal.returns-in-Ok-worked-clause-sights
 returns-in-Ok-worked-clause-sights g c =
     let task = (shared_task c.args.shared.now) in
     let plan = (plan_of c.args.shared.now) in
-    let cells = c.args.shared.now.observation.cells.now in
-    let rounds = c.args.shared.now.observation.rounds in
+    let cells = c.args.shared.now.cells.now in
+    let rounds = c.args.shared.now.rounds in
     let given : c.split-seat.result.1 ≡ c.args.seat = c.split-seat.ensures.second in
     let promised : IsToWatch cells rounds c.args.seat c.in-Ok.reader.promise =
     subst (λ (p : SeatData). IsToWatch cells rounds p c.in-Ok.reader.promise) given

@@ -1,0 +1,54 @@
+//! A diagnosis, and how it is printed.
+ghost use Rattle.std.specs.Prelude.{◌≡◌, ◌++◌, decimal, OnOk};
+ghost use Rattle.pardo_explain.specs.Diagnoses.{diagnosis_text, indented, spot};
+
+use itoa::Buffer;
+use std::alloc::AllocError;
+
+/// Where a text is wrong, and a sentence on it: the line and the column, both counted from 1, the
+/// sentence, the line as it is shown, and what stands before a mark below the column.
+#[derive(Debug, Drop)]
+pub struct Diagnosis {
+    pub line: u64,
+    pub column: u64,
+    pub sentence: Vec<u8>,
+    pub shown: Vec<u8>,
+    pub margin: Vec<u8>,
+}
+
+/// Adds a diagnosis, as it is printed below the line of a refusal of this file.
+pub fn push_diagnosis(text: &mut Vec<u8>, file: &[u8], found: &Diagnosis) -> Result<(), AllocError>
+    ensures { OnOk result (text.new.items ≡ text.old.items ++ diagnosis_text file.now found.now) }
+{
+    push_spot(text, file, found.line, found.column)?;
+    text.extend_from_slice(found.sentence.as_slice())?;
+    push_indented(text, found.shown.as_slice())?;
+    push_indented(text, found.margin.as_slice())?;
+    text.extend_from_slice(b"^\n")
+}
+
+fn push_spot(text: &mut Vec<u8>, file: &[u8], line: u64, column: u64) -> Result<(), AllocError>
+    ensures { OnOk result (text.new.items ≡ text.old.items ++ spot file.now line column) }
+{
+    text.extend_from_slice(file)?;
+    text.extend_from_slice(b":")?;
+    push_number(text, line)?;
+    text.extend_from_slice(b":")?;
+    push_number(text, column)?;
+    text.extend_from_slice(b": ")
+}
+
+fn push_indented(text: &mut Vec<u8>, line: &[u8]) -> Result<(), AllocError>
+    ensures { OnOk result (text.new.items ≡ text.old.items ++ indented line.now) }
+{
+    text.extend_from_slice(b"\n    ")?;
+    text.extend_from_slice(line)
+}
+
+/// Adds a number.
+pub(crate) fn push_number(text: &mut Vec<u8>, number: u64) -> Result<(), AllocError>
+    ensures { OnOk result (text.new.items ≡ text.old.items ++ decimal number) }
+{
+    let mut buffer = Buffer::new();
+    text.extend_from_slice(buffer.format(number).as_bytes())
+}

@@ -1,0 +1,241 @@
+//! A line, token by token, up to a point in it: what could stand there.
+use crate::before::Part;
+use crate::wanted::Wanted;
+use crate::words::{ends_operand, is_among, is_comparison, is_name};
+use std::alloc::{AllocError, Global};
+use text_lines::is_word;
+
+/// What a bracket belongs to.
+#[derive(Clone, Copy, Debug, PartialEq, Eq)]
+enum Bracket {
+    Plain,
+    Log,
+    /// That of `min` or `max`, before its `,`.
+    Pair,
+    Index,
+}
+
+/// An open bracket, and what was known before it.
+#[derive(Clone, Copy, Debug)]
+struct Open {
+    bracket: Bracket,
+    division: usize,
+    is_compared: bool,
+}
+
+impl Open {
+    // Only the operands of `min` or `max` are two.
+    fn pass_comma(&mut self) {
+        if self.bracket == Bracket::Pair {
+            self.bracket = Bracket::Plain;
+        }
+    }
+}
+
+/// The tokens of a line so far.
+#[derive(Debug, Drop)]
+pub(crate) struct Scan<'t> {
+    part: Part,
+    first: &'t [u8],
+    before: &'t [u8],
+    count: usize,
+    open: Vec<Open>,
+    /// The point of the last division within the innermost bracket.
+    pub(crate) division: usize,
+    /// Whether two operands within the innermost bracket are compared.
+    is_compared: bool,
+    /// Whether a mark came outside brackets that stands between a name and its value.
+    is_assigned: bool,
+    /// The point after the first such mark.
+    pub(crate) value: usize,
+    /// Whether `to` or `downto` came.
+    is_bounded: bool,
+}
+
+impl<'t> Scan<'t> {
+    /// No token of a line.
+    pub(crate) fn new(alloc: Global, part: Part) -> Self {
+        Scan {
+            part,
+            first: b"",
+            before: b"",
+            count: 0,
+            open: Vec::new(alloc),
+            division: 0,
+            is_compared: false,
+            is_assigned: false,
+            value: 0,
+            is_bounded: false,
+        }
+    }
+
+    /// The next token.
+    pub(crate) fn take(&mut self, token: &'t [u8]) -> Result<(), AllocError> {
+        match token {
+            b"(" | b"[" => self.open(token)?,
+            b")" | b"]" => self.close(),
+            b"," => self.pass_comma(),
+            b"and" | b"or" => self.is_compared = false,
+            b"/" | b"%" => self.division = self.count,
+            b":=" | b"to" | b"downto" => self.assign(token),
+            _ if is_comparison(token) => self.compare(),
+            _ => (),
+        }
+        if self.count == 0 {
+            self.first = token;
+        }
+        self.before = token;
+        self.count = self.count.saturating_add(1);
+        Ok(())
+    }
+
+    fn open(&mut self, token: &[u8]) -> Result<(), AllocError> {
+        let bracket = if is_word(token, "[") {
+            Bracket::Index
+        } else if is_word(self.before, "lg") {
+            Bracket::Log
+        } else if is_among("min max", self.before) {
+            Bracket::Pair
+        } else {
+            Bracket::Plain
+        };
+        self.open.push(Open {
+            bracket,
+            division: self.division,
+            is_compared: self.is_compared,
+        })?;
+        self.is_compared = false;
+        Ok(())
+    }
+
+    fn close(&mut self) {
+        if let Some(open) = self.open.pop() {
+            self.division = open.division;
+            self.is_compared = open.is_compared;
+        }
+    }
+
+    fn pass_comma(&mut self) {
+        self.is_compared = false;
+        if let Some(open) = self.open.last_mut() {
+            open.pass_comma();
+        }
+    }
+
+    fn assign(&mut self, token: &[u8]) {
+        self.is_compared = false;
+        self.is_bounded |= !is_word(token, ":=");
+        self.mark();
+    }
+
+    // The first comparison outside brackets of a line that is no assignment and no condition is its
+    // mark.
+    fn compare(&mut self) {
+        let is_marked = is_among("const procs shared private for", self.first);
+        if self.open.is_empty() && is_marked && !self.is_assigned {
+            self.mark();
+        } else {
+            self.is_compared = true;
+        }
+    }
+
+    fn mark(&mut self) {
+        if !self.is_assigned {
+            self.is_assigned = true;
+            self.value = self.count.saturating_add(1);
+        }
+    }
+
+    /// Whether what stands here is within the bracket of an `lg`.
+    pub(crate) fn is_within_log(&self) -> bool {
+        for open in &self.open {
+            if open.bracket == Bracket::Log {
+                return true;
+            }
+        }
+        false
+    }
+
+    /// Whether this token could come next.
+    pub(crate) fn takes(&self, token: &[u8]) -> bool {
+        let is_second = self.is_compared && is_comparison(token);
+        self.wanted().takes(token) && !is_second
+    }
+
+    /// What could come next.
+    pub(crate) fn wanted(&self) -> Wanted {
+        if self.count == 0 || self.part == Part::Version || self.part == Part::Rule {
+            return self.wanted_first();
+        }
+        if let Some(open) = self.open.last()
+            && ends_operand(self.before)
+        {
+            return match open.bracket {
+                Bracket::Pair => Wanted::Comma,
+                Bracket::Index => Wanted::ClosingIndex,
+                Bracket::Plain | Bracket::Log => Wanted::Closing,
+            };
+        }
+        if is_among("lg min max", self.before) {
+            return Wanted::Opening;
+        }
+        match self.count {
+            1 => self.wanted_second(),
+            2 if self.open.is_empty() => self.wanted_third(),
+            _ => self.wanted_later(),
+        }
+    }
+
+    fn wanted_first(&self) -> Wanted {
+        match self.part {
+            Part::Version => Wanted::Version,
+            Part::Rule => Wanted::Rule,
+            Part::Header => Wanted::Declaration,
+            Part::Code => Wanted::LineOfCode,
+        }
+    }
+
+    fn wanted_second(&self) -> Wanted {
+        match self.first {
+            b"const" | b"procs" | b"shared" | b"private" | b"for" => Wanted::NewName,
+            b"if" | b"elsif" | b"while" => Wanted::Operand,
+            _ if is_name(self.first) => Wanted::Assignment,
+            _ => Wanted::End,
+        }
+    }
+
+    fn wanted_third(&self) -> Wanted {
+        match self.first {
+            b"const" | b"for" => Wanted::Equals,
+            b"procs" => Wanted::Less,
+            b"private" => Wanted::EqualsOrEnd,
+            b"shared" => Wanted::Length,
+            _ => self.wanted_later(),
+        }
+    }
+
+    fn wanted_later(&self) -> Wanted {
+        if is_word(self.before, "...") {
+            return Wanted::End;
+        }
+        if !ends_operand(self.before) {
+            return self.wanted_operand();
+        }
+        match self.first {
+            b"if" | b"elsif" | b"while" => Wanted::Whole,
+            b"shared" if self.is_assigned => Wanted::NextValue,
+            b"shared" => Wanted::EqualsOrEnd,
+            b"for" if !self.is_bounded => Wanted::Way,
+            _ if self.is_assigned => Wanted::Whole,
+            _ => Wanted::Assignment,
+        }
+    }
+
+    fn wanted_operand(&self) -> Wanted {
+        if is_word(self.before, ",") && self.open.is_empty() {
+            Wanted::Value
+        } else {
+            Wanted::Operand
+        }
+    }
+}

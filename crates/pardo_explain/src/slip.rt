@@ -1,0 +1,78 @@
+//! Which slip of the table a point shows.
+use crate::point::Point;
+use crate::wanted::Wanted;
+use crate::words::{ends_operand, is_among, is_name, is_number};
+
+/// A slip: what stands first in its line, before the point, at it and after it; and its sentence.
+#[derive(Clone, Copy, Debug)]
+struct Slip<'s> {
+    first: &'s str,
+    before: &'s str,
+    here: &'s str,
+    after: &'s str,
+    sentence: &'s str,
+}
+
+impl Slip<'_> {
+    // Whether a point shows it.
+    fn fits(&self, point: &Point<'_>) -> bool {
+        is_any(self.first, point.first)
+            && is_any(self.here, point.here)
+            && is_any(self.after, point.after)
+            && (is_any(self.before, point.before) || could_stand(self.before, point))
+    }
+}
+
+// The slip of a row of the table.
+fn slip_of(row: &str) -> Option<Slip<'_>> {
+    let (first, rest) = row.split_once("; ")?;
+    let (before, rest) = rest.split_once("; ")?;
+    let (here, rest) = rest.split_once("; ")?;
+    let (after, sentence) = rest.split_once("; ")?;
+    Some(Slip {
+        first,
+        before,
+        here,
+        after,
+        sentence,
+    })
+}
+
+/// The sentence of the first of these slips that a point shows.
+pub(crate) fn first_fit<'s>(slips: &'s str, point: &Point<'_>) -> Option<&'s str> {
+    for row in slips.lines() {
+        if let Some(slip) = slip_of(row)
+            && slip.fits(point)
+        {
+            return Some(slip.sentence);
+        }
+    }
+    None
+}
+
+fn is_any(words: &str, token: &[u8]) -> bool {
+    match words {
+        "" => true,
+        "NIL" => token.is_empty(),
+        "NAME" => is_name(token),
+        "NUMBER" => is_number(token),
+        "OPERAND" => ends_operand(token),
+        _ => is_among(words, token),
+    }
+}
+
+// Whether this, in capitals, could stand in a point.
+fn could_stand(word: &str, point: &Point<'_>) -> bool {
+    match word {
+        "VALUE" => matches!(point.wanted, Wanted::Operand | Wanted::Value),
+        "ASSIGNMENT" => point.wanted == Wanted::Assignment,
+        "OPERATOR" => point.wanted.is_operator(),
+        "WHOLE" => point.wanted == Wanted::Whole,
+        "WAY" => point.wanted == Wanted::Way,
+        "INDEX" => point.wanted == Wanted::ClosingIndex,
+        "VERSION" => point.wanted == Wanted::Version,
+        "DECLARATION" => point.wanted == Wanted::Declaration,
+        "TEXT" => point.is_end,
+        _ => false,
+    }
+}

@@ -1,0 +1,190 @@
+-- The flat program. Where three registers are too few for a line, hidden lines come before it, with
+-- its number and depth. They give parts of its expressions to private variables without a name,
+-- which follow those of the text.
+use Rattle.std.specs.Prelude.{ℕ, ◌+◌, ◌-◌, Bool, true, false, not, ◌&&◌, ◌||◌, nat_le}
+use Rattle.std.specs.Prelude.{if◌then◌else◌, max, min}
+use Rattle.std.specs.Prelude.{List, [], ◌∷◌, ◌++◌, length, replicate, take, sum_by}
+use Rattle.std.specs.List.{flat_map}
+use Rattle.pardo_text.specs.declared.operation.Op.{Op}
+use Rattle.pardo_text.specs.declared.operation.Op.TheVariants.{Add, Sub, Mul, Div, Rem, Shl, Shr}
+use Rattle.pardo_text.specs.declared.operation.Op.TheVariants.{BitAnd, BitOr, BitXor, Eq, Ne}
+use Rattle.pardo_text.specs.declared.operation.Op.TheVariants.{Lt, Le, Gt, Ge, And, Or, Min, Max}
+use Rattle.pardo_text.specs.declared.statement.Line.{Line}
+use Rattle.pardo_text.specs.declared.statement.Statement.{Statement}
+use Rattle.pardo_text.specs.declared.statement.Statement.TheVariants.{Assign, If}
+use Rattle.pardo_text.specs.declared.statement.Statement.TheVariants.{While, EndWhile, For, EndFor}
+use Rattle.pardo_text.specs.declared.statement.Target.TheVariants.{Private, Array as Shared}
+use Rattle.pardo_text.specs.Expression.{Tree, number, own, loop, private, place, apply}
+use Rattle.pardo_text.specs.Program.{ProgramData, PrivateData}
+use Rattle.pardo_job.specs.Operations.{gives_truth}
+
+-- ---- registers
+
+-- What the code of an expression needs: whether its value is computed, which takes a register;
+-- whether it is a number; whether it is a truth; and how many registers it uses, 4 standing for
+-- more than three.
+pub record ShapeData : Type 0 where
+  pub is_computed : Bool
+  pub is_number : Bool
+  pub is_truth : Bool
+  pub need : ℕ
+
+abbrev pub computed_shape : Bool → ℕ → ShapeData
+computed_shape truth need =
+    record { is_computed = true; is_number = false; is_truth = truth; need = min 4 need }
+
+-- how many registers are taken for its value
+abbrev pub taken : ShapeData → ℕ
+taken shape = if shape.is_computed then 1 else 0
+
+-- a number that stands first comes into a register of its own
+abbrev pub first_need : ShapeData → ShapeData → ℕ
+first_need first second = if first.is_number && second.is_computed then 2 else 1
+
+-- how many registers an operation uses from that of its first operand on
+unfoldable pub operation_need : Op → ShapeData → ShapeData → ℕ
+operation_need Sub first second = first_need first second
+operation_need Div first second = first_need first second
+operation_need Rem first second = first_need first second
+operation_need Shl first second = first_need first second
+operation_need Shr first second = first_need first second
+operation_need Lt first second = first_need first second
+operation_need Ge first second = first_need first second
+operation_need Gt first second = first_need second first
+operation_need Le first second = first_need second first
+operation_need And first second =
+    if (first.is_truth && second.is_truth) || (first.is_computed && second.is_computed)
+    then 1 else 2
+operation_need Min first second = if first.is_computed && second.is_computed then 3 else 2
+operation_need Max first second = if first.is_computed && second.is_computed then 3 else 2
+operation_need _ first second = 1
+
+unfoldable pub applied_shape : Op → ShapeData → ShapeData → ShapeData
+applied_shape op first second = computed_shape (gives_truth op (first.is_truth && second.is_truth))
+    (max first.need (max (taken first + second.need) (operation_need op first second)))
+
+abbrev pub shape_of : Tree → ShapeData
+shape_of (number k) =
+    record { is_computed = false; is_number = true; is_truth = false; need = 0 }
+shape_of own = record { is_computed = false; is_number = false; is_truth = false; need = 0 }
+shape_of (loop nest) = computed_shape false 1
+shape_of (private x) = computed_shape false 1
+shape_of (place array index) = computed_shape false (max 1 (shape_of index).need)
+shape_of (apply op first second) = applied_shape op (shape_of first) (shape_of second)
+
+-- three registers are enough for an expression, of which so many are taken
+abbrev pub has_room : ℕ → ShapeData → Bool
+has_room at shape = nat_le (at + shape.need) 3
+
+-- ---- expressions
+
+-- The pieces of two expressions, and what is left of these. The second one is the last piece where
+-- it has no room beside the first. Pieces are given to private variables from the number t on.
+abbrev pub beside : ℕ → Bool → List Tree × Tree → List Tree × Tree → List Tree × Tree × Tree
+beside t room first second =
+    if room then (first.0 ++ second.0, first.1, second.1)
+    else (
+      first.0 ++ (second.0 ++ second.1 ∷ []),
+      first.1,
+      private (t + length first.0 + length second.0),
+    )
+
+-- where the first is computed, the second one needs room beside it
+abbrev pub is_beside : Op → ShapeData → ShapeData → Bool
+is_beside op first second = not first.is_computed || has_room 0 (applied_shape op first second)
+
+-- the pieces of an expression, and what is left of it
+abbrev pub split : ℕ → Tree → List Tree × Tree
+split t (place array index) = let inner = split t index in (inner.0, place array inner.1)
+split t (apply op first second) =
+    let left = split t first in
+    let parts = beside t (is_beside op (shape_of left.1) (shape_of second)) left
+    (split (t + length left.0) second) in
+    (parts.0, apply op parts.1 parts.2)
+split t tree = ([], tree)
+
+-- ---- lines
+
+-- the pieces of the value and of the index, and what is left of these
+abbrev pub split_store : ℕ → Tree → Tree → List Tree × Tree × Tree
+split_store t tree index =
+    let value = split t tree in
+    beside t (has_room (taken (shape_of value.1)) (shape_of index)) value
+    (split (t + length value.0) index)
+
+-- the pieces of a line, and what is left of it
+abbrev pub split_statement : ℕ → Statement → List Tree × Statement
+split_statement t (Assign (Private x) tree) =
+    let parts = split t tree in (parts.0, Assign (Private x) parts.1)
+split_statement t (Assign (Shared array index) tree) =
+    let parts = split_store t tree index in (parts.0, Assign (Shared array parts.2) parts.1)
+split_statement t (If tree) = let parts = split t tree in (parts.0, If parts.1)
+split_statement t statement = ([], statement)
+
+-- three registers are enough for it
+abbrev pub fits : Statement → Bool
+fits (Assign (Private x) tree) = has_room 0 (shape_of tree)
+fits (Assign (Shared array index) tree) =
+    has_room 0 (shape_of tree) && has_room (taken (shape_of tree)) (shape_of index)
+fits (If tree) = has_room 0 (shape_of tree)
+fits statement = true
+
+-- then nothing is split off
+abbrev pub line_parts : ProgramData → Line → List Tree × Statement
+line_parts program line =
+    if fits line.statement then ([], line.statement)
+    else split_statement (length program.privates) line.statement
+
+abbrev pub pieces_of : ProgramData → Line → List Tree
+pieces_of program line = (line_parts program line).0
+
+-- how many lines there are for it
+abbrev pub flat_size : ProgramData → Line → ℕ
+flat_size program line = length (pieces_of program line) + 1
+
+-- where the first of the lines for the line j stands, and where the last
+unfoldable pub first_flat_of : ProgramData → ℕ → ℕ
+first_flat_of program j = sum_by (flat_size program) (take j program.lines)
+
+abbrev pub last_of : ProgramData → ℕ → ℕ
+last_of program j = first_flat_of program (j + 1) - 1
+
+-- the lines that loops name stand elsewhere
+abbrev pub moved_statement : ProgramData → Statement → Statement
+moved_statement program (While tree end) = While tree (last_of program end)
+moved_statement program (EndWhile begin) = EndWhile (first_flat_of program begin)
+moved_statement program (For nest first last up end) = For nest first last up (last_of program end)
+moved_statement program (EndFor begin) = EndFor (last_of program begin)
+moved_statement program statement = statement
+
+-- the hidden lines of these pieces
+abbrev pub hidden : Line → ℕ → List Tree → List Line
+hidden line t [] = []
+hidden line t (piece ∷ pieces) =
+    record line { statement = Assign (Private t) piece } ∷ hidden line (t + 1) pieces
+
+abbrev pub last_line : ProgramData → Line → Line
+last_line program line =
+    record line { statement = moved_statement program (line_parts program line).1 }
+
+unfoldable pub lines_for : ProgramData → Line → List Line
+lines_for program line = hidden line (length program.privates) (pieces_of program line)
+    ++ last_line program line ∷ []
+
+-- ---- programs
+
+-- as many variables as the line with most pieces has
+abbrev pub most_pieces : ProgramData → List Line → ℕ
+most_pieces program [] = 0
+most_pieces program (line ∷ lines) =
+    max (length (pieces_of program line)) (most_pieces program lines)
+
+abbrev pub nameless : ProgramData → PrivateData
+nameless program = record { name = []; start = replicate program.procs 0 }
+
+abbrev pub flat : ProgramData → ProgramData
+flat program = record program {
+  privates = program.privates
+      ++ replicate (most_pieces program program.lines) (nameless program);
+  lines = flat_map (lines_for program) program.lines;
+}

@@ -1,0 +1,39 @@
+-- Three registers are enough for what is left of an expression, and for its pieces.
+use Rattle.std.specs.Prelude.{◌≡◌, ℕ, ◌+◌, ◌≤◌, true, []}
+use Rattle.std.specs.List.{All}
+use Rattle.pardo_text.specs.declared.statement.Line.{Line}
+use Rattle.pardo_text.specs.declared.statement.Statement.{Statement}
+use Rattle.pardo_text.specs.declared.statement.Statement.TheVariants.{Assign, If}
+use Rattle.pardo_text.specs.Expression.{Tree}
+use Rattle.pardo_text.specs.Program.{ProgramData}
+use Rattle.pardo_job.specs.Flat.{flat, lines_for, shape_of, split}
+use Rattle.pardo_job.specs.Layouts.{ProgramLayoutData}
+use Rattle.pardo_job.specs.Operations.{is_shallow}
+use Rattle.pardo_job.specs.Refusals.{is_level}
+use Rattle.pardo_job.specs.Values.{value_code}
+
+-- three registers are enough for the code of an expression that needs no more
+abbrev pub RoomIsEnough : Type 0
+RoomIsEnough = (layout : ProgramLayoutData) (tree : Tree) (at : ℕ) →
+    at + (shape_of tree).need ≤ 3 → is_shallow (value_code layout at tree) ≡ true
+
+-- they are enough for all pieces of an expression, and for what is left of it
+abbrev pub PiecesAreSmall : Type 0
+PiecesAreSmall = (t : ℕ) (tree : Tree) →
+    All (λ piece. (shape_of piece).need ≤ 3) (split t tree).0
+    × ((shape_of (split t tree).1).need ≤ 3)
+
+-- Where they are enough for the expression, nothing is split off.
+abbrev pub SmallIsWhole : Type 0
+SmallIsWhole = (t : ℕ) (tree : Tree) → (shape_of tree).need ≤ 3 → split t tree ≡ ([], tree)
+
+-- an assignment or an `if`
+abbrev pub IsPlain : Statement → Type 0
+IsPlain (Assign target tree) = Unit {0}
+IsPlain (If tree) = Unit {0}
+IsPlain _ = ⊥
+
+-- They are enough for each of the lines for such a line.
+abbrev pub FlatLinesAreLevel : Type 0
+FlatLinesAreLevel = (program : ProgramData) (line : Line) → IsPlain line.statement →
+    All (λ one. is_level (flat program) one ≡ true) (lines_for program line)
