@@ -9,8 +9,9 @@ use std::cell::Cell;
 use std::ffi::c_void;
 use std::ptr;
 use std::sync::atomic::{AtomicI64, Ordering};
-use std::sync::{Mutex, PoisonError};
+use std::sync::{Mutex, MutexGuard, PoisonError};
 use std::thread;
+use std::time::Duration;
 
 thread_local! {
     /// How many requests of this thread are granted before one is refused.
@@ -26,6 +27,15 @@ static BLOCKS: AtomicI64 = AtomicI64::new(0);
 
 /// The tests of this file count blocks, so they go one after the other.
 static TURN: Mutex<()> = Mutex::new(());
+
+/// Waits for its turn, and for the last threads of a run, which may go after its answer.
+fn turn() -> MutexGuard<'static, ()> {
+    let turn = TURN.lock().unwrap_or_else(PoisonError::into_inner);
+    while BLOCKS.load(Ordering::Relaxed) != 0 {
+        thread::sleep(Duration::from_millis(1));
+    }
+    turn
+}
 
 fn is_refused() -> bool {
     match GRANTED.get() {
@@ -170,7 +180,7 @@ const JOBS: [&str; 3] = ["conflict.pardo", "squares.pram", "leader_crew.pram"];
 
 #[test]
 fn of_a_command() {
-    let _turn = TURN.lock().unwrap_or_else(PoisonError::into_inner);
+    let _turn = turn();
     let plan = Plan::new().go(0, 9).back(0).stop(1);
     let plan_text = plan.to_string();
     for text in JOBS.map(example) {
@@ -190,7 +200,7 @@ fn of_a_command() {
 
 #[test]
 fn of_a_refusal() {
-    let _turn = TURN.lock().unwrap_or_else(PoisonError::into_inner);
+    let _turn = turn();
     let text = "pram 3\ncells 2\nprocs x\n";
     let plan = Plan::new().stop(0).stop(0);
     refuse(true, || match Job::parse(text) {
@@ -207,7 +217,7 @@ fn of_a_refusal() {
 
 #[test]
 fn of_a_board() {
-    let _turn = TURN.lock().unwrap_or_else(PoisonError::into_inner);
+    let _turn = turn();
     for job in JOBS.map(|name| Job::parse(example(name)).unwrap()) {
         let board = Board::open(&job, 3).unwrap();
         board.worker(1).unwrap().finish();
@@ -224,7 +234,7 @@ fn of_a_board() {
 
 #[test]
 fn handles_are_closed() {
-    let _turn = TURN.lock().unwrap_or_else(PoisonError::into_inner);
+    let _turn = turn();
     let blocks = BLOCKS.load(Ordering::Relaxed);
     let job = Job::parse(example("prefix.pardo")).unwrap();
     let board = Board::open(&job, 3).unwrap();
