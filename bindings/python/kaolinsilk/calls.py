@@ -52,6 +52,7 @@ def cells(text: Source) -> List[int]:
 class Cost(Dict[str, Any]):
     """What a run costs: the lines of docs/FORMATS.md by their names, with `_` for a blank.
 
+    Of a program `time` and `operations` come first.
     `same_read`, `same_write` and `other_value` are None or a dictionary that says where two
     processors first meet. `cost.status` is "done" or "conflict".
     """
@@ -87,7 +88,9 @@ def cost(text: Source) -> Cost:
     names = ("same read", "same write", "other value")
     found = Cost()
     found.status = _library.WORDS[told.status]
-    for line in lines[1:-1]:
+    for line in lines[:-1]:
+        if line == "cost of this input":
+            continue
         name = next((it for it in names if line.startswith(it)), line.partition(" ")[0])
         key = name.replace(" ", "_")
         found[key] = _field(key, line[len(name) + 1 :])

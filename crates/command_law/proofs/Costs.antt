@@ -1,11 +1,16 @@
 -- What costs say of a program's lines.
-use Rattle.std.proofs.Common.{◌≡◌, ◌∙◌, ◌++◌, ℕ, ◌<◌, Bool, true, List, Option, Some, nat_lt}
-use Rattle.std.proofs.Common.{None, ap, sym, inl, inr, refl, codes, decimal, arith, if◌then◌else◌}
-use Rattle.std.specs.Prelude.{IfSome, slice_index}
+use Rattle.std.proofs.Common.{◌≡◌, ◌∙◌, ◌++◌, ◌⊎◌, ◌+◌, ℕ, suc, ◌<◌, Bool, true, false}
+use Rattle.std.proofs.Common.{List, [], ◌∷◌, Option, Some, None, nat_lt, length, map}
+use Rattle.std.proofs.Common.{ap, sym, subst, inl, inr, refl, codes, decimal, arith}
+use Rattle.std.proofs.Common.{if◌then◌else◌}
+use Rattle.std.specs.Prelude.{All, IfSome, slice_get, slice_index, sum_by}
+use Rattle.std.proofs.lemmas.List.Elements.{All-append, All-cons, All-nil}
+use Rattle.std.proofs.lemmas.List.Sums.{sum_by-cons}
 use Rattle.std.proofs.lemmas.Bool.{cases_Bool, ltb-true}
 use Rattle.std.proofs.lemmas.Option.{none-some}
 use Rattle.pram_job.specs.Job.{JobData}
 use Rattle.pram_machine.specs.Machine.{counter, halted}
+use Rattle.pram_step.specs.declared.answer.Dispute.{Dispute}
 use Rattle.pram_step.specs.declared.answer.Fault.{Fault}
 use Rattle.pram_step.specs.declared.answer.RunAnswer.{RunAnswer}
 use Rattle.pram_step.specs.declared.answer.RunAnswer.TheVariants.{Conflict}
@@ -17,25 +22,38 @@ use Rattle.pram_step.specs.Running.{is_running}
 use Rattle.pram_cost.specs.Costs.{IsLength}
 use Rattle.pram_cost.specs.Meetings.{IsFirstMeeting, IsFirstOrNone, Meet, access_by}
 use Rattle.pram_cost.specs.Printed.{cost_text}
+use Rattle.pram_cost.specs.Profiles.{executed_at, most_at, steps_at}
 use Rattle.pram_cost.specs.declared.cost.Cost.{Cost}
 use Rattle.pram_cost.specs.declared.meeting.Meeting.{Meeting}
 use Rattle.pram_cost.specs.declared.meeting.Sharing.{Sharing}
 use Rattle.pram_cost.specs.declared.meeting.Sharing.TheVariants.{SameRead, SameWrite, OtherValue}
 use Rattle.pram_cost.proofs.Accessing.{idle_access}
+use Rattle.pardo_text.specs.declared.statement.Line.{Line}
+use Rattle.pardo_text.specs.Program.{ProgramData}
 use Rattle.pardo_job.specs.Layouts.{program_layout}
 use Rattle.pardo_job.specs.Meaning.{after}
 use Rattle.pardo_job.specs.Printed.{IsConflictText, cell_text}
-use Rattle.pardo_job.specs.Runs.{line_number}
+use Rattle.pardo_job.specs.Runs.{IsProgramConflict, IsProgramEnd, line_number}
+use Rattle.pardo_job.specs.declared.times.CountedLine.{CountedLine}
+use Rattle.pardo_job.specs.Lines.{place_of}
+use Rattle.pardo_job.specs.Times.{AreAllLines, counted_from, counted_line, counted_place}
+use Rattle.pardo_job.specs.Times.{is_counted}
 use Rattle.pardo_law.specs.Between.{AreLinesMade, IsInLine}
+use Rattle.pardo_law.specs.Counted.{TellsLine}
+use Rattle.pardo_law.proofs.Summing.{lines_add_up}
+use Rattle.pardo_law.proofs.Telling.{jobs_tell_lines}
 use Rattle.pardo_answers.specs.Language.{is_program}
 use Rattle.pardo_answers.specs.Laws.{IsAnswerText, IsCarrying}
 use Rattle.pardo_answers.proofs.LawAnswers.{printed_answers_are_the_programs}
-use Rattle.pram_commands.specs.Costs.{TellsCost, cost_words, place_or_cell}
+use Rattle.pram_commands.specs.declared.line_costs.LineCost.{LineCost}
+use Rattle.pram_commands.specs.Costs.{TellsCost, cost_words, line_cost, line_costs}
+use Rattle.pram_commands.specs.Costs.{place_or_cell}
 use Rattle.pram_commands.specs.Names.{AreNames, IsNaming, NamingData}
-use Rattle.command_law.specs.Programs.{AreProgramsCosts, CostsTellTheProgramsLines, IsMeetingOf}
+use Rattle.command_law.specs.Programs.{AreLineCosts, AreProgramsCosts}
+use Rattle.command_law.specs.Programs.{CostsTellTheProgramsLines, IsMeetingOf, line_cost_by}
 use Rattle.command_law.specs.Programs.{BothWrite, IsProgramsJob, MeetByMeaning}
 use Rattle.command_law.proofs.Executing.{halt_access, pid_access}
-use Rattle.command_law.proofs.Jobs.{lawful, no_machines, procs_are, programs_job}
+use Rattle.command_law.proofs.Jobs.{lawful, nested, no_machines, procs_are, programs_job}
 
 -- the steps before the last one of a run are reached
 reached_within : (job : JobData) (n : ℕ) (conflict : Option Fault) → IsLength job n conflict →
@@ -154,7 +172,7 @@ module _ (text : List ℕ) (job : JobData) (naming : NamingData) (names : IsNami
 
   conflict_is : (n : ℕ) (conflict : Option Fault) → IsLength job n conflict →
       IfSome conflict (λ fault.
-      IsConflictText naming.program ((cost_words (Some naming)).conflict fault))
+      IsConflictText naming.program ((cost_words (Some naming) []).conflict fault))
   conflict_is n None length = tt
   conflict_is n (Some fault) length =
       let c : IsCarrying naming.program job (slice_index naming.numbers) = record {
@@ -165,6 +183,127 @@ module _ (text : List ℕ) (job : JobData) (naming : NamingData) (names : IsNami
       no_end fault _ length.1 (printed_answers_are_the_programs naming.program job
       (slice_index naming.numbers) (Conflict fault) naming.ended.lines c length.1
       names.ends.ends_in)
+
+-- ---- the lines
+
+module _ (text : List ℕ) (job : JobData) (naming : NamingData) (names : IsNaming text job naming)
+    (is : IsProgramsJob text job naming) where
+  abbrev program : ProgramData
+  program = naming.program
+
+  -- how many lines the run has
+  all_lines : (n : ℕ) × AreAllLines program n
+  all_lines = by_over is.goes.carries.over
+    where
+      by_over : (n : ℕ) × (IsProgramEnd program n
+          ⊎ ((dispute : Dispute) × IsProgramConflict program n dispute)) →
+          (n : ℕ) × AreAllLines program n
+      by_over over = elim over.1 [
+        | inl end ↦ (over.0, inl end)
+        | inr conflict ↦ (over.0 + 1, inr (over.0, conflict.0, conflict.1, refl))
+      ]
+
+  abbrev n : ℕ
+  n = all_lines.0
+
+  -- a counted line of the program
+  record IsLineOf (counted : CountedLine) : Type 0 where
+    line : Line
+    found : slice_get program.lines counted.at ≡ Some line
+    counts : is_counted line.statement ≡ true
+    first : counted.first ≡ place_of program counted.at
+    own : counted.own ≡ counted_place program counted.at line.depth
+
+  one_by_meaning : (counted : CountedLine) → IsLineOf counted →
+      line_cost job counted ≡ line_cost_by program n counted
+  one_by_meaning counted it =
+      let tells : TellsLine program job n counted.at it.line.depth =
+      jobs_tell_lines program job (slice_index naming.numbers) n counted.at it.line
+      (lawful text job naming names) (nested text job naming names)
+      names.makes all_lines.1 it.found it.counts in
+      λ k. record {
+        line = counted.number;
+        times = (ap (λ (p : ℕ). steps_at job p job.steps) it.first ∙ tells.times) k;
+        time = (ap (λ (p : ℕ). steps_at job p job.steps) it.own ∙ tells.time) k;
+        operations = (ap (λ (p : ℕ). executed_at job p job.steps) it.own ∙ tells.operations) k;
+        most = (ap (λ (p : ℕ). most_at job p job.steps) it.own ∙ tells.most) k;
+      }
+
+  abbrev listed : ℕ → Line → Bool → List CountedLine
+  listed j line b = if b
+      then record {
+        at = j;
+        number = line.number;
+        first = place_of program j;
+        own = counted_place program j line.depth;
+      } ∷ []
+      else []
+
+  one_of_it : (j : ℕ) (line : Line) → slice_get program.lines j ≡ Some line →
+      All IsLineOf (counted_line (place_of program j) j line)
+  one_of_it j line found = by_counted (is_counted line.statement) refl
+    where
+      by_counted : (b : Bool) → is_counted line.statement ≡ b →
+          All IsLineOf (listed j line (is_counted line.statement))
+      by_counted false e = subst (λ b. All IsLineOf (listed j line b)) (sym e) (All-nil IsLineOf)
+      by_counted true e =
+          let it : IsLineOf (record {
+            at = j;
+            number = line.number;
+            first = place_of program j;
+            own = counted_place program j line.depth;
+          }) = record { line = line; found = found; counts = e; first = refl; own = refl } in
+          subst (λ b. All IsLineOf (listed j line b)) (sym e)
+          (All-cons IsLineOf _ [] it (All-nil IsLineOf))
+
+  all_of_it : (j : ℕ) (lines : List Line) → ((k : ℕ) (line : Line) →
+      slice_get lines k ≡ Some line → slice_get program.lines (j + k) ≡ Some line) →
+      All IsLineOf (counted_from program j lines)
+  all_of_it j [] there = All-nil IsLineOf
+  all_of_it j (line ∷ lines) there =
+      let here : j + 0 ≡ j = omega arith in
+      All-append IsLineOf (counted_line (place_of program j) j line)
+      (counted_from program (j + 1) lines)
+      (one_of_it j line (subst (λ k. slice_get program.lines k ≡ Some line) here
+      (there 0 line refl)))
+      (all_of_it (j + 1) lines (λ k other found.
+      let next : j + suc k ≡ j + 1 + k = omega arith in
+      subst (λ m. slice_get program.lines m ≡ Some other) next (there (suc k) other found)))
+
+  all_by_meaning : (counted : List CountedLine) → All IsLineOf counted →
+      map (line_cost job) counted ≡ map (line_cost_by program n) counted
+  all_by_meaning [] are = refl
+  all_by_meaning (one ∷ counted) are =
+      ap (λ (cost : LineCost). cost ∷ map (line_cost job) counted)
+      (one_by_meaning one (are 0 one (omega arith)))
+      ∙ ap (λ (costs : List LineCost). line_cost_by program n one ∷ costs)
+      (all_by_meaning counted (λ k d lt. are (suc k) d (omega arith)))
+
+  sum_of : (f : LineCost → ℕ) (counted : List CountedLine) →
+      sum_by f (map (line_cost_by program n) counted)
+      ≡ sum_by (λ one. f (line_cost_by program n one)) counted
+  sum_of f [] = refl
+  sum_of f (one ∷ counted) =
+      sum_by-cons f (line_cost_by program n one) (map (line_cost_by program n) counted)
+      ∙ ap (λ m. f (line_cost_by program n one) + m) (sum_of f counted)
+      ∙ sym (sum_by-cons (λ c. f (line_cost_by program n c)) one counted)
+
+  costs_by_meaning : AreLineCosts program (line_costs (Some naming) job)
+  costs_by_meaning =
+      let counted : List CountedLine = counted_from program 0 program.lines in
+      let same : map (line_cost job) counted ≡ map (line_cost_by program n) counted =
+      all_by_meaning counted (all_of_it 0 program.lines (λ k line found.
+      let e : k ≡ 0 + k = omega arith in
+      subst (λ m. slice_get program.lines m ≡ Some line) e found)) in
+      let sums = lines_add_up program n in record {
+        n = n;
+        all = all_lines.1;
+        lines_are = same;
+        time = ap (λ (lines : List LineCost). sum_by (λ cost. cost.time) lines) same
+            ∙ sum_of (λ cost. cost.time) counted ∙ sums.1;
+        operations = ap (λ (lines : List LineCost). sum_by (λ cost. cost.operations) lines) same
+            ∙ sum_of (λ cost. cost.operations) counted ∙ sums.0;
+      }
 
 by_names : (text : List ℕ) (job : JobData) (bytes : List ℕ) (answer : Option RunAnswer) →
     is_program text ≡ true → (names : Option NamingData) → AreNames text job names →
@@ -191,8 +330,10 @@ by_names text job bytes answer one (Some naming) names tells same =
           cost.meetings.other_value reached first.other_value;
       conflict = conflict_is text job naming names is cost.steps cost.conflict
           tells.costs.length_is;
+      lines = line_costs (Some naming) job;
+      lines_cost = costs_by_meaning text job naming names is;
       prints = tells.prints ∙ ap (λ (n : Option NamingData).
-          cost_text (cost_words n) cost tells.pram) same;
+          cost_text (cost_words n (line_costs n job)) cost tells.pram) same;
     }
 
 pub costs_tell : CostsTellTheProgramsLines

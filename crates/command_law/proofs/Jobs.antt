@@ -35,17 +35,20 @@ pub lawful : (text : List ℕ) (job : JobData) (naming : NamingData) → IsNamin
 lawful text job naming is = subst (λ (r : Result ProgramData PardoFault). IfOk r IsProgram) is.reads
     (programs_are_lawful text)
 
+pub nested : (text : List ℕ) (job : JobData) (naming : NamingData) → IsNaming text job naming →
+    IsNested naming.program.lines
+nested text job naming is =
+    subst (λ (r : Result ProgramData PardoFault). IfOk r (λ program. IsNested program.lines))
+    is.reads (programs_are_nested text)
+
 pub programs_job : (text : List ℕ) (job : JobData) (naming : NamingData) →
     IsNaming text job naming → IsProgramsJob text job naming
-programs_job text job naming is =
-    let nested : IsNested naming.program.lines =
-    subst (λ (r : Result ProgramData PardoFault). IfOk r (λ program. IsNested program.lines))
-    is.reads (programs_are_nested text) in record {
-      reads = is.reads;
-      made = is.makes.made;
-      goes = jobs_go_through naming.program job (slice_index naming.numbers)
-          (lawful text job naming is) nested is.makes;
-    }
+programs_job text job naming is = record {
+  reads = is.reads;
+  made = is.makes.made;
+  goes = jobs_go_through naming.program job (slice_index naming.numbers)
+      (lawful text job naming is) (nested text job naming is) is.makes;
+}
 
 -- a program's text has its job
 pub its_job : (text : List ℕ) (job : JobData) (names : Option NamingData) →

@@ -1,7 +1,7 @@
 -- What the commands print of a program, in the program's words: its lines, its places, and what
 -- these hold by its meaning.
 use Rattle.std.specs.Prelude.{◌≡◌, ◌⊎◌, ◌++◌, ℕ, ◌+◌, ◌<◌, ◌≤◌, Bool, true, false, List, []}
-use Rattle.std.specs.Prelude.{Option, Some, None, Ok, All, IfSome, map, codes, decimal}
+use Rattle.std.specs.Prelude.{Option, Some, None, Ok, All, IfSome, map, codes, decimal, sum_by}
 use Rattle.std.specs.Prelude.{nat_lt, if◌then◌else◌, slice_index, ⊤}
 use Rattle.std.specs.List.{repeat}
 use Rattle.std.specs.List.Sorted.{IsNonDecreasingBy}
@@ -42,10 +42,14 @@ use Rattle.pardo_job.specs.Meaning.{after}
 use Rattle.pardo_job.specs.Printed.{IsConflictText, cell_text}
 use Rattle.pardo_job.specs.Runs.{IsProgramConflict, IsProgramEnd, IsProgramOver, line_number}
 use Rattle.pardo_job.specs.Runs as source
+use Rattle.pardo_job.specs.Times.{AreAllLines, counted_from, line_most, line_operations}
+use Rattle.pardo_job.specs.Times.{line_time, line_times, operations_to, time_to}
+use Rattle.pardo_job.specs.declared.times.CountedLine.{CountedLine}
 use Rattle.pardo_law.specs.Between.{AreLinesMade, GoesThrough, PutsTo}
 use Rattle.pardo_answers.specs.Language.{is_program}
 use Rattle.pram_commands.specs.CellLists.{AreCellsOf}
-use Rattle.pram_commands.specs.Costs.{cost_words, costing, place_or_cell}
+use Rattle.pram_commands.specs.declared.line_costs.LineCost.{LineCost}
+use Rattle.pram_commands.specs.Costs.{cost_words, costing, place_or_cell, spot_in}
 use Rattle.pram_commands.specs.Names.{Means, NamingData}
 use Rattle.pram_commands.specs.Plain.{checking, no_plan, plainly}
 use Rattle.pram_commands.specs.Replayed.{replaying}
@@ -218,13 +222,32 @@ pub record IsMeetingOf (sharing : Sharing) (naming : NamingData) (time : ℕ →
   pub step : meeting.step ≡ before + 1
   pub lines : ℕ
   pub are_made : AreLinesMade naming.program time before lines
-  pub told : (cost_words (Some naming)).spot meeting ≡ codes " line="
+  pub told : spot_in naming meeting ≡ codes " line="
       ++ decimal (line_number naming.program (after naming.program lines))
       ++ place_or_cell (cell_text naming.program.arrays meeting.cell) meeting
   pub meet : MeetByMeaning sharing naming.program lines meeting
 
--- The bytes are the costs of the program's job, with meetings and a conflict in the program's
--- lines.
+-- what a counted line costs in the first n lines of the run
+abbrev pub line_cost_by : ProgramData → ℕ → CountedLine → LineCost
+line_cost_by program n counted = record {
+  line = counted.number;
+  times = line_times program counted.at n;
+  time = line_time program counted.at n;
+  operations = line_operations program counted.at n;
+  most = line_most program counted.at n;
+}
+
+-- These are the costs of the counted lines, by the meaning; their sums are the time and the
+-- operations of the run.
+pub record AreLineCosts (program : ProgramData) (lines : List LineCost) : Type 0 where
+  pub n : ℕ
+  pub all : AreAllLines program n
+  pub lines_are : lines ≡ map (line_cost_by program n) (counted_from program 0 program.lines)
+  pub time : sum_by (λ cost. cost.time) lines ≡ time_to program n
+  pub operations : sum_by (λ cost. cost.operations) lines ≡ operations_to program n
+
+-- The bytes are the program's time and operations, and the costs of its job, with meetings and a
+-- conflict in the program's lines.
 pub record AreProgramsCosts (text : List ℕ) (job : JobData) (bytes : List ℕ) : Type 0 where
   pub naming : NamingData
   pub is : IsProgramsJob text job naming
@@ -239,9 +262,11 @@ pub record AreProgramsCosts (text : List ℕ) (job : JobData) (bytes : List ℕ)
       (IsMeetingOf SameWrite naming is.goes.carries.time)
   pub other_value : IfSome cost.meetings.other_value
       (IsMeetingOf OtherValue naming is.goes.carries.time)
+  pub lines : List LineCost
+  pub lines_cost : AreLineCosts naming.program lines
   pub conflict : IfSome cost.conflict (λ fault.
-      IsConflictText naming.program ((cost_words (Some naming)).conflict fault))
-  pub prints : bytes ≡ cost_text (cost_words (Some naming)) cost pram
+      IsConflictText naming.program ((cost_words (Some naming) lines).conflict fault))
+  pub prints : bytes ≡ cost_text (cost_words (Some naming) lines) cost pram
 
 abbrev pub CostsTellTheProgramsLines : Type 0
 CostsTellTheProgramsLines = (text : List ℕ) (job : JobData) (bytes : List ℕ)

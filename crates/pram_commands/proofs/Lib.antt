@@ -10,3 +10,4 @@ pub mod Digits
 pub mod Rows
 pub mod Failing
 pub mod Costed
+pub mod Lined

@@ -4,4 +4,5 @@ pub mod Refusals
 pub mod Hearing
 pub mod Watching
 pub mod Places
+pub mod Lines
 pub mod Costed

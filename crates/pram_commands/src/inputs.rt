@@ -9,10 +9,10 @@ ghost use Rattle.pram_commands.specs.Names.{AreNames};
 ghost use Rattle.refusals.specs.declared.fault.CommandFault.TheVariants.{JobDevice};
 ghost use Rattle.stop_plan.specs.Records.{FirstFault, SpellsPlan, no_memory, records_of};
 
+use crate::line_costs::Costs;
 use crate::names::{read_costed, read_text};
 use crate::sources::{Inputs, Sources, Spelled};
 use command_data::Workers;
-use pram_cost::Cost;
 use pram_job::Job;
 use pram_streams::{Source, TakeFault, take};
 use refusals::CommandFault;
@@ -68,7 +68,7 @@ pub(crate) fn take_text<J: Source>(alloc: Global, source: &mut J) -> Result<Spel
 pub(crate) fn take_costed<J: Source>(
     alloc: Global,
     source: &mut J,
-) -> Result<(Spelled, Cost), CommandFault>
+) -> Result<(Spelled, Costs), CommandFault>
     requires { J.has_failed source.old ≡ false }
     ensures costs { IfOk result (λ read. IsCosted read.0 read.1) }
     ensures ok { IfOk result (λ read. GivesText (J.remaining source.old)
@@ -79,8 +79,8 @@ pub(crate) fn take_costed<J: Source>(
     ensures reads { GivesSome (J.remaining source.old) (J.remaining source.new) }
 {
     let text = take(alloc, source).map_err(job_fault)?;
-    let (job, names, cost) = read_costed(alloc, text.as_slice())?;
-    Ok((Spelled { text, job, names }, cost))
+    let (job, names, costs) = read_costed(alloc, text.as_slice())?;
+    Ok((Spelled { text, job, names }, costs))
 }
 
 /// The plan for so many workers that the bytes of a source spell.

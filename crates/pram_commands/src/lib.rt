@@ -7,6 +7,7 @@ mod cell_list;
 pub mod commands;
 mod files;
 mod inputs;
+mod line_costs;
 mod names;
 mod places;
 mod printing;

@@ -6,11 +6,12 @@ ghost use Rattle.pardo_text.specs.Lawful.{AreArrays};
 ghost use Rattle.pardo_job.specs.Compiled.{IsWhole};
 ghost use Rattle.pardo_job.specs.Printed.{cell_text};
 ghost use Rattle.pardo_answers.specs.Language.{is_program};
-ghost use Rattle.pram_cost.specs.Costs.{IsCost, IsLength};
+ghost use Rattle.pram_cost.specs.Costs.{IsLength};
 ghost use Rattle.pram_fates.specs.Told.{line_in};
 ghost use Rattle.pram_job.specs.Job.{JobData};
 ghost use Rattle.pram_step.specs.Runs.{IsAnswer};
 ghost use Rattle.pram_commands.specs.Did.{writing};
+ghost use Rattle.pram_commands.specs.Inner.Costed.{AreCosts};
 ghost use Rattle.pram_commands.specs.Inner.Hearing.{PutText};
 ghost use Rattle.pram_commands.specs.Inner.Refusals.{IsBadOrMemory, IsFaultOf};
 ghost use Rattle.pram_commands.specs.CellLists.{IsPlaceOf};
@@ -19,12 +20,15 @@ ghost use Rattle.pram_commands.specs.Names.{AreNames, IsMachines, line_at, print
 ghost use Rattle.pram_commands.specs.Steps.{numbers_told};
 ghost use Rattle.pram_commands.specs.Threads.{cell_words, or_number};
 
+use crate::line_costs::{Costed, Costs, costs_of, push_sums};
 use crate::places::{cell_at, place_text, push_told};
 use crate::sources::Spelled;
 use pardo_answers::{Names, is_program, print_named, push_conflict};
-use pardo_job::{Ended, JobFault, JobKind, Refusal as ProgramRefusal, compile, draft_in, finish};
+use pardo_job::{
+    Ended, JobFault, JobKind, Refusal as ProgramRefusal, compile, counted_lines, draft_in, finish,
+};
 use pardo_text::{Array, PardoFault, PardoKind, Program};
-use pram_cost::{ByCells, Cost, CostNames, Meeting, Tally, cost_of};
+use pram_cost::{ByCells, CostNames, Measure, Meeting, cost_of};
 use pram_fates::Origin;
 use pram_job::Job;
 use pram_run::{CellNames, Numbers};
@@ -104,13 +108,13 @@ impl CellNames for Spelled {
     }
 }
 
-impl CostNames for Spelled {
-    ghost words = { λ spelled. cost_words spelled.names };
+impl CostNames for Costed<'_> {
+    ghost words = { λ costed. cost_words costed.spelled.now.names costed.lines.now };
 
     fn push_head(&self, text: &mut Vec<u8>) -> Result<(), AllocError> {
-        match &self.names {
+        match &self.spelled.names {
             None => ByCells.push_head(text),
-            Some(_) => Ok(()),
+            Some(_) => push_sums(text, self.lines),
         }
     }
 
@@ -120,19 +124,19 @@ impl CostNames for Spelled {
         text: &mut Vec<u8>,
         meeting: Meeting,
     ) -> Result<(), AllocError> {
-        match &self.names {
+        match &self.spelled.names {
             None => ByCells.push_spot(alloc, text, meeting),
             Some(naming) => push_spot(alloc, text, naming, meeting),
         }
     }
 
     fn push_conflict(&self, text: &mut Vec<u8>, fault: Fault) -> Result<(), AllocError> {
-        match &self.names {
+        match &self.spelled.names {
             None => ByCells.push_conflict(text, fault),
             Some(naming) => {
                 let names = Names {
                     program: &naming.program,
-                    steps: self.job.steps(),
+                    steps: self.spelled.job.steps(),
                     lines: &naming.ended.lines,
                 };
                 push_conflict(text, &names, &fault)
@@ -235,45 +239,48 @@ fn read_machine(alloc: Global, text: &[u8]) -> Result<Job, CommandFault>
 pub(crate) fn read_costed(
     alloc: Global,
     text: &[u8],
-) -> Result<(Job, Option<Naming>, Cost), CommandFault>
+) -> Result<(Job, Option<Naming>, Costs), CommandFault>
     ensures read { IfOk result (λ read. AreNames text.now read.0 read.1) }
-    ensures costs { IfOk result (λ read. IsCost read.0 read.2) }
+    ensures costs { IfOk result (λ read. AreCosts read.1 read.0 read.2) }
     ensures bad { IfErr result (IsBadOrMemory text.now) }
 {
     if is_program(text) {
-        let (job, naming, cost) = cost_program(alloc, text)?;
-        Ok((job, Some(naming), cost))
+        let (job, naming, costs) = cost_program(alloc, text)?;
+        Ok((job, Some(naming), costs))
     } else {
         let job = read_machine(alloc, text)?;
         let cost = cost_of(alloc, &job)?;
-        Ok((job, None, cost))
+        let lines = Vec::new(alloc);
+        Ok((job, None, Costs { cost, lines }))
     }
 }
 
 // A program's job, what its answers are told by, and what its run costs.
-fn cost_program(alloc: Global, text: &[u8]) -> Result<(Job, Naming, Cost), CommandFault>
+fn cost_program(alloc: Global, text: &[u8]) -> Result<(Job, Naming, Costs), CommandFault>
     requires { is_program text.now ≡ true }
     ensures read { IfOk result (λ read. AreNames text.now read.0 (Some read.1)) }
-    ensures costs { IfOk result (λ read. IsCost read.0 read.2) }
+    ensures costs { IfOk result (λ read. AreCosts (Some read.1) read.0 read.2) }
     ensures bad { IfErr result (IsBadOrMemory text.now) }
 {
     let draft = match draft_in(alloc, text) {
         Ok(draft) => draft,
         Err(refusal) => return Err(fault_of(refusal)),
     };
-    let tally = Tally::new(alloc, &draft.job)?;
-    let (program, compiled, tally) = match finish(alloc, draft, tally) {
+    let counted = counted_lines(alloc, &draft.program, draft.places.as_slice())?;
+    let measure = Measure::new(alloc, &draft.job)?;
+    let (program, compiled, measure) = match finish(alloc, draft, measure) {
         Ok(given) => given,
         Err(fault) => return Err(fault_of(ProgramRefusal::Job(fault))),
     };
     let (job, numbers, ended) = compiled.into_parts();
-    let cost = tally.into_cost(conflict_of(&ended.answer));
+    let cost = measure.tally.into_cost(conflict_of(&ended.answer));
+    let lines = costs_of(alloc, counted.as_slice(), &measure.profile)?;
     let naming = Naming {
         program,
         numbers,
         ended,
     };
-    Ok((job, naming, cost))
+    Ok((job, naming, Costs { cost, lines }))
 }
 
 // The conflict in which a job ends that has as many steps as it needs.

@@ -56,6 +56,10 @@ impl fmt::Display for Pram {
 /// ```
 #[derive(Clone, Debug, PartialEq, Eq)]
 pub struct Cost {
+    /// Of a program its time: the counted lines in which some processor is active.
+    pub time: Option<u64>,
+    /// Of a program its operations: how often a processor is active in a counted line.
+    pub operations: Option<u64>,
     /// The steps of the run: all of the job's, or those up to its conflict, which counts too.
     pub steps: u32,
     /// The processors.
@@ -102,6 +106,8 @@ impl Cost {
     pub(crate) fn of_text(text: String) -> Option<Cost> {
         let is_done = line(&text, "done ").is_some();
         Some(Cost {
+            time: count(&text, "time "),
+            operations: count(&text, "operations "),
             steps: count(&text, "steps ")?,
             processors: count(&text, "processors ")?,
             product: count(&text, "product ")?,
@@ -177,8 +183,8 @@ fn count<T: FromStr>(text: &str, name: &str) -> Option<T> {
 mod tests {
     use super::{Cost, Ended, Meeting, Place, Pram};
 
-    const OF_PROGRAM: &str = "cost of this input\nsteps 5\nprocessors 4\nproduct 20\nwork 19\n\
-        most 4\nreading 2\nwriting 1\nneeds CRCW priority\n\
+    const OF_PROGRAM: &str = "time 1\noperations 4\ncost of this input\nsteps 5\nprocessors 4\n\
+        product 20\nwork 19\nmost 4\nreading 2\nwriting 1\nneeds CRCW priority\n\
         same read step=2 line=12 place=A[3] processors=0,1\n\
         same write none\nother value step=5 line=12 cell=7 processors=0,3\n\
         conflict line=12 place=sum processors=0,1\n";
@@ -186,6 +192,7 @@ mod tests {
     #[test]
     fn a_cost_is_its_lines() {
         let cost = Cost::of_text(OF_PROGRAM.to_owned()).unwrap();
+        assert_eq!((cost.time, cost.operations), (Some(1), Some(4)));
         assert_eq!((cost.steps, cost.processors, cost.product), (5, 4, 20));
         assert_eq!(
             (cost.work, cost.most, cost.reading, cost.writing),

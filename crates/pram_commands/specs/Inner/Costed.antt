@@ -1,10 +1,18 @@
 -- What was read where the cost is asked for.
-use Rattle.pram_cost.specs.declared.cost.Cost.{Cost}
+use Rattle.std.specs.Prelude.{◌≡◌, Option}
+use Rattle.pram_job.specs.Job.{JobData}
 use Rattle.pram_cost.specs.Costs.{IsCost}
+use Rattle.pram_commands.specs.declared.line_costs.Costs.{Costs}
 use Rattle.pram_commands.specs.declared.sources.Spelled.{Spelled}
-use Rattle.pram_commands.specs.Names.{AreNames}
+use Rattle.pram_commands.specs.Costs.{line_costs}
+use Rattle.pram_commands.specs.Names.{AreNames, NamingData}
+
+-- what the job's run costs, and what it tells of the counted lines of its program
+pub record AreCosts (names : Option NamingData) (job : JobData) (costs : Costs) : Type 0 where
+  pub cost : IsCost job costs.cost
+  pub lines : costs.lines.items ≡ line_costs names job
 
 -- a text, its job with what its answers are told by, and what the job's run costs
-pub record IsCosted (spelled : Spelled) (cost : Cost) : Type 0 where
+pub record IsCosted (spelled : Spelled) (costs : Costs) : Type 0 where
   pub names : AreNames spelled.text.items spelled.job spelled.names
-  pub costs : IsCost spelled.job cost
+  pub are_costs : AreCosts spelled.names spelled.job costs

@@ -18,6 +18,7 @@ ghost use Rattle.refusals.specs.declared.fault.CommandFault.TheVariants.{JobDevi
 
 use crate::commands::{print_ending, printed};
 use crate::inputs::{take_costed, take_inputs, take_job, take_text};
+use crate::line_costs::{Costed, Costs};
 use crate::names::lines_of;
 use crate::sources::{Inputs, Sources, Spelled};
 use crate::why::put_told;
@@ -146,24 +147,28 @@ pub fn cost<J: Source, P: Source, O: Sink>(
     ensures { Did costing (taking J.Source P.Source sources.old sources.new)
         (writing O.Sink out.old out.new) tells_conflict result }
 {
-    let (spelled, cost) = take_costed(alloc, &mut sources.job)?;
-    printed(put_cost(alloc, &spelled, cost, out))
+    let (spelled, costs) = take_costed(alloc, &mut sources.job)?;
+    printed(put_cost(alloc, &spelled, &costs, out))
 }
 
 fn put_cost<O: Sink>(
     alloc: Global,
     spelled: &Spelled,
-    cost: Cost,
+    costs: &Costs,
     out: &mut O,
 ) -> Result<Cost, PrintFault>
     requires output { O.has_failed out.old ≡ false }
-    requires costs { IsCosted spelled.now cost }
+    requires costs { IsCosted spelled.now costs.now }
     ensures { PutsAnswer (TellsCost spelled.now.text.items spelled.now.job) ⊥
         (writing O.Sink out.old out.new) tells_conflict result }
 {
-    let pram = cost.needs();
-    print_cost(alloc, out, &cost, pram, spelled)?;
-    Ok(cost)
+    let pram = costs.cost.needs();
+    let names = Costed {
+        spelled,
+        lines: costs.lines.as_slice(),
+    };
+    print_cost(alloc, out, &costs.cost, pram, &names)?;
+    Ok(costs.cost)
 }
 
 /// Reads a job, and prints the steps of the window as they are made, of a program with the lines of

@@ -1,0 +1,21 @@
+-- What was counted of the lines of a program.
+use Rattle.std.specs.Prelude.{◌<◌, ◌^◌, List, sum_by}
+use Rattle.pram_cost.specs.Profiled.{row_at}
+use Rattle.pram_cost.specs.declared.profile.Tallied.{Tallied}
+use Rattle.pardo_job.specs.declared.times.CountedLine.{CountedLine}
+use Rattle.pram_commands.specs.declared.line_costs.LineCost.{LineCost}
+
+-- their time and their operations are numbers of 64 bits
+pub record AreSmall (lines : List LineCost) : Type 0 where
+  pub time : sum_by (λ cost. cost.time) lines < 2 ^ 64
+  pub operations : sum_by (λ cost. cost.operations) lines < 2 ^ 64
+
+-- what was counted of a line
+abbrev pub line_by : List Tallied → CountedLine → LineCost
+line_by rows counted = record {
+  line = counted.number;
+  times = (row_at rows counted.first).executed.steps;
+  time = (row_at rows counted.own).executed.steps;
+  operations = (row_at rows counted.own).executed.times;
+  most = (row_at rows counted.own).executed.most;
+}
