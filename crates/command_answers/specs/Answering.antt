@@ -1,22 +1,54 @@
 -- What a status says of the words that the program was given.
-use Rattle.std.specs.Prelude.{◌≡◌, ◌⊎◌, ℕ, Bool, List, Option}
+use Rattle.std.specs.Prelude.{◌≡◌, ◌⊎◌, ℕ, Bool, List, [], Option, None, Some}
+use Rattle.std.specs.Global.{Vec}
 use Rattle.clap.specs.Words.{IsAmong, Text, fault_of, subcommand_of}
 use Rattle.clap.specs.declared.error.kind.ErrorKind.TheVariants.{DisplayHelp, DisplayVersion}
 use Rattle.command_data.specs.declared.line.Ask.TheVariants.{OnThreads}
 use Rattle.command_data.specs.declared.line.AskOnThreads.{AskOnThreads}
 use Rattle.command_data.specs.declared.line.Line.{Line}
 use Rattle.pram_commands.specs.Did.{Writing}
-use Rattle.pram_commands.specs.Files.{ServesFiles}
-use Rattle.refusals.specs.declared.refusal.TheConstants.{DONE, FAILED, MEMORY}
-use Rattle.command_line.specs.CommandLine.{IsAskedLine, MeanNoLine, pramx}
+use Rattle.pram_commands.specs.Files.{ServesFiles, ServesText}
+use Rattle.refusals.specs.declared.refusal.TheConstants.{DONE, FAILED, MEMORY, REFUSED}
+use Rattle.command_line.specs.CommandLine.{HasSettings, IsAskedLine, MeanNoLine, pramx}
 use Rattle.command_line.specs.declared.line.Asked.{Asked}
+use Rattle.command_answers.specs.Setting.{IsSetText}
+use Rattle.command_answers.specs.declared.answer.Waiting.{Waiting}
 
--- The words mean a line, on such a device, and it was served from the files that it names.
+-- The words mean a line, on such a device, and set no name, and it was served from the files that it
+-- names.
 pub record ServesWords (Holds : List ℕ → Option (List ℕ) → Type 0) (Fails : Type 0)
     (words : List Text) (on_terminal : Bool) (writes : Writing) (status : ℕ) : Type 0 where
   pub asked : Asked
   pub met : IsAskedLine on_terminal (subcommand_of pramx words) asked
+  pub plain : HasSettings (subcommand_of pramx words) []
   pub serves : ServesFiles Holds Fails asked.line writes status
+
+-- The line was served with the text of its file as these words set names.
+pub record ServesLineSet (Holds : List ℕ → Option (List ℕ) → Type 0) (Fails : Type 0) (line : Line)
+    (given : List Text) (writes : Writing) (status : ℕ) : Type 0 where
+  pub text : List ℕ
+  pub set : IsSetText Holds line.file.now given text
+  pub serves : ServesText text Holds Fails line writes status
+
+-- A setting is refused, or a file failed, or memory ran out, and nothing was written.
+abbrev pub RefusesSet : Writing → ℕ → Type 0
+RefusesSet writes status =
+    ((status ≡ REFUSED) ⊎ ((status ≡ FAILED) ⊎ (status ≡ MEMORY))) × writes.Unwritten
+
+abbrev pub ServesOrRefusesSet : (List ℕ → Option (List ℕ) → Type 0) → Type 0 → Line → List Text →
+    Writing → ℕ → Type 0
+ServesOrRefusesSet Holds Fails line given writes status =
+    ServesLineSet Holds Fails line given writes status ⊎ RefusesSet writes status
+
+-- The words mean a line, on such a device, and set names: the line was served so, or the settings
+-- are refused.
+pub record ServesSet (Holds : List ℕ → Option (List ℕ) → Type 0) (Fails : Type 0)
+    (words : List Text) (on_terminal : Bool) (writes : Writing) (status : ℕ) : Type 0 where
+  pub asked : Asked
+  pub met : IsAskedLine on_terminal (subcommand_of pramx words) asked
+  pub given : List Text
+  pub sets : HasSettings (subcommand_of pramx words) given
+  pub serves : ServesOrRefusesSet Holds Fails asked.line given writes status
 
 -- The words are served as a line, unless they mean none, or memory ran out before anything was
 -- written.
@@ -24,7 +56,8 @@ abbrev pub AnswersWords :
     (List ℕ → Option (List ℕ) → Type 0) → Type 0 → List Text → Bool → Writing → ℕ → Type 0
 AnswersWords Holds Fails words on_terminal writes status =
     ServesWords Holds Fails words on_terminal writes status
-    ⊎ (MeanNoLine words ⊎ ((status ≡ MEMORY) × writes.Unwritten))
+    ⊎ (ServesSet Holds Fails words on_terminal writes status
+    ⊎ (MeanNoLine words ⊎ ((status ≡ MEMORY) × writes.Unwritten)))
 
 -- The words ask for help or for the version.
 abbrev pub AskForHelp : List Text → Type 0
@@ -38,11 +71,33 @@ EndsByWords words writes status = MeanNoLine words →
     ((status ≡ DONE) × AskForHelp words)
     ⊎ (((status ≡ FAILED) ⊎ (status ≡ MEMORY)) × (AskForHelp words ⊎ writes.Unwritten))
 
--- The words mean this line, on such a device, which is done on threads.
-pub record AskForThreads (words : List Text) (on_terminal : Bool) (line : Line) : Type 0 where
-  pub asked : Asked
-  pub met : IsAskedLine on_terminal (subcommand_of pramx words) asked
-  pub is : line ≡ asked.line
-  pub taken : ¬ MeanNoLine words
+-- A line that waited for threads was served: with its text where it has one, else with its file.
+abbrev pub ServesWaiting : (List ℕ → Option (List ℕ) → Type 0) → Type 0 → Option (Vec ℕ) → Line →
+    Writing → ℕ → Type 0
+ServesWaiting Holds Fails None line writes status = ServesFiles Holds Fails line writes status
+ServesWaiting Holds Fails (Some text) line writes status =
+    ServesText text.items Holds Fails line writes status
+
+-- the text of a line's file as these words set names, if they set some
+abbrev pub IsTextIfSet : (List ℕ → Option (List ℕ) → Type 0) → List ℕ → List Text →
+    Option (Vec ℕ) → Type 0
+IsTextIfSet Holds file given None = given ≡ []
+IsTextIfSet Holds file given (Some text) = IsSetText Holds file given text.items
+
+-- This line, which is done on threads, and its text as these words set names, wait.
+pub record WaitsFor (Holds : List ℕ → Option (List ℕ) → Type 0) (line : Line) (given : List Text)
+    (waiting : Waiting) : Type 0 where
+  pub is : waiting.line ≡ line
+  pub text : IsTextIfSet Holds line.file.now given waiting.text
   pub asks : AskOnThreads
   pub threads : line.ask ≡ OnThreads asks
+
+-- The words mean a line, on such a device, which is done on threads: it waits.
+pub record AskForThreads (Holds : List ℕ → Option (List ℕ) → Type 0) (words : List Text)
+    (on_terminal : Bool) (waiting : Waiting) : Type 0 where
+  pub asked : Asked
+  pub met : IsAskedLine on_terminal (subcommand_of pramx words) asked
+  pub given : List Text
+  pub sets : HasSettings (subcommand_of pramx words) given
+  pub taken : ¬ MeanNoLine words
+  pub waits : WaitsFor Holds asked.line given waiting

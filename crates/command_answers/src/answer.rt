@@ -5,11 +5,14 @@ ghost use Rattle.clap.specs.Words.{kind_of};
 ghost use Rattle.pram_commands.specs.Did.{writing};
 ghost use Rattle.pram_commands.specs.Files.{MayFail};
 ghost use Rattle.command_answers.specs.Answering.{AnswersWords, AskForThreads, EndsByWords};
+ghost use Rattle.command_answers.specs.Answering.{ServesOrRefusesSet, ServesWaiting, WaitsFor};
 
+use crate::setting::set_text;
 use clap::error::ErrorKind;
 use command_line::read_line;
 use pram_commands::{
-    Ask, Console, DONE, FAILED, Folder, Line, MEMORY, Refusal, serve_files, serve_files_alone, tell,
+    Ask, Console, DONE, FAILED, Folder, Line, MEMORY, Refusal, serve_files, serve_files_alone,
+    serve_text, serve_text_alone, tell,
 };
 use pram_streams::{Sink, put};
 use std::alloc::Global;
@@ -37,18 +40,44 @@ pub fn answer_words<'a, R: Eprint + Threads + Wait + Clock + Sync, F: Folder, O:
 {
     match answer_alone(alloc, folder, words, console) {
         Ok(status) => status,
-        Err(line) => serve_files(rt, alloc, folder, &line, console),
+        Err(waiting) => serve_waiting(rt, alloc, folder, &waiting, console),
+    }
+}
+
+/// A line that is done on threads, and the text of its job where the words set names.
+#[derive(Drop)]
+pub struct Waiting<'a> {
+    pub line: Line<'a>,
+    pub text: Option<Vec<u8>>,
+}
+
+/// Does what waits for threads.
+pub fn serve_waiting<R: Eprint + Threads + Wait + Clock + Sync, F: Folder, O: Sink, E: Sink>(
+    rt: &R,
+    alloc: Global,
+    folder: &F,
+    waiting: &Waiting<'_>,
+    console: &mut Console<O, E>,
+) -> u8
+    requires out { O.has_failed console.old.out ≡ false }
+    requires err { E.has_failed console.old.err ≡ false }
+    ensures { ServesWaiting (F.holds folder.now) (MayFail F.File.Source) waiting.now.text
+        waiting.now.line (writing O.Sink console.old.out console.new.out) result }
+{
+    match &waiting.text {
+        None => serve_files(rt, alloc, folder, &waiting.line, console),
+        Some(text) => serve_text(rt, alloc, folder, &waiting.line, text.as_slice(), console),
     }
 }
 
 /// Does what `answer_words` does where the words ask nothing on threads, and always returns; else
-/// it gives their line, for which nothing was done.
+/// it gives their line, for which nothing was written.
 pub fn answer_alone<'a, F: Folder, O: Sink, E: Sink>(
     alloc: Global,
     folder: &F,
     words: &'a [&'a str],
     console: &mut Console<O, E>,
-) -> Result<u8, Line<'a>>
+) -> Result<u8, Waiting<'a>>
     requires out { O.has_failed console.old.out ≡ false }
     requires err { E.has_failed console.old.err ≡ false }
     ensures status { IfOk result (λ status. status ≤ MEMORY) }
@@ -57,19 +86,58 @@ pub fn answer_alone<'a, F: Folder, O: Sink, E: Sink>(
     ensures answers { IfOk result (AnswersWords (F.holds folder.now) (MayFail F.File.Source)
         (map (λ word. word.now) words.entry.now) console.old.is_terminal
         (writing O.Sink console.old.out console.new.out)) }
-    ensures line { IfErr result (AskForThreads (map (λ word. word.now) words.entry.now)
-        console.old.is_terminal) }
+    ensures line { IfErr result (AskForThreads (F.holds folder.now)
+        (map (λ word. word.now) words.entry.now) console.old.is_terminal) }
     ensures still { OnErr result ((console.new.out ≡ console.old.out)
         × (console.new.err ≡ console.old.err)) }
 {
-    let asked = match read_line(alloc, words, console.is_terminal) {
-        Ok(asked) => asked,
+    let (asked, settings) = match read_line(alloc, words, console.is_terminal) {
+        Ok(given) => given,
         Err(error) => return Ok(refusal_status(alloc, &error, console)),
     };
     console.explains |= asked.explain;
-    match asked.line.ask {
-        Ask::Alone(ask) => Ok(serve_files_alone(alloc, folder, &asked.line, ask, console)),
-        Ask::OnThreads(_) => Err(asked.line),
+    let line = asked.line;
+    match settings.as_slice() {
+        [] => match line.ask {
+            Ask::Alone(ask) => Ok(serve_files_alone(alloc, folder, &line, ask, console)),
+            Ask::OnThreads(_) => Err(Waiting { line, text: None }),
+        },
+        given => answer_set(alloc, folder, line, given, console),
+    }
+}
+
+// Does what a line asks with the text of its file as these words set names, or gives the line and
+// the text where it asks for threads.
+fn answer_set<'a, F: Folder, O: Sink, E: Sink>(
+    alloc: Global,
+    folder: &F,
+    line: Line<'a>,
+    settings: &[&'a str],
+    console: &mut Console<O, E>,
+) -> Result<u8, Waiting<'a>>
+    requires out { O.has_failed console.old.out ≡ false }
+    requires err { E.has_failed console.old.err ≡ false }
+    ensures served { IfOk result (ServesOrRefusesSet (F.holds folder.now) (MayFail F.File.Source)
+        line.entry (map (λ word. word.now) settings.now)
+        (writing O.Sink console.old.out console.new.out)) }
+    ensures waiting { IfErr result (WaitsFor (F.holds folder.now) line.entry
+        (map (λ word. word.now) settings.now)) }
+    ensures still { OnErr result ((console.new.out ≡ console.old.out)
+        × (console.new.err ≡ console.old.err)) }
+{
+    let text = match set_text(alloc, folder, line.file, settings) {
+        Ok(text) => text,
+        Err(refusal) => return Ok(tell(alloc, refusal, &mut console.err)),
+    };
+    match line.ask {
+        Ask::Alone(ask) => {
+            let text = text.as_slice();
+            Ok(serve_text_alone(alloc, folder, &line, ask, text, console))
+        }
+        Ask::OnThreads(_) => {
+            let text = Some(text);
+            Err(Waiting { line, text })
+        }
     }
 }
 

@@ -5,6 +5,7 @@
 
 mod answer;
 mod input;
+mod setting;
 
-pub use answer::{answer_alone, answer_words};
+pub use answer::{Waiting, answer_alone, answer_words, serve_waiting};
 pub use input::{Input, RealFiles};

@@ -1,14 +1,15 @@
 -- What matches say of a subcommand, of a number and of a flag.
 use Rattle.std.proofs.Common.{◌≡◌, ◌∙◌, ℕ, Bool, true, false, List, Option, None, Some, option_map}
-use Rattle.std.proofs.Common.{codes, refl, subst, sym}
+use Rattle.std.proofs.Common.{ap, codes, refl, subst, sym, unwrap_or, []}
 use Rattle.std.specs.Prelude.{IsSomeAnd}
 use Rattle.std.specs.Str.Parse.{digits_value, without_leading_plus}
 use Rattle.clap.specs.Words.{Row, Text, first_of, first_value, found_of, one_of, one_text, rows_of}
 use Rattle.clap.specs.Words.{subcommand_name_of, subcommand_rows_of}
 use Rattle.clap.specs.declared.ArgMatches.{ArgMatches}
 use Rattle.clap.specs.declared.parser.matches.Found.{Found}
-use Rattle.clap.proofs.WalkLemmas.{first_value-rows, one_text-rows}
-use Rattle.command_line.specs.CommandLine.{HasFile, HasFlag, IsFlag}
+use Rattle.clap.proofs.WalkLemmas.{first_value-rows, one_text-rows, raw_values-rows}
+use Rattle.clap.specs.Matches.{matched_of, raw_values}
+use Rattle.command_line.specs.CommandLine.{HasFile, HasFlag, HasSettings, IsFlag}
 
 abbrev pub both : {B X Y : Type 0} → (B → X) → (B → Y) → B → X × Y
 both f g b = (f b, g b)
@@ -68,3 +69,13 @@ pub met_plan : (inner : ArgMatches) (plan : Option Text) →
     plan ≡ first_value (found_of inner) (codes "plan") →
     first_of (codes "plan") (rows_of (found_of inner)) ≡ plan
 met_plan inner plan is = sym (is ∙ first_value-rows (found_of inner) (codes "plan"))
+
+-- what names are set to, where it was met
+pub has_settings : (matches : Option (Text × List Row)) (name : Text) (f : Found)
+    (given : List Text) → matches ≡ Some (name, rows_of f) →
+    given ≡ unwrap_or (option_map raw_values (matched_of f (codes "set"))) [] →
+    HasSettings matches given
+has_settings matches name f given is holds =
+    subst (λ (o : Option (Text × List Row)). HasSettings o given) (sym is)
+    (holds ∙ ap (λ (values : Option (List Text)). unwrap_or values [])
+    (raw_values-rows f (codes "set")))

@@ -2,12 +2,12 @@
 use Rattle.std.specs.Prelude.{◌≡◌, ◌≢◌, ◌<◌, ◌≤◌, ◌⊎◌, ◌-◌, ◌^◌, MatchOption, ℕ, Bool, true, false}
 use Rattle.std.specs.Prelude.{⊤}
 use Rattle.std.specs.Prelude.{List, [], Option, Some, None, Result, IsErrAnd, IsSomeAnd, codes, pos}
-use Rattle.std.specs.Prelude.{IfSome, option_map}
+use Rattle.std.specs.Prelude.{IfSome, option_map, unwrap_or}
 use Rattle.std.specs.Str.Parse.{digits_value, without_leading_plus}
 use Rattle.clap.specs.Words.{App, FailsBy, Row, Rule, Text}
-use Rattle.clap.specs.Words.{fault_of, first_of, kind_of, new_app, new_rule}
+use Rattle.clap.specs.Words.{all_of, fault_of, first_of, kind_of, new_app, new_rule}
 use Rattle.clap.specs.Words.{one_of, subcommand_of, takes, with_rule, with_subcommand}
-use Rattle.clap.specs.declared.builder.action.ArgAction.TheVariants.{Set, SetTrue}
+use Rattle.clap.specs.declared.builder.action.ArgAction.TheVariants.{Append, Set, SetTrue}
 use Rattle.clap.specs.declared.error.Error.{Error}
 use Rattle.clap.specs.declared.error.kind.ErrorKind.TheVariants.{OutOfMemory, ValueValidation}
 use Rattle.clap.specs.declared.builder.value_parser.ValueParser.TheVariants.{Signed}
@@ -49,10 +49,15 @@ needed rule = record rule { required = true }
 abbrev pub flag_rule : Text → Rule
 flag_rule name = record (new_rule name) { long = Some name; action = Some SetTrue }
 
--- NAME FILE [--explain]
+-- an option with a value that may stand several times
+abbrev pub list_rule : Text → Rule
+list_rule name = record (option_rule name) { action = Some Append }
+
+-- NAME FILE [--explain] [--set NAME=V,..]..
 abbrev pub on_file : Text → App
-on_file name = with_rule (with_rule (new_app name) (needed (placed_rule (codes "file"))))
-    (flag_rule (codes "explain"))
+on_file name =
+    with_rule (with_rule (with_rule (new_app name) (needed (placed_rule (codes "file"))))
+    (flag_rule (codes "explain"))) (list_rule (codes "set"))
 
 -- plain FILE [--why]
 abbrev pub on_plain : App
@@ -245,6 +250,11 @@ pub record IsAskedLine (on_terminal : Bool) (matches : Option (Text × List Row)
   pub line : IsMet matches asked.line
   pub telling : SuitsTerminal on_terminal (telling_of asked.line.ask)
   pub explain : HasFlag (codes "explain") matches asked.explain
+
+-- What names are set to: all values of the option, as they stand.
+abbrev pub HasSettings : Option (Text × List Row) → List Text → Type 0
+HasSettings matches settings =
+    IfSome matches (λ met. settings ≡ unwrap_or (all_of (codes "set") met.1) [])
 
 -- What stands for cells names none.
 pub record HasBadCells (rows : List Row) : Type 0 where

@@ -11,7 +11,8 @@ ghost use Rattle.command_line.specs.CommandLine.{HasBadCells, HasBadValue, HasBa
 ghost use Rattle.command_line.specs.CommandLine.{HasManner, IsAskedLine, IsBlockIfSet, IsMet};
 ghost use Rattle.command_line.specs.CommandLine.{IsNumberIfSet, IsNumberOf, IsNumberOr};
 ghost use Rattle.command_line.specs.CommandLine.{MeanNoLine, bare};
-ghost use Rattle.command_line.specs.CommandLine.{flag_rule, needed, number_rule, on_file};
+ghost use Rattle.command_line.specs.CommandLine.{HasSettings, flag_rule, list_rule, needed};
+ghost use Rattle.command_line.specs.CommandLine.{number_rule, on_file};
 ghost use Rattle.command_line.specs.CommandLine.{on_machine, on_plain, on_replay, on_run, on_steps};
 ghost use Rattle.command_line.specs.CommandLine.{on_watch, option_rule, placed_rule, pramx};
 ghost use Rattle.command_line.specs.CommandLine.{SuitsTerminal, telling_of};
@@ -53,6 +54,9 @@ const FILE: &str = "The text of the job; - is standard input";
 
 const EXPLAIN: &str = "Explain a refusal in a sentence, as on a terminal";
 
+const SET: &str =
+    "Set a constant or an array of a program: NAME=V, NAME=V,V,.. or NAME=@FILE, as CSV";
+
 const WHY: &str = "Say after the answer what became of the processors";
 
 const FROM: &str = "The first step to print, which the job must have; 1 if it is left out";
@@ -84,17 +88,22 @@ pub struct Asked<'a> {
 }
 
 /// What the words ask, of which the first is the program's name, where standard error is a terminal
-/// or not. A call for help or for the version is an error too, as `clap` has it.
+/// or not, and what they set names to. A call for help or for the version is an error too, as `clap`
+/// has it.
 // What clap needs of the stack is given back before a line is served.
 #[inline(never)]
 pub fn read_line<'a>(
     alloc: Global,
     words: &'a [&'a str],
     on_terminal: bool,
-) -> Result<Asked<'a>, Error>
-    ensures met { IfOk result
-        (IsAskedLine on_terminal (subcommand_of pramx (map (λ word. word.now) words.entry.now))) }
-    ensures taken { IfOk result (λ asked. ¬ MeanNoLine (map (λ word. word.now)
+) -> Result<(Asked<'a>, Vec<&'a str>), Error>
+    ensures met { IfOk result (λ given.
+        IsAskedLine on_terminal (subcommand_of pramx (map (λ word. word.now) words.entry.now))
+        given.0) }
+    ensures settings { IfOk result (λ given.
+        HasSettings (subcommand_of pramx (map (λ word. word.now) words.entry.now))
+        (map (λ word. word.now) given.1.items)) }
+    ensures taken { IfOk result (λ given. ¬ MeanNoLine (map (λ word. word.now)
         words.entry.now)) }
     ensures refused { IfErr result (λ error. kind_of error ≢ ErrorKind.OutOfMemory
         → AreRefused (map (λ word. word.now) words.entry.now)) }
@@ -108,8 +117,22 @@ pub fn read_line<'a>(
         return Err(value_error(alloc, bad)?);
     }
     match asked_of(&matches, on_terminal) {
-        Some(asked) => Ok(asked),
+        Some(asked) => Ok((asked, settings_of(alloc, &matches)?)),
         None => Err(Error::from(AllocError)),
+    }
+}
+
+// What names are set to, each as it was written.
+fn settings_of<'a>(alloc: Global, matches: &ArgMatches<'a>) -> Result<Vec<&'a str>, AllocError>
+    ensures { IfOk result (λ settings. HasSettings (subcommand_rows_of matches.now)
+        (map (λ word. word.now) settings.items)) }
+{
+    let Some((_, inner)) = matches.subcommand() else {
+        return Ok(Vec::new(alloc));
+    };
+    match inner.get_strs("set") {
+        Some(settings) => Vec::from_slice(alloc, settings),
+        None => Ok(Vec::new(alloc)),
     }
 }
 
@@ -434,7 +457,8 @@ fn file_command<'a>(alloc: Global, name: &'a str, about: &'a str) -> Result<Comm
     let command = Command::new(alloc, name).about(about);
     let file = placed(alloc, "file", "FILE", FILE);
     let command = with_arg(Ok(command), needed(file));
-    with_arg(command, flag(alloc, "explain", EXPLAIN))
+    let command = with_arg(command, flag(alloc, "explain", EXPLAIN));
+    with_arg(command, list(alloc, "set", "NAME=V,..", SET))
 }
 
 // An argument that is known by its place.
@@ -454,6 +478,14 @@ fn option<'a>(alloc: Global, name: &'a str, value: &'a str, help: &'a str) -> Ar
     ensures local { result.global ≡ false }
 {
     placed(alloc, name, value, help).long(name)
+}
+
+// An option with a value that may stand several times.
+fn list<'a>(alloc: Global, name: &'a str, value: &'a str, help: &'a str) -> Arg<'a>
+    ensures rule { rule_of result ≡ list_rule name.entry.now }
+    ensures local { result.global ≡ false }
+{
+    option(alloc, name, value, help).action(ArgAction::Append)
 }
 
 // An option without a value, that stands or does not.

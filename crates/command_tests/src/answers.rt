@@ -44,6 +44,26 @@ pram 1~cells 4~procs 1~steps 5~init 3 7~init 1 2~code~l: set r1 1~jz r0 l~ \
     | 0 pram 3~cells 4~procs 1~steps 5~rule common~init 1 2~init 3 7~code~L0: set r1 1~jz r0 L0~
 pardo 1~rule crew~procs i < 2~shared A[2]~code~A[i] = 7~ | 2 text line=6 kind=BadLine~
 pram 1~cells 1~procs 1~steps 1~code~jmp x~ | 2 text line=6 kind=UnknownLabel~
+-- names of a program are set
+$ pramx plain job --set *
+n=3 : pardo 1~rule crew~const n = 2~procs i < n~shared A[n]~shared s = 5~code~A[i] := A[i] + s~ \
+    | 0 {1}A = 5 5 5~s = 5~
+n=3 --set A=@rows --set s=1 : same | 0 {1}A = 8 9 10~s = 1~
+A=4,8 : same | 0 {1}A = 9 13~s = 5~
+A=4 : same | 2 set name=A kind=WrongLength~
+n=3 --set A=4,5 : same | 2 set name=A kind=WrongLength~
+n=1,2 : same | 2 set name=n kind=WrongLength~
+A=@plan : same | 2 set name=A kind=BadNumber~
+s=4294967296 : same | 2 set name=s kind=OutOfLimits~
+s : same | 2 set name=s kind=BadSetting~
+s=1 --set s=1 : same | 2 set name=s kind=DuplicateName~
+m=1 : same | 2 set name=m kind=UnknownName~
+i=1 : same | 2 set name=i kind=WrongKind~
+n=0 : same | 2 text line=4 kind=OutOfLimits~
+n=1 : pram 1~cells 1~procs 1~steps 0~code~halt~ | 2 set name=n kind=UnknownName~
+$ pramx compile job --set n=1
+pardo 1~rule crew~const n = 2~procs i < n~shared A[n]~code~A[i] := 7~ \
+    | 0 pram 3~cells 1~procs 1~steps 3~rule crew~{}
 $ pramx plain job
 -- first texts are answered
 pram 1~cells 1~procs 1~steps 0~init 0 5~code~halt~ | 0 done steps=0~0: 5~

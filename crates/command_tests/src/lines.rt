@@ -14,6 +14,8 @@ pramx check f -> Asked { line: Line { file: \"f\", plan: None, ask: Alone(Check)
     false }
 pramx check --explain f -> Asked { line: Line { file: \"f\", plan: None, ask: Alone(Check) }, \
     explain: true }
+pramx check f --set n=3 --set A=@g -> Asked { line: Line { file: \"f\", plan: None, ask: \
+    Alone(Check) }, explain: false } [\"n=3\", \"A=@g\"]
 pramx compile f -> Asked { line: Line { file: \"f\", plan: None, ask: Alone(Compile) }, explain: \
     false }
 pramx plain f -> Asked { line: Line { file: \"f\", plan: None, ask: Alone(Plain { why: false }) \
@@ -82,7 +84,13 @@ fn asked(alloc: Global, words: &str) -> Result<String, AllocError> {
     let on_terminal = words.strip_suffix(" on a terminal");
     let words: Vec<&str> = on_terminal.unwrap_or(words).split(' ').collect(alloc)?;
     match read_line(alloc, &words, on_terminal.is_some()) {
-        Ok(asked) => format!(in alloc; "{asked:?}"),
+        Ok((asked, settings)) => {
+            let told = format!(in alloc; "{asked:?}")?;
+            if settings.is_empty() {
+                return Ok(told);
+            }
+            format!(in alloc; "{told} {:?}", settings.as_slice())
+        }
         Err(error) => format!(in alloc; "{:?}", error.kind()),
     }
 }

@@ -17,7 +17,7 @@ use std::sync::Wait;
 use std::test::Fail;
 use std::thread::Threads;
 
-/// Two files: a plan of this name, and a job of any other.
+/// Three files: a plan of this name, rows of numbers, and a job of any other name.
 #[derive(Drop)]
 pub struct Shelf<'a> {
     pub job: &'a [u8],
@@ -30,7 +30,11 @@ impl<'a> Folder for Shelf<'a> {
     ghost holds = { λ _ _ _. ⊤ };
 
     fn open(&self, name: &str) -> Bytes<'a> {
-        Bytes::new(if name == "plan" { self.plan } else { self.job })
+        Bytes::new(match name {
+            "plan" => self.plan,
+            "rows" => b"7, 8\n9\n",
+            _ => self.job,
+        })
     }
 }
 

@@ -7,7 +7,7 @@ use Rattle.pram_streams.specs.declared.device.Source as a_source
 use Rattle.command_data.specs.Line.{text_now}
 use Rattle.command_data.specs.declared.line.Line.{Line}
 use Rattle.pram_commands.specs.Did.{Writing}
-use Rattle.pram_commands.specs.Files.{ArePlanBytes, MayFail, ServesFiles}
+use Rattle.pram_commands.specs.Files.{ArePlanBytes, MayFail, ServesFiles, ServesText}
 use Rattle.pram_commands.specs.Inputs.{reading}
 use Rattle.pram_commands.specs.Served.{Served}
 use Rattle.pram_commands.specs.declared.files.PlanFile.{PlanFile}
@@ -47,5 +47,22 @@ serves Holds of_file line writes status before after served job plan = record {
         | inl of_job ↦ (after.job, of_job)
         | inr has ↦ one_has of_file.has_failed after.plan.file has
       ];
+  served = served;
+}
+
+-- so was one that was served from a text, and a plan that is a file
+pub serves_text : {J S : Type 0} (Holds : List ℕ → Option (List ℕ) → Type 0)
+    (of_job : a_source.Ghosts J) (of_file : a_source.Ghosts S) (text : List ℕ) (line : Line)
+    (writes : Writing) (status : ℕ) (before after : Sources J (PlanFile S)) →
+    Served line (reading of_job (maybe of_file) before after) writes status →
+    of_job.remaining before.job ≡ Some text →
+    ArePlanBytes Holds (text_now line.plan)
+    (option_map_or of_file.remaining before.plan.file (Some [])) →
+    ServesText text Holds (MayFail of_file) line writes status
+serves_text Holds of_job of_file text line writes status before after served job plan = record {
+  reads = reading of_job (maybe of_file) before after;
+  of_job = job;
+  of_plan = plan;
+  fails = λ failed. one_has of_file.has_failed after.plan.file failed;
   served = served;
 }

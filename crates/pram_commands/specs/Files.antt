@@ -17,6 +17,16 @@ abbrev pub ArePlanBytes : (List ℕ → Option (List ℕ) → Type 0) → Option
 ArePlanBytes Holds None bytes = bytes ≡ Some []
 ArePlanBytes Holds (Some name) bytes = Holds name bytes
 
+-- The line was served, with this status: its job was this text, and its plan came from the file that
+-- it names for that, or there was none.
+pub record ServesText (text : List ℕ) (Holds : List ℕ → Option (List ℕ) → Type 0) (Fails : Type 0)
+    (line : Line) (writes : Writing) (status : ℕ) : Type 0 where
+  pub reads : InputsRead
+  pub of_job : reads.job ≡ Some text
+  pub of_plan : ArePlanBytes Holds (text_now line.plan) reads.plan
+  pub fails : IsTrue reads.plan_failed → Fails
+  pub served : Served line reads writes status
+
 -- The line was served, with this status: its job came from the file that it names for it, its plan
 -- from the one that it names for that, or there was none. Holds says which bytes the file of a name
 -- may give, and Fails whether a file may fail.

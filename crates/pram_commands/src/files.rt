@@ -5,7 +5,9 @@ ghost use Rattle.command_data.specs.Line.{text_now};
 ghost use Rattle.command_data.specs.declared.line.Ask.TheVariants.{Alone};
 ghost use Rattle.pram_commands.specs.Did.{writing};
 ghost use Rattle.pram_commands.specs.Files.{ArePlanBytes, MayFail, ServesFiles};
+ghost use Rattle.pram_commands.specs.Files.{ServesText};
 
+use crate::bytes::Bytes;
 use crate::server::{serve, serve_alone};
 use crate::sources::{Console, Sources};
 use command_data::{AskAlone, Line};
@@ -88,6 +90,45 @@ pub fn serve_files_alone<F: Folder, O: Sink, E: Sink>(
     serve_alone(alloc, line, ask, &mut sources_of(folder, line), console)
 }
 
+/// Does what `serve_files` does, with this text in the place of the job's file.
+pub fn serve_text<R: Threads + Wait + Clock + Eprint + Sync, F: Folder, O: Sink, E: Sink>(
+    rt: &R,
+    alloc: Global,
+    folder: &F,
+    line: &Line<'_>,
+    text: &[u8],
+    console: &mut Console<O, E>,
+) -> u8
+    requires out { O.has_failed console.old.out ≡ false }
+    requires err { E.has_failed console.old.err ≡ false }
+    ensures { ServesText text.now (F.holds folder.now) (MayFail F.File.Source) line.now
+        (writing O.Sink console.old.out console.new.out) result }
+{
+    let plan = plan_of(folder, line);
+    let job = Bytes::new(text);
+    serve(rt, alloc, line, &mut Sources { job, plan }, console)
+}
+
+/// Does what `serve_text` does where the thread that calls is asked alone, and always returns.
+pub fn serve_text_alone<F: Folder, O: Sink, E: Sink>(
+    alloc: Global,
+    folder: &F,
+    line: &Line<'_>,
+    ask: AskAlone,
+    text: &[u8],
+    console: &mut Console<O, E>,
+) -> u8
+    requires alone { line.now.ask ≡ Alone ask }
+    requires out { O.has_failed console.old.out ≡ false }
+    requires err { E.has_failed console.old.err ≡ false }
+    ensures { ServesText text.now (F.holds folder.now) (MayFail F.File.Source) line.now
+        (writing O.Sink console.old.out console.new.out) result }
+{
+    let plan = plan_of(folder, line);
+    let job = Bytes::new(text);
+    serve_alone(alloc, line, ask, &mut Sources { job, plan }, console)
+}
+
 // The files that the line names, as they are opened.
 fn sources_of<F: Folder>(folder: &F, line: &Line<'_>) -> Sources<F::File, PlanFile<F::File>>
     ensures job_failed { F.File.has_failed result.job ≡ false }
@@ -97,10 +138,19 @@ fn sources_of<F: Folder>(folder: &F, line: &Line<'_>) -> Sources<F::File, PlanFi
         (option_map_or F.File.remaining result.plan.file (Some [])) }
 {
     let job = folder.open(line.file);
+    let plan = plan_of(folder, line);
+    Sources { job, plan }
+}
+
+// The plan's file, as it is opened, if the line names one.
+fn plan_of<F: Folder>(folder: &F, line: &Line<'_>) -> PlanFile<F::File>
+    ensures failed { option_map_or F.File.has_failed result.file false ≡ false }
+    ensures plan { ArePlanBytes (F.holds folder.now) (text_now line.now.plan)
+        (option_map_or F.File.remaining result.file (Some [])) }
+{
     let file = match line.plan {
         Some(name) => Some(folder.open(name)),
         None => None,
     };
-    let plan = PlanFile { file };
-    Sources { job, plan }
+    PlanFile { file }
 }

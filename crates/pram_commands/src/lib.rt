@@ -22,7 +22,7 @@ pub use command_data::{
     Ask, AskAlone, AskOnThreads, AskRun, AskWatch, Block, CellList, Line, Manner, Telling, Workers,
 };
 pub use commands::{do_alone, take_answer};
-pub use files::{Folder, serve_files, serve_files_alone};
+pub use files::{Folder, serve_files, serve_files_alone, serve_text, serve_text_alone};
 pub use inputs::{take_inputs, take_job, take_plan};
 pub use names::Naming;
 pub use progress::{Teller, tell_steps};

@@ -3,15 +3,15 @@
 
 ghost use Rattle.std.specs.Prelude.{◌≡◌, ◌≤◌, false, IfOk, OnErr};
 
-use command_answers::{RealFiles, answer_alone};
-use pram_commands::{Console, Folder, Line, MEMORY, Refusal, serve_files, tell};
+use command_answers::{RealFiles, Waiting, answer_alone, serve_waiting};
+use pram_commands::{Console, Folder, MEMORY, Refusal, tell};
 use pram_streams::{IntoWrite, Sink};
 use std::alloc::{AllocError, Global};
 use std::env::{self, Env};
 use std::io::{self, IsTerminal};
 use std::process::ExitCode;
 
-// Of all that it calls only `serve_files` may wait, which is for a line that starts threads.
+// Of all that it calls only `serve_waiting` may wait, which is for a line that starts threads.
 fn main(rt: HostRuntime) -> ExitCode {
     let is_terminal = rt.stderr().is_terminal();
     let mut console = Console {
@@ -25,7 +25,7 @@ fn main(rt: HostRuntime) -> ExitCode {
     let texts = texts_of(rt.alloc(), &words);
     let status = match status(rt.alloc(), &folder, &texts, &mut console) {
         Ok(status) => status,
-        Err(line) => serve_files(&rt, rt.alloc(), &folder, &line, &mut console),
+        Err(waiting) => serve_waiting(&rt, rt.alloc(), &folder, &waiting, &mut console),
     };
     ExitCode::from(status)
 }
@@ -37,7 +37,7 @@ fn status<'a, 'w: 'a, F: Folder, O: Sink, E: Sink>(
     folder: &F,
     texts: &'a Result<Vec<&'w str>, Refusal<'static>>,
     console: &mut Console<O, E>,
-) -> Result<u8, Line<'a>>
+) -> Result<u8, Waiting<'a>>
     requires out { O.has_failed console.old.out ≡ false }
     requires err { E.has_failed console.old.err ≡ false }
     ensures status { IfOk result (λ status. status ≤ MEMORY) }

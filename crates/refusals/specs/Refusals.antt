@@ -12,6 +12,7 @@ refusal_status (refusal.Plan row kind) = REFUSED
 refusal_status (refusal.Cell cell) = REFUSED
 refusal_status (refusal.Place place) = REFUSED
 refusal_status (refusal.Step step) = REFUSED
+refusal_status (refusal.Setting name kind) = REFUSED
 refusal_status refusal.Memory = MEMORY
 refusal_status _ = FAILED
 
@@ -21,6 +22,7 @@ abbrev pub refusal_text : Refusal → Option (List ℕ)
 refusal_text (refusal.Text line kind) = None
 refusal_text (refusal.Program found) = None
 refusal_text (refusal.Plan row kind) = None
+refusal_text (refusal.Setting name kind) = None
 refusal_text (refusal.Cell cell) = Some (codes "watch cell=" ++ decimal cell ++ codes "\n")
 refusal_text (refusal.Place place) = Some (codes "watch place=" ++ place.now ++ codes "\n")
 refusal_text (refusal.Step step) = Some (codes "steps step=" ++ decimal step ++ codes "\n")

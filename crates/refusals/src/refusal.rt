@@ -4,7 +4,7 @@ ghost use Rattle.std.specs.Io.KnownBytes.{Appends};
 ghost use Rattle.refusals.specs.Refusals.{TakesTold, refusal_status, refusal_text};
 
 use pardo_job::{JobFault, Refusal as ProgramRefusal};
-use pardo_text::PardoFault;
+use pardo_text::{PardoFault, SetKind};
 use pram_streams::{Sink, put};
 use pram_text::TextKind;
 use std::alloc::{AllocError, Global};
@@ -47,6 +47,8 @@ pub enum Refusal<'a> {
     Place(&'a str),
     /// The job has no such step.
     Step(u32),
+    /// A name cannot be set so.
+    Setting { name: &'a str, kind: SetKind },
     /// The file failed.
     File(&'a str),
     /// The output failed.
@@ -66,6 +68,7 @@ impl Refusal<'_> {
         match self {
             Refusal::Text { .. } | Refusal::Program(_) | Refusal::Plan { .. } => REFUSED,
             Refusal::Cell(_) | Refusal::Place(_) | Refusal::Step(_) => REFUSED,
+            Refusal::Setting { .. } => REFUSED,
             Refusal::Memory => MEMORY,
             Refusal::File(_) | Refusal::Output | Refusal::Size(_) | Refusal::Word => FAILED,
         }
@@ -88,6 +91,7 @@ impl fmt::Display for Refusal<'_> {
             Refusal::Cell(cell) => writeln!(f, "watch cell={cell}"),
             Refusal::Place(place) => writeln!(f, "watch place={place}"),
             Refusal::Step(step) => writeln!(f, "steps step={step}"),
+            Refusal::Setting { name, kind } => writeln!(f, "set name={name} kind={kind:?}"),
             Refusal::File(name) => writeln!(f, "file {name}"),
             Refusal::Output => writeln!(f, "file -"),
             Refusal::Size(name) => writeln!(f, "size {name}"),

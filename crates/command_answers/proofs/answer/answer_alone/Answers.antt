@@ -1,4 +1,5 @@
-use Rattle.std.proofs.Common.{◌≡◌, ◌≢◌, ◌⊎◌, List, map, [], ◌∷◌, refl, inl, inr, Err}
+use Rattle.std.proofs.Common.{◌≡◌, ◌≢◌, ◌⊎◌, ◌<◌, List, [], ◌∷◌, Err, ap, arith, inl, inr, length, refl, sym}
+use Rattle.std.specs.Borrow.{Bor}
 use Rattle.clap.specs.Kinds.{HasKind}
 use Rattle.clap.specs.Words.{IsAmong, Text, kind_of}
 use Rattle.clap.specs.declared.error.Error.{Error}
@@ -6,6 +7,7 @@ use Rattle.clap.specs.declared.error.kind.ErrorKind.{ErrorKind}
 use Rattle.clap.specs.declared.error.kind.ErrorKind.TheVariants.{OutOfMemory}
 use Rattle.command_line.specs.CommandLine.{FailsByWords, MeanNoLine}
 use Rattle.command_line.specs.declared.line.Asked.{Asked}
+use Rattle.command_answers.proofs.Texts.{texts_of}
 use Rattle.command_answers.proofs.answer.answer_alone.Goals as goal
 
 -- memory ran out, or it did not
@@ -32,6 +34,31 @@ means_none words error other (inr bad) = inr bad.0
 
 pub returns-in-Err-clause-answers : goal.returns-in-Err-clause-answers
 returns-in-Err-clause-answers g c = elim (memory_or_not (kind_of c.in-Err.error)) [
-  | inl memory ↦ inr (inr (c.refusal_status.ensures.memory memory))
-  | inr other ↦ inr (inl (means_none (map (λ word. word.now) c.args.words.now) c.in-Err.error other c.in-Err.ensures.kinds))
+  | inl memory ↦ inr (inr (inr (c.refusal_status.ensures.memory memory)))
+  | inr other ↦ inr (inr (inl (means_none (texts_of c.args.words.now) c.in-Err.error other
+      c.in-Err.ensures.kinds)))
 ]
+
+-- no words have no texts
+no_texts : (words shown : List (Bor Text)) → shown ≡ words → length shown < 1 →
+    texts_of words ≡ []
+no_texts words [] same below = ap texts_of (sym same)
+no_texts words (word ∷ rest) same below = absurd (omega (arith, below))
+
+pub returns-in-empty-clause-line : goal.returns-in-empty-clause-line
+returns-in-empty-clause-line g c =
+    let below = c.in-empty.len_below in
+    let words = c.in-Ok.given.1.items in
+    record {
+      asked = c.in-Ok.given.0;
+      met = c.in-Ok.ensures.met;
+      given = texts_of words;
+      sets = c.in-Ok.ensures.settings;
+      taken = c.in-Ok.ensures.taken;
+      waits = record {
+        is = refl;
+        text = no_texts words c.as_slice.result.now c.as_slice.ensures.value (omega (arith, below));
+        asks = c.in-OnThreads.field-0;
+        threads = c.in-OnThreads.is;
+      };
+    }

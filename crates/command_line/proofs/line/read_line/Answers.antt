@@ -1,6 +1,7 @@
 use Rattle.std.proofs.Common.{◌≡◌, ◌&&◌, ◌⊎◌, Bool, true, false, Result}
 use Rattle.std.proofs.Common.{Ok, Err, IsErrAnd, IfErr, List, [], inl, inr, refl, subst, sym}
-use Rattle.std.proofs.Common.{MatchOption, Option, Some, None}
+use Rattle.std.proofs.Common.{MatchOption, Option, Some, None, map}
+use Rattle.std.specs.Borrow.{Bor}
 use Rattle.clap.proofs.OnLiterals.{clap_on_literals}
 use Rattle.clap.specs.Words.{App, FailsBy, HasKind, HasMatchesOf, IsAmong, Kinds}
 use Rattle.clap.specs.Words.{Text, fault_of, is_simple_and_free}
@@ -9,7 +10,7 @@ use Rattle.clap.specs.declared.ArgMatches.{ArgMatches}
 use Rattle.clap.specs.declared.error.Error.{Error}
 use Rattle.clap.specs.declared.error.kind.ErrorKind.{ErrorKind}
 use Rattle.clap.specs.declared.error.kind.ErrorKind.TheVariants.{OutOfMemory}
-use Rattle.command_line.specs.CommandLine.{HasBadValue, IsAskedLine, pramx}
+use Rattle.command_line.specs.CommandLine.{HasBadValue, HasSettings, IsAskedLine, pramx}
 use Rattle.command_line.proofs.line.read_line.Goals as goal
 
 err_from : {T E : Type 0} (r : Result T E) (P Q : E → Type 0) → IsErrAnd r P →
@@ -130,3 +131,10 @@ returns-in-Some-asked_of-clause-taken c = λ none. elim none [
       (bad_in_matches _ pramx _ _ c.in_ok-command.ensures is_simple_pramx
       c.in_ok-matches.ensures.matches bad)
 ]
+
+pub returns-in-Some-asked_of-clause-settings : goal.returns-in-Some-asked_of-clause-settings
+returns-in-Some-asked_of-clause-settings c =
+    let settings = c.in_ok-settings_of-in-Some-asked_of in
+    let given = map (λ (word : Bor Text). word.now) settings.field-0.items in
+    subst (λ met. HasSettings met given) (same_subcommand _ pramx _ _ c.in_ok-command.ensures
+    is_simple_pramx c.in_ok-matches.ensures.matches) settings.ensures

@@ -1,0 +1,36 @@
+use Rattle.std.proofs.Common.{ℕ, List, None, Option, Some, arith, refl, subst}
+use Rattle.std.proofs.lemmas.Result.{on_ok_weaker}
+use Rattle.std.proofs.lemmas.Str.Pattern.{split_once_first, strip_prefix_char}
+use Rattle.clap.proofs.LexerLemmas.{strip_byte-from}
+use Rattle.command_answers.specs.Setting.{SpellsBy}
+use Rattle.command_answers.proofs.Texts.{sets_name}
+use Rattle.command_answers.proofs.setting.add.Goals as goal
+
+pub returns-in_ok-text-in-Some-strip_prefix : goal.returns-in_ok-text-in-Some-strip_prefix
+returns-in_ok-text-in-Some-strip_prefix g c =
+    let holds = g.F.Folder.holds c.args.folder.now in
+    let values = c.in-Some.values.now in
+    let text = c.in_ok-text-in-Some-strip_prefix.text.items in
+    let file = Some c.in-Some-strip_prefix.file in
+    let parts = split_once_first 61 c.args.word.now (Some (c.in-Some.name, c.in-Some.values))
+    c.in-Some.ensures.cases (omega arith) in
+    let stripped = strip_byte-from 64 values file
+    (strip_prefix_char 64 values file c.in-Some-strip_prefix.ensures.cases (omega arith)) in
+    on_ok_weaker c.set_name.result (sets_name holds c.args.settings.now c.set_name.new.settings
+    c.args.word.now c.in-Some.name.now values text
+    c.as_slice.result.now c.as_slice.ensures.value parts.1 parts.2
+    (subst (λ (named : Option (List ℕ)). SpellsBy holds named values text) stripped
+    c.in_ok-text-in-Some-strip_prefix.ensures)) c.set_name.ensures
+
+pub returns-in-None : goal.returns-in-None
+returns-in-None g c =
+    let holds = g.F.Folder.holds c.args.folder.now in
+    let values = c.in-Some.values.now in
+    let parts = split_once_first 61 c.args.word.now (Some (c.in-Some.name, c.in-Some.values))
+    c.in-Some.ensures.cases (omega arith) in
+    let stripped = strip_byte-from 64 values None
+    (strip_prefix_char 64 values None c.in-None.ensures.cases (omega arith)) in
+    on_ok_weaker c.set_name-in-None.result (sets_name holds c.args.settings.now
+    c.set_name-in-None.new.settings c.args.word.now c.in-Some.name.now values values
+    c.as_bytes.result.now c.as_bytes.ensures.value parts.1 parts.2 (subst (λ (named : Option (List ℕ)). SpellsBy holds named values values) stripped
+    refl)) c.set_name-in-None.ensures

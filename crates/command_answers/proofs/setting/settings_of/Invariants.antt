@@ -1,0 +1,13 @@
+use Rattle.std.proofs.Common.{List, [], drop, map}
+use Rattle.std.specs.Borrow.{Bor}
+use Rattle.clap.specs.Words.{Text}
+use Rattle.pardo_text.specs.Settings.{SettingData}
+use Rattle.command_answers.specs.Setting.{SetNames}
+use Rattle.command_answers.proofs.Texts.{texts_of}
+use Rattle.command_answers.proofs.setting.settings_of.Given as goal
+
+-- what the words to come set after those so far, all words set
+abbrev pub invariant-loop-word : goal.invariant-loop-word
+invariant-loop-word g l = (all : List SettingData) →
+    SetNames (g.F.Folder.holds l.folder) l.settings (texts_of (drop l.word-index l.words)) all →
+    SetNames (g.F.Folder.holds l.folder) [] (texts_of l.words) all

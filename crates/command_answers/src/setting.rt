@@ -1,0 +1,124 @@
+//! The text of a line's file as names are set.
+ghost use Rattle.std.specs.Prelude.{◌≡◌, [], None, Ok, map, IfOk, OnOk};
+ghost use Rattle.pardo_text.specs.Settings.{with_setting};
+ghost use Rattle.command_answers.specs.Setting.{AllMet, FileGives, IsSetText, SetNames, SetsName};
+
+use pardo_answers::is_program;
+use pardo_text::{PardoKind, SetFault, SetKind, Settings, read_program};
+use pram_commands::{Folder, Refusal};
+use pram_streams::{TakeFault, take};
+use std::alloc::{AllocError, Global};
+
+/// The text of a file as these words set names, or why not: what is wrong with the words by
+/// themselves, and then what does not fit the text. What else is wrong with the text is left to who
+/// reads it.
+pub(crate) fn set_text<'a, F: Folder>(
+    alloc: Global,
+    folder: &F,
+    file: &'a str,
+    words: &[&'a str],
+) -> Result<Vec<u8>, Refusal<'a>>
+    ensures { IfOk result (λ set. IsSetText (F.holds folder.now) file.now
+        (map (λ word. word.now) words.now) set.items) }
+{
+    let settings = settings_of(alloc, folder, words)?;
+    let text = taken(alloc, folder, file)?;
+    let Ok(set) = settings.text_as_set(alloc, text.as_slice()) else {
+        return Err(Refusal::Memory);
+    };
+    match unfit(alloc, &settings, text.as_slice(), set.as_slice()) {
+        Ok(None) => Ok(set),
+        Ok(Some(SetFault { at, kind })) => {
+            let name = name_in(words.get(at).copied().unwrap_or(""));
+            Err(Refusal::Setting { name, kind })
+        }
+        Err(AllocError) => Err(Refusal::Memory),
+    }
+}
+
+// The first setting that does not fit the text, which is this one as it is set.
+fn unfit(
+    alloc: Global,
+    settings: &Settings,
+    text: &[u8],
+    set: &[u8],
+) -> Result<Option<SetFault>, AllocError>
+    ensures { IfOk result (λ found. found ≡ None → AllMet settings.now text.now set.now) }
+{
+    if !is_program(set) {
+        return Ok(settings.unmet(text));
+    }
+    match read_program(alloc, set) {
+        Ok(_) => Ok(settings.unmet(text)),
+        Err(fault) if fault.kind == PardoKind::Memory => Err(AllocError),
+        Err(fault) => Ok(settings.blamed(text, fault)),
+    }
+}
+
+// What the words set.
+fn settings_of<'a, F: Folder>(
+    alloc: Global,
+    folder: &F,
+    words: &[&'a str],
+) -> Result<Settings, Refusal<'a>>
+    ensures { IfOk result (SetNames (F.holds folder.now) [] (map (λ word. word.now) words.now)) }
+{
+    let mut settings = Settings::new(alloc);
+    for &word in words {
+        add(alloc, folder, word, &mut settings)?;
+    }
+    Ok(settings)
+}
+
+// Sets what a word sets: `NAME=V,V,..`, or `NAME=@FILE`.
+fn add<'a, F: Folder>(
+    alloc: Global,
+    folder: &F,
+    word: &'a str,
+    settings: &mut Settings,
+) -> Result<(), Refusal<'a>>
+    ensures { OnOk result (SetsName (F.holds folder.now) settings.old word.now settings.new) }
+{
+    let Some((name, values)) = word.split_once('=') else {
+        let kind = SetKind::BadSetting;
+        return Err(Refusal::Setting { name: word, kind });
+    };
+    match values.strip_prefix('@') {
+        Some(file) => {
+            let text = taken(alloc, folder, file)?;
+            set_name(name, text.as_slice(), settings)
+        }
+        None => set_name(name, values.as_bytes(), settings),
+    }
+}
+
+// Sets a name to the values that a text spells.
+fn set_name<'a>(name: &'a str, text: &[u8], settings: &mut Settings) -> Result<(), Refusal<'a>>
+    ensures { OnOk result (with_setting settings.old name.now text.now ≡ Ok settings.new) }
+{
+    match settings.add(name.as_bytes(), text) {
+        Ok(()) => Ok(()),
+        Err(SetKind::Memory) => Err(Refusal::Memory),
+        Err(kind) => Err(Refusal::Setting { name, kind }),
+    }
+}
+
+// The name that a word sets.
+fn name_in(word: &str) -> &str {
+    match word.split_once('=') {
+        Some((name, _)) => name,
+        None => word,
+    }
+}
+
+// All bytes of a file.
+fn taken<'a, F: Folder>(alloc: Global, folder: &F, file: &'a str) -> Result<Vec<u8>, Refusal<'a>>
+    ensures { IfOk result (λ bytes. FileGives (F.holds folder.now) file.now bytes.items) }
+{
+    match take(alloc, &mut folder.open(file)) {
+        Ok(bytes) => Ok(bytes),
+        Err(TakeFault::Device) => Err(Refusal::File(file)),
+        Err(TakeFault::TooLarge) => Err(Refusal::Size(file)),
+        Err(TakeFault::Memory) => Err(Refusal::Memory),
+    }
+}
