@@ -39,6 +39,8 @@ function bundleOf(name) {
   return `\n${[...texts].map(([module, text]) => enclosed(module, text)).join('\n')}`;
 }
 
+const packed = (bytes) => deflateRawSync(bytes, { level: 9 }).toString('base64');
+
 // Programs of `pardo`, and then texts of the machine, which have their names without an end.
 function examplesOf(folder) {
   const names = readdirSync(folder).sort();
@@ -64,9 +66,9 @@ const script = bundleOf('main');
 const parts = {
   POLICY: policyOf(style, script),
   STYLE: style,
-  EXAMPLES: JSON.stringify(examplesOf(examples)).replaceAll('<', '\\u003c'),
+  EXAMPLES: packed(JSON.stringify(examplesOf(examples))),
   FAR: bundleOf('far_core'),
-  CORE: deflateRawSync(readFileSync(core), { level: 9 }).toString('base64'),
+  CORE: packed(readFileSync(core)),
   PAGE: script,
 };
 const page = read('page.html').replace(/\/\*([A-Z]+)\*\//g, (_, name) => parts[name]);

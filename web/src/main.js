@@ -28,7 +28,7 @@ const FIRST_EXAMPLE = 'prefix.pardo';
 const WORKERS = 4;
 const PAUSE = 1000;
 const PATIENCE = 200;
-const MOST_CORE = 16777216;
+const MOST_PACKED = 16777216;
 
 // What is shown: a work, which is a text with its schedule and its step, the text's job and answer,
 // and the view. The views read it, and change the schedule and the step.
@@ -294,11 +294,14 @@ function warm(core) {
   core.starts(text, 1, 1, [0]);
 }
 
+const unpacked = (id) => unpack(byId(id).textContent, MOST_PACKED);
+
 async function start() {
-  const bytes = await unpack(byId('core').textContent, MOST_CORE);
+  const bytes = await unpacked('core');
+  const examples = JSON.parse(new TextDecoder().decode(await unpacked('examples')));
   document.documentElement.toggleAttribute('data-embed', isEmbedded());
   const core = await openCore(bytes);
-  const app = new Playground(core, new Far(bytes), JSON.parse(byId('examples').textContent));
+  const app = new Playground(core, new Far(bytes), examples);
   app.isEmbedded = isEmbedded();
   await app.link.open();
   await app.firstShown;

@@ -6,6 +6,8 @@
 #[cfg(test)]
 mod answers;
 #[cfg(test)]
+mod courses;
+#[cfg(test)]
 mod devices;
 #[cfg(test)]
 mod explanations;

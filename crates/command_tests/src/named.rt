@@ -1,5 +1,6 @@
 //! Programs of `pardo`: those of the gallery, with their answers by names, and how programs are
 //! refused.
+use crate::courses::COURSES;
 use crate::programs::PROGRAMS;
 use crate::table::{AMPLE, Row, Shelf, answer, expect, expect_row, lines_of};
 use std::alloc::Global;
@@ -110,10 +111,12 @@ fn expect_printed<R: Abort + Threads + Wait + Clock + Eprint + Sync>(
 
 #[test]
 fn programs_are_answered_by_names(rt: HostRuntime) -> Result<(), Fail> {
-    for piece in PROGRAMS.split("=== program\n") {
-        let program = program_of(piece).expect(&rt, piece);
-        expect_answers(&rt, rt.alloc(), program)?;
-        expect_printed(&rt, rt.alloc(), program)?;
+    for table in [PROGRAMS, COURSES] {
+        for piece in table.split("=== program\n") {
+            let program = program_of(piece).expect(&rt, piece);
+            expect_answers(&rt, rt.alloc(), program)?;
+            expect_printed(&rt, rt.alloc(), program)?;
+        }
     }
     Ok(())
 }
