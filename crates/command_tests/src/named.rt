@@ -109,16 +109,28 @@ fn expect_printed<R: Abort + Threads + Wait + Clock + Eprint + Sync>(
     expect_text(rt, alloc, text, program.status, beginning.unwrap_or(""))
 }
 
-#[test]
-fn programs_are_answered_by_names(rt: HostRuntime) -> Result<(), Fail> {
-    for table in [PROGRAMS, COURSES] {
-        for piece in table.split("=== program\n") {
-            let program = program_of(piece).expect(&rt, piece);
-            expect_answers(&rt, rt.alloc(), program)?;
-            expect_printed(&rt, rt.alloc(), program)?;
-        }
+// The programs of a table are answered as they say.
+fn expect_programs<R: Abort + Threads + Wait + Clock + Eprint + Sync>(
+    rt: &R,
+    alloc: Global,
+    table: &str,
+) -> Result<(), Fail> {
+    for piece in table.split("=== program\n") {
+        let program = program_of(piece).expect(rt, piece);
+        expect_answers(rt, alloc, program)?;
+        expect_printed(rt, alloc, program)?;
     }
     Ok(())
+}
+
+#[test]
+fn programs_are_answered_by_names(rt: HostRuntime) -> Result<(), Fail> {
+    expect_programs(&rt, rt.alloc(), PROGRAMS)
+}
+
+#[test]
+fn programs_of_courses_are_answered_by_names(rt: HostRuntime) -> Result<(), Fail> {
+    expect_programs(&rt, rt.alloc(), COURSES)
 }
 
 const HEADER: &str = "pardo 1~rule common~procs i < 4~shared A[4]~shared s~private x~code~";
