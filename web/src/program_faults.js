@@ -10,7 +10,7 @@ const HEADER =
 
 const FORMS =
   'A line of code is NAME := VALUE, NAME[INDEX] := VALUE, if CONDITION, elsif CONDITION, else, ' +
-  'end, while CONDITION, for NAME = FIRST to LAST, or the same with downto.';
+  'end, while CONDITION, for NAME = FIRST to LAST, or the same with downto, assert CONDITION.';
 
 const saidIn = (line) => line.split(';', 1)[0];
 

@@ -76,6 +76,8 @@ a constant : n := 3 -> 10:1
 the own number : i := 3 -> 10:1
 an operator or `)` : x := (1 + 2 -> 10:12
 a number : x := -> 10:5
+a number : assert -> 10:7
+compares with `=` : assert x := 1 -> 10:10
 an operator : x := 1 2 -> 10:8
 `:=` : x: = 1 -> 10:2
 an assignment is `:=` : x <- 1 -> 10:3

@@ -36,6 +36,7 @@ impl Open {
 #[derive(Debug, Drop)]
 pub(crate) struct Scan<'t> {
     part: Part,
+    /// The first one; where an assignment goes on, the one after.
     first: &'t [u8],
     before: &'t [u8],
     count: usize,
@@ -81,12 +82,17 @@ impl<'t> Scan<'t> {
             _ if is_comparison(token) => self.compare(),
             _ => (),
         }
-        if self.count == 0 {
+        if self.count == 0 || self.begins_assignment(token) {
             self.first = token;
         }
         self.before = token;
         self.count = self.count.saturating_add(1);
         Ok(())
+    }
+
+    // Whether this token makes the line an assignment: before it `elsif` and `assert` are names.
+    fn begins_assignment(&self, token: &[u8]) -> bool {
+        self.count == 1 && is_name(self.first) && is_among(":= [", token)
     }
 
     fn open(&mut self, token: &[u8]) -> Result<(), AllocError> {
@@ -159,7 +165,7 @@ impl<'t> Scan<'t> {
     /// Whether this token could come next.
     pub(crate) fn takes(&self, token: &[u8]) -> bool {
         let is_second = self.is_compared && is_comparison(token);
-        self.wanted().takes(token) && !is_second
+        (self.wanted().takes(token) || self.begins_assignment(token)) && !is_second
     }
 
     /// What could come next.
@@ -198,7 +204,7 @@ impl<'t> Scan<'t> {
     fn wanted_second(&self) -> Wanted {
         match self.first {
             b"const" | b"procs" | b"shared" | b"private" | b"for" => Wanted::NewName,
-            b"if" | b"elsif" | b"while" => Wanted::Operand,
+            b"if" | b"elsif" | b"while" | b"assert" => Wanted::Operand,
             _ if is_name(self.first) => Wanted::Assignment,
             _ => Wanted::End,
         }
@@ -222,7 +228,7 @@ impl<'t> Scan<'t> {
             return self.wanted_operand();
         }
         match self.first {
-            b"if" | b"elsif" | b"while" => Wanted::Whole,
+            b"if" | b"elsif" | b"while" | b"assert" => Wanted::Whole,
             b"shared" if self.is_assigned => Wanted::NextValue,
             b"shared" => Wanted::EqualsOrEnd,
             b"for" if !self.is_bounded => Wanted::Way,

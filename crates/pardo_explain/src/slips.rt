@@ -18,7 +18,7 @@ else; else; ; ; `else` stands alone on its line
 end; end; ; ; `end` stands alone on its line: it closes the innermost block
 ; /; /; ; a comment begins with `;`
 ; NIL; /; / *; a comment begins with `;`
-if while elsif; =; =; ; equality is one `=`
+if while elsif assert; =; =; ; equality is one `=`
 ; =; =; ; equality is one `=`, and an assignment is `:=`
 ; &; &; ; \"and\" is `and`
 ; |; |; ; \"or\" is `or`
@@ -30,7 +30,7 @@ if while elsif; =; =; ; equality is one `=`
 ; ASSIGNMENT; =; ; an assignment is `:=`; `=` compares
 ; ASSIGNMENT; <; -; an assignment is `:=`
 ; ASSIGNMENT; (; ; `{before}` has no arguments, and there are no procedures
-if while elsif; ; :=; ; a condition compares with `=`; `:=` assigns
+if while elsif assert; ; :=; ; a condition compares with `=`; `:=` assigns
 for const shared private; ; :=; ; here it is `=`: `{first} {second} = ..`
 for; for; (; ; a loop is `for k = first to last`, without brackets and steps
 for; for; ; ; a loop is `for k = first to last`, where k is a new name

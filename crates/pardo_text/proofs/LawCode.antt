@@ -2,6 +2,7 @@
 use Rattle.std.proofs.Common.{◌≡◌, ℕ, ◌+◌, ◌*◌, ◌<◌, ◌≤◌, Bool, true, false, List, [], ◌∷◌}
 use Rattle.std.proofs.Common.{length, max, Option, Some, None, IfOk, refl, sym, ap}
 use Rattle.std.proofs.Common.{subst, arith, is_some, if◌then◌else◌}
+use Rattle.std.specs.Prelude.{codes}
 use Rattle.std.proofs.lemmas.Result.{IfOk-weaker}
 use Rattle.std.specs.List.{All}
 use Rattle.std.proofs.lemmas.List.Elements.{All-head}
@@ -12,6 +13,7 @@ use Rattle.pardo_text.specs.declared.names.Named.{Named}
 use Rattle.pardo_text.specs.declared.names.Named.TheVariants as thing
 use Rattle.pardo_text.specs.declared.names.Scope.{Scope}
 use Rattle.pardo_text.specs.declared.names.Scope.TheVariants.{Bound, Uniform, Any}
+use Rattle.pardo_text.specs.declared.operation.Op.TheVariants.{Div}
 use Rattle.pardo_text.specs.declared.statement.Statement.{Statement}
 use Rattle.pardo_text.specs.declared.statement.Statement.TheVariants as statement
 use Rattle.pardo_text.specs.declared.statement.Target.{Target}
@@ -21,12 +23,13 @@ use Rattle.pardo_text.specs.Code.{whole_at, array_place, bare_target, assignment
 use Rattle.pardo_text.specs.Code.{assignment_at}
 use Rattle.pardo_text.specs.Code.{if_line}
 use Rattle.pardo_text.specs.Code.{while_line, way_at, for_line, else_of, elsif_line, elsifs_ended}
-use Rattle.pardo_text.specs.Code.{end_block, is_elsif, assignment_line, statement_line}
+use Rattle.pardo_text.specs.Code.{end_block, quotient_at, asserted, assert_line, has_form}
+use Rattle.pardo_text.specs.Code.{assignment_line, named_line, statement_line}
 use Rattle.pardo_text.specs.Drafts.{Draft, cells_needed, fitting, with_line, with_block, with_loop}
 use Rattle.pardo_text.specs.Drafts.{without, with_end}
-use Rattle.pardo_text.specs.Expression.{Tree}
-use Rattle.pardo_text.specs.Expressions.{new_name, rest_after_mark}
-use Rattle.pardo_text.specs.Expressions.{indexed, expression_at}
+use Rattle.pardo_text.specs.Expression.{Tree, number}
+use Rattle.pardo_text.specs.Expressions.{new_name, rest_after_mark, ended}
+use Rattle.pardo_text.specs.Expressions.{indexed, joined, expression_at}
 use Rattle.pardo_text.specs.Lawful.{Bounds, IsExpression, IsCommonTree, IsTarget, IsStatement}
 use Rattle.pardo_text.specs.Lawful.{masks_of}
 use Rattle.text_lines.specs.Lines.{Word}
@@ -144,17 +147,20 @@ line_grows n said d = record {
 }
 
 -- one line more that is lawful already before it
+plain_draft : (n : ℕ) (said : Statement) (d : Draft) → IsStatement (bounds_in d) said →
+    masks_of said ≡ 0 → IsDraft (bounds_in d) d →
+    IsDraft (bounds_in (with_line n said d)) (with_line n said d)
+plain_draft n said d is_said few is =
+    let next = with_line n said d in
+    let grows = line_grows n said d in
+    line_kept (bounds_in next) n said d
+    (statement_more (bounds_in d) (bounds_in next) grows said is_said)
+    (omega (arith, is.depth, few))
+    (more_kept (bounds_in d) (bounds_in next) d grows is)
+
 plain_line : (n : ℕ) (said : Statement) (d : Draft) → IsStatement (bounds_in d) said →
     masks_of said ≡ 0 → IsLawful d → IsLawful (with_line n said d)
-plain_line n said d is_said few is =
-    let next = with_line n said d in
-    let grows = line_grows n said d in (
-      line_kept (bounds_in next) n said d
-          (statement_more (bounds_in d) (bounds_in next) grows said is_said)
-          (omega (arith, is.0.depth, few))
-          (more_kept (bounds_in d) (bounds_in next) d grows is.0),
-      is.1,
-    )
+plain_line n said d is_said few is = (plain_draft n said d is_said few is.0, is.1)
 
 -- ---- lines that open a block
 
@@ -180,15 +186,13 @@ opened_line n said opened d some is_said few begins is =
       lines = omega (arith, longer);
     }) is))
 
-if_kept : (n : ℕ) (d : Draft) (tokens : List Token) → 0 < d.procs → IsLawful d →
-    IfOk (if_line n d tokens) IsLawful
-unfolding if_line
-if_kept n d tokens some is =
-    ok_bind (whole_at d.names Any tokens) _ (IsExpression (bounds_in d)) IsLawful
-    (whole_kept (bounds_in d) d.names Any tokens is.0.names) (λ condition p.
-    let lined = with_line n (statement.If condition) d in
-    let next = with_block block.If lined in
-    fitting_kept next (opened_line n (statement.If condition) block.If d some
+opened_if : (n : ℕ) (d : Draft) (condition : Tree) → 0 < d.procs →
+    IsExpression (bounds_in d) condition → IsDraft (bounds_in d) d →
+    IsDraft (bounds_in (with_block block.If (with_line n (statement.If condition) d)))
+    (with_block block.If (with_line n (statement.If condition) d))
+opened_if n d condition some p is =
+    let next = with_block block.If (with_line n (statement.If condition) d) in
+    opened_line n (statement.If condition) block.If d some
     (tree_more (bounds_in d) (bounds_in next) (record {
       arrays = omega arith;
       privates = omega arith;
@@ -204,7 +208,16 @@ if_kept n d tokens some is =
                   n;
             }),
       );
-    }) condition p) (omega arith) (λ m lt. tt) is.0))
+    }) condition p) (omega arith) (λ m lt. tt) is
+
+if_kept : (n : ℕ) (d : Draft) (tokens : List Token) → 0 < d.procs → IsLawful d →
+    IfOk (if_line n d tokens) IsLawful
+unfolding if_line
+if_kept n d tokens some is =
+    ok_bind (whole_at d.names Any tokens) _ (IsExpression (bounds_in d)) IsLawful
+    (whole_kept (bounds_in d) d.names Any tokens is.0.names) (λ condition p.
+    fitting_kept (with_block block.If (with_line n (statement.If condition) d))
+    (opened_if n d condition some p is.0))
 
 -- the cells of a draft in which no more `if`s were open than before
 same_cells : (d : Draft) (depth : ℕ) → depth ≤ d.most_choices → cells_needed d ≤ MAX_CELLS →
@@ -402,6 +415,37 @@ end_line_kept n d (block.For begin ∷ blocks) e is =
     ended_for n begin less d.loops (omega arith) begun
     (popped_kept (bounds_in d) (block.For begin) blocks d e is.0, is.1)
 
+-- ---- assertions
+
+quotient_kept : (b : Bounds) (names : Names) (tokens : List Token) → AreThings b names →
+    IfOk (quotient_at names tokens) (λ read. IsExpression b read.0)
+unfolding quotient_at
+quotient_kept b names tokens are =
+    let keeps = keeps_tree b names Any are in
+    ok_bind (expression_at names Any tokens) _ (λ read. IsExpression b read.0)
+    (λ read. IsExpression b read.0) (read_kept b names Any tokens are) (λ divisor p.
+    ok_bind (joined Div (number 1) divisor.0) _ (IsExpression b) (λ read. IsExpression b read.0)
+    (keeps.joins Div (number 1) divisor.0 (keeps.numbers 1 (omega arith)) p) (λ quotient q. q))
+
+asserted_kept : (n : ℕ) (d : Draft) (condition : Tree) → 0 < d.procs →
+    IsExpression (bounds_in d) condition → IsDraft (bounds_in d) d →
+    IsDraft (bounds_in (asserted n condition d)) (asserted n condition d)
+asserted_kept n d condition some p is =
+    let opened = with_block block.If (with_line n (statement.If condition) d) in
+    plain_draft n statement.EndIf (record opened { blocks = d.blocks }) tt refl
+    (popped_kept (bounds_in opened) block.If d.blocks opened refl
+    (opened_if n d condition some p is))
+
+assert_kept : (n : ℕ) (d : Draft) (tokens : List Token) → 0 < d.procs → IsLawful d →
+    IfOk (assert_line n d tokens) IsLawful
+unfolding assert_line
+assert_kept n d tokens some is =
+    ok_bind (quotient_at d.names tokens) _ (λ read. IsExpression (bounds_in d) read.0) IsLawful
+    (quotient_kept (bounds_in d) d.names tokens is.0.names) (λ quotient p.
+    ok_bind (ended quotient.0 quotient.1) _ (IsExpression (bounds_in d)) IsLawful
+    (ended_kept (IsExpression (bounds_in d)) quotient.0 quotient.1 p) (λ condition q.
+    fitting_kept (asserted n condition d) (asserted_kept n d condition some q is.0)))
+
 -- ---- any line of code
 
 assignment_line_kept : (n : ℕ) (d : Draft) (word : Word) (tokens : List Token) → IsLawful d →
@@ -410,6 +454,15 @@ assignment_line_kept n d word tokens is =
     ok_bind (assignment_at d.names word tokens) _ (IsAssignment (bounds_in d)) IsLawful
     (assignment_kept (bounds_in d) d.names word tokens is.0.names)
     (λ said p. plain_line n said d p.0 p.1 is)
+
+named_kept : (n : ℕ) (d : Draft) (word : Word) (tokens : List Token) → 0 < d.procs →
+    IsLawful d → IfOk (named_line n d word tokens) IsLawful
+named_kept n d word tokens some is =
+    ok_if (has_form (codes "elsif") word tokens) _ _ IsLawful
+    (λ _. elsif_kept n d tokens some is)
+    (λ _. ok_if (has_form (codes "assert") word tokens) _ _ IsLawful
+    (λ _. assert_kept n d tokens some is)
+    (λ _. assignment_line_kept n d word tokens is))
 
 pub statement_kept : (n : ℕ) (d : Draft) (tokens : List Token) → 0 < d.procs → IsLawful d →
     IfOk (statement_line n d tokens) IsLawful
@@ -421,7 +474,5 @@ statement_kept n d (symbol the.Else ∷ []) some is =
     IfOk-weaker (else_of block.Else n d d.blocks) IsStarted IsLawful (λ _ p. p.0)
     (else_kept block.Else n d d.blocks refl (refl, λ m. tt) (is, some))
 statement_kept n d (symbol the.End ∷ []) some is = end_line_kept n d d.blocks refl is
-statement_kept n d (name word ∷ tokens) some is =
-    ok_if (is_elsif word tokens) _ _ IsLawful (λ _. elsif_kept n d tokens some is)
-    (λ _. assignment_line_kept n d word tokens is)
+statement_kept n d (name word ∷ tokens) some is = named_kept n d word tokens some is
 statement_kept n d _ some is = tt

@@ -3,6 +3,7 @@ use Rattle.std.proofs.Common.{◌≡◌, ℕ, ◌+◌, ◌<◌, ◌==◌, true, 
 use Rattle.std.proofs.Common.{inl, inr, length, Some, None, IfOk, refl, sym, ap}
 use Rattle.std.proofs.Common.{subst, ◌∙◌, arith, is_none, unwrap_or}
 use Rattle.std.specs.List.{list_all}
+use Rattle.std.specs.Prelude.{codes}
 use Rattle.std.proofs.lemmas.List.{length-append}
 use Rattle.pardo_text.specs.declared.block.Block.{Block}
 use Rattle.pardo_text.specs.declared.block.Block.TheVariants as block
@@ -19,12 +20,13 @@ use Rattle.pardo_text.specs.declared.symbol.Symbol.TheVariants as the
 use Rattle.pardo_text.specs.Blocks.{choice_depth, is_choice}
 use Rattle.pardo_text.specs.Code.{whole_at, assignment_target, assignment_at, if_line}
 use Rattle.pardo_text.specs.Code.{while_line, way_at, for_line, else_of, elsif_line, elsifs_ended}
-use Rattle.pardo_text.specs.Code.{end_block, is_elsif, assignment_line, statement_line}
+use Rattle.pardo_text.specs.Code.{end_block, quotient_at, asserted, assert_line, has_form}
+use Rattle.pardo_text.specs.Code.{assignment_line, named_line, statement_line}
 use Rattle.pardo_text.specs.Drafts.{Draft, empty, cells_needed, fitting, with_line, with_block}
 use Rattle.pardo_text.specs.Drafts.{with_loop}
 use Rattle.pardo_text.specs.Drafts.{without, with_end, with_name, with_array, with_private}
 use Rattle.pardo_text.specs.Expression.{Tree}
-use Rattle.pardo_text.specs.Expressions.{new_name, rest_after_mark, indexed}
+use Rattle.pardo_text.specs.Expressions.{new_name, rest_after_mark, indexed, ended}
 use Rattle.pardo_text.specs.Expressions.{expression_at, fixed_at}
 use Rattle.pardo_text.specs.Header.{version_line, rule_named, rule_line, const_line, procs_line}
 use Rattle.pardo_text.specs.Header.{length_at, shared_line, private_start, private_line, code_line}
@@ -198,10 +200,9 @@ assigned n d to value is =
       loops = is.loops;
     }
 
-if_code : (n : ℕ) (d : Draft) (tokens : List Token) → Code d → IfOk (if_line n d tokens) Code
-unfolding if_line
-if_code n d tokens is =
-    ok_after (whole_at d.names Any tokens) _ Code (λ condition.
+opened_if_code : (n : ℕ) (d : Draft) (condition : Tree) → Code d →
+    Code (with_block block.If (with_line n (statement.If condition) d))
+opened_if_code n d condition is =
     let line : Line = record {
       statement = statement.If condition;
       depth = choice_depth d.blocks;
@@ -209,14 +210,21 @@ if_code n d tokens is =
     } in
     let outer = spelled_out d.blocks in
     let more = pushed d.lines outer line is.leads is.tied (tt, depth_spelled d.blocks) refl in
-    fitting_code (with_block block.If (with_line n (statement.If condition) d)) (record {
+    record {
       leads = more.0;
       tied = more.1;
       begun = begins_push d.lines line outer (block.If ∷ outer) (λ k among. among)
           (λ end e. absurd (let none : None ≡ Some end = e in cc)) is.begun;
       opened = still_open d.lines line outer is.opened;
       loops = is.loops;
-    }))
+    }
+
+if_code : (n : ℕ) (d : Draft) (tokens : List Token) → Code d → IfOk (if_line n d tokens) Code
+unfolding if_line
+if_code n d tokens is =
+    ok_after (whole_at d.names Any tokens) _ Code (λ condition.
+    fitting_code (with_block block.If (with_line n (statement.If condition) d))
+    (opened_if_code n d condition is))
 
 while_code : (n : ℕ) (d : Draft) (tokens : List Token) → Code d → IfOk (while_line n d tokens) Code
 unfolding while_line
@@ -415,6 +423,21 @@ end_code n d (block.While begin ∷ blocks) e is =
 end_code n d (block.For begin ∷ blocks) e is =
     for_end_code n begin d d.loops blocks refl (code_at d (block.For begin ∷ blocks) e is)
 
+-- an `if` and its `end`
+asserted_code : (n : ℕ) (d : Draft) (condition : Tree) → Code d → Code (asserted n condition d)
+asserted_code n d condition is =
+    let next = with_block block.If (with_line n (statement.If condition) d) in
+    let now = opened_if_code n d condition is in
+    choice_code n next block.If d.blocks now refl now.opened now.loops (λ k among. among)
+
+assert_code : (n : ℕ) (d : Draft) (tokens : List Token) → Code d →
+    IfOk (assert_line n d tokens) Code
+unfolding assert_line
+assert_code n d tokens is =
+    ok_after (quotient_at d.names tokens) _ Code (λ quotient.
+    ok_after (ended quotient.0 quotient.1) _ Code (λ condition.
+    fitting_code (asserted n condition d) (asserted_code n d condition is)))
+
 assignment_code : (n : ℕ) (d : Draft) (word : Word) (tokens : List Token) → Code d →
     IfOk (assignment_line n d word tokens) Code
 assignment_code n d word tokens is =
@@ -422,6 +445,14 @@ assignment_code n d word tokens is =
     (assignment_is d.names word tokens)
     (λ said p. subst (λ (other : Statement). Code (with_line n other d)) (sym p.2)
     (assigned n d p.0 p.1 is))
+
+named_code : (n : ℕ) (d : Draft) (word : Word) (tokens : List Token) → Code d →
+    IfOk (named_line n d word tokens) Code
+named_code n d word tokens is =
+    ok_if (has_form (codes "elsif") word tokens) _ _ Code (λ _. elsif_code n d tokens is)
+    (λ _. ok_if (has_form (codes "assert") word tokens) _ _ Code
+    (λ _. assert_code n d tokens is)
+    (λ _. assignment_code n d word tokens is))
 
 statement_code : (n : ℕ) (d : Draft) (tokens : List Token) → Code d →
     IfOk (statement_line n d tokens) Code
@@ -432,9 +463,7 @@ statement_code n d (symbol the.For ∷ tokens) is = for_code n d tokens is
 statement_code n d (symbol the.Else ∷ []) is =
     else_code block.Else n d d.blocks refl (λ others. refl) is
 statement_code n d (symbol the.End ∷ []) is = end_code n d d.blocks refl is
-statement_code n d (name word ∷ tokens) is =
-    ok_if (is_elsif word tokens) _ _ Code (λ _. elsif_code n d tokens is)
-    (λ _. assignment_code n d word tokens is)
+statement_code n d (name word ∷ tokens) is = named_code n d word tokens is
 statement_code n d _ is = tt
 
 -- ---- any line, and all of them

@@ -9,6 +9,7 @@ use Rattle.pardo_text.specs.declared.names.Named.{Named}
 use Rattle.pardo_text.specs.declared.names.Named.TheVariants as thing
 use Rattle.pardo_text.specs.declared.names.Scope.{Scope}
 use Rattle.pardo_text.specs.declared.names.Scope.TheVariants.{Bound, Uniform, Any}
+use Rattle.pardo_text.specs.declared.operation.Op.TheVariants.{Div}
 use Rattle.pardo_text.specs.declared.block.Block.{Block}
 use Rattle.pardo_text.specs.declared.block.Block.TheVariants as block
 use Rattle.pardo_text.specs.declared.statement.Statement.{Statement}
@@ -20,7 +21,7 @@ use Rattle.pardo_text.specs.Drafts.{Draft, fitting, with_line, with_block, with_
 use Rattle.pardo_text.specs.Drafts.{with_end}
 use Rattle.pardo_text.specs.Expression.{Tree, number as constant}
 use Rattle.pardo_text.specs.Expressions.{Read, rest_after_mark}
-use Rattle.pardo_text.specs.Expressions.{indexed, ended, new_name, expression_at}
+use Rattle.pardo_text.specs.Expressions.{indexed, ended, new_name, joined, expression_at}
 use Rattle.text_lines.specs.Lines.{Word}
 use Rattle.pardo_text.specs.Names.{Names}
 use Rattle.text_lines.specs.Reads.{◌>>=◌}
@@ -135,13 +136,43 @@ end_block number draft (choice ∷ blocks) =
     Ok (elsifs_ended number blocks
     (with_line number statement.EndIf (record draft { blocks = blocks })))
 
+-- ---- assertions
+
+-- 1 divided by an expression
+unfoldable pub quotient_at : Names → List Token → Read Tree
+quotient_at names tokens = do
+  divisor ← expression_at names Any tokens
+  quotient ← joined Div (constant 1) divisor.0
+  Ok (quotient, divisor.1)
+
+-- an `if` and its `end`, of one line
+abbrev pub asserted : ℕ → Tree → Draft → Draft
+asserted number condition draft =
+    with_line number statement.EndIf
+    (record (with_block block.If (with_line number (statement.If condition) draft))
+    { blocks = draft.blocks })
+
+-- what follows `assert`: who finds 0 there divides by it, and is gone; nobody else is touched
+unfoldable pub assert_line : ℕ → Draft → List Token → Result Draft PardoKind
+assert_line number draft tokens = do
+  quotient ← quotient_at draft.names tokens
+  condition ← ended quotient.0 quotient.1
+  fitting (asserted number condition draft)
+
 -- ---- any line
 
--- whether a line that begins with a name is an `elsif`: no assignment goes on so
-abbrev pub is_elsif : Word → List Token → Bool
-is_elsif word (symbol the.Assign ∷ tokens) = false
-is_elsif word (symbol the.OpenIndex ∷ tokens) = false
-is_elsif word tokens = bytes_eq word (codes "elsif")
+-- whether a line that begins with a name has the form of this word: no assignment goes on so
+abbrev pub has_form : Word → Word → List Token → Bool
+has_form form word (symbol the.Assign ∷ tokens) = false
+has_form form word (symbol the.OpenIndex ∷ tokens) = false
+has_form form word tokens = bytes_eq word form
+
+-- a line that begins with a name
+abbrev pub named_line : ℕ → Draft → Word → List Token → Result Draft PardoKind
+named_line number draft word tokens =
+    if has_form (codes "elsif") word tokens then elsif_line number draft tokens
+    else (if has_form (codes "assert") word tokens then assert_line number draft tokens
+    else assignment_line number draft word tokens)
 
 -- a line of this number
 unfoldable pub statement_line : ℕ → Draft → List Token → Result Draft PardoKind
@@ -150,7 +181,5 @@ statement_line number draft (symbol the.While ∷ tokens) = while_line number dr
 statement_line number draft (symbol the.For ∷ tokens) = for_line number draft tokens
 statement_line number draft (symbol the.Else ∷ []) = else_of block.Else number draft draft.blocks
 statement_line number draft (symbol the.End ∷ []) = end_block number draft draft.blocks
-statement_line number draft (name word ∷ tokens) =
-    if is_elsif word tokens then elsif_line number draft tokens
-    else assignment_line number draft word tokens
+statement_line number draft (name word ∷ tokens) = named_line number draft word tokens
 statement_line number draft _ = Err BadLine

@@ -1,7 +1,7 @@
 //! Lines of code.
 ghost use Rattle.std.specs.Prelude.{◌≡◌, ◌∷◌, length, Some};
 ghost use Rattle.pardo_text.specs.Code.{whole_at, way_at, array_place, assignment_target};
-ghost use Rattle.pardo_text.specs.Code.{assignment_at, is_elsif};
+ghost use Rattle.pardo_text.specs.Code.{assignment_at, has_form};
 ghost use Rattle.pardo_text.specs.Inner.Names.{names_in};
 ghost use Rattle.pardo_text.specs.Inner.Tokens.{GivesAsRead};
 
@@ -11,7 +11,7 @@ use crate::draft::Draft;
 use crate::expression::Expr;
 use crate::fault::PardoKind;
 use crate::names::{Named, Names, Scope};
-use crate::parse::expression;
+use crate::parse::{expression, quotient};
 use crate::part::{Mark, ended, expect, indexed, new_name};
 use crate::statement::{Statement, Target};
 use crate::symbol::Symbol;
@@ -22,6 +22,7 @@ use text_lines::is_word;
 impl<'t> Draft<'t> {
     ghost use Rattle.pardo_text.specs.Code.{statement_line, if_line, while_line, for_line};
     ghost use Rattle.pardo_text.specs.Code.{assignment_line, else_of, elsif_line, elsifs_ended};
+    ghost use Rattle.pardo_text.specs.Code.{assert_line, named_line};
     ghost use Rattle.pardo_text.specs.declared.statement.Statement.TheVariants.{EndIf};
     ghost use Rattle.pardo_text.specs.Tokens.{symbol};
     ghost use Rattle.pardo_text.specs.Drafts.{fitting, with_line, with_block, with_loop};
@@ -45,8 +46,7 @@ impl<'t> Draft<'t> {
             Some(Token::Symbol(Symbol::For)) => self.take_for(number, tokens),
             Some(Token::Symbol(Symbol::Else)) => self.take_else(number, tokens),
             Some(Token::Symbol(Symbol::End)) => self.take_end(number, tokens),
-            Some(Token::Name(name)) if is_elsif(name, tokens) => self.take_elsif(number, tokens),
-            Some(Token::Name(name)) => self.take_assignment(number, name, tokens),
+            Some(Token::Name(name)) => self.take_named(number, name, tokens),
             _ => Err(PardoKind::BadLine),
         }
     }
@@ -183,6 +183,40 @@ impl<'t> Draft<'t> {
         Ok(())
     }
 
+    // Reads what follows the name that a line begins with.
+    fn take_named(
+        &mut self,
+        number: u64,
+        name: &[u8],
+        tokens: &mut Cursor<'t>,
+    ) -> Result<(), PardoKind>
+        ensures { GivesAsRead (λ _. draft_of self.new) result
+            (named_line number (draft_of self.old) name.now tokens.old) }
+    {
+        if has_form("elsif", name, tokens) {
+            self.take_elsif(number, tokens)
+        } else if has_form("assert", name, tokens) {
+            self.take_assert(number, tokens)
+        } else {
+            self.take_assignment(number, name, tokens)
+        }
+    }
+
+    // Reads what follows `assert`.
+    #[tactic(auto, unfolding(crate::specs::Code::assert_line))]
+    fn take_assert(&mut self, number: u64, tokens: &mut Cursor<'t>) -> Result<(), PardoKind>
+        ensures { GivesAsRead (λ _. draft_of self.new) result
+            (assert_line number (draft_of self.old) tokens.old) }
+    {
+        let condition = quotient(self.alloc, &self.names, tokens)?;
+        ended(tokens)?;
+        self.add_line(number, Statement::If(condition))?;
+        self.open(Block::If)?;
+        self.blocks.pop();
+        self.add_line(number, Statement::EndIf)?;
+        self.fit()
+    }
+
     // Reads what follows the name of the target of an assignment.
     fn take_assignment(
         &mut self,
@@ -199,13 +233,13 @@ impl<'t> Draft<'t> {
     }
 }
 
-// Whether a line of code that begins with a name is an `elsif`: no assignment.
-fn is_elsif(name: &[u8], tokens: &Cursor<'_>) -> bool
-    ensures { result ≡ is_elsif name.now tokens.now }
+// Whether a line of code that begins with a name has the form of this word: no assignment.
+fn has_form(form: &str, name: &[u8], tokens: &Cursor<'_>) -> bool
+    ensures { result ≡ has_form form.now name.now tokens.now }
 {
     match tokens.peek() {
         Some(Token::Symbol(Symbol::Assign | Symbol::OpenIndex)) => false,
-        _ => is_word(name, "elsif"),
+        _ => is_word(name, form),
     }
 }
 

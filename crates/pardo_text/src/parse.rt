@@ -7,6 +7,7 @@ ghost use Rattle.pardo_text.specs.Expressions.{operator_at, chained, turns_at, l
 ghost use Rattle.pardo_text.specs.Expressions.{within_at, expression_at, fixed_at, log_of};
 ghost use Rattle.pardo_text.specs.Operations.{level_of};
 ghost use Rattle.pardo_text.specs.Tokens.{Token as Part};
+ghost use Rattle.pardo_text.specs.Code.{quotient_at};
 ghost use Rattle.pardo_text.specs.Inner.Exprs.{Adds, Joins};
 ghost use Rattle.pardo_text.specs.Inner.Tokens.{GivesAsRead};
 ghost use Rattle.pardo_text.specs.Inner.Names.{names_in};
@@ -40,7 +41,6 @@ const COMPARISONS: u8 = 3;
 const LOOSEST: u8 = 5;
 
 /// Reads a whole expression.
-#[tactic(auto, unfolding(crate::specs::Expressions::expression_at))]
 pub(crate) fn expression(
     alloc: Global,
     names: &Names<'_>,
@@ -50,14 +50,40 @@ pub(crate) fn expression(
     ensures { GivesAsRead (λ expr. (expr, tokens.new)) result
         (expression_at (names_in names.now) scope tokens.old) }
 {
+    let mut exprs = Exprs::new(alloc);
+    add(names, scope, &mut exprs, tokens)?;
+    Ok(exprs.into_expr())
+}
+
+/// Reads a whole expression, and divides 1 by it.
+#[tactic(auto, unfolding(crate::specs::Code::quotient_at))]
+pub(crate) fn quotient(
+    alloc: Global,
+    names: &Names<'_>,
+    tokens: &mut Cursor<'_>,
+) -> Result<Expr, PardoKind>
+    ensures { GivesAsRead (λ expr. (expr, tokens.new)) result
+        (quotient_at (names_in names.now) tokens.old) }
+{
+    let mut exprs = Exprs::new(alloc);
+    exprs.number(1)?;
+    add(names, Scope::Any, &mut exprs, tokens)?;
+    join(Op::Div, &mut exprs)?;
+    Ok(exprs.into_expr())
+}
+
+// Reads a whole expression onto others.
+#[tactic(auto, unfolding(crate::specs::Expressions::expression_at))]
+fn add(names: &Names<'_>, scope: Scope, exprs: &mut Exprs, tokens: &mut Cursor<'_>) -> Parsed
+    ensures { Adds exprs.old exprs.new tokens.new result
+        (expression_at (names_in names.now) scope tokens.old) }
+{
     let around = Around {
         names,
         scope,
         brackets: MAX_OPEN + 1,
     };
-    let mut exprs = Exprs::new(alloc);
-    within(&around, &mut exprs, tokens)?;
-    Ok(exprs.into_expr())
+    within(&around, exprs, tokens)
 }
 
 /// Reads a number that is known at once, within limits.
