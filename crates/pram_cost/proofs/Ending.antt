@@ -6,7 +6,6 @@ use Rattle.pram_machine.specs.Machine.{State}
 use Rattle.pram_step.specs.declared.walks.Walked.{Walked}
 use Rattle.pram_step.specs.declared.walks.Walked.TheVariants.{Through, Disputed}
 use Rattle.pram_step.specs.Walks.{IsWalked, begun}
-use Rattle.pram_cost.specs.declared.cost.Cost.{Cost}
 use Rattle.pram_cost.specs.declared.cost.Tally.{Tally}
 use Rattle.pram_cost.specs.Costs.{IsCostOf, IsLength, IsCost}
 use Rattle.pram_cost.specs.Tallies.{HasCounted}

@@ -1,5 +1,6 @@
 -- The accesses of a step, as they are found.
-use Rattle.std.proofs.Common.{◌≡◌, ℕ, ◌+◌, ◌<◌, ◌≤◌, true, false, List, [], ◌∷◌, ◌++◌, length}
+use Rattle.std.proofs.Common.{◌≡◌, ℕ, suc, ◌+◌, ◌-◌, ◌<◌, ◌≤◌, true, false, List, [], ◌∷◌, ◌++◌}
+use Rattle.std.proofs.Common.{length, slice_get}
 use Rattle.std.proofs.Common.{Option, Some, None, refl, sym, ap, subst, ◌∙◌, inl, inr, arith}
 use Rattle.std.specs.Prelude.{filter}
 use Rattle.std.specs.List.{range_with_len}
@@ -8,6 +9,10 @@ use Rattle.std.proofs.lemmas.List.{get_or_append_left, get_or_push, length_push}
 use Rattle.std.proofs.lemmas.List.Elements.{All-push, All-weaker, All-nil}
 use Rattle.std.proofs.lemmas.List.Quantifiers.{all_pairs_push}
 use Rattle.std.proofs.lemmas.Option.{none-some}
+use Rattle.pram_job.specs.declared.instr.Instr.{Instr}
+use Rattle.pram_job.specs.declared.instr.Instr.TheVariants.{Ld, St}
+use Rattle.pram_job.specs.declared.instr.Operand.{Operand}
+use Rattle.pram_job.specs.declared.instr.Place.{Place}
 use Rattle.pram_job.specs.Job.{JobData}
 use Rattle.pram_machine.specs.Machine.{State, counter, halted, IsStopped}
 use Rattle.pram_cost.specs.declared.access.Visit.TheVariants.{Elsewhere, Reads, Writes}
@@ -15,11 +20,18 @@ use Rattle.pram_cost.specs.declared.found.Access.{Access}
 use Rattle.pram_cost.specs.declared.found.Accesses.{Accesses}
 use Rattle.pram_cost.specs.declared.meeting.Sharing.{Sharing}
 use Rattle.pram_cost.specs.declared.meeting.Sharing.TheVariants.{SameRead, SameWrite, OtherValue}
+use Rattle.pram_step.specs.Inner.Passes.{bound}
 use Rattle.pram_step.specs.Running.{is_running}
+use Rattle.pram_step.specs.Walks.{IsSight}
+use Rattle.pram_step.specs.declared.walks.Sight.{Sight}
+use Rattle.pram_cost.specs.declared.group.Group.{Group}
+use Rattle.pram_cost.specs.Inner.Groups.{IsGroup}
 use Rattle.pram_cost.specs.Inner.Found.{IsAccess, AreAccesses, AreFound, IsVisit, of_kind}
 use Rattle.pram_cost.specs.Meetings.{access_by}
 use Rattle.pram_cost.proofs.Accessing.{idle_access}
+use Rattle.pram_cost.proofs.Grouping.{over_group}
 use Rattle.pram_cost.proofs.Runners.{count_runs, count_stopped}
+use Rattle.pram_cost.proofs.Visiting.{visit_elsewhere}
 
 -- what stands where no access was found
 abbrev nobody : Access
@@ -169,3 +181,52 @@ module _ (job : JobData) (s : State) where
   all_of_kind SameRead found are = are.reads
   all_of_kind SameWrite found are = are.writes
   all_of_kind OtherValue found are = are.writes
+
+-- ---- of a group
+
+module _ (sight : Sight) (is : IsSight sight) (group : Group) (of : IsGroup sight group.from group)
+    (found : Accesses) (before : AreFound sight.job.now sight.state.now
+    (bound sight.job.now sight.running.now group.from) found) where
+  abbrev job : JobData
+  job = sight.job.now
+
+  abbrev state : State
+  state = sight.state.now
+
+  -- so many of it run
+  abbrev grown : ℕ → Accesses
+  grown d = record found { running = found.running + d }
+
+  -- who has stopped goes to no cell
+  pub found_group_past : halted job ≤ group.index →
+      AreFound job state (bound job sight.running.now group.end) found
+  found_group_past past =
+      let begins = of.some in
+      let e : group.from + (group.end - group.from) ≡ group.end = omega arith in
+      subst (λ n. AreFound job state (bound job sight.running.now n) found) e
+      (over_group sight is group.from group of (λ d n. AreFound job state n found)
+      (λ d i stopped was. found_past job state i found was stopped)
+      (λ d i low here was. found_past job state i found was (omega arith))
+      before (group.end - group.from) (omega arith))
+
+  -- and who executes an instruction that neither loads nor stores
+  pub found_group : (instr : Instr) → slice_get job.code group.index ≡ Some instr →
+      ((r : ℕ) (place : Place) → instr ≡ Ld r place → ⊥) →
+      ((place : Place) (b : Operand) → instr ≡ St place b → ⊥) →
+      AreFound job state (bound job sight.running.now group.end) (grown (group.end - group.from))
+  found_group instr at no_load no_store =
+      let begins = of.some in
+      let e : group.from + (group.end - group.from) ≡ group.end = omega arith in
+      subst (λ n. AreFound job state (bound job sight.running.now n)
+      (grown (group.end - group.from))) e
+      (over_group sight is group.from group of (λ d n. AreFound job state n (grown d))
+      (λ d i stopped was. found_past job state i (grown d) was stopped)
+      (λ d i low here was. found_elsewhere job state i (grown d) was (grown (suc d)) (omega arith)
+      (visit_elsewhere job state i instr
+      (subst (λ n. slice_get job.code n ≡ Some instr) (sym here) at) no_load no_store) refl refl)
+      (let none : found.running + 0 ≡ found.running = omega arith in record {
+        few = let few = before.few in omega arith;
+        count = none ∙ before.count;
+        reads = before.reads;
+        writes = before.writes;
+      }) (group.end - group.from) (omega arith))

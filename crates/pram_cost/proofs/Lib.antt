@@ -1,4 +1,5 @@
 pub mod Runners
+pub mod Grouping
 pub mod Accessing
 pub mod Visiting
 pub mod Finding

@@ -1,5 +1,5 @@
 -- What steps cost, of jobs that differ in their number of steps alone.
-use Rattle.std.proofs.Common.{◌≡◌, ℕ, ◌<◌, ◌≤◌, ◌⊎◌, List, Option, Some, None, length, map}
+use Rattle.std.proofs.Common.{◌≡◌, ℕ, ◌≤◌, Option, Some, None, map}
 use Rattle.std.proofs.Common.{refl, sym, ap, subst, ◌∙◌, inl, inr}
 use Rattle.std.specs.Prelude.{Bool, is_some, slice_get, slice_index, sum_by, count_by}
 use Rattle.std.specs.List.{range_with_len, list_any}
@@ -19,7 +19,7 @@ use Rattle.pram_cost.specs.declared.meeting.Meeting.{Meeting}
 use Rattle.pram_cost.specs.declared.meeting.Sharing.{Sharing}
 use Rattle.pram_cost.specs.declared.meeting.Sharing.TheVariants.{SameRead, SameWrite, OtherValue}
 use Rattle.pram_cost.specs.Accesses.{cell_by, put_to_cell}
-use Rattle.pram_cost.specs.Costs.{at_work, has_access, executed, steps_with}
+use Rattle.pram_cost.specs.Costs.{at_work, has_access, steps_with}
 use Rattle.pram_cost.specs.Costs.{IsMost, IsCostOf}
 use Rattle.pram_cost.specs.Meetings.{access_by, IsFirstOrNone, IsLeastMeeting, NoneMeet}
 

@@ -1,8 +1,9 @@
 -- How often each instruction is executed, as it is counted.
-use Rattle.std.proofs.Common.{◌≡◌, ◌≢◌, ℕ, zero, suc, ◌+◌, ◌*◌, ◌^◌, ◌<◌, ◌≤◌, ◌⊎◌, ◌==◌, nat_lt}
-use Rattle.std.proofs.Common.{Bool, true, false, List, [], length, set, get_or, if◌then◌else◌}
+use Rattle.std.proofs.Common.{◌≡◌, ◌≢◌, ℕ, zero, suc, ◌+◌, ◌-◌, ◌*◌, ◌^◌, ◌<◌, ◌≤◌, ◌==◌}
+use Rattle.std.proofs.Common.{nat_lt}
+use Rattle.std.proofs.Common.{Bool, true, false, List, [], length, set, if◌then◌else◌}
 use Rattle.std.proofs.Common.{replicate}
-use Rattle.std.proofs.Common.{refl, sym, ap, ◌∙◌, subst, inl, inr, ⊎_elim, arith}
+use Rattle.std.proofs.Common.{refl, sym, ap, ◌∙◌, subst, ⊎_elim, arith}
 use Rattle.std.proofs.Math.Nat.{mul-le-mul_left}
 use Rattle.std.specs.Prelude.{count_by, max}
 use Rattle.std.specs.List.{range_with_len}
@@ -12,7 +13,8 @@ use Rattle.std.proofs.lemmas.List.{length-replicate, length-set}
 use Rattle.std.proofs.lemmas.List.FromFn.{length-range_with_len}
 use Rattle.std.proofs.lemmas.List.Sums.{count_by-le-length, sum_by_push}
 use Rattle.pram_job.specs.Job.{JobData}
-use Rattle.pram_machine.specs.Machine.{IsStopped, State, counter, halted}
+use Rattle.pram_machine.specs.Machine.{State, counter, halted}
+use Rattle.pram_step.specs.Inner.Passes.{bound}
 use Rattle.pram_step.specs.Running.{Repeats}
 use Rattle.pram_step.specs.Runs.{state_after}
 use Rattle.pram_step.specs.declared.walks.Sight.{Sight}
@@ -20,9 +22,12 @@ use Rattle.pram_step.specs.Walks.{IsSight}
 use Rattle.pram_step.proofs.LawRules.{state_same}
 use Rattle.pram_cost.specs.declared.profile.Executed.{Executed}
 use Rattle.pram_cost.specs.declared.profile.Tallied.{Tallied}
-use Rattle.pram_cost.specs.Inner.Tallied.{AreTallied, IsTallied, counted_once, standing_among}
+use Rattle.pram_cost.specs.declared.group.Group.{Group}
+use Rattle.pram_cost.specs.Inner.Groups.{IsGroup}
+use Rattle.pram_cost.specs.Inner.Tallied.{AreTallied, IsTallied, counted, standing_among}
 use Rattle.pram_cost.specs.Profiled.{HasProfiled, IsExecuted, row_at}
 use Rattle.pram_cost.specs.Profiles.{executed_at, most_at, standing_at_index, steps_at}
+use Rattle.pram_cost.proofs.Grouping.{bound_most, over_group}
 use Rattle.pram_cost.proofs.Runners.{range-more}
 
 -- ---- in steps that begin in one state
@@ -165,32 +170,33 @@ module _ (job : JobData) (index : ℕ) where
 
   -- ---- a row
 
-  module _ (made times many : ℕ) (row : Tallied) (is : IsTallied job index made times many row) where
+  module _ (made times many d : ℕ) (row : Tallied) (is : IsTallied job index made times many row)
+      (some_more : 0 < d) where
     abbrev more : Tallied
-    more = counted_once (made + 1) times row
+    more = counted (made + 1) times d row
 
     if_last : (b : Bool) → (row.last == made + 1) ≡ b → {A : Type 0} (x y : A) →
         (if row.last == made + 1 then x else y) ≡ (if b then x else y)
     if_last b e x y = ap (λ (t : Bool). if t then x else y) e
 
-    pub counted_first : many ≡ 0 → IsTallied job index made times (many + 1) more
+    pub counted_first : many ≡ 0 → IsTallied job index made times (many + d) more
     counted_first none =
         let low = is.last_none none in
         let test : (row.last == made + 1) ≡ false =
         ne_eqb row.last (made + 1) (λ e. omega arith) in
-        let some : nat_lt 0 (many + 1) ≡ true = lt-ltb 0 (many + 1) (omega arith) in
+        let some : nat_lt 0 (many + d) ≡ true = lt-ltb 0 (many + d) (omega arith) in
         let no : nat_lt 0 many ≡ false = ap (nat_lt 0) none in
         let was : (if nat_lt 0 many then times else 0) ≡ 0 =
         ap (λ (b : Bool). if b then times else 0) no in
-        let now_is : (if nat_lt 0 (many + 1) then times else 0) ≡ times =
+        let now_is : (if nat_lt 0 (many + d) then times else 0) ≡ times =
         ap (λ (b : Bool). if b then times else 0) some in
         let now_steps : more.executed.steps ≡ row.executed.steps + times =
         if_last false test row.executed.steps (row.executed.steps + times) in
-        let now_many : more.now ≡ 1 = if_last false test (row.now + 1) 1 in
+        let now_many : more.now ≡ d = if_last false test (row.now + d) d in
         let steps = is.steps_are in
         let executed = is.times_are in
         let most = is.most_is in
-        let product : times * (many + 1) ≡ times * many + times = omega arith in
+        let product : times * (many + d) ≡ times * many + times * d = omega arith in
         record {
           steps_are = omega arith;
           times_are = omega arith;
@@ -199,24 +205,24 @@ module _ (job : JobData) (index : ℕ) where
           last_some = λ lt. (refl, omega arith);
         }
 
-    pub counted_again : 0 < many → IsTallied job index made times (many + 1) more
+    pub counted_again : 0 < many → IsTallied job index made times (many + d) more
     counted_again lt =
         let known = is.last_some lt in
         let known_many : row.now ≡ many = known.1 in
         let test : (row.last == made + 1) ≡ true = eq-eqb row.last (made + 1) known.0 in
-        let some : nat_lt 0 (many + 1) ≡ true = lt-ltb 0 (many + 1) (omega arith) in
+        let some : nat_lt 0 (many + d) ≡ true = lt-ltb 0 (many + d) (omega arith) in
         let yes : nat_lt 0 many ≡ true = lt-ltb 0 many lt in
         let was : (if nat_lt 0 many then times else 0) ≡ times =
         ap (λ (b : Bool). if b then times else 0) yes in
-        let now_is : (if nat_lt 0 (many + 1) then times else 0) ≡ times =
+        let now_is : (if nat_lt 0 (many + d) then times else 0) ≡ times =
         ap (λ (b : Bool). if b then times else 0) some in
         let now_steps : more.executed.steps ≡ row.executed.steps =
         if_last true test row.executed.steps (row.executed.steps + times) in
-        let now_many : more.now ≡ row.now + 1 = if_last true test (row.now + 1) 1 in
+        let now_many : more.now ≡ row.now + d = if_last true test (row.now + d) d in
         let steps = is.steps_are in
         let executed = is.times_are in
         let most = is.most_is in
-        let product : times * (many + 1) ≡ times * many + times = omega arith in
+        let product : times * (many + d) ≡ times * many + times * d = omega arith in
         record {
           steps_are = omega arith;
           times_are = omega arith;
@@ -225,7 +231,7 @@ module _ (job : JobData) (index : ℕ) where
           last_some = λ less. (refl, omega arith);
         }
 
-    pub counted_more : IsTallied job index made times (many + 1) more
+    pub counted_more : IsTallied job index made times (many + d) more
     counted_more = ⊎_elim (λ (some : 0 < many). counted_again some)
         (λ (none : many ≤ 0). counted_first (omega arith))
         (cases_lt 0 many)
@@ -258,107 +264,167 @@ module _ (sight : Sight) (is : IsSight sight) where
         };
   }
 
-  module _ (n : ℕ) (rows : List Tallied) (are : AreTallied sight n rows) where
-    abbrev at : ℕ
-    at = counter job_of state_of n
+  -- who has stopped executes nothing
+  pub tallied_past : (n : ℕ) (rows : List Tallied) → AreTallied sight n rows →
+      halted job_of ≤ counter job_of state_of n → AreTallied sight (n + 1) rows
+  tallied_past n rows are past = record {
+    count = are.count;
+    each = λ index low.
+        subst (λ m. IsTallied job_of index sight.made sight.times m (row_at rows index))
+        (sym (among_other job_of index state_of n (λ e. omega arith))) (are.each index low);
+  }
 
-    same_row : (index : ℕ) (row : Tallied) → index < length job_of.code → at ≢ index →
-        row ≡ row_at rows index →
-        IsTallied job_of index sight.made sight.times
-        (standing_among job_of index state_of (n + 1)) row
-    same_row index row low apart same =
-        subst (λ m. IsTallied job_of index sight.made sight.times m row)
-        (sym (among_other job_of index state_of n apart))
-        (subst (IsTallied job_of index sight.made sight.times
-        (standing_among job_of index state_of n)) (sym same) (are.each index low))
+  -- ---- the rows after a group
 
-    -- who has stopped executes nothing
-    pub tallied_past : halted job_of ≤ at → AreTallied sight (n + 1) rows
-    tallied_past past = record {
-      count = are.count;
-      each = λ index low. same_row index (row_at rows index) low (λ e. omega arith) refl;
-    }
+  module _ (group : Group) (of : IsGroup sight group.from group) where
+    abbrev from : ℕ
+    from = bound job_of sight.running.now group.from
 
-    -- who runs executes one instruction
-    pub tallied_more : at < length rows → AreTallied sight (n + 1)
-        (set rows at (counted_once (sight.made + 1) sight.times (row_at rows at)))
-    tallied_more inside = record {
-      count = length-set rows at _ ∙ are.count;
-      each = λ index low. ⊎_elim
-          (λ (here : at ≡ index). subst
-          (λ (k : ℕ). IsTallied job_of k sight.made sight.times
-          (standing_among job_of k state_of (n + 1))
-          (row_at (set rows at (counted_once (sight.made + 1) sight.times (row_at rows at))) k))
-          here at_it)
-          (λ (no : at ≢ index). same_row index _ low no
-          (get_or-set_other rows at index _ _ (λ e. no (sym e))))
-          (cases_eq at index);
-    }
-      where
-        at_it : IsTallied job_of at sight.made sight.times
-            (standing_among job_of at state_of (n + 1))
-            (row_at (set rows at (counted_once (sight.made + 1) sight.times (row_at rows at))) at)
-        at_it =
-            let low : at < length job_of.code = (let e = are.count in omega arith) in
-            let more : Tallied = counted_once (sight.made + 1) sight.times (row_at rows at) in
-            subst (IsTallied job_of at sight.made sight.times
-            (standing_among job_of at state_of (n + 1)))
-            (sym (get_or-set_same rows at more _ inside))
-            (subst (λ m. IsTallied job_of at sight.made sight.times m more)
-            (sym (among_here job_of at state_of n refl))
-            (counted_more job_of at sight.made sight.times
-            (standing_among job_of at state_of n) (row_at rows at) (are.each at low)))
+    abbrev end : ℕ
+    end = bound job_of sight.running.now group.end
 
-    -- ---- what fits
+    abbrev size : ℕ
+    size = group.end - group.from
 
-    module _ (lt : n < job_of.procs) (low : at < length job_of.code) (few : job_of.procs < 2 ^ 32)
-      where
-        abbrev row : Tallied
-        row = row_at rows at
+    -- So many processors more stand at its instruction, and no more at each other.
+    among_group : (index : ℕ) → index < length job_of.code → group.index ≡ index →
+        standing_among job_of index state_of end
+        ≡ standing_among job_of index state_of from + size
+    among_group index low same =
+        let begins = of.some in
+        let e : group.from + size ≡ group.end = omega arith in
+        subst (λ n. standing_among job_of index state_of (bound job_of sight.running.now n)
+        ≡ standing_among job_of index state_of from + size) e
+        (over_group sight is group.from group of
+        (λ d n. standing_among job_of index state_of n
+        ≡ standing_among job_of index state_of from + d)
+        (λ d i stopped was. among_other job_of index state_of i (λ at. omega arith) ∙ was)
+        (λ d i under here was.
+        let one = among_here job_of index state_of i (here ∙ same) in omega arith)
+        (omega arith) size (omega arith))
 
-        abbrev many : ℕ
-        many = standing_among job_of at state_of n
+    among_apart : (index : ℕ) → index < length job_of.code → group.index ≢ index →
+        standing_among job_of index state_of end ≡ standing_among job_of index state_of from
+    among_apart index low apart =
+        let begins = of.some in
+        let e : group.from + size ≡ group.end = omega arith in
+        subst (λ n. standing_among job_of index state_of (bound job_of sight.running.now n)
+        ≡ standing_among job_of index state_of from) e
+        (over_group sight is group.from group of
+        (λ d n. standing_among job_of index state_of n ≡ standing_among job_of index state_of from)
+        (λ d i stopped was. among_other job_of index state_of i (λ at. omega arith) ∙ was)
+        (λ d i under here was.
+        among_other job_of index state_of i (λ at. apart (sym here ∙ at)) ∙ was)
+        refl size (omega arith))
 
-        row_is : IsTallied job_of at sight.made sight.times many row
-        row_is = are.each at low
+    module _ (rows : List Tallied) (are : AreTallied sight from rows) where
+      abbrev row : Tallied
+      row = row_at rows group.index
 
-        many_few : many < job_of.procs
-        many_few = let e = among_few job_of at state_of n in omega arith
+      abbrev grown : Tallied
+      grown = counted (sight.made + 1) sight.times size row
 
-        pub steps_fit : row.last ≢ sight.made + 1 → row.executed.steps + sight.times < 2 ^ 32
-        steps_fit apart = ⊎_elim
-            (λ (some : 0 < many). absurd (apart (row_is.last_some some).0))
-            (λ (none : many ≤ 0).
-            let no : nat_lt 0 many ≡ false = ap (nat_lt 0) (let e : many ≡ 0 = omega arith in e) in
-            let e = row_is.steps_are in
-            let was : (if nat_lt 0 many then sight.times else 0) ≡ 0 =
-            ap (λ (b : Bool). if b then sight.times else 0) no in
-            let f = steps_few job_of at sight.made in
-            let g = is.fits in omega arith)
-            (cases_lt 0 many)
+      same_row : (index : ℕ) (other : Tallied) → index < length job_of.code →
+          group.index ≢ index → other ≡ row_at rows index →
+          IsTallied job_of index sight.made sight.times
+          (standing_among job_of index state_of end) other
+      same_row index other low apart same =
+          subst (λ m. IsTallied job_of index sight.made sight.times m other)
+          (sym (among_apart index low apart))
+          (subst (IsTallied job_of index sight.made sight.times
+          (standing_among job_of index state_of from)) (sym same) (are.each index low))
 
-        pub now_fits : row.last ≡ sight.made + 1 → row.now + 1 < 2 ^ 32
-        now_fits same = ⊎_elim
-            (λ (some : 0 < many).
-            let e = (row_is.last_some some).1 in
-            let f = many_few in omega arith)
-            (λ (none : many ≤ 0).
-            let e = row_is.last_none (let e : many ≡ 0 = omega arith in e) in absurd (omega arith))
-            (cases_lt 0 many)
+      -- a group that has stopped executes nothing
+      pub tallied_stopped : halted job_of ≤ group.index → AreTallied sight end rows
+      tallied_stopped past = record {
+        count = are.count;
+        each = λ index low. same_row index (row_at rows index) low (λ e. omega arith) refl;
+      }
 
-        pub times_fit : row.executed.times + sight.times < 2 ^ 64
-        times_fit =
-            let e = row_is.times_are in
-            let f = executed_few job_of at sight.made in
-            let g = is.fits in
-            let more : many + 1 ≤ job_of.procs = (let h = many_few in omega arith) in
-            let h = mul-le-mul_left sight.times more in
-            let all : sight.made * job_of.procs + sight.times * job_of.procs
-            ≡ (sight.made + sight.times) * job_of.procs = omega arith in
-            let below : job_of.procs ≤ 2 ^ 32 = omega arith in
-            let limit = mul-le-mul_left (sight.made + sight.times) below in
-            let product : sight.times * (many + 1) ≡ sight.times * many + sight.times =
-            omega arith in omega arith
+      module _ (inside : group.index < length rows) where
+        low_index : group.index < length job_of.code
+        low_index = let e = are.count in omega arith
+
+        row_is : IsTallied job_of group.index sight.made sight.times
+            (standing_among job_of group.index state_of from) row
+        row_is = are.each group.index low_index
+
+        grown_is : IsTallied job_of group.index sight.made sight.times
+            (standing_among job_of group.index state_of end) grown
+        grown_is =
+            let begins = of.some in
+            subst (λ m. IsTallied job_of group.index sight.made sight.times m grown)
+            (sym (among_group group.index low_index refl))
+            (counted_more job_of group.index sight.made sight.times
+            (standing_among job_of group.index state_of from) size row row_is (omega arith))
+
+        -- one that runs executes one instruction
+        pub tallied_group : AreTallied sight end (set rows group.index grown)
+        tallied_group = record {
+          count = length-set rows group.index _ ∙ are.count;
+          each = λ index low. ⊎_elim
+              (λ (here : group.index ≡ index). subst
+              (λ (k : ℕ). IsTallied job_of k sight.made sight.times
+              (standing_among job_of k state_of end) (row_at (set rows group.index grown) k)) here
+              (subst (IsTallied job_of group.index sight.made sight.times
+              (standing_among job_of group.index state_of end))
+              (sym (get_or-set_same rows group.index grown _ inside)) grown_is))
+              (λ (no : group.index ≢ index). same_row index _ low no
+              (get_or-set_other rows group.index index _ _ (λ e. no (sym e))))
+              (cases_eq group.index index);
+        }
+
+        -- ---- what fits
+
+        module _ (few : job_of.procs < 2 ^ 32) where
+          many_few : standing_among job_of group.index state_of from + size ≤ job_of.procs
+          many_few =
+              let e = among_group group.index low_index refl in
+              let low = among_few job_of group.index state_of end in
+              let most = bound_most job_of state_of sight.running.now is.running group.end in
+              omega arith
+
+          pub steps_fit : row.last ≢ sight.made + 1 → row.executed.steps + sight.times < 2 ^ 32
+          steps_fit apart = ⊎_elim
+              (λ (some : 0 < standing_among job_of group.index state_of from).
+              absurd (apart (row_is.last_some some).0))
+              (λ (none : standing_among job_of group.index state_of from ≤ 0).
+              let no : nat_lt 0 (standing_among job_of group.index state_of from) ≡ false =
+              ap (nat_lt 0) (let e : standing_among job_of group.index state_of from ≡ 0 =
+              omega arith in e) in
+              let e = row_is.steps_are in
+              let was : (if nat_lt 0 (standing_among job_of group.index state_of from)
+              then sight.times else 0) ≡ 0 = ap (λ (b : Bool). if b then sight.times else 0) no in
+              let f = steps_few job_of group.index sight.made in
+              let g = is.fits in omega arith)
+              (cases_lt 0 (standing_among job_of group.index state_of from))
+
+          pub now_fits : row.last ≡ sight.made + 1 → row.now + size < 2 ^ 32
+          now_fits same = ⊎_elim
+              (λ (some : 0 < standing_among job_of group.index state_of from).
+              let e = (row_is.last_some some).1 in
+              let f = many_few in omega arith)
+              (λ (none : standing_among job_of group.index state_of from ≤ 0).
+              let e = row_is.last_none
+              (let e : standing_among job_of group.index state_of from ≡ 0 = omega arith in e) in
+              absurd (omega arith))
+              (cases_lt 0 (standing_among job_of group.index state_of from))
+
+          pub times_fit : row.executed.times + sight.times * size < 2 ^ 64
+          times_fit =
+              let many : ℕ = standing_among job_of group.index state_of from in
+              let e : row.executed.times ≡ executed_at job_of group.index sight.made
+              + sight.times * many = row_is.times_are in
+              let f = executed_few job_of group.index sight.made in
+              let g = is.fits in
+              let more : many + size ≤ job_of.procs = many_few in
+              let h = mul-le-mul_left sight.times more in
+              let all : sight.made * job_of.procs + sight.times * job_of.procs
+              ≡ (sight.made + sight.times) * job_of.procs = omega arith in
+              let below : job_of.procs ≤ 2 ^ 32 = omega arith in
+              let limit = mul-le-mul_left (sight.made + sight.times) below in
+              let product : sight.times * (many + size) ≡ sight.times * many + sight.times * size =
+              omega arith in omega arith
 
   -- ---- after all processors
 

@@ -1,4 +1,5 @@
 -- What private contracts alone cite.
 pub mod Found
+pub mod Groups
 pub mod Seen
 pub mod Tallied

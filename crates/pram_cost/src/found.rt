@@ -1,12 +1,16 @@
 //! All accesses of a step, found in one pass over the processors.
 ghost use Rattle.std.specs.Prelude.{◌≡◌, ◌+◌, ◌<◌, length, OnOk};
 ghost use Rattle.pram_cost.specs.Inner.Found.{AreFound, of_kind};
+ghost use Rattle.pram_cost.specs.Inner.Groups.{IsGroup};
 ghost use Rattle.pram_machine.specs.Machine.{place_count};
+ghost use Rattle.pram_step.specs.Inner.Passes.{bound};
 ghost use Rattle.pram_step.specs.Walks.{IsSight};
 
 use crate::access::{Visit, visit_of};
+use crate::group::{Group, group_from};
 use crate::meeting::Sharing;
-use pram_job::Job;
+use pram_job::{Instr, Job};
+use pram_machine::Fetched;
 use pram_step::{Sight, State, laws};
 use std::alloc::{AllocError, Global};
 
@@ -43,13 +47,56 @@ impl Accesses {
         ensures { OnOk result (AreFound sight.now.job.now sight.now.state.now
             sight.now.job.now.procs self.new) }
     {
-        laws::states_have_all_places();
-        sight.job.limits_hold();
         self.running = 0;
         self.reads.clear();
         self.writes.clear();
-        for processor in sight.running {
-            self.take_up(sight.job, sight.state, *processor)?;
+        let mut taken = 0;
+        while taken < sight.running.len() {
+            let group = group_from(sight, taken);
+            self.take_group(sight, group)?;
+            taken = group.end;
+        }
+        Ok(())
+    }
+
+    // Takes up what the processors of a group do, after those before them. Only where their
+    // instruction loads or stores is each of them looked at.
+    #[inline(always)]
+    fn take_group(&mut self, sight: &Sight<'_>, group: Group) -> Result<(), AllocError>
+        requires sight { IsSight sight.now }
+        requires group { IsGroup sight.now group.from group }
+        requires before { AreFound sight.now.job.now sight.now.state.now
+            (bound sight.now.job.now sight.now.running.now group.from) self.old }
+        ensures { OnOk result (AreFound sight.now.job.now sight.now.state.now
+            (bound sight.now.job.now sight.now.running.now group.end) self.new) }
+    {
+        sight.job.limits_hold();
+        let Some(fetched) = Fetched::at(sight.job, group.index) else {
+            return Ok(());
+        };
+        match *fetched.instr {
+            Instr::Ld(..) => self.take_each(sight, group),
+            Instr::St(..) => self.take_each(sight, group),
+            _ => {
+                self.running += (group.end - group.from) as u32;
+                Ok(())
+            }
+        }
+    }
+
+    // Takes up what each processor of a group does.
+    fn take_each(&mut self, sight: &Sight<'_>, group: Group) -> Result<(), AllocError>
+        requires sight { IsSight sight.now }
+        requires group { IsGroup sight.now group.from group }
+        requires before { AreFound sight.now.job.now sight.now.state.now
+            (bound sight.now.job.now sight.now.running.now group.from) self.old }
+        ensures { OnOk result (AreFound sight.now.job.now sight.now.state.now
+            (bound sight.now.job.now sight.now.running.now group.end) self.new) }
+    {
+        laws::states_have_all_places();
+        sight.job.limits_hold();
+        for taken in group.from..group.end {
+            self.take_up(sight.job, sight.state, sight.running[taken])?;
         }
         Ok(())
     }

@@ -5,6 +5,7 @@ mod access;
 mod cost;
 mod cost_names;
 mod found;
+mod group;
 pub mod laws;
 mod meeting;
 mod moment;

@@ -1,13 +1,16 @@
 //! How often each instruction of a job is executed.
-ghost use Rattle.std.specs.Prelude.{◌≡◌, ◌≢◌, ◌+◌, ◌<◌, ◌^◌, IfOk};
+ghost use Rattle.std.specs.Prelude.{◌≡◌, ◌≢◌, ◌+◌, ◌*◌, ◌<◌, ◌^◌, IfOk};
 ghost use Rattle.pram_cost.specs.Profiled.{HasProfiled, row_at};
 ghost use Rattle.pram_cost.specs.Tallies.{HasCounted};
-ghost use Rattle.pram_cost.specs.Inner.Tallied.{AreTallied, counted_once};
+ghost use Rattle.pram_cost.specs.Inner.Groups.{IsGroup};
+ghost use Rattle.pram_cost.specs.Inner.Tallied.{AreTallied, counted};
+ghost use Rattle.pram_step.specs.Inner.Passes.{bound};
 ghost use Rattle.pram_step.specs.Walks.{IsSight};
 
 use crate::cost::Tally;
+use crate::group::{Group, group_from};
 use pram_job::Job;
-use pram_step::{Observer, Sight, counter, laws};
+use pram_step::{Observer, Sight};
 use std::alloc::{AllocError, Global};
 
 /// How often an instruction is executed.
@@ -40,13 +43,13 @@ impl Tallied {
         now: 0,
     };
 
-    // One processor more executes it, in this step and as many as follow it in the same state.
+    // So many processors more execute it, in this step and as many as follow it in the same state.
     #[inline(always)]
-    fn counted_once(self, step: u32, times: u32) -> Tallied
+    fn counted(self, step: u32, times: u32, more: u32) -> Tallied
         requires steps { self.last ≢ step → self.executed.steps + times < 2 ^ 32 }
-        requires executed { self.executed.times + times < 2 ^ 64 }
-        requires now { self.last ≡ step → self.now + 1 < 2 ^ 32 }
-        ensures { result ≡ counted_once step times self }
+        requires executed { self.executed.times + times * more < 2 ^ 64 }
+        requires now { self.last ≡ step → self.now + more < 2 ^ 32 }
+        ensures { result ≡ counted step times more self }
     {
         let Executed {
             steps,
@@ -54,14 +57,14 @@ impl Tallied {
             most,
         } = self.executed;
         let (steps, now) = if self.last == step {
-            (steps, self.now + 1)
+            (steps, self.now + more)
         } else {
-            (steps + times, 1)
+            (steps + times, more)
         };
         Tallied {
             executed: Executed {
                 steps,
-                times: executed + u64::from(times),
+                times: executed + u64::from(times) * u64::from(more),
                 most: most.max(now),
             },
             last: step,
@@ -132,23 +135,28 @@ fn count(rows: &mut [Tallied], sight: &Sight<'_>)
     requires before { HasProfiled sight.now.job.now sight.now.made rows.old }
     ensures { HasProfiled sight.now.job.now (sight.now.made + sight.now.times) rows.new }
 {
-    for processor in sight.running {
-        take_up(rows, sight, *processor);
+    let mut taken = 0;
+    while taken < sight.running.len() {
+        let group = group_from(sight, taken);
+        take_up(rows, sight, group);
+        taken = group.end;
     }
 }
 
-// Counts what a processor executes, after those before it.
+// Counts what the processors of a group execute, after those before them.
 #[inline(always)]
-fn take_up(rows: &mut [Tallied], sight: &Sight<'_>, processor: u32)
+fn take_up(rows: &mut [Tallied], sight: &Sight<'_>, group: Group)
     requires sight { IsSight sight.now }
-    requires processor { processor < sight.now.job.now.procs }
-    requires before { AreTallied sight.now processor rows.old }
-    ensures { AreTallied sight.now (processor + 1) rows.new }
+    requires group { IsGroup sight.now group.from group }
+    requires before { AreTallied sight.now
+        (bound sight.now.job.now sight.now.running.now group.from) rows.old }
+    ensures { AreTallied sight.now
+        (bound sight.now.job.now sight.now.running.now group.end) rows.new }
 {
-    laws::states_have_all_places();
     sight.job.limits_hold();
-    let index = counter(sight.job, sight.state, processor) as usize;
+    let index = group.index as usize;
     if index < rows.len() {
-        rows[index] = rows[index].counted_once(sight.made + 1, sight.times);
+        let more = (group.end - group.from) as u32;
+        rows[index] = rows[index].counted(sight.made + 1, sight.times, more);
     }
 }

@@ -9,14 +9,14 @@ use Rattle.pram_cost.specs.Profiled.{row_at}
 use Rattle.pram_cost.specs.Profiles.{executed_at, most_at, steps_at}
 use Rattle.pram_cost.specs.declared.profile.Tallied.{Tallied}
 
--- one processor more executes it in a step, and in all that follow it in the same state
-abbrev pub counted_once : ℕ → ℕ → Tallied → Tallied
-counted_once step times row =
-    let now = if row.last == step then row.now + 1 else 1 in
+-- so many processors more execute it in a step, and in all that follow it in the same state
+abbrev pub counted : ℕ → ℕ → ℕ → Tallied → Tallied
+counted step times more row =
+    let now = if row.last == step then row.now + more else more in
     record {
       executed = record {
         steps = if row.last == step then row.executed.steps else row.executed.steps + times;
-        times = row.executed.times + times;
+        times = row.executed.times + times * more;
         most = max row.executed.most now;
       };
       last = step;
