@@ -139,12 +139,7 @@ pub(crate) fn explain<E: Sink>(
 }
 
 // Tells the sentence, if there is memory for it.
-fn tell_sentence<E: Sink>(
-    alloc: Global,
-    explanation: &Explanation<'_>,
-    look: Look,
-    err: &mut E,
-)
+fn tell_sentence<E: Sink>(alloc: Global, explanation: &Explanation<'_>, look: Look, err: &mut E)
     requires { E.has_failed err.old ≡ false }
 {
     let text = match diagnosis_of(alloc, explanation) {
