@@ -10,14 +10,15 @@ PLAN = b"worker,act,ticks\n0,go,9\n0,back,0\n1,go,50\n1,stop,0\n2,sleep,4\n"
 
 
 def told(name, *texts, **asked):
-    """What a call tells, as the program tells it with --explain."""
+    """What a call tells, as the program tells it: of a plan with --explain."""
     try:
         status, output = _library.told(name, *texts, **asked)
         return status, output, b""
     except kaolinsilk.Refused as refused:
         row = "row" if refused.subject == "plan" else "line"
-        head = f"{refused.subject} {row}={refused.line} kind={refused.kind}\n"
-        said = f"{head}standard input, {row} {refused.line}: {refused.sentence}\n"
+        said = f"{refused.subject} {row}={refused.line} kind={refused.kind}\n"
+        if row == "row":
+            said += f"standard input, row {refused.line}: {refused.sentence}\n"
         return _library.REFUSED, b"", said.encode()
 
 
@@ -36,7 +37,7 @@ class Beside(unittest.TestCase):
         for number, text in enumerate(texts):
             for name, words, asked in calls:
                 with self.subTest(text=number, words=words):
-                    ran = pramx(*words, "--explain", text=text)
+                    ran = pramx(*words, text=text)
                     self.assertEqual(told(name, text, **asked), ran)
 
     def test_the_gallery(self):

@@ -96,6 +96,7 @@ pub fn answer_alone<'a, F: Folder, O: Sink, E: Sink>(
         Err(error) => return Ok(refusal_status(alloc, &error, console)),
     };
     console.explains |= asked.explain;
+    console.notes |= asked.explain;
     let line = asked.line;
     match settings.as_slice() {
         [] => match line.ask {

@@ -1,12 +1,14 @@
 //! The sentence that explains a refusal.
 use pram_commands::{
-    Ask, AskAlone, Bytes, CommandFault, Console, Explanation, Line, Reasons, Sources, Workers,
+    Ask, AskAlone, Bytes, CommandFault, Console, Explanation, Line, Look, Reasons, Sources,
+    Workers,
     serve,
 };
 use pram_streams::{Empty, IntoWrite, Reason};
 use pram_text::TextKind;
 use std::alloc::{AllocError, Global};
 use std::rt::Clock;
+use std::str;
 use std::sync::Wait;
 use std::test::Fail;
 use std::thread::Threads;
@@ -60,6 +62,7 @@ fn tell(alloc: Global, fault: CommandFault, told: &mut String) -> Result<(), All
             job: Reason::Missing,
             plan: Reason::Folder,
         },
+        text: b"",
     };
     told.push_str(format!(in alloc; "{explanation}")?.as_str())
 }
@@ -78,7 +81,18 @@ const LINE: &str = "text line=1 kind=BadHeader\n";
 
 const EXPLAINED: &str = "\
 text line=1 kind=BadHeader
-job, line 1: a line of the header is wrong, missing or repeated
+job:1:1: a line of the header is wrong, missing or repeated
+    no job
+    ^
+";
+
+const PROGRAM: &[u8] = b"pardo 1\nrule crew\nprocs i < 4\nprivate x\ncode\n  x = 1\n";
+
+const SLIP: &str = "\
+text line=6 kind=BadLine
+job:6:5: an assignment is `:=`; `=` compares
+      x = 1
+        ^
 ";
 
 const MEMORY: &str = "\
@@ -89,6 +103,7 @@ out of memory, or the system refused a thread
 // The status of a check that is explained, and how much room is left where it is told.
 fn checked<R: AllocGlobal + Threads + Wait + Clock + Eprint + Sync>(
     rt: &R,
+    job: &[u8],
     room: &mut [u8],
 ) -> (u8, usize) {
     let mut console = Console {
@@ -96,10 +111,13 @@ fn checked<R: AllocGlobal + Threads + Wait + Clock + Eprint + Sync>(
         err: IntoWrite::new(room),
         is_terminal: false,
         explains: true,
+        look: Look::Plain,
+        notes: true,
     };
     let mut sources = Sources {
-        job: Bytes::new(b"no job\n"),
+        job: Bytes::new(job),
         plan: Empty,
+        text: None,
     };
     let check = Line {
         file: "job",
@@ -123,7 +141,7 @@ fn checked<R: AllocGlobal + Threads + Wait + Clock + Eprint + Sync>(
 #[test]
 fn refused_growths_are_explained_as_they_are_told(rt: HostRuntime) -> Result<(), Fail> {
     let mut room = [0u8; 256];
-    let (status, left) = checked(&rt, &mut room);
+    let (status, left) = checked(&rt, b"no job\n", &mut room);
     let told = &room[..room.len().saturating_sub(left)];
     let is_promised = match status {
         2 => told == EXPLAINED.as_bytes() || told == LINE.as_bytes(),
@@ -132,5 +150,55 @@ fn refused_growths_are_explained_as_they_are_told(rt: HostRuntime) -> Result<(),
     assert!(rt; is_promised, "status {status}");
     let refused = u8::from(told != EXPLAINED.as_bytes());
     println!(rt; "refused={refused}")?;
+    Ok(())
+}
+
+#[test]
+fn a_program_is_explained_where_it_is_wrong(rt: HostRuntime) -> Result<(), Fail> {
+    let mut room = [0u8; 256];
+    let (status, left) = checked(&rt, PROGRAM, &mut room);
+    let told = &room[..room.len().saturating_sub(left)];
+    assert!(rt; status == 2 && told == SLIP.as_bytes());
+    Ok(())
+}
+
+const SHIFTED: &[u8] =
+    b"pardo 1\nrule crew\nprocs i < 4\nprivate x\ncode\n  x := i << x + 1\n";
+
+const NOTE: &str = "\
+job:6:10: note: here `i` is shifted by `x`: a shift binds as `*` does
+      x := i << x + 1
+             ^
+";
+
+#[test]
+fn a_shift_is_explained_where_it_stands_beside_a_sum(rt: HostRuntime) -> Result<(), Fail> {
+    let mut room = [0u8; 256];
+    let (status, left) = checked(&rt, SHIFTED, &mut room);
+    let told = &room[..room.len().saturating_sub(left)];
+    assert!(rt; status == 0 && told == NOTE.as_bytes());
+    Ok(())
+}
+
+// Lines of the machine, and where each is told to be wrong.
+const WORDS: [(&str, &str); 4] = [
+    ("frob r1", "7:1"),
+    ("add r0 5 r9", "7:10"),
+    ("jmp none", "7:5"),
+    ("set r0 4294967296", "7:8"),
+];
+
+#[test]
+fn a_line_of_the_machine_is_explained_at_a_word(rt: HostRuntime) -> Result<(), Fail> {
+    for (line, place) in WORDS {
+        let job = format!(in rt.alloc();
+            "pram 3\ncells 4\nprocs 2\nsteps 9\nrule crew\ncode\n{line}\n"
+        )?;
+        let mut room = [0u8; 256];
+        let (_, left) = checked(&rt, job.as_bytes(), &mut room);
+        let told = str::from_utf8(&room[..room.len().saturating_sub(left)])?;
+        let wanted = format!(in rt.alloc(); "\njob:{place}: ")?;
+        assert!(rt; told.contains(wanted.as_str()), "{told}");
+    }
     Ok(())
 }

@@ -9,7 +9,7 @@ ghost use Rattle.std.specs.Prelude.{⊤};
 
 use command_answers::answer_words;
 use failing_devices::Trickle;
-use pram_commands::{Bytes, Console, Folder};
+use pram_commands::{Bytes, Console, Folder, Look};
 use std::alloc::{AllocError, Global};
 use std::process::Abort;
 use std::rt::Clock;
@@ -73,6 +73,8 @@ pub fn answer<R: Threads + Wait + Clock + Eprint + Sync, F: Folder>(
         err: Trickle::new(alloc, room.err),
         is_terminal: on_terminal.is_some(),
         explains: false,
+        look: Look::Plain,
+        notes: false,
     };
     let status = answer_words(rt, alloc, folder, words.as_slice(), &mut console);
     let Console { out, err, .. } = console;

@@ -31,6 +31,7 @@ pub(crate) fn serve(
     let mut sources = Sources {
         job: FromRead::new(text),
         plan: FromRead::new(plan),
+        text: None,
     };
     let mut output = Output::new(alloc);
     match do_alone(alloc, ask, &mut sources, &mut output) {

@@ -14,6 +14,7 @@ pub fn said(alloc: Global, call: &str, given: &str, text: &str) -> Result<String
         "job" => moments::said(alloc, call, given, text),
         "program" => programs::said(alloc, call, given, text),
         "slip" => slips::said(alloc, given, text),
+        "note" => slips::noted(alloc, given, text),
         "plan" => plans::plan(alloc, given, text),
         "board" => words::words(alloc, given, text),
         _ => printed_whole(alloc, call, given, text),

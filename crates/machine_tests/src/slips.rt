@@ -1,6 +1,6 @@
 //! Slips in programs: where each is told, and by which words.
 use crate::table::expect;
-use pardo_explain::{diagnose, push_diagnosis};
+use pardo_explain::{Diagnosis, Look, diagnose, notes, push_diagnosis};
 use std::alloc::Global;
 use std::str;
 use std::test::Fail;
@@ -11,6 +11,19 @@ pub fn said(alloc: Global, words: &str, text: &str) -> Result<String, Fail> {
     let Some((_, found)) = diagnose(alloc, text.as_bytes())? else {
         return Ok(String::from_str(alloc, "a program")?);
     };
+    spot_of(alloc, words, &found)
+}
+
+/// The same of the first note on a text.
+pub fn noted(alloc: Global, words: &str, text: &str) -> Result<String, Fail> {
+    let notes = notes(alloc, text.as_bytes())?;
+    match notes.first() {
+        Some(note) => spot_of(alloc, words, note),
+        None => Ok(String::from_str(alloc, "nothing")?),
+    }
+}
+
+fn spot_of(alloc: Global, words: &str, found: &Diagnosis) -> Result<String, Fail> {
     let sentence = str::from_utf8(found.sentence.as_slice())?;
     let (line, column) = (found.line, found.column);
     let spot = format!(in alloc; "{line}:{column}")?;
@@ -121,6 +134,13 @@ numbers go from 0 : pardo 1~rule crew~const n = 4294967296 -> 3:11
 an operator, `,` or the end of the line : pardo 1~rule crew~shared A[2] = 1 2 -> 3:17
 closes nothing : pardo 1~rule crew~procs i < 4~shared s~code~s := 1) -> 6:7
 a new name : pardo 1~rule crew~const = 4 -> 3:7
+$ note: pardo 1~rule common~procs i < 4~shared A[4]~private x~code~
+`i` is shifted by `x` : x := i << x + 1 -> 7:8
+`1` is shifted by `x` : A[i - 1 << x] := 2 -> 7:9
+`i & 3` is shifted by `x` : x := i & 3 << x -> 7:12
+`A[i]` is shifted by `(x + 1)` : x := A[i] >> (x + 1) | 1 -> 7:11
+`i` is shifted by `x` : if x = min(i << x * 2, 3) ; << ~end -> 7:14
+x := (i << x) + 1~A[i - (1 << x)] := 2 * i << x~if i + 1 < 1 << x~end -> nothing
 ";
 
 #[test]
@@ -131,19 +151,33 @@ fn slips_are_told_where_they_are(rt: HostRuntime) -> Result<(), Fail> {
 const TEXT: &[u8] =
     b"pardo 1\nrule crew\nprocs i < 3\nprivate x\ncode\n\tx = \x1b1 ; a comment \r\n";
 
-const TOLD: &str = "\
-prog.pardo:6:6: a character that is not allowed: texts are ASCII, in comments too
+const TOLD: [(Look, &str); 2] = [
+    (
+        Look::Plain,
+        "prog.pardo:6:6: a character that is not allowed: texts are ASCII, in comments too
     \tx = ?1 ; a comment
     \t    ^
-";
+",
+    ),
+    (
+        Look::Coloured,
+        "\x1b[1mprog.pardo:6:6: \x1b[0ma character that is not allowed: texts are ASCII, in \
+        comments too
+    \tx = ?1 ; a comment
+    \t    \x1b[31m^\x1b[0m
+",
+    ),
+];
 
 #[test]
 fn a_diagnosis_is_printed(rt: HostRuntime) -> Result<(), Fail> {
-    let mut told = Vec::new(rt.alloc());
-    if let Some((_, found)) = diagnose(rt.alloc(), TEXT)? {
-        push_diagnosis(&mut told, b"prog.pardo", &found)?;
+    for (look, wanted) in TOLD {
+        let mut told = Vec::new(rt.alloc());
+        if let Some((_, found)) = diagnose(rt.alloc(), TEXT)? {
+            push_diagnosis(&mut told, look, b"prog.pardo", &found)?;
+        }
+        let told = str::from_utf8(told.as_slice())?;
+        assert!(rt; told == wanted, "{told}");
     }
-    let told = str::from_utf8(told.as_slice())?;
-    assert!(rt; told == TOLD, "{told}");
     Ok(())
 }

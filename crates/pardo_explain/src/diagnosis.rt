@@ -1,7 +1,8 @@
 //! A diagnosis, and how it is printed.
 ghost use Rattle.std.specs.Prelude.{◌≡◌, ◌++◌, decimal, OnOk};
-ghost use Rattle.pardo_explain.specs.Diagnoses.{diagnosis_text, indented, spot};
+ghost use Rattle.pardo_explain.specs.Diagnoses.{diagnosis_text, indented, mark, spot};
 
+use crate::look::{Look, push_sign};
 use itoa::Buffer;
 use std::alloc::AllocError;
 
@@ -17,25 +18,48 @@ pub struct Diagnosis {
 }
 
 /// Adds a diagnosis, as it is printed below the line of a refusal of this file.
-pub fn push_diagnosis(text: &mut Vec<u8>, file: &[u8], found: &Diagnosis) -> Result<(), AllocError>
-    ensures { OnOk result (text.new.items ≡ text.old.items ++ diagnosis_text file.now found.now) }
+pub fn push_diagnosis(
+    text: &mut Vec<u8>,
+    look: Look,
+    file: &[u8],
+    found: &Diagnosis,
+) -> Result<(), AllocError>
+    ensures { OnOk result (text.new.items ≡ text.old.items
+        ++ diagnosis_text look file.now found.now) }
 {
-    push_spot(text, file, found.line, found.column)?;
+    push_spot(text, look, file, found)?;
     text.extend_from_slice(found.sentence.as_slice())?;
     push_indented(text, found.shown.as_slice())?;
     push_indented(text, found.margin.as_slice())?;
-    text.extend_from_slice(b"^\n")
+    push_mark(text, look)
 }
 
-fn push_spot(text: &mut Vec<u8>, file: &[u8], line: u64, column: u64) -> Result<(), AllocError>
-    ensures { OnOk result (text.new.items ≡ text.old.items ++ spot file.now line column) }
+fn push_spot(
+    text: &mut Vec<u8>,
+    look: Look,
+    file: &[u8],
+    found: &Diagnosis,
+) -> Result<(), AllocError>
+    ensures { OnOk result (text.new.items ≡ text.old.items
+        ++ spot look file.now found.now.line found.now.column) }
 {
+    push_sign(text, look, b"1")?;
     text.extend_from_slice(file)?;
     text.extend_from_slice(b":")?;
-    push_number(text, line)?;
+    push_number(text, found.line)?;
     text.extend_from_slice(b":")?;
-    push_number(text, column)?;
-    text.extend_from_slice(b": ")
+    push_number(text, found.column)?;
+    text.extend_from_slice(b": ")?;
+    push_sign(text, look, b"0")
+}
+
+fn push_mark(text: &mut Vec<u8>, look: Look) -> Result<(), AllocError>
+    ensures { OnOk result (text.new.items ≡ text.old.items ++ mark look) }
+{
+    push_sign(text, look, b"31")?;
+    text.extend_from_slice(b"^")?;
+    push_sign(text, look, b"0")?;
+    text.extend_from_slice(b"\n")
 }
 
 fn push_indented(text: &mut Vec<u8>, line: &[u8]) -> Result<(), AllocError>

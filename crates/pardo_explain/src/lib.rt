@@ -6,7 +6,9 @@
 mod before;
 mod diagnosis;
 mod fill;
+mod look;
 mod nearest;
+mod note;
 mod piece;
 mod point;
 mod scan;
@@ -18,4 +20,6 @@ mod wanted;
 mod words;
 
 pub use diagnosis::{Diagnosis, push_diagnosis};
+pub use look::Look;
+pub use note::notes;
 pub use second_look::{diagnose, line_at, point_at};

@@ -68,8 +68,8 @@ pub fn line_at(text: &[u8], number: u64) -> &[u8] {
     lines.take_line().unwrap_or(b"")
 }
 
-// A sentence on a line, at the point before which so many of its bytes stand.
-fn pointing(
+/// A sentence on a line, at the point before which so many of its bytes stand.
+pub(crate) fn pointing(
     alloc: Global,
     number: u64,
     line: &[u8],

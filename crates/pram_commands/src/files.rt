@@ -106,7 +106,12 @@ pub fn serve_text<R: Threads + Wait + Clock + Eprint + Sync, F: Folder, O: Sink,
 {
     let plan = plan_of(folder, line);
     let job = Bytes::new(text);
-    serve(rt, alloc, line, &mut Sources { job, plan }, console)
+    let mut sources = Sources {
+        job,
+        plan,
+        text: None,
+    };
+    serve(rt, alloc, line, &mut sources, console)
 }
 
 /// Does what `serve_text` does where the thread that calls is asked alone, and always returns.
@@ -126,7 +131,12 @@ pub fn serve_text_alone<F: Folder, O: Sink, E: Sink>(
 {
     let plan = plan_of(folder, line);
     let job = Bytes::new(text);
-    serve_alone(alloc, line, ask, &mut Sources { job, plan }, console)
+    let mut sources = Sources {
+        job,
+        plan,
+        text: None,
+    };
+    serve_alone(alloc, line, ask, &mut sources, console)
 }
 
 // The files that the line names, as they are opened.
@@ -139,7 +149,11 @@ fn sources_of<F: Folder>(folder: &F, line: &Line<'_>) -> Sources<F::File, PlanFi
 {
     let job = folder.open(line.file);
     let plan = plan_of(folder, line);
-    Sources { job, plan }
+    Sources {
+        job,
+        plan,
+        text: None,
+    }
 }
 
 // The plan's file, as it is opened, if the line names one.

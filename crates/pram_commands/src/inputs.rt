@@ -30,13 +30,17 @@ pub fn take_inputs<J: Source, P: Source>(
     requires plan { P.has_failed sources.old.plan ≡ false }
     ensures { Took workers.count (taking J.Source P.Source sources.old sources.new) result }
 {
-    let spelled = take_text(alloc, &mut sources.job)?;
+    let spelled = take_text(alloc, &mut sources.job, &mut sources.text)?;
     let plan = take_plan(alloc, &mut sources.plan, workers)?;
     Ok(Inputs { spelled, plan })
 }
 
-/// The job of the text that a source gives.
-pub fn take_job<J: Source>(alloc: Global, source: &mut J) -> Result<Job, CommandFault>
+/// The job of the text that a source gives, which is kept.
+pub fn take_job<J: Source>(
+    alloc: Global,
+    source: &mut J,
+    kept: &mut Option<Vec<u8>>,
+) -> Result<Job, CommandFault>
     requires { J.has_failed source.old ≡ false }
     ensures ok { IfOk result (GivesJob (J.remaining source.old) (J.remaining source.new)) }
     ensures explains { IfErr result (ExplainsJob (J.remaining source.old)
@@ -44,11 +48,18 @@ pub fn take_job<J: Source>(alloc: Global, source: &mut J) -> Result<Job, Command
     ensures failed { IsTrue (J.has_failed source.new) ↔ IsErrOf result JobDevice }
     ensures reads { GivesSome (J.remaining source.old) (J.remaining source.new) }
 {
-    Ok(take_text(alloc, source)?.job)
+    let Spelled { text, job, .. } = take_text(alloc, source, kept)?;
+    *kept = Some(text);
+    Ok(job)
 }
 
-/// The job of the text that a source gives, the text itself, and what its answers are told by.
-pub(crate) fn take_text<J: Source>(alloc: Global, source: &mut J) -> Result<Spelled, CommandFault>
+/// The job of the text that a source gives, the text itself, and what its answers are told by; a
+/// text that is refused is kept.
+pub(crate) fn take_text<J: Source>(
+    alloc: Global,
+    source: &mut J,
+    kept: &mut Option<Vec<u8>>,
+) -> Result<Spelled, CommandFault>
     requires { J.has_failed source.old ≡ false }
     ensures names { IfOk result (λ read. AreNames read.text.items read.job read.names) }
     ensures ok { IfOk result (λ read. GivesText (J.remaining source.old)
@@ -59,15 +70,21 @@ pub(crate) fn take_text<J: Source>(alloc: Global, source: &mut J) -> Result<Spel
     ensures reads { GivesSome (J.remaining source.old) (J.remaining source.new) }
 {
     let text = take(alloc, source).map_err(job_fault)?;
-    let (job, names) = read_text(alloc, text.as_slice())?;
-    Ok(Spelled { text, job, names })
+    match read_text(alloc, text.as_slice()) {
+        Ok((job, names)) => Ok(Spelled { text, job, names }),
+        Err(fault) => {
+            *kept = Some(text);
+            Err(fault)
+        }
+    }
 }
 
 /// The job of the text that a source gives, the text itself, what its answers are told by, and what
-/// the run of the job costs.
+/// the run of the job costs; a text that is refused is kept.
 pub(crate) fn take_costed<J: Source>(
     alloc: Global,
     source: &mut J,
+    kept: &mut Option<Vec<u8>>,
 ) -> Result<(Spelled, Costs), CommandFault>
     requires { J.has_failed source.old ≡ false }
     ensures costs { IfOk result (λ read. IsCosted read.0 read.1) }
@@ -79,8 +96,13 @@ pub(crate) fn take_costed<J: Source>(
     ensures reads { GivesSome (J.remaining source.old) (J.remaining source.new) }
 {
     let text = take(alloc, source).map_err(job_fault)?;
-    let (job, names, costs) = read_costed(alloc, text.as_slice())?;
-    Ok((Spelled { text, job, names }, costs))
+    match read_costed(alloc, text.as_slice()) {
+        Ok((job, names, costs)) => Ok((Spelled { text, job, names }, costs)),
+        Err(fault) => {
+            *kept = Some(text);
+            Err(fault)
+        }
+    }
 }
 
 /// The plan for so many workers that the bytes of a source spell.

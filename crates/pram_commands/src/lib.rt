@@ -27,7 +27,7 @@ pub use inputs::{take_inputs, take_job, take_plan};
 pub use names::Naming;
 pub use progress::{Teller, tell_steps};
 pub use refusals::{
-    CONFLICT, CommandFault, DONE, Explanation, FAILED, MEMORY, REFUSED, Reasons, Refusal,
+    CONFLICT, CommandFault, DONE, Explanation, FAILED, Look, MEMORY, REFUSED, Reasons, Refusal,
     UNFINISHED, tell,
 };
 pub use server::{serve, serve_alone};

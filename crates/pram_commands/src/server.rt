@@ -10,7 +10,7 @@ use crate::commands::{do_alone, do_on_threads};
 use crate::sources::{Console, Sources};
 use command_data::{Ask, AskAlone, Line};
 use pram_streams::{Sink, Source};
-use refusals::{CommandFault, Explanation, MEMORY, Reasons, tell_fault};
+use refusals::{CommandFault, Explanation, MEMORY, Reasons, tell_fault, tell_notes};
 use std::alloc::Global;
 use std::rt::Clock;
 use std::sync::Wait;
@@ -37,7 +37,7 @@ pub fn serve<R: Threads + Wait + Clock + Eprint + Sync, J: Source, P: Source, O:
         Ask::Alone(ask) => serve_alone(alloc, line, ask, sources, console),
         Ask::OnThreads(ask) => {
             let done = do_on_threads(rt, alloc, ask, sources, &mut console.out);
-            status_after(alloc, line, done, reasons_of(sources), console)
+            status_after(alloc, line, done, hints_of(sources), console)
         }
     }
 }
@@ -57,13 +57,26 @@ pub fn serve_alone<J: Source, P: Source, O: Sink, E: Sink>(
         (writing O.Sink console.old.out console.new.out) result }
 {
     let done = do_alone(alloc, ask, sources, &mut console.out);
-    status_after(alloc, line, done, reasons_of(sources), console)
+    status_after(alloc, line, done, hints_of(sources), console)
 }
 
-fn reasons_of<J: Source, P: Source>(sources: &Sources<J, P>) -> Reasons {
-    Reasons {
-        job: sources.job.reason(),
-        plan: sources.plan.reason(),
+// What sources tell of a line that was served, or was not.
+#[derive(Clone, Copy)]
+struct Hints<'a> {
+    reasons: Reasons,
+    text: &'a [u8],
+}
+
+fn hints_of<J: Source, P: Source>(sources: &Sources<J, P>) -> Hints<'_> {
+    Hints {
+        reasons: Reasons {
+            job: sources.job.reason(),
+            plan: sources.plan.reason(),
+        },
+        text: match &sources.text {
+            Some(text) => text.as_slice(),
+            None => b"",
+        },
     }
 }
 
@@ -72,7 +85,7 @@ fn status_after<O: Sink, E: Sink>(
     alloc: Global,
     line: &Line<'_>,
     done: Result<u8, CommandFault>,
-    reasons: Reasons,
+    hints: Hints<'_>,
     console: &mut Console<O, E>,
 ) -> u8
     requires { E.has_failed console.old.err ≡ false }
@@ -81,13 +94,24 @@ fn status_after<O: Sink, E: Sink>(
     ensures out { console.new.out ≡ console.old.out }
 {
     let fault = match done {
-        Ok(status) => return status,
+        Ok(status) => {
+            if console.notes {
+                tell_notes(alloc, line, hints.text, console.look, &mut console.err);
+            }
+            return status;
+        }
         Err(fault) => fault,
     };
     let explanation = Explanation {
         line: *line,
         fault,
-        reasons,
+        reasons: hints.reasons,
+        text: hints.text,
     };
-    tell_fault(alloc, &explanation, console.explains, &mut console.err)
+    let look = if console.explains {
+        Some(console.look)
+    } else {
+        None
+    };
+    tell_fault(alloc, &explanation, look, &mut console.err)
 }

@@ -3,13 +3,16 @@ ghost use Rattle.std.specs.Prelude.{◌≤◌};
 
 use crate::names::Naming;
 use pram_job::Job;
+use refusals::Look;
 use stop_plan::Plan;
 
-/// The sources of a job and of its plan. Where a line names no plan, that has no bytes.
+/// The sources of a job and of its plan, and the job's text, once it was refused or is needed no
+/// more. Where a line names no plan, that has no bytes.
 #[derive(Drop)]
 pub struct Sources<J, P> {
     pub job: J,
     pub plan: P,
+    pub text: Option<Vec<u8>>,
 }
 
 /// A text with its job, and what the job's answers are told by where the text is a program.
@@ -29,12 +32,15 @@ pub struct Inputs {
     pub ghost most: { plan.workers ≤ 64 },
 }
 
-/// The output, and standard error: whether that is a terminal, and whether it is told a sentence
-/// after each refusal.
+/// The output, and standard error: whether that is a terminal, whether it is told a sentence after
+/// each refusal, and how such a sentence looks, and whether it is told notes on a text that is
+/// checked or compiled.
 #[derive(Drop)]
 pub struct Console<O, E> {
     pub out: O,
     pub err: E,
     pub is_terminal: bool,
     pub explains: bool,
+    pub look: Look,
+    pub notes: bool,
 }

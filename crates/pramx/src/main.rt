@@ -4,10 +4,10 @@
 ghost use Rattle.std.specs.Prelude.{◌≡◌, ◌≤◌, false, IfOk, OnErr};
 
 use command_answers::{RealFiles, Waiting, answer_alone, serve_waiting};
-use pram_commands::{Console, Folder, MEMORY, Refusal, tell};
+use pram_commands::{Console, Folder, Look, MEMORY, Refusal, tell};
 use pram_streams::{IntoWrite, Sink};
 use std::alloc::{AllocError, Global};
-use std::env::{self, Env};
+use std::env::{self, Env, FillError};
 use std::io::{self, IsTerminal};
 use std::process::ExitCode;
 
@@ -19,6 +19,8 @@ fn main(rt: HostRuntime) -> ExitCode {
         err: IntoWrite::new(rt.stderr()),
         is_terminal,
         explains: is_terminal,
+        look: look_on(&rt, is_terminal),
+        notes: false,
     };
     let folder = RealFiles::new(&rt, rt.stdin());
     let words = words_of(&rt);
@@ -28,6 +30,31 @@ fn main(rt: HostRuntime) -> ExitCode {
         Err(waiting) => serve_waiting(&rt, rt.alloc(), &folder, &waiting, &mut console),
     };
     ExitCode::from(status)
+}
+
+/// A terminal has colours, unless the environment says that there are to be none.
+fn look_on<R: Env>(rt: &R, is_terminal: bool) -> Look {
+    if is_terminal && !has_value(rt, "NO_COLOR") && !is_dumb(rt) {
+        Look::Coloured
+    } else {
+        Look::Plain
+    }
+}
+
+fn has_value<R: Env>(rt: &R, name: &str) -> bool {
+    match rt.var(name, &mut [0u8; 1]) {
+        Ok(len) => len > 0,
+        Err(FillError::TooLong) => true,
+        Err(FillError::NotPresent) => false,
+    }
+}
+
+fn is_dumb<R: Env>(rt: &R) -> bool {
+    let mut value = [0u8; 8];
+    match rt.var("TERM", &mut value) {
+        Ok(len) => value.get(..len) == Some(b"dumb"),
+        Err(_) => false,
+    }
 }
 
 /// Does what the program's words ask, and answers the exit status, or the line that they mean if it

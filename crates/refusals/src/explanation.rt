@@ -1,13 +1,18 @@
 //! Why a line was not done, in a sentence.
-ghost use Rattle.std.specs.Prelude.{◌≡◌, codes, false};
+ghost use Rattle.std.specs.Prelude.{◌≡◌, codes, false, IfOk};
 ghost use Rattle.std.specs.Io.KnownBytes.{Appends};
+ghost use Rattle.pardo_explain.specs.Diagnoses.{diagnosis_text};
 ghost use Rattle.refusals.specs.declared.fault.CommandFault.TheVariants.{Memory};
 
 use crate::fault::CommandFault;
 use crate::sentences;
+use crate::words::start_of;
 use command_data::Line;
+use pardo_explain::{Diagnosis, Look, diagnose, line_at, point_at, push_diagnosis};
+use pardo_job::Refusal;
 use pram_streams::{Reason, Sink, put};
-use std::alloc::Global;
+use pram_text::TextKind;
+use std::alloc::{AllocError, Global};
 use std::fmt;
 
 /// What explains that memory ran out, and needs none.
@@ -20,12 +25,13 @@ pub struct Reasons {
     pub plan: Reason,
 }
 
-/// Why a line was not done, for people.
+/// Why a line was not done, for people; with the job's text, where it was refused and is at hand.
 #[derive(Clone, Copy, Debug, PartialEq, Eq)]
 pub struct Explanation<'a> {
     pub line: Line<'a>,
     pub fault: CommandFault,
     pub reasons: Reasons,
+    pub text: &'a [u8],
 }
 
 impl<'a> Explanation<'a> {
@@ -106,14 +112,19 @@ fn without_place<W: fmt::Write>(f: &mut fmt::Formatter<W>, file: &str, place: &s
     writeln!(f, "{file}: it has no place {place}")
 }
 
-// The name of a file, as people are told it.
-fn shown(name: &str) -> &str {
+/// The name of a file, as people are told it.
+pub(crate) fn shown(name: &str) -> &str {
     if name == "-" { "standard input" } else { name }
 }
 
 /// Tells the sentence. Where there is no memory for it, or the sink fails, that is all; that memory
 /// ran out is told without any.
-pub(crate) fn explain<E: Sink>(alloc: Global, explanation: &Explanation<'_>, err: &mut E)
+pub(crate) fn explain<E: Sink>(
+    alloc: Global,
+    explanation: &Explanation<'_>,
+    look: Look,
+    err: &mut E,
+)
     requires { E.has_failed err.old ≡ false }
     ensures memory { explanation.now.fault ≡ Memory → E.has_failed err.new ≡ false
         → Appends (E.taken err.old) (E.taken err.new)
@@ -123,15 +134,69 @@ pub(crate) fn explain<E: Sink>(alloc: Global, explanation: &Explanation<'_>, err
         CommandFault::Memory => {
             let _ = put(err, MEMORY_SENTENCE.as_bytes());
         }
-        _ => tell_sentence(alloc, explanation, err),
+        _ => tell_sentence(alloc, explanation, look, err),
     }
 }
 
 // Tells the sentence, if there is memory for it.
-fn tell_sentence<E: Sink>(alloc: Global, explanation: &Explanation<'_>, err: &mut E)
+fn tell_sentence<E: Sink>(alloc: Global, explanation: &Explanation<'_>, look: Look, err: &mut E)
     requires { E.has_failed err.old ≡ false }
 {
-    if let Ok(text) = format!(in alloc; "{explanation}") {
-        let _ = put(err, text.as_bytes());
+    let text = match diagnosis_of(alloc, explanation) {
+        Ok(Some(found)) => diagnosis_told(alloc, look, explanation.job(), &found),
+        Ok(None) => sentence_told(alloc, explanation),
+        Err(AllocError) => Err(AllocError),
+    };
+    if let Ok(text) = text {
+        let _ = put(err, text.as_slice());
+    }
+}
+
+fn sentence_told(alloc: Global, explanation: &Explanation<'_>) -> Result<Vec<u8>, AllocError> {
+    let text = format!(in alloc; "{explanation}")?;
+    Vec::from_slice(alloc, text.as_bytes())
+}
+
+// What is told of where a text is wrong.
+fn diagnosis_told(
+    alloc: Global,
+    look: Look,
+    file: &str,
+    found: &Diagnosis,
+) -> Result<Vec<u8>, AllocError>
+    ensures { IfOk result (λ text. text.items ≡ diagnosis_text look file.now found.now) }
+{
+    let mut text = Vec::new(alloc);
+    push_diagnosis(&mut text, look, file.as_bytes(), found)?;
+    Ok(text)
+}
+
+// Where the job's text is wrong, if that is the fault, and the text is at hand.
+fn diagnosis_of(
+    alloc: Global,
+    explanation: &Explanation<'_>,
+) -> Result<Option<Diagnosis>, AllocError> {
+    let text = explanation.text;
+    if text.is_empty() {
+        return Ok(None);
+    }
+    match explanation.fault {
+        CommandFault::Program(Refusal::Text(fault)) => match diagnose(alloc, text)? {
+            Some((found, diagnosis)) if found == fault => Ok(Some(diagnosis)),
+            _ => Ok(None),
+        },
+        CommandFault::Program(refusal) => {
+            let (number, sentence) = sentences::of_program(refusal);
+            let line = line_at(text, number);
+            let start = start_of(TextKind::BadHeader, line);
+            Ok(Some(point_at(alloc, number, line, start, sentence)?))
+        }
+        CommandFault::Text { line: number, kind } => {
+            let line = line_at(text, number);
+            let start = start_of(kind, line);
+            let sentence = sentences::of_text(kind);
+            Ok(Some(point_at(alloc, number, line, start, sentence)?))
+        }
+        _ => Ok(None),
     }
 }

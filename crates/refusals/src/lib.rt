@@ -3,11 +3,15 @@
 
 mod explanation;
 mod fault;
+mod notes;
 mod refusal;
 pub mod sentences;
 mod telling;
+mod words;
 
 pub use explanation::{Explanation, Reasons};
 pub use fault::CommandFault;
+pub use notes::tell_notes;
+pub use pardo_explain::Look;
 pub use refusal::{CONFLICT, DONE, FAILED, MEMORY, REFUSED, Refusal, UNFINISHED, tell};
 pub use telling::tell_fault;

@@ -9,16 +9,17 @@ use crate::explanation::{Explanation, explain};
 use crate::fault::CommandFault;
 use crate::refusal::{MEMORY, Refusal, tell_first};
 use command_data::Line;
+use pardo_explain::Look;
 use pram_streams::Sink;
 use std::alloc::Global;
 
-/// Tells why a line was not done, and where it `explains` a sentence after that, and gives the
-/// status. Where there is no memory to tell it, it tells that. Where the sink fails, the status
-/// stays.
+/// Tells why a line was not done, and where a look is given a sentence after that, which has this
+/// look, and gives the status. Where there is no memory to tell it, it tells that. Where the sink
+/// fails, the status stays.
 pub fn tell_fault<E: Sink>(
     alloc: Global,
     explanation: &Explanation<'_>,
-    explains: bool,
+    explains: Option<Look>,
     err: &mut E,
 ) -> u8
     requires { E.has_failed err.old ≡ false }
@@ -28,15 +29,17 @@ pub fn tell_fault<E: Sink>(
         line,
         fault,
         reasons,
+        text,
     } = *explanation;
     let (status, takes) = tell_first(alloc, refusal_of(&line, fault), err);
-    if takes && explains {
+    if takes && let Some(look) = explains {
         let told = Explanation {
             line,
             fault: told_of(fault, status),
             reasons,
+            text,
         };
-        explain(alloc, &told, err);
+        explain(alloc, &told, look, err);
     }
     status
 }

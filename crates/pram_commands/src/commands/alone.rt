@@ -43,7 +43,7 @@ pub fn check<J: Source, P: Source, O: Sink>(
     ensures { Did checking (taking J.Source P.Source sources.old sources.new)
         (writing O.Sink out.old out.new) tells_none result }
 {
-    let job = take_job(alloc, &mut sources.job)?;
+    let job = take_job(alloc, &mut sources.job, &mut sources.text)?;
     printed(put_summary(alloc, &job, out))
 }
 
@@ -67,7 +67,7 @@ pub fn compile<J: Source, P: Source, O: Sink>(
     ensures { Did compiling (taking J.Source P.Source sources.old sources.new)
         (writing O.Sink out.old out.new) tells_none result }
 {
-    let job = take_job(alloc, &mut sources.job)?;
+    let job = take_job(alloc, &mut sources.job, &mut sources.text)?;
     printed(put_job(alloc, &job, out))
 }
 
@@ -91,7 +91,7 @@ pub fn plain<J: Source, P: Source, O: Sink>(
     ensures { Did (plainly why) (taking J.Source P.Source sources.old sources.new)
         (writing O.Sink out.old out.new) tells result }
 {
-    let spelled = take_text(alloc, &mut sources.job)?;
+    let spelled = take_text(alloc, &mut sources.job, &mut sources.text)?;
     printed(put_plain(alloc, why, &spelled, out))
 }
 
@@ -121,7 +121,8 @@ pub fn take_answer<J: Source>(alloc: Global, source: &mut J) -> Result<RunAnswer
     ensures failed { IsTrue (J.has_failed source.new) ↔ IsErrOf result JobDevice }
     ensures reads { GivesSome (J.remaining source.old) (J.remaining source.new) }
 {
-    let spelled = take_text(alloc, source)?;
+    let mut kept = None;
+    let spelled = take_text(alloc, source, &mut kept)?;
     Ok(answer_of(alloc, &spelled)?)
 }
 
@@ -147,7 +148,7 @@ pub fn cost<J: Source, P: Source, O: Sink>(
     ensures { Did costing (taking J.Source P.Source sources.old sources.new)
         (writing O.Sink out.old out.new) tells_conflict result }
 {
-    let (spelled, costs) = take_costed(alloc, &mut sources.job)?;
+    let (spelled, costs) = take_costed(alloc, &mut sources.job, &mut sources.text)?;
     printed(put_cost(alloc, &spelled, &costs, out))
 }
 
@@ -186,7 +187,7 @@ pub fn steps<J: Source, P: Source, O: Sink>(
     ensures { Did (stepping alone window) (taking J.Source P.Source sources.old sources.new)
         (writing O.Sink out.old out.new) tells result }
 {
-    let spelled = take_text(alloc, &mut sources.job)?;
+    let spelled = take_text(alloc, &mut sources.job, &mut sources.text)?;
     if let Some(step) = missing_step(&spelled.job, window.from) {
         return Err(CommandFault::OutsideStep { step });
     }

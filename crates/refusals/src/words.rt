@@ -1,0 +1,86 @@
+//! Which word of a line of the machine a fault is about, as near as its kind tells.
+use pram_text::TextKind;
+use text_lines::next_word;
+
+/// What a word is, and where it stands.
+#[derive(Clone, Copy, Debug)]
+enum Sought {
+    First,
+    /// The first one that is no label.
+    Name,
+    /// After the name the first one that is no number.
+    NoNumber,
+    /// After the name the first number.
+    Number,
+    /// After the name the first one that is neither a register nor a number.
+    NoRegister,
+    Last,
+}
+
+fn word_of(kind: TextKind) -> Sought {
+    match kind {
+        TextKind::BadNumber => Sought::NoNumber,
+        TextKind::OutOfLimits => Sought::Number,
+        TextKind::BadRegister => Sought::NoRegister,
+        TextKind::UnknownLabel => Sought::Last,
+        TextKind::UnknownInstruction | TextKind::WrongOperands => Sought::Name,
+        _ => Sought::First,
+    }
+}
+
+/// How many bytes of the line stand before what a fault of this kind is about.
+pub(crate) fn start_of(kind: TextKind, line: &[u8]) -> usize {
+    if kind == TextKind::NotAscii {
+        return first_unlawful(line);
+    }
+    let mut left = line;
+    let mut last = 0;
+    let mut is_named = false;
+    for _turn in 0..line.len() {
+        let Some((word, rest)) = next_word(left) else {
+            break;
+        };
+        let after = rest.len().saturating_add(word.len());
+        last = line.len().saturating_sub(after);
+        if is_sought(word_of(kind), word, is_named) {
+            return last;
+        }
+        is_named |= !is_label(word);
+        left = rest;
+    }
+    last
+}
+
+fn is_sought(sought: Sought, word: &[u8], is_named: bool) -> bool {
+    match sought {
+        Sought::First => true,
+        Sought::Name => !is_label(word),
+        Sought::NoNumber => is_named && !is_number(word),
+        Sought::Number => is_named && is_number(word),
+        Sought::NoRegister => is_named && !is_number(word) && !is_register(word),
+        Sought::Last => false,
+    }
+}
+
+fn is_label(word: &[u8]) -> bool {
+    matches!(word, [.., b':'])
+}
+
+fn is_number(word: &[u8]) -> bool {
+    for byte in word {
+        if !byte.is_ascii_digit() {
+            return false;
+        }
+    }
+    true
+}
+
+fn is_register(word: &[u8]) -> bool {
+    matches!(word, b"r0" | b"r1" | b"r2" | b"r3")
+}
+
+fn first_unlawful(line: &[u8]) -> usize {
+    line.iter()
+        .position(|&byte| byte > b'~' || (byte < b' ' && byte != b'\t' && byte != b'\r'))
+        .unwrap_or(line.len())
+}
