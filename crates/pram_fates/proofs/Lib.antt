@@ -2,3 +2,4 @@ pub mod Counting
 pub mod Losing
 pub mod Ending
 pub mod LawOne
+pub mod AllRun

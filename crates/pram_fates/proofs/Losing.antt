@@ -26,7 +26,7 @@ lost_stays job t more i is_job names =
     (stopped_processor job (t + 1) more i is_job names.within (omega (arith, lost))).0 ∙ lost
 
 -- so it is after n steps
-lost_at : (job : JobData) (n t i : ℕ) → IsJob job → t < n → NamesNone job (state_after job t) i →
+pub lost_at : (job : JobData) (n t i : ℕ) → IsJob job → t < n → NamesNone job (state_after job t) i →
     counter job (state_after job n) i ≡ out_of_range job
 lost_at job n t i is_job below names =
     let e : t + 1 + (n - (t + 1)) ≡ n = omega arith in

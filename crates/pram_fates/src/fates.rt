@@ -1,14 +1,17 @@
 //! What becomes of the processors of a job.
-ghost use Rattle.std.specs.Prelude.{◌≡◌, ◌≤◌, IfOk};
+ghost use Rattle.std.specs.Prelude.{◌≡◌, ◌≤◌, IfOk, IfSome};
 ghost use Rattle.pram_fates.specs.Fates.{AreFates, IsEnd, IsFirstLostOrNone};
 ghost use Rattle.pram_fates.specs.Inner.Losses.{earlier, if_before};
 ghost use Rattle.pram_machine.specs.Machine.{AllStopped};
 ghost use Rattle.pram_step.specs.Running.{IsStop};
-ghost use Rattle.pram_step.specs.Runs.{state_after};
+ghost use Rattle.pram_step.specs.Runs.{IsAnswer, IsStateAfter, state_after};
+ghost use Rattle.pram_step.specs.Walks.{IsWalked};
 
 use crate::looks::{Standing, count_running, counter_in, first_running, out_of_range};
 use pram_job::Job;
-use pram_step::{LastRow, LastRows, Span, State, laws, walk_in};
+use pram_step::{
+    LastRow, LastRows, Nobody, RunAnswer, Span, State, Walked, counter, laws, walk, walk_in,
+};
 use std::alloc::{AllocError, Global};
 
 /// What became of the processors.
@@ -78,6 +81,69 @@ pub fn fates_after(alloc: Global, job: &Job, steps: u32) -> Result<Fates, AllocE
             })
         }
     }
+}
+
+/// The answer of a job, and what becomes of its processors in all its steps.
+///
+/// Where all of them run to the end the steps are made once for both, and else once for each.
+pub fn answer_with_fates(alloc: Global, job: &Job) -> Result<(RunAnswer, Fates), AllocError>
+    ensures answer { IfOk result (λ told. IsAnswer job.now told.0) }
+    ensures fates { IfOk result (λ told. AreFates job.now job.now.steps told.1) }
+{
+    let walked = walk(alloc, job, job.steps(), &mut Nobody)?;
+    let known = known_fates(job, &walked);
+    let answer = answer_of(job, walked);
+    match known {
+        Some(fates) => Ok((answer, fates)),
+        None => {
+            let fates = fates_after(alloc, job, job.steps())?;
+            Ok((answer, fates))
+        }
+    }
+}
+
+// The answer of a job, by what its steps come to.
+fn answer_of(job: &Job, walked: Walked) -> RunAnswer
+    requires { IsWalked job.now job.now.steps walked }
+    ensures { IsAnswer job.now result }
+{
+    match walked {
+        Walked::Through(state) => RunAnswer::Final(state.into_cells(job)),
+        Walked::Disputed(fault) => RunAnswer::Conflict(fault),
+    }
+}
+
+// What becomes of the processors, if all of them run after all steps.
+fn known_fates(job: &Job, walked: &Walked) -> Option<Fates>
+    requires { IsWalked job.now job.now.steps walked.now }
+    ensures { IfSome result (AreFates job.now job.now.steps) }
+{
+    match walked {
+        Walked::Through(state) => fates_of_running(job, state),
+        Walked::Disputed(_) => None,
+    }
+}
+
+// What becomes of the processors, if all of them run in this state, that after all steps.
+fn fates_of_running(job: &Job, state: &State) -> Option<Fates>
+    requires { IsStateAfter job.now job.now.steps state.now }
+    ensures { IfSome result (AreFates job.now job.now.steps) }
+{
+    laws::states_have_all_places();
+    job.limits_hold();
+    for processor in 0..job.procs() {
+        if counter(job, state, processor) as usize >= job.code().len() {
+            return None;
+        }
+    }
+    Some(Fates {
+        end: Some(End::Running {
+            count: job.procs(),
+            first: 0,
+            index: counter(job, state, 0),
+        }),
+        lost: None,
+    })
 }
 
 // How the processors are.

@@ -6,5 +6,5 @@ pub mod laws;
 mod looks;
 mod told;
 
-pub use fates::{End, Fates, Lost, fates_after};
+pub use fates::{End, Fates, Lost, answer_with_fates, fates_after};
 pub use told::{Origin, fates_text};
