@@ -94,6 +94,7 @@ static int is_refusal(const struct told *told) {
 typedef uint32_t command(const uint8_t *, size_t, const struct ks_request *, uint8_t *, size_t,
                          struct ks_answer *);
 static const char rows[] = "worker,act,ticks\n0,go,30\n1,stop,0\n0,back,0\n2,sleep,3\n0,go,9\n";
+static const char settings[] = "n=4\nA=3,1,4,1\n";
 
 static struct ks_request request(uint32_t flags) {
   return (struct ks_request){.size = sizeof(struct ks_request),
@@ -149,6 +150,11 @@ static void plan(const struct text *text, struct told *told) {
               ROOM / sizeof(struct ks_plan_row), &told->answer);
 }
 
+static void set(const struct text *text, struct told *told) {
+  told->status = ks_set(text->bytes, text->length, (const uint8_t *)settings, sizeof settings - 1,
+                        told->out, ROOM, &told->answer);
+}
+
 /* A board, worked to its end by a worker that comes back. What is seen on the way is compared,
  * too. */
 
@@ -196,7 +202,7 @@ static const struct {
   call *make;
 } calls[] = {{"check", check}, {"compile", compile}, {"plain", plain},     {"plain --why", why},
              {"cost", cost},   {"steps", steps},     {"steps --csv", csv}, {"replay", replay},
-             {"cells", cells}, {"plan", plan},       {"board", board}};
+             {"cells", cells}, {"plan", plan},       {"set", set},         {"board", board}};
 enum { CALLS = sizeof calls / sizeof *calls };
 
 static void make(int which, const struct text *text, struct told *told) {
@@ -353,6 +359,8 @@ static void try_answers(const struct text *text) {
   expect("an answer of another size", are_same(&told, &before));
   told.status = ks_cells(text->bytes, text->length, (uint32_t *)(void *)told.out, 1, &told.answer);
   expect("cells with an answer of another size", are_same(&told, &before));
+  set(text, &told);
+  expect("a text that is set, with an answer of another size", are_same(&told, &before));
 }
 
 static void try_sizes(void) {
@@ -444,7 +452,7 @@ static int tell_times(const struct text *texts, int count) {
 
 struct asked {
   uint32_t command, why, rows_alone, from, to, workers;
-  uint64_t room, text_length, plan_length; /* then the text, then the plan */
+  uint64_t room, text_length, plan_length; /* then the text, then the plan or the settings */
 };
 
 static int read_all(void *to, size_t length) {
@@ -468,6 +476,9 @@ static uint32_t serve(const struct asked *asked, const uint8_t *text, const uint
                            .workers = asked->workers};
   if (asked->command < sizeof commands / sizeof *commands)
     return commands[asked->command](text, asked->text_length, &how, out, asked->room, answer);
+  if (asked->command > sizeof commands / sizeof *commands)
+    return ks_set(text, asked->text_length, given_plan, asked->plan_length, out, asked->room,
+                  answer);
   return ks_replay(text, asked->text_length, given_plan, asked->plan_length, &how, out, asked->room,
                    answer);
 }

@@ -16,6 +16,7 @@
     '''
     kaolinsilk.plain(text)["A"]                       # [3, 4, 8, 9, 14, 23, 25, 31]
     kaolinsilk.run(text, plan=[(0, "stop")])["A"]     # the same, whoever stops
+    kaolinsilk.plain(text, settings={"n": 2, "A": [5, 6]})["A"]     # [5, 11]
 
 `plain`, `check`, `compile`, `cost`, `steps` and `replay` are the commands of the program pramx, and
 `run` that on threads of Python. `Board`, `Worker` and `Seat` are for threads of your own,
@@ -32,6 +33,7 @@ from .moments import Moment, moment
 from .pictures import draw_memory, draw_moment, draw_tree, draw_work
 from .rows import Rows
 from .sweeps import Sweep, sweep
+from .texts import text_as_set
 from .threads import run
 
 __version__ = version()
@@ -68,5 +70,6 @@ __all__ = [
     "run",
     "steps",
     "sweep",
+    "text_as_set",
     "version",
 ]

@@ -9,7 +9,7 @@ import operator
 import os
 from ctypes import POINTER, c_char, c_char_p, c_size_t, c_uint32, c_uint64, c_void_p
 from pathlib import Path
-from typing import Any, Dict, NamedTuple, NoReturn
+from typing import Any, Dict, List, NamedTuple, NoReturn, Sequence
 
 from .errors import BadRequest, OutOfMemory, Refused
 
@@ -19,7 +19,7 @@ ABI_VERSION = 1
 DONE, CONFLICT, REFUSED, UNFINISHED, FAILED, MEMORY = range(6)
 WORDS = ("done", "conflict", "refused", "unfinished", "failed", "memory")
 # What was refused, by its number.
-SUBJECTS = ("", "text", "text", "plan", "step", "size", "request", "memory")
+SUBJECTS = ("", "text", "text", "plan", "step", "size", "request", "memory", "set")
 # The greatest number of a request.
 MOST = 2**32 - 1
 # A buffer that most answers fit into, and the longest one that is taken at the first try.
@@ -86,6 +86,7 @@ CALLS = {
     "ks_replay": [*TEXT, *COMMAND],
     "ks_cells": [*TEXT, *OUTPUT],
     "ks_plan": [*TEXT, c_uint32, *OUTPUT],
+    "ks_set": [*TEXT, *TEXT, *OUTPUT],
     "ks_open": [*TEXT, c_uint32, c_uint32, HANDLE],
     "ks_seat_of": [HANDLE, HANDLE],
     "ks_worker_of": [HANDLE, c_uint32, HANDLE],
@@ -156,13 +157,21 @@ _rooms: Dict[str, int] = {}
 
 def told(name: str, *texts: bytes, **asked: int) -> Told:
     """A command over texts. Where its output is longer than there is room, it is made again."""
+    return _printed(name, texts, [Request(size=ctypes.sizeof(Request), **asked)])
+
+
+def text_as_set(text: bytes, settings: bytes) -> bytes:
+    """A text as another one sets names of it, by lines `NAME=V,V,..`."""
+    return bytes(_printed("ks_set", (text, settings), []).output)
+
+
+def _printed(name: str, texts: Sequence[bytes], asked: List[Any]) -> Told:
     call, answer = getattr(library, name), Answer(size=ctypes.sizeof(Answer))
-    request = Request(size=ctypes.sizeof(Request), **asked)
-    words = [word for text in texts for word in (text, len(text))]
+    words = [word for text in texts for word in (text, len(text))] + asked
     room = _rooms.get(name, LEAST_ROOM)
     while True:
         out = ctypes.create_string_buffer(room)
-        status = call(*words, request, out, room, answer)
+        status = call(*words, out, room, answer)
         if status not in (DONE, CONFLICT, UNFINISHED):
             refuse(status, answer)
         if answer.length <= room:

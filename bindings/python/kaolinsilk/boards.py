@@ -19,7 +19,7 @@ from . import _library, calls, texts
 from ._library import library
 from .answers import Answer, values_of
 from .errors import Conflict, Unfinished
-from .texts import Source, bytes_of
+from .texts import Settings, Source, bytes_of
 
 # How many atomic steps are made in one call of the library, so that a thread can be stopped soon.
 STRIDE = 200_000
@@ -65,7 +65,8 @@ class Board:
     """The board of a job for 1 to 64 workers, at the start of the job.
 
     `grain` says how many processors a leaf of the tree has, a power of two up to 64; with 0 the
-    library chooses. `board.cells`, `board.procs` and `board.steps` are those of the job.
+    library chooses. With `settings` constants and shared arrays are what these say. `board.cells`,
+    `board.procs` and `board.steps` are those of the job.
 
     >>> board = Board("pram 1\\ncells 1\\nprocs 1\\nsteps 1\\ncode\\nst r0 r0\\n", workers=1)
     >>> board.worker(0).work(limit=5)
@@ -74,8 +75,15 @@ class Board:
     Progress(step=0, steps=1, conflict=0)
     """
 
-    def __init__(self, text: Source, workers: int = 4, grain: int = 0) -> None:
-        self.text = bytes_of(text)
+    def __init__(
+        self,
+        text: Source,
+        workers: int = 4,
+        grain: int = 0,
+        *,
+        settings: Optional[Settings] = None,
+    ) -> None:
+        self.text = bytes_of(text, settings)
         facts = calls.check(self.text)
         self.cells, self.procs, self.steps = facts["cells"], facts["procs"], facts["steps"]
         self.workers = _library.number_of(workers, "workers")

@@ -1,4 +1,8 @@
-"""The commands of the program pramx, as calls."""
+"""The commands of the program pramx, as calls.
+
+With `settings`, constants, shared scalars and shared arrays of a program are what these say:
+`plain(text, settings={"n": 4, "A": [3, 1, 4, 1]})`.
+"""
 from __future__ import annotations
 
 import ctypes
@@ -8,40 +12,42 @@ from . import _library, plans
 from .answers import Answer, answer_of, meeting_of
 from .rows import Rows, rows_of
 from .tables import table
-from .texts import Source, bytes_of
+from .texts import Settings, Source, bytes_of
 
 
-def check(text: Source) -> Dict[str, Any]:
+def check(text: Source, *, settings: Optional[Settings] = None) -> Dict[str, Any]:
     """Judges a text, and says how large its job is.
 
     >>> check("pram 1\\ncells 2\\nprocs 1\\nsteps 1\\ncode\\nset r0 7\\n")
     {'cells': 2, 'procs': 1, 'steps': 1, 'code': 1, 'rule': 'common'}
     """
-    said = _library.told("ks_check", bytes_of(text)).output.decode("ascii")
+    said = _library.told("ks_check", bytes_of(text, settings)).output.decode("ascii")
     facts = dict(word.partition("=")[::2] for word in said.split()[1:])
     rule = facts.pop("rule", "common")
     return {**{name: int(number) for name, number in facts.items()}, "rule": rule}
 
 
-def compile(text: Source) -> str:
+def compile(text: Source, *, settings: Optional[Settings] = None) -> str:
     """The job of a program, as a text of the machine."""
-    return str(_library.told("ks_compile", bytes_of(text)).output, "ascii")
+    return str(_library.told("ks_compile", bytes_of(text, settings)).output, "ascii")
 
 
-def plain(text: Source, why: bool = False) -> Answer:
+def plain(
+    text: Source, why: bool = False, *, settings: Optional[Settings] = None
+) -> Answer:
     """Runs a text on the plain machine, step by step. `answer.why` then says what became of the
     processors.
 
     >>> plain("pardo 1\\nrule crew\\nprocs i < 4\\nshared A[4]\\ncode\\nA[i] := i * i\\n")["A"]
     [0, 1, 4, 9]
     """
-    given = bytes_of(text)
+    given = bytes_of(text, settings)
     return answer_of(given, _library.told("ks_plain", given, why=why))
 
 
-def cells(text: Source) -> List[int]:
+def cells(text: Source, *, settings: Optional[Settings] = None) -> List[int]:
     """The cells of the job of a text after its last step, those of private variables among them."""
-    given = bytes_of(text)
+    given = bytes_of(text, settings)
     words = (_library.library.ks_cells, given, len(given))
     told = _library.told_records(ctypes.c_uint32, 1024, *words)
     if told.status == _library.CONFLICT:
@@ -76,13 +82,13 @@ def _field(name: str, said: str) -> Any:
     return int(said) if said.isdigit() else said
 
 
-def cost(text: Source) -> Cost:
+def cost(text: Source, *, settings: Optional[Settings] = None) -> Cost:
     """What the run of a text costs, and the weakest PRAM that it needs.
 
     >>> cost("pardo 1\\nrule crew\\nprocs i < 4\\nshared A[4]\\ncode\\nA[i] := i\\n")["needs"]
     'EREW'
     """
-    given = bytes_of(text)
+    given = bytes_of(text, settings)
     told = _library.told("ks_cost", given)
     lines = told.output.decode("ascii").splitlines()
     names = ("same read", "same write", "other value")
@@ -97,7 +103,13 @@ def cost(text: Source) -> Cost:
     return found
 
 
-def steps(text: Source, first: int = 1, last: Optional[int] = None) -> Rows:
+def steps(
+    text: Source,
+    first: int = 1,
+    last: Optional[int] = None,
+    *,
+    settings: Optional[Settings] = None,
+) -> Rows:
     """What each processor asks for in each step, from the first to the last; `rows.answer` is the
     answer.
 
@@ -105,19 +117,25 @@ def steps(text: Source, first: int = 1, last: Optional[int] = None) -> Rows:
     >>> rows[0]["instruction"], rows[0]["writes"], rows[0]["value"]
     ('set r0 7', 'r0', 7)
     """
-    given, most = bytes_of(text), _library.MOST
+    given, most = bytes_of(text, settings), _library.MOST
     begins = _library.number_of(first, "the first step", least=1)
     ends = _library.number_of(most if last is None else last, "the last step", least=1)
     return rows_of(given, _library.told("ks_steps", given, first=begins, last=ends))
 
 
-def replay(text: Source, workers: int = 4, plan: Optional[plans.Plan] = None) -> Rows:
+def replay(
+    text: Source,
+    workers: int = 4,
+    plan: Optional[plans.Plan] = None,
+    *,
+    settings: Optional[Settings] = None,
+) -> Rows:
     """Runs a text by workers, one atomic step at a time in the order of a plan; a row for each.
 
     >>> rows = replay("pram 1\\ncells 1\\nprocs 1\\nsteps 1\\ncode\\nset r0 7\\n", workers=1)
     >>> len(rows), rows.answer.status
     (33, 'done')
     """
-    given, asked = bytes_of(text), _library.number_of(workers, "workers")
+    given, asked = bytes_of(text, settings), _library.number_of(workers, "workers")
     told = _library.told("ks_replay", given, plans.bytes_of(plan), workers=asked)
     return rows_of(given, told)

@@ -12,11 +12,11 @@ class KaolinsilkError(Exception):
 
 
 class Refused(KaolinsilkError, ValueError):
-    """A text, a plan or a step is refused.
+    """A text, a plan, a step or a setting is refused.
 
-    `subject` is "text", "plan", "step" or "size"; `line` the line of the text, or the row of the
-    plan, from 1, or None; `column` likewise; `kind` the kind of docs/FORMATS.md, as "BadLine";
-    `sentence` what is wrong.
+    `subject` is "text", "plan", "step", "size" or "set"; `line` the line of the text, or the row of
+    the plan, from 1, or None; `column` that of a program, or None; `name` the name that cannot be
+    set so, or None; `kind` the kind of docs/FORMATS.md, as "BadLine"; `sentence` what is wrong.
 
     >>> import kaolinsilk
     >>> try:
@@ -33,14 +33,17 @@ class Refused(KaolinsilkError, ValueError):
         sentence: str,
         line: Optional[int] = None,
         column: Optional[int] = None,
+        name: Optional[str] = None,
     ) -> None:
         self.subject, self.kind, self.sentence = subject, kind, sentence
-        self.line, self.column = line, column
+        self.line, self.column, self.name = line, column, name
         super().__init__(self._told())
 
     def _told(self) -> str:
         place = "row" if self.subject == "plan" else "line"
         where = f"{self.subject}, {place} {self.line}" if self.line else self.subject
+        if self.name is not None:
+            where += f" {self.name}"
         if self.column:
             where += f", column {self.column}"
         kind = f" ({self.kind})" if self.kind else ""

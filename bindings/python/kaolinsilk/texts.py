@@ -1,23 +1,60 @@
 """Texts of programs: where they come from, and what their headers declare."""
 from __future__ import annotations
 
+import operator
 import os
 import re
 from pathlib import Path
-from typing import List, NamedTuple, Set, Union
+from typing import Iterable, List, Mapping, NamedTuple, Optional, Set, Union
 
 from . import _library
-from .errors import BadRequest
+from .errors import BadRequest, Refused
 
 # A text as it stands, or the path of a file that has it (a `pathlib.Path`).
 Source = Union[str, bytes, "os.PathLike[str]"]
+# What constants, shared scalars and shared arrays are set to, by their names.
+Settings = Mapping[str, Union[int, Iterable[int]]]
 
 
-def bytes_of(source: Source) -> bytes:
-    """The bytes of a text. A `str` or `bytes` is the text itself, a path names its file."""
+def bytes_of(source: Source, settings: Optional[Settings] = None) -> bytes:
+    """The bytes of a text, as it is set. A `str` or `bytes` is the text itself, a path names its
+    file."""
     if isinstance(source, str):
-        return source.encode("utf-8", "surrogatepass")
-    return bytes(source) if isinstance(source, (bytes, bytearray)) else Path(source).read_bytes()
+        given = source.encode("utf-8", "surrogatepass")
+    elif isinstance(source, (bytes, bytearray)):
+        given = bytes(source)
+    else:
+        given = Path(source).read_bytes()
+    return _set(given, settings) if settings else given
+
+
+def text_as_set(text: Source, settings: Settings) -> bytes:
+    """The text of a program with other numbers for its constants, and other values for its shared
+    arrays and scalars to start with. Each call takes it, as it takes settings.
+
+    >>> text = "pardo 1\\nrule crew\\nconst n = 2\\nprocs i < n\\nshared A[n]\\ncode\\nA[i] := i\\n"
+    >>> text_as_set(text, {"n": 4, "A": [3, 1, 4, 1]}).decode().splitlines()[2:5]
+    ['const n = 4', 'procs i < n', 'shared A[n] = 3, 1, 4, 1']
+    """
+    return bytes_of(text, settings)
+
+
+def _set(text: bytes, settings: Settings) -> bytes:
+    names = list(settings)
+    try:
+        return _library.text_as_set(text, b"".join(_line(*it) for it in settings.items()))
+    except Refused as refused:
+        if refused.subject == "set" and refused.line:
+            raise Refused("set", refused.kind, refused.sentence, name=names[refused.line - 1])
+        raise
+
+
+def _line(name: str, values: Union[int, Iterable[int]]) -> bytes:
+    """A setting as the library reads it."""
+    if "=" in name or "\n" in name:
+        raise BadRequest(f"{name!r} is no name")
+    numbers = values if isinstance(values, Iterable) else [values]
+    return f"{name}={','.join(str(operator.index(it)) for it in numbers)}\n".encode()
 
 
 def _words(line: bytes) -> List[bytes]:

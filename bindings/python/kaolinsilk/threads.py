@@ -10,7 +10,7 @@ from .answers import Answer
 from .boards import STRIDE, Board, Worker
 from .errors import OutOfMemory
 from .plans import BACK, SLEEP, STOP, Plan, Row
-from .texts import Source
+from .texts import Settings, Source
 
 # What a thread ended with: that it knows an answer, that it knows none, or an exception.
 Ending = Union[bool, BaseException]
@@ -89,19 +89,21 @@ def run(
     *,
     pace: Optional[float] = None,
     grain: int = 0,
+    settings: Optional[Settings] = None,
 ) -> Answer:
     """Runs a text by so many threads, which stop, sleep and come back by the plan, and answers as
     soon as one of them knows the answer.
 
     A plan has rows such as `(1, "go", 40)`, `(1, "stop")`, `(0, "sleep", 3)`, `(2, "back")`, or is
     the text of docs/FORMATS.md. After its rows a worker goes on to the end. `pace` is a pause in
-    seconds before each atomic step and for each tick of a sleep; without it nobody waits.
+    seconds before each atomic step and for each tick of a sleep; without it nobody waits. With
+    `settings` constants and shared arrays are what these say.
 
     >>> text = "pardo 1\\nrule crew\\nprocs i < 4\\nshared A[4]\\ncode\\nA[i] := i * i\\n"
     >>> run(text, workers=3, plan=[(0, "stop"), (1, "go", 40), (1, "stop")])["A"]
     [0, 1, 4, 9]
     """
-    board = Board(text, workers, grain)
+    board = Board(text, workers, grain, settings=settings)
     crew = _Crew(board, plans.rows_of(plan, workers), pace)
     try:
         crew.start()

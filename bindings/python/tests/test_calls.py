@@ -27,6 +27,20 @@ class Calls(unittest.TestCase):
         for text in (PREFIX, PREFIX.encode(), bytearray(PREFIX.encode()), file, Path(str(file))):
             self.assertEqual(kaolinsilk.plain(text)["A"], SUMS)
 
+    def test_settings(self):
+        settings = {"n": 4, "A": [5, 6, 7, 8]}
+        answer = kaolinsilk.plain(PREFIX, settings=settings)
+        self.assertEqual(answer.values, {"A": [5, 11, 18, 26]})
+        self.assertEqual(kaolinsilk.run(PREFIX, 3, settings=settings), answer)
+        self.assertEqual(kaolinsilk.cells(PREFIX, settings=settings)[:4], answer["A"])
+        self.assertEqual(kaolinsilk.check(PREFIX, settings=settings)["procs"], 4)
+        for call in (kaolinsilk.steps, kaolinsilk.replay):
+            self.assertEqual(call(PREFIX, settings=settings).answer, answer)
+        text = kaolinsilk.text_as_set(PREFIX, settings)
+        self.assertEqual(kaolinsilk.compile(text), kaolinsilk.compile(PREFIX, settings=settings))
+        self.assertEqual(kaolinsilk.cost(text), kaolinsilk.cost(PREFIX, settings=settings))
+        self.assertEqual(kaolinsilk.plain(PREFIX, settings={})["A"], SUMS)
+
     def test_check(self):
         facts = {"cells": 8, "procs": 4, "steps": 40, "code": 15, "rule": "common"}
         self.assertEqual(kaolinsilk.check(EXAMPLES / "sum.pram"), facts)
@@ -71,7 +85,8 @@ class Faults(unittest.TestCase):
             kaolinsilk.plain(MISTAKEN)
         refused = caught.exception
         self.assertEqual((refused.subject, refused.line, refused.kind), ("text", 12, "BadLine"))
-        self.assertIn("line 12", str(refused))
+        self.assertEqual((refused.column, MISTAKEN.splitlines()[11][4]), (5, "="))
+        self.assertIn("line 12, column 5: an assignment is `:=`", str(refused))
         self.assertIn(refused.sentence, str(refused))
         self.assertIsInstance(refused, ValueError)
 
@@ -83,6 +98,28 @@ class Faults(unittest.TestCase):
                 refused = caught.exception
                 told = (refused.subject, refused.line, refused.kind)
                 self.assertEqual(told, ("plan", line, kind))
+
+    def test_a_refused_setting(self):
+        for settings, name, kind in (
+            ({"n": 4, "A": [1, 2, 3]}, "A", "WrongLength"),
+            ({"n": [4, 5]}, "n", "WrongLength"),
+            ({"n": 4, "B": 1, "A": [1, 2, 3, 4]}, "B", "UnknownName"),
+            ({"i": 4}, "i", "WrongKind"),
+            ({"n": 2**32}, "n", "OutOfLimits"),
+            ({"n": -1}, "n", "BadNumber"),
+            ({"2n": 1}, "2n", "BadSetting"),
+        ):
+            with self.assertRaises(kaolinsilk.Refused) as caught:
+                kaolinsilk.plain(PREFIX, settings=settings)
+            refused = caught.exception
+            told = (refused.subject, refused.name, refused.kind)
+            self.assertEqual(told, ("set", name, kind))
+            self.assertIn(f"set {name}: ", str(refused))
+        with self.assertRaises(kaolinsilk.Refused) as caught:
+            kaolinsilk.plain(TINY, settings={"n": 1})
+        self.assertEqual(caught.exception.kind, "UnknownName")
+        with self.assertRaises(kaolinsilk.BadRequest):
+            kaolinsilk.plain(PREFIX, settings={"n=4\nA": 1})
 
     def test_a_step_that_there_is_not(self):
         with self.assertRaises(kaolinsilk.Refused) as caught:

@@ -100,6 +100,7 @@ class Sweeps(unittest.TestCase):
         rows = kaolinsilk.sweep(EXAMPLES / "broadcast.pardo", n=[2, 4, 8])
         self.assertEqual(rows[2]["steps"], kaolinsilk.cost(EXAMPLES / "broadcast.pardo")["steps"])
         self.assertEqual((rows["n"], rows.names[:3]), ([2, 4, 8], ("n", "steps", "work")))
+        self.assertEqual(rows["time"], [1, 2, 3])  # a round each
 
     def test_start_values(self):
         text = EXAMPLES / "sum.pardo"
@@ -110,10 +111,12 @@ class Sweeps(unittest.TestCase):
         self.assertEqual({later - sooner for sooner, later in zip(steps, steps[1:])}, {21})
 
     def test_what_cannot_be_swept(self):
-        for asked in ({}, {"n": [1], "m": [2]}, {"unknown": [1]}):
+        for asked in ({}, {"n": [1], "m": [2]}):
             with self.assertRaises(kaolinsilk.BadRequest):
                 kaolinsilk.sweep(PREFIX, **asked)
-        with self.assertRaises(kaolinsilk.BadRequest):
+        with self.assertRaises(kaolinsilk.Refused):
+            kaolinsilk.sweep(PREFIX, unknown=[1])
+        with self.assertRaises(kaolinsilk.Refused):
             kaolinsilk.sweep(PREFIX, {"B": lambda n: [1]}, n=[8])
 
     def test_a_plot(self):

@@ -7,6 +7,7 @@ ghost use Rattle.library_core.specs.Commands.{stepping};
 ghost use Rattle.library_core.specs.Plans.{AreRows, IsNoPlan};
 ghost use Rattle.library_core.specs.Requests.{is_set, window_of, wrong_in};
 ghost use Rattle.library_core.specs.Serving.{ServesRequest};
+ghost use Rattle.library_core.specs.Settings.{IsNotSet, IsTextSet};
 ghost use Rattle.library_core.specs.declared.request.Call.TheVariants.{Check, Compile, Cost};
 ghost use Rattle.library_core.specs.declared.request.Call.TheVariants.{Plain, Replay, Steps};
 
@@ -15,6 +16,7 @@ use library_core::call::{Asked, serve_call};
 use library_core::cells::tell_cells;
 use library_core::plan::{PlanRow, tell_plan};
 use library_core::request::{Call, Request};
+use library_core::setting::tell_set;
 use std::alloc::Global;
 
 /// The version of the library, 0.5.0: 65536 times the first number, 256 times the second, and the
@@ -193,4 +195,21 @@ pub extern "C" fn ks_plan(
         answer.old answer.new result }
 {
     tell_plan(alloc, plan, workers, rows, answer)
+}
+
+/// Writes a text as another one sets constants and shared arrays and scalars of it, by lines
+/// `NAME=V,V,..`. All other calls take what it writes. Each line keeps its number. If a setting is
+/// refused, the answer tells its number in place of the line.
+#[unsafe(no_mangle)]
+pub extern "C" fn ks_set(
+    alloc: Global,
+    text: &[u8],
+    settings: &[u8],
+    out: &mut [u8],
+    answer: &mut Answer,
+) -> u32
+    ensures { IsCall (IsTextSet text.now settings.now) (IsNotSet text.now settings.now) out.old
+        out.new answer.old answer.new result }
+{
+    tell_set(alloc, text, settings, out, answer)
 }

@@ -12,7 +12,6 @@ pub record IsFilled (subject size line : ℕ) (answer answer' : Answer) : Type 0
   pub subject_is : answer'.subject ≡ subject
   pub length_is : answer'.length ≡ size
   pub line_is : answer'.line ≡ line
-  pub column : answer'.column ≡ 0
   pub reserved : answer'.reserved ≡ 0
   pub kind_ends : slice_index answer'.kind 31 ≡ 0
   pub sentence_ends : slice_index answer'.sentence 159 ≡ 0

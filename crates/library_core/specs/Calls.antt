@@ -2,7 +2,7 @@
 use Rattle.std.specs.Prelude.{◌≡◌, ◌≢◌, ◌⊎◌, ◌<◌, ℕ, List, length}
 use Rattle.refusals.specs.declared.refusal.TheConstants.{REFUSED, UNFINISHED, FAILED}
 use Rattle.library_core.specs.Answers.{IsFilled, front_of}
-use Rattle.library_core.specs.Faults.{line_told, status_of_call_fault, subject_of}
+use Rattle.library_core.specs.Faults.{IsColumn, line_told, status_of_call_fault, subject_of}
 use Rattle.library_core.specs.declared.answer.Answer.{Answer}
 use Rattle.library_core.specs.declared.answer.TheConstants.{ANSWER_SIZE, NOTHING}
 use Rattle.library_core.specs.declared.fault.CallFault.{CallFault}
@@ -19,6 +19,7 @@ pub record ShowsItems {A : Type 0} (Gives : List A → ℕ → Type 0) (buffer b
   pub gives : Gives items status
   pub front : buffer' ≡ front_of items buffer
   pub sized : answer.size ≡ ANSWER_SIZE
+  pub placed : answer'.column ≡ 0
   pub told : IsFilled NOTHING (length items) 0 answer answer'
 
 -- There is this fault, with this status, and the answer tells what is refused, and where.
@@ -28,6 +29,7 @@ pub record Refuses (Why : CallFault → Type 0) (answer answer' : Answer) (statu
   pub why : Why fault
   pub is : status ≡ status_of_call_fault fault
   pub sized : answer.size ≡ ANSWER_SIZE
+  pub placed : IsColumn fault answer'.column
   pub told : IsFilled (subject_of fault) 0 (line_told fault) answer answer'
 
 -- The answer has another size, and nothing is told.

@@ -33,3 +33,4 @@ pub record AreCells (text cells : List ℕ) (status : ℕ) : Type 0 where
 abbrev pub MeansNoJob : (text : List ℕ) → CallFault → Type 0
 MeansNoJob text (call.Request fault) = ⊥
 MeansNoJob text (call.Command fault) = IsUndone checking text [] fault
+MeansNoJob text (call.Setting fault) = ⊥

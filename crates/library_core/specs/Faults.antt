@@ -1,5 +1,5 @@
 -- How a fault of a call is told.
-use Rattle.std.specs.Prelude.{ℕ}
+use Rattle.std.specs.Prelude.{◌≡◌, ℕ, ⊤}
 use Rattle.pardo_job.specs.declared.fault.Refusal.{Refusal}
 use Rattle.pardo_job.specs.declared.fault.Refusal.TheVariants as program
 use Rattle.refusals.specs.Faults.{fault_status}
@@ -7,15 +7,16 @@ use Rattle.refusals.specs.declared.fault.CommandFault.{CommandFault}
 use Rattle.refusals.specs.declared.fault.CommandFault.TheVariants.{Text, Program, Plan}
 use Rattle.refusals.specs.declared.fault.CommandFault.TheVariants.{OutsideStep, JobTooLarge}
 use Rattle.refusals.specs.declared.fault.CommandFault.TheVariants.{PlanTooLarge}
-use Rattle.refusals.specs.declared.refusal.TheConstants.{FAILED}
+use Rattle.refusals.specs.declared.refusal.TheConstants.{FAILED, REFUSED}
 use Rattle.library_core.specs.declared.answer.TheConstants.{OUT_OF_MEMORY, PLAN, PROGRAM, REQUEST}
-use Rattle.library_core.specs.declared.answer.TheConstants.{SIZE, STEP, TEXT}
+use Rattle.library_core.specs.declared.answer.TheConstants.{SETTING, SIZE, STEP, TEXT}
 use Rattle.library_core.specs.declared.fault.CallFault.{CallFault}
-use Rattle.library_core.specs.declared.fault.CallFault.TheVariants.{Request, Command}
+use Rattle.library_core.specs.declared.fault.CallFault.TheVariants.{Request, Command, Setting}
 
 abbrev pub status_of_call_fault : CallFault → ℕ
 status_of_call_fault (Request fault) = FAILED
 status_of_call_fault (Command fault) = fault_status fault
+status_of_call_fault (Setting fault) = REFUSED
 
 -- what was refused
 abbrev pub command_subject : CommandFault → ℕ
@@ -30,8 +31,9 @@ command_subject _ = OUT_OF_MEMORY
 abbrev pub subject_of : CallFault → ℕ
 subject_of (Request fault) = REQUEST
 subject_of (Command fault) = command_subject fault
+subject_of (Setting fault) = SETTING
 
--- the line of the text, or the row of the plan
+-- the line of the text, the row of the plan, or the number of the setting
 abbrev pub program_line : Refusal → ℕ
 program_line (program.Text fault) = fault.line
 program_line (program.Job fault) = fault.line
@@ -45,3 +47,9 @@ command_line _ = 0
 abbrev pub line_told : CallFault → ℕ
 line_told (Request fault) = 0
 line_told (Command fault) = command_line fault
+line_told (Setting fault) = fault.number
+
+-- A column is known of programs alone; 0 stands for none.
+abbrev pub IsColumn : CallFault → ℕ → Type 0
+IsColumn (Command (Program refusal)) column = ⊤
+IsColumn _ column = column ≡ 0

@@ -6,4 +6,5 @@ pub mod Faults
 pub mod Plans
 pub mod Requests
 pub mod Serving
+pub mod Settings
 pub mod Telling

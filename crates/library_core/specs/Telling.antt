@@ -1,6 +1,5 @@
 -- What the last step of a call tells.
 use Rattle.std.specs.Prelude.{◌≡◌, ◌⊎◌, ℕ, List}
-use Rattle.refusals.specs.declared.fault.CommandFault.{CommandFault}
 use Rattle.refusals.specs.declared.fault.CommandFault.TheVariants.{Memory}
 use Rattle.library_core.specs.declared.fault.CallFault.{CallFault}
 use Rattle.library_core.specs.declared.fault.CallFault.TheVariants.{Request, Command}
@@ -17,5 +16,5 @@ abbrev pub IsRequest : RequestFault → CallFault → Type 0
 IsRequest fault told = told ≡ Request fault
 
 -- the fault, or that there is no memory to tell it
-abbrev pub IsCommandOrMemory : CommandFault → CallFault → Type 0
-IsCommandOrMemory fault told = (told ≡ Command fault) ⊎ (told ≡ Command Memory)
+abbrev pub IsThisOrMemory : CallFault → CallFault → Type 0
+IsThisOrMemory fault told = (told ≡ fault) ⊎ (told ≡ Command Memory)

@@ -6,8 +6,8 @@ use crate::telling::put_front;
 
 /// What a call tells beside its output, as C sees it. The caller sets `size` to `ANSWER_SIZE`. The
 /// length is that of the whole output, in bytes, or where cells or rows are told in these. The line
-/// is one of the text, or a row of the plan, counted from 1, and 0 where there is none; so is the
-/// column. The kind and the sentence end with a 0.
+/// is one of the text, a row of the plan, or the number of a setting, counted from 1, and 0 where
+/// there is none; so is the column. The kind and the sentence end with a 0.
 #[repr(C)]
 #[derive(Clone, Copy)]
 pub struct Answer {
@@ -50,26 +50,31 @@ pub const REQUEST: u32 = 6;
 /// Nothing: memory ran out.
 pub const OUT_OF_MEMORY: u32 = 7;
 
+/// A setting.
+pub const SETTING: u32 = 8;
+
 /// What is told in an answer.
 #[derive(Clone, Copy)]
 pub struct Told<'a> {
     pub subject: u32,
     pub length: u64,
     pub line: u64,
+    pub column: u32,
     pub kind: &'a [u8],
     pub sentence: &'a [u8],
 }
 
 /// Writes all of an answer but its size. What is too long is cut.
 pub fn fill(told: &Told<'_>, answer: &mut Answer)
-    ensures { IsFilled told.now.subject told.now.length told.now.line answer.old answer.new }
+    ensures told { IsFilled told.now.subject told.now.length told.now.line answer.old answer.new }
+    ensures placed { answer.new.column ≡ told.now.column }
 {
     *answer = Answer {
         size: answer.size,
         subject: told.subject,
         length: told.length,
         line: told.line,
-        column: 0,
+        column: told.column,
         reserved: 0,
         kind: [0; 32],
         sentence: [0; 160],

@@ -30,6 +30,6 @@ pub fn serve_call(alloc: Global, asked: &Asked<'_>, out: &mut [u8], answer: &mut
     let ask = ask_of(asked.call, asked.request);
     match serve(alloc, ask, asked.text, asked.plan) {
         Ok(served) => show(served.bytes.as_slice(), served.status, out, answer),
-        Err(fault) => refuse(alloc, fault, answer),
+        Err(fault) => refuse(alloc, fault, asked.text, answer),
     }
 }

@@ -24,7 +24,7 @@ pub fn tell_cells(alloc: Global, text: &[u8], cells: &mut [u32], answer: &mut An
         Ok(RunAnswer::Final(found)) => show(found.as_slice(), DONE, cells, answer),
         Ok(RunAnswer::Conflict(_)) => show(&[], CONFLICT, cells, answer),
         Ok(RunAnswer::Unfinished { .. }) => unreachable!(),
-        Err(fault) => refuse(alloc, fault, answer),
+        Err(fault) => refuse(alloc, fault, text, answer),
     }
 }
 

@@ -5,11 +5,20 @@ ghost use Rattle.library_core.specs.Faults.{command_line, command_subject, line_
 ghost use Rattle.library_core.specs.Faults.{status_of_call_fault, subject_of};
 ghost use Rattle.refusals.specs.Faults.{fault_status};
 
-use crate::answer::{OUT_OF_MEMORY, PLAN, PROGRAM, REQUEST, SIZE, STEP, TEXT};
+use crate::answer::{OUT_OF_MEMORY, PLAN, PROGRAM, REQUEST, SETTING, SIZE, STEP, TEXT};
 use crate::request::RequestFault;
+use pardo_explain::{Diagnosis, diagnose};
 use pardo_job::Refusal;
+use pardo_text::SetKind;
 use refusals::{CommandFault, FAILED, MEMORY, REFUSED, sentences};
 use std::alloc::{AllocError, Global};
+
+/// A setting that is wrong, or does not fit the text: which one, counted from 1, and why.
+#[derive(Clone, Copy)]
+pub struct Misset {
+    pub number: u64,
+    pub kind: SetKind,
+}
 
 /// Why a call was not done.
 #[derive(Clone, Copy)]
@@ -18,6 +27,8 @@ pub enum CallFault {
     Request(RequestFault),
     /// What it asks for was not done.
     Command(CommandFault),
+    /// A name cannot be set so.
+    Setting(Misset),
 }
 
 impl CallFault {
@@ -29,6 +40,7 @@ impl CallFault {
         match self {
             CallFault::Request(_) => FAILED,
             CallFault::Command(fault) => command_status(fault),
+            CallFault::Setting(_) => REFUSED,
         }
     }
 
@@ -39,16 +51,19 @@ impl CallFault {
         match self {
             CallFault::Request(_) => REQUEST,
             CallFault::Command(fault) => command_subject(fault),
+            CallFault::Setting(_) => SETTING,
         }
     }
 
-    /// The line of the text, or the row of the plan, from 1; 0 where there is none.
+    /// The line of the text, the row of the plan, or the number of the setting, from 1; 0 where
+    /// there is none.
     pub fn line(self) -> u64
         ensures { result ≡ line_told self }
     {
         match self {
             CallFault::Request(_) => 0,
             CallFault::Command(fault) => command_line(fault),
+            CallFault::Setting(fault) => fault.number,
         }
     }
 
@@ -57,12 +72,39 @@ impl CallFault {
         match self {
             CallFault::Request(fault) => request_sentence(fault),
             CallFault::Command(fault) => command_sentence(fault),
+            CallFault::Setting(fault) => setting_sentence(fault.kind),
         }
     }
 }
 
-/// The name of what is wrong with a text or a plan, and else nothing.
-pub(crate) fn kind_of(alloc: Global, fault: CommandFault) -> Result<String, AllocError> {
+/// The name of what is wrong with a text, a plan or a setting, and else nothing.
+pub(crate) fn kind_of(alloc: Global, fault: CallFault) -> Result<String, AllocError> {
+    match fault {
+        CallFault::Request(_) => Ok(String::new(alloc)),
+        CallFault::Command(fault) => command_kind(alloc, fault),
+        CallFault::Setting(fault) => {
+            let kind = fault.kind;
+            format!(in alloc; "{kind:?}")
+        }
+    }
+}
+
+/// Where a program's text is wrong, if that is the fault.
+pub(crate) fn diagnosis_of(
+    alloc: Global,
+    fault: CallFault,
+    text: &[u8],
+) -> Result<Option<Diagnosis>, AllocError> {
+    let CallFault::Command(CommandFault::Program(Refusal::Text(fault))) = fault else {
+        return Ok(None);
+    };
+    match diagnose(alloc, text)? {
+        Some((found, diagnosis)) if found == fault => Ok(Some(diagnosis)),
+        _ => Ok(None),
+    }
+}
+
+fn command_kind(alloc: Global, fault: CommandFault) -> Result<String, AllocError> {
     match fault {
         CommandFault::Text { kind, .. } => format!(in alloc; "{kind:?}"),
         CommandFault::Program(Refusal::Text(fault)) => {
@@ -138,5 +180,18 @@ fn request_sentence(fault: RequestFault) -> &'static str {
         RequestFault::Window => "the last step that is to be shown comes before the first one",
         RequestFault::Workers => "there must be from 1 to 64 workers",
         RequestFault::Grain => "a leaf must have a power of two up to 64 of processors",
+    }
+}
+
+fn setting_sentence(kind: SetKind) -> &'static str {
+    match kind {
+        SetKind::BadSetting => "a setting is NAME=V or NAME=V,V,..",
+        SetKind::BadNumber => "a value must be a number, in digits alone",
+        SetKind::OutOfLimits => "a value is greater than 4,294,967,295",
+        SetKind::DuplicateName => "the name is set twice",
+        SetKind::WrongLength => "there must be as many values as places",
+        SetKind::UnknownName => "the text declares no such name",
+        SetKind::WrongKind => "the name is neither a constant nor shared",
+        SetKind::Memory => "out of memory",
     }
 }

@@ -1,5 +1,5 @@
 //! What a program in another language calls, from bytes to bytes: the commands that start no
-//! thread, the final memory of a text, and the rows of a plan.
+//! thread, the final memory of a text, the rows of a plan, and a text with names set.
 #![tactic(auto)]
 
 pub mod answer;
@@ -10,4 +10,5 @@ mod output;
 pub mod plan;
 pub mod request;
 mod serving;
+pub mod setting;
 pub mod telling;

@@ -43,7 +43,7 @@ pub fn tell_plan(
     }
     match rows_of(alloc, text, workers) {
         Ok(found) => show(found.as_slice(), DONE, rows, answer),
-        Err(fault) => refuse(alloc, fault, answer),
+        Err(fault) => refuse(alloc, fault, b"", answer),
     }
 }
 

@@ -2,12 +2,14 @@
 ghost use Rattle.std.specs.Prelude.{◌≡◌, ◌⊎◌};
 ghost use Rattle.library_core.specs.Answers.{IsFilled, front_of};
 ghost use Rattle.library_core.specs.Calls.{IsCall, IsEndingStatus, RefusesOrNot};
-ghost use Rattle.library_core.specs.Faults.{line_told, status_of_call_fault, subject_of};
-ghost use Rattle.library_core.specs.Telling.{AreThese, IsCommandOrMemory, IsNever, IsRequest};
+ghost use Rattle.library_core.specs.Faults.{IsColumn, line_told, status_of_call_fault, subject_of};
+ghost use Rattle.library_core.specs.Telling.{AreThese, IsNever, IsRequest, IsThisOrMemory};
+ghost use Rattle.library_core.specs.declared.fault.CallFault.TheVariants.{Command};
 
 use crate::answer::{ANSWER_SIZE, Answer, NOTHING, Told, fill};
-use crate::fault::{CallFault, kind_of};
+use crate::fault::{CallFault, diagnosis_of, kind_of};
 use crate::request::RequestFault;
+use pardo_explain::Diagnosis;
 use refusals::{CommandFault, FAILED};
 use std::alloc::{AllocError, Global};
 
@@ -25,6 +27,7 @@ pub fn show<T: Copy>(items: &[T], status: u8, buffer: &mut [T], answer: &mut Ans
         subject: NOTHING,
         length: items.len() as u64,
         line: 0,
+        column: 0,
         kind: b"",
         sentence: b"",
     };
@@ -40,38 +43,72 @@ pub fn refuse_request(fault: RequestFault, answer: &mut Answer) -> u32
     if answer.size != ANSWER_SIZE {
         return u32::from(FAILED);
     }
-    tell(CallFault::Request(fault), b"", answer)
+    tell(CallFault::Request(fault), b"", None, answer)
 }
 
 /// Ends a call of what was not done, and gives its status. Where there is no memory to tell why,
-/// that is told.
-pub fn refuse(alloc: Global, fault: CommandFault, answer: &mut Answer) -> u32
+/// that is told. Of a program that is refused, the text is read again.
+pub fn refuse(alloc: Global, fault: CommandFault, text: &[u8], answer: &mut Answer) -> u32
     ensures ending { ¬ IsEndingStatus result }
-    ensures refused { RefusesOrNot (IsCommandOrMemory fault) answer.old answer.new result }
+    ensures refused { RefusesOrNot (IsThisOrMemory (Command fault)) answer.old answer.new result }
+{
+    refuse_fault(alloc, CallFault::Command(fault), text, answer)
+}
+
+/// Does that of any fault.
+pub fn refuse_fault(alloc: Global, fault: CallFault, text: &[u8], answer: &mut Answer) -> u32
+    ensures ending { ¬ IsEndingStatus result }
+    ensures refused { RefusesOrNot (IsThisOrMemory fault) answer.old answer.new result }
 {
     if answer.size != ANSWER_SIZE {
         return u32::from(FAILED);
     }
-    match kind_of(alloc, fault) {
-        Ok(kind) => tell(CallFault::Command(fault), kind.as_bytes(), answer),
-        Err(AllocError) => tell(CallFault::Command(CommandFault::Memory), b"", answer),
+    match explained(alloc, fault, text) {
+        Ok((kind, found)) => tell(fault, kind.as_bytes(), found.as_ref(), answer),
+        Err(AllocError) => tell(CallFault::Command(CommandFault::Memory), b"", None, answer),
     }
 }
 
-fn tell(fault: CallFault, kind: &[u8], answer: &mut Answer) -> u32
+// The kind, and where a program is wrong.
+fn explained(
+    alloc: Global,
+    fault: CallFault,
+    text: &[u8],
+) -> Result<(String, Option<Diagnosis>), AllocError> {
+    Ok((kind_of(alloc, fault)?, diagnosis_of(alloc, fault, text)?))
+}
+
+fn tell(fault: CallFault, kind: &[u8], found: Option<&Diagnosis>, answer: &mut Answer) -> u32
     ensures status { result ≡ status_of_call_fault fault }
     ensures ending { ¬ IsEndingStatus result }
+    ensures placed { IsColumn fault answer.new.column }
     ensures told { IsFilled (subject_of fault) 0 (line_told fault) answer.old answer.new }
 {
     let told = Told {
         subject: fault.subject(),
         length: 0,
         line: fault.line(),
+        column: column_told(fault, found),
         kind,
-        sentence: fault.sentence().as_bytes(),
+        sentence: match found {
+            Some(diagnosis) => diagnosis.sentence.as_slice(),
+            None => fault.sentence().as_bytes(),
+        },
     };
     fill(&told, answer);
     u32::from(fault.status())
+}
+
+// The column of a program that was found.
+fn column_told(fault: CallFault, found: Option<&Diagnosis>) -> u32
+    ensures { IsColumn fault result }
+{
+    match (fault, found) {
+        (CallFault::Command(CommandFault::Program(_)), Some(diagnosis)) => {
+            u32::try_from(diagnosis.column).unwrap_or(0)
+        }
+        _ => 0,
+    }
 }
 
 /// Puts the items to the front of a buffer, as many as there is room for.

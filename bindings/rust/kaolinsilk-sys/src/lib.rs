@@ -50,6 +50,8 @@ pub const KS_SIZE: u32 = 5;
 pub const KS_REQUEST: u32 = 6;
 /// There was no memory.
 pub const KS_OUT_OF_MEMORY: u32 = 7;
+/// A setting was refused.
+pub const KS_SETTING: u32 = 8;
 
 /// How many workers there are at most.
 pub const KS_WORKERS_MOST: u32 = 64;
@@ -106,7 +108,7 @@ pub struct ks_answer {
     /// How long the whole output is, in elements of the buffer. Of it stands in the buffer what it
     /// has room for, from the front.
     pub length: u64,
-    /// The line of the text, or the row of the plan, from 1; 0: none.
+    /// The line of the text, the row of the plan, or the number of the setting, from 1; 0: none.
     pub line: u64,
     /// The column in the line, from 1; 0: not known.
     pub column: u32,
@@ -311,6 +313,16 @@ unsafe extern "C" {
         plan_length: usize,
         workers: u32,
         rows: *mut ks_plan_row,
+        room: usize,
+        answer: *mut ks_answer,
+    ) -> u32;
+    /// A text as another one sets names of it, by lines `NAME=V,V,..`.
+    pub fn ks_set(
+        text: *const u8,
+        text_length: usize,
+        settings: *const u8,
+        settings_length: usize,
+        out: *mut u8,
         room: usize,
         answer: *mut ks_answer,
     ) -> u32;

@@ -18,6 +18,8 @@ pub enum Subject {
     Plan,
     /// A step that the job does not have.
     Step,
+    /// A setting that is none, or does not fit the program.
+    Setting,
     /// A text or a plan of more than 16,777,216 bytes.
     Size,
     /// The request itself: a number of workers, a worker's number, a grain or a window that is
@@ -35,6 +37,7 @@ impl Subject {
             sys::KS_PLAN => Subject::Plan,
             sys::KS_STEP => Subject::Step,
             sys::KS_SIZE => Subject::Size,
+            sys::KS_SETTING => Subject::Setting,
             sys::KS_OUT_OF_MEMORY => Subject::Memory,
             _ if status == sys::KS_MEMORY => Subject::Memory,
             _ => Subject::Request,
@@ -48,6 +51,7 @@ impl Subject {
             Subject::Program => "the program is refused",
             Subject::Plan => "the plan is refused",
             Subject::Step => "the job has no such step",
+            Subject::Setting => "a setting is refused",
             Subject::Size => "a text has at most 16,777,216 bytes",
             Subject::Request => "the request is refused",
             Subject::Memory => "out of memory",
@@ -65,10 +69,10 @@ impl Subject {
 /// let text = "pardo 1\nrule common\nprocs i < 4\nshared sum\ncode\nsum = i\n";
 /// let error = Job::parse(text).unwrap_err();
 /// assert_eq!(error.subject(), Subject::Program);
-/// assert_eq!((error.line(), error.kind()), (Some(6), "BadLine"));
+/// assert_eq!((error.line(), error.column(), error.kind()), (Some(6), Some(5), "BadLine"));
 /// assert_eq!(
 ///     error.to_string(),
-///     "line 6: something is missing here, left over, or in the wrong place"
+///     "line 6, column 5: an assignment is `:=`; `=` compares"
 /// );
 /// ```
 #[derive(Clone, Debug, PartialEq, Eq)]
@@ -121,12 +125,13 @@ impl Error {
         self.subject
     }
 
-    /// The line of the text or the record of the plan, from 1, where there is one.
+    /// The line of the text, the record of the plan or the number of the setting, from 1, where
+    /// there is one.
     pub fn line(&self) -> Option<u64> {
         (self.line > 0).then_some(self.line)
     }
 
-    /// The column in the line, from 1, where it is known.
+    /// The column in the line of a program, from 1, where it is known.
     pub fn column(&self) -> Option<u32> {
         (self.column > 0).then_some(self.column)
     }
@@ -150,10 +155,10 @@ impl Error {
 impl fmt::Display for Error {
     fn fmt(&self, f: &mut fmt::Formatter<'_>) -> fmt::Result {
         if let Some(line) = self.line() {
-            let what = if self.subject == Subject::Plan {
-                "row"
-            } else {
-                "line"
+            let what = match self.subject {
+                Subject::Plan => "row",
+                Subject::Setting => "setting",
+                _ => "line",
             };
             write!(f, "{what} {line}")?;
             if let Some(column) = self.column() {

@@ -10,8 +10,10 @@ use crate::fields::number;
 use crate::outcome::{Fault, Outcome};
 use crate::plan::Plan;
 use crate::replay::Replay;
+use crate::settings::Settings;
 use crate::steps::Steps;
 use crate::told::{Status, copy, filled, printed};
+use crate::values::Values;
 use kaolinsilk_sys as sys;
 
 /// What is promised of all that is printed, and what a crate says that was told otherwise.
@@ -123,6 +125,16 @@ impl Job {
         Ok(Job { text, check })
     }
 
+    /// The same of a program with these settings: its text is then the text as it is set.
+    ///
+    /// # Errors
+    ///
+    /// [`Subject::Setting`](crate::Subject::Setting) with the number of the first setting that is
+    /// none or does not fit; those of [`Job::parse`].
+    pub fn parse_with(text: impl AsRef<[u8]>, settings: &Settings) -> Result<Job> {
+        Job::parse(settings.applied(text.as_ref())?)
+    }
+
     /// The text that was parsed.
     pub fn text(&self) -> &str {
         &self.text
@@ -189,7 +201,7 @@ impl Job {
     ///
     /// [`Subject::Memory`](crate::Subject::Memory).
     pub fn plain_text(&self) -> Result<String> {
-        self.told(0)
+        Ok(self.told(0)?.1)
     }
 
     /// The same, and what became of the processors, as `pramx plain --why` prints it.
@@ -198,10 +210,40 @@ impl Job {
     ///
     /// [`Subject::Memory`](crate::Subject::Memory).
     pub fn plain_text_with_why(&self) -> Result<String> {
-        self.told(1)
+        Ok(self.told(1)?.1)
     }
 
-    fn told(&self, why: u32) -> Result<String> {
+    /// The values of the same answer by their names; none of a conflict. It takes one run.
+    ///
+    /// # Errors
+    ///
+    /// [`Subject::Memory`](crate::Subject::Memory).
+    pub fn values(&self) -> Result<Option<Values>> {
+        let (status, text) = self.told(0)?;
+        match status {
+            Status::Conflict => Ok(None),
+            _ => Ok(Some(Values::of_text(&text).expect(FORM))),
+        }
+    }
+
+    /// The cells of an answer of this job by its names, as those that [`run`](crate::run) gives. The
+    /// library is asked for names and lengths, by a program of this header that does nothing.
+    ///
+    /// # Errors
+    ///
+    /// [`Subject::Memory`](crate::Subject::Memory).
+    pub fn named(&self, cells: &[u32]) -> Result<Values> {
+        match header_of(&self.text) {
+            None => Ok(Values::of_cells(cells)),
+            Some(header) => {
+                let idle = format!("{header}code\nwhile 0\nend\n");
+                let (_, text) = serve(Command::Plain, &idle, &sys::ks_request::new(), ROOM)?;
+                Ok(Values::of_text(&text).expect(FORM).with(cells))
+            }
+        }
+    }
+
+    fn told(&self, why: u32) -> Result<(Status, String)> {
         let request = sys::ks_request {
             why,
             ..sys::ks_request::new()
@@ -210,7 +252,7 @@ impl Job {
             cells, processors, ..
         } = self.check;
         let room = 256 + 18 * cells as usize + 64 * processors as usize;
-        Ok(serve(Command::Plain, &self.text, &request, room)?.1)
+        serve(Command::Plain, &self.text, &request, room)
     }
 
     /// What a run costs, and which PRAM it needs.
@@ -296,6 +338,26 @@ impl FromStr for Job {
     }
 }
 
+// What comes before the code of a program; none of a text of the machine.
+fn header_of(text: &str) -> Option<&str> {
+    fn words(line: &str) -> impl Iterator<Item = &str> {
+        let said = line.split(';').next().unwrap_or("");
+        said.split_ascii_whitespace()
+    }
+    let mut all = text.lines().flat_map(words);
+    if all.next() != Some("pardo") {
+        return None;
+    }
+    let mut end = 0;
+    for line in text.split_inclusive('\n') {
+        if words(line).eq(["code"]) {
+            break;
+        }
+        end += line.len();
+    }
+    Some(&text[..end])
+}
+
 const NO_WINDOW: Error =
     Error::request("a window has a first step from 1 and a last one not below it");
 
@@ -316,7 +378,7 @@ fn bounds(window: &impl RangeBounds<u32>) -> Option<(u32, u32)> {
 
 #[cfg(test)]
 mod tests {
-    use super::{Check, Rule, bounds};
+    use super::{Check, Rule, bounds, header_of};
     use std::ops::Bound;
 
     #[test]
@@ -342,6 +404,14 @@ mod tests {
             None
         );
         assert_eq!(Check::of_line("ok cells=5 procs=4"), None);
+    }
+
+    #[test]
+    fn headers() {
+        let text = "; one\npardo 1\nrule crew ; code\n code ; it\nA[0] := 1\n";
+        let header = "; one\npardo 1\nrule crew ; code\n";
+        assert_eq!(header_of(text), Some(header));
+        assert_eq!(header_of("pram 1\ncells 2\ncode\n"), None);
     }
 
     #[test]

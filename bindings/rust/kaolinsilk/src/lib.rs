@@ -34,6 +34,7 @@
 //! | | |
 //! |---|---|
 //! | [`Job`] | a text that was judged, and what the commands of `pramx` tell of it |
+//! | [`Settings`] | what constants and shared arrays of a program are set to |
 //! | [`run`] | a job on threads, by a [`Plan`] |
 //! | [`Board`] | for threads of your own: each has a [`Worker`], or reads by a [`Seat`] |
 //! | [`Error`] | what was refused, where and why |
@@ -41,8 +42,8 @@
 //! # Memory, threads and processes
 //!
 //! What the library asks for, and all buffers of this crate, may be refused: that is an [`Error`].
-//! Rows that are added to a [`Plan`], and what the standard library needs for the threads of
-//! [`run`], are asked for as Rust asks for memory everywhere.
+//! Rows of a [`Plan`], [`Settings`], [`Values`], and what the standard library needs for the threads
+//! of [`run`], are asked for as Rust asks for memory everywhere.
 //!
 //! No call is to be made from a signal handler, or from the forked child of a process with threads.
 
@@ -56,8 +57,10 @@ mod outcome;
 mod plan;
 mod replay;
 mod run;
+mod settings;
 mod steps;
 mod told;
+mod values;
 
 pub use board::{Board, Progress, Reading, Seat, Stay, Worker};
 pub use cost::{Cost, Meeting, Place, Pram};
@@ -67,7 +70,9 @@ pub use outcome::{Ended, Fault, Outcome};
 pub use plan::{Act, Plan, Row};
 pub use replay::{Replay, StepKind, TraceRow};
 pub use run::{RunAnswer, run};
+pub use settings::Settings;
 pub use steps::{StepRow, Steps, Target};
+pub use values::Values;
 
 /// The version of the library that is linked: major, minor, patch.
 pub fn version() -> (u32, u32, u32) {

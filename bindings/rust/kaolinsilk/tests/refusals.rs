@@ -1,7 +1,7 @@
 //! What is refused, and how that is told.
 mod shared;
 
-use kaolinsilk::{Act, Board, Error, Job, Plan, Subject, run};
+use kaolinsilk::{Act, Board, Error, Job, Plan, Settings, Subject, run};
 use shared::example;
 use std::error::Error as _;
 
@@ -35,6 +35,7 @@ fn a_program() {
     let text = String::from_utf8(example("conflict.pardo")).unwrap();
     let error = Job::parse(text.replace(":=", "=")).unwrap_err();
     assert_eq!(told(&error), (Subject::Program, Some(12), "BadLine"));
+    assert_eq!(error.column(), Some(5));
     let text = "pardo 1\nrule crew\nprocs i < 2\nprivate x\ncode\nwhile 1\nx := 1\nend\n";
     let error = Job::parse(text).unwrap_err();
     assert_eq!(
@@ -78,6 +79,34 @@ fn plans_that_are_none() {
     assert_eq!(Plan::parse("worker,act,ticks\n", 1).unwrap(), Plan::new());
     assert_eq!(Plan::new().to_string(), "");
     assert!(Plan::new().check(64).is_ok());
+}
+
+#[test]
+fn a_setting() {
+    let text = "pardo 1\nrule crew\nconst n = 2\nprocs i < n\nshared A[n]\ncode\nA[i] := i\n";
+    let fitting = || Settings::new().set("n", [3]);
+    for (settings, number, kind) in [
+        (fitting().set("A", [1, 2]), 2, "WrongLength"),
+        (fitting().set("B", [1]), 2, "UnknownName"),
+        (fitting().set("i", [1]), 2, "WrongKind"),
+        (fitting().set("n", [1]), 2, "DuplicateName"),
+        (fitting().set("A", []), 2, "BadSetting"),
+        (Settings::new().set("n\nA", [1]), 1, "BadSetting"),
+        (Settings::new().set("n", [1, 2]), 1, "WrongLength"),
+    ] {
+        let error = Job::parse_with(text, &settings).unwrap_err();
+        assert_eq!(told(&error), (Subject::Setting, Some(number), kind));
+        assert!(
+            error
+                .to_string()
+                .starts_with(&format!("setting {number}: "))
+        );
+    }
+    let error = Job::parse_with(JOB, &fitting()).unwrap_err();
+    assert_eq!(told(&error), (Subject::Setting, Some(1), "UnknownName"));
+    assert_eq!(Job::parse_with(JOB, &Settings::new()).unwrap().text(), JOB);
+    let error = Job::parse_with("pardo 1\nconst n = 1\nx\n", &fitting()).unwrap_err();
+    assert_eq!(error.subject(), Subject::Program);
 }
 
 #[test]

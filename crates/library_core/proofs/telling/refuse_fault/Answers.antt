@@ -2,14 +2,15 @@ use Rattle.std.proofs.Common.{arith, refl, inl, inr}
 use Rattle.std.proofs.lemmas.Grind.{common_steps}
 use Rattle.refusals.specs.declared.fault.CommandFault.TheVariants.{Memory}
 use Rattle.library_core.specs.declared.fault.CallFault.TheVariants.{Command}
-use Rattle.library_core.proofs.telling.refuse.Goals as goal
+use Rattle.library_core.proofs.telling.refuse_fault.Goals as goal
 
 pub returns-in-Ok-clause-refused : goal.returns-in-Ok-clause-refused
 returns-in-Ok-clause-refused c = inl (record {
-  fault = Command c.args.fault;
+  fault = c.args.fault;
   why = inl refl;
   is = c.tell.ensures.status;
   sized = grind (arith, common_steps, c.if-answer-ne-ANSWER_SIZE.false);
+  placed = c.tell.ensures.placed;
   told = c.tell.ensures.told;
 })
 
@@ -19,5 +20,6 @@ returns-in-Err-clause-refused c = inl (record {
   why = inr refl;
   is = c.tell-in-Err.ensures.status;
   sized = grind (arith, common_steps, c.if-answer-ne-ANSWER_SIZE.false);
+  placed = c.tell-in-Err.ensures.placed;
   told = c.tell-in-Err.ensures.told;
 })
