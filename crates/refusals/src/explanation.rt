@@ -11,7 +11,7 @@ use std::alloc::Global;
 use std::fmt;
 
 /// What explains that memory ran out, and needs none.
-const MEMORY_SENTENCE: &str = "out of memory, or the system refused a thread\n";
+pub(crate) const MEMORY_SENTENCE: &str = "out of memory, or the system refused a thread\n";
 
 /// Why the sources of a line failed, where they did.
 #[derive(Clone, Copy, Debug, PartialEq, Eq)]
@@ -70,7 +70,11 @@ impl fmt::Display for Explanation<'_> {
     }
 }
 
-fn on_file<W: fmt::Write>(f: &mut fmt::Formatter<W>, file: &str, sentence: &str) -> fmt::Result {
+pub(crate) fn on_file<W: fmt::Write>(
+    f: &mut fmt::Formatter<W>,
+    file: &str,
+    sentence: &str,
+) -> fmt::Result {
     writeln!(f, "{file}: {sentence}")
 }
 
@@ -107,7 +111,7 @@ fn without_place<W: fmt::Write>(f: &mut fmt::Formatter<W>, file: &str, place: &s
 }
 
 // The name of a file, as people are told it.
-fn shown(name: &str) -> &str {
+pub(crate) fn shown(name: &str) -> &str {
     if name == "-" { "standard input" } else { name }
 }
 

@@ -6,8 +6,10 @@ mod fault;
 mod refusal;
 pub mod sentences;
 mod telling;
+mod unset;
 
 pub use explanation::{Explanation, Reasons};
 pub use fault::CommandFault;
 pub use refusal::{CONFLICT, DONE, FAILED, MEMORY, REFUSED, Refusal, UNFINISHED, tell};
 pub use telling::tell_fault;
+pub use unset::{Unset, tell_unset};
