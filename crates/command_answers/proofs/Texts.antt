@@ -1,5 +1,5 @@
 -- The texts of words, and what they set.
-use Rattle.std.proofs.Common.{◌≡◌, ◌∙◌, ◌+◌, ◌<◌, ℕ, suc, List, ◌∷◌, Option, Ok, add-one}
+use Rattle.std.proofs.Common.{◌≡◌, ◌∙◌, ◌+◌, ◌<◌, ℕ, List, ◌∷◌, Option, Ok, add-one}
 use Rattle.std.proofs.Common.{ap, drop, drop-cons, get_or, length, map, subst, sym}
 use Rattle.std.specs.Borrow.{Bor}
 use Rattle.std.specs.List.{after_first, before_first}

@@ -12,7 +12,7 @@ use clap::error::ErrorKind;
 use command_line::read_line;
 use pram_commands::{
     Ask, Console, DONE, FAILED, Folder, Line, MEMORY, Refusal, serve_files, serve_files_alone,
-    serve_text, serve_text_alone, tell,
+    serve_text, serve_text_alone, tell, tell_unset,
 };
 use pram_streams::{Sink, put};
 use std::alloc::Global;
@@ -128,7 +128,7 @@ fn answer_set<'a, F: Folder, O: Sink, E: Sink>(
 {
     let text = match set_text(alloc, folder, line.file, settings) {
         Ok(text) => text,
-        Err(refusal) => return Ok(tell(alloc, refusal, &mut console.err)),
+        Err(unset) => return Ok(tell_unset(alloc, &unset, console.explains, &mut console.err)),
     };
     match line.ask {
         Ask::Alone(ask) => {

@@ -5,8 +5,8 @@ ghost use Rattle.command_answers.specs.Setting.{AllMet, FileGives, IsSetText, Se
 
 use pardo_answers::is_program;
 use pardo_text::{PardoKind, SetFault, SetKind, Settings, read_program};
-use pram_commands::{Folder, Refusal};
-use pram_streams::{TakeFault, take};
+use pram_commands::{Folder, Refusal, Unset};
+use pram_streams::{Reason, Source, TakeFault, take};
 use std::alloc::{AllocError, Global};
 
 /// The text of a file as these words set names, or why not: what is wrong with the words by
@@ -17,22 +17,22 @@ pub(crate) fn set_text<'a, F: Folder>(
     folder: &F,
     file: &'a str,
     words: &[&'a str],
-) -> Result<Vec<u8>, Refusal<'a>>
+) -> Result<Vec<u8>, Unset<'a>>
     ensures { IfOk result (λ set. IsSetText (F.holds folder.now) file.now
         (map (λ word. word.now) words.now) set.items) }
 {
     let settings = settings_of(alloc, folder, words)?;
     let text = taken(alloc, folder, file)?;
     let Ok(set) = settings.text_as_set(alloc, text.as_slice()) else {
-        return Err(Refusal::Memory);
+        return Err(unset(Refusal::Memory));
     };
     match unfit(alloc, &settings, text.as_slice(), set.as_slice()) {
         Ok(None) => Ok(set),
         Ok(Some(SetFault { at, kind })) => {
             let name = name_in(words.get(at).copied().unwrap_or(""));
-            Err(Refusal::Setting { name, kind })
+            Err(unset(Refusal::Setting { name, kind }))
         }
-        Err(AllocError) => Err(Refusal::Memory),
+        Err(AllocError) => Err(unset(Refusal::Memory)),
     }
 }
 
@@ -60,7 +60,7 @@ fn settings_of<'a, F: Folder>(
     alloc: Global,
     folder: &F,
     words: &[&'a str],
-) -> Result<Settings, Refusal<'a>>
+) -> Result<Settings, Unset<'a>>
     ensures { IfOk result (SetNames (F.holds folder.now) [] (map (λ word. word.now) words.now)) }
 {
     let mut settings = Settings::new(alloc);
@@ -76,12 +76,12 @@ fn add<'a, F: Folder>(
     folder: &F,
     word: &'a str,
     settings: &mut Settings,
-) -> Result<(), Refusal<'a>>
+) -> Result<(), Unset<'a>>
     ensures { OnOk result (SetsName (F.holds folder.now) settings.old word.now settings.new) }
 {
     let Some((name, values)) = word.split_once('=') else {
         let kind = SetKind::BadSetting;
-        return Err(Refusal::Setting { name: word, kind });
+        return Err(unset(Refusal::Setting { name: word, kind }));
     };
     match values.strip_prefix('@') {
         Some(file) => {
@@ -93,13 +93,13 @@ fn add<'a, F: Folder>(
 }
 
 // Sets a name to the values that a text spells.
-fn set_name<'a>(name: &'a str, text: &[u8], settings: &mut Settings) -> Result<(), Refusal<'a>>
+fn set_name<'a>(name: &'a str, text: &[u8], settings: &mut Settings) -> Result<(), Unset<'a>>
     ensures { OnOk result (with_setting settings.old name.now text.now ≡ Ok settings.new) }
 {
     match settings.add(name.as_bytes(), text) {
         Ok(()) => Ok(()),
-        Err(SetKind::Memory) => Err(Refusal::Memory),
-        Err(kind) => Err(Refusal::Setting { name, kind }),
+        Err(SetKind::Memory) => Err(unset(Refusal::Memory)),
+        Err(kind) => Err(unset(Refusal::Setting { name, kind })),
     }
 }
 
@@ -112,13 +112,25 @@ fn name_in(word: &str) -> &str {
 }
 
 // All bytes of a file.
-fn taken<'a, F: Folder>(alloc: Global, folder: &F, file: &'a str) -> Result<Vec<u8>, Refusal<'a>>
+fn taken<'a, F: Folder>(alloc: Global, folder: &F, file: &'a str) -> Result<Vec<u8>, Unset<'a>>
     ensures { IfOk result (λ bytes. FileGives (F.holds folder.now) file.now bytes.items) }
 {
-    match take(alloc, &mut folder.open(file)) {
+    let mut source = folder.open(file);
+    match take(alloc, &mut source) {
         Ok(bytes) => Ok(bytes),
-        Err(TakeFault::Device) => Err(Refusal::File(file)),
-        Err(TakeFault::TooLarge) => Err(Refusal::Size(file)),
-        Err(TakeFault::Memory) => Err(Refusal::Memory),
+        Err(TakeFault::Device) => Err(Unset {
+            refusal: Refusal::File(file),
+            reason: source.reason(),
+        }),
+        Err(TakeFault::TooLarge) => Err(unset(Refusal::Size(file))),
+        Err(TakeFault::Memory) => Err(unset(Refusal::Memory)),
+    }
+}
+
+// What is refused without the reason of a file.
+fn unset(refusal: Refusal<'_>) -> Unset<'_> {
+    Unset {
+        refusal,
+        reason: Reason::Unknown,
     }
 }

@@ -61,6 +61,10 @@ m=1 : same | 2 set name=m kind=UnknownName~
 i=1 : same | 2 set name=i kind=WrongKind~
 n=0 : same | 2 text line=4 kind=OutOfLimits~
 n=1 : pram 1~cells 1~procs 1~steps 0~code~halt~ | 2 set name=n kind=UnknownName~
+$ pramx plain job --explain --set *
+s=x : pardo 1~rule crew~const n = 2~procs i < n~shared A[n]~shared s = 5~code~A[i] := A[i] + s~ \
+    | 2 set name=s kind=BadNumber~--set s: a value must be a number, in digits alone~
+m=1 : same | 2 set name=m kind=UnknownName~--set m: the text declares no such name~
 $ pramx compile job --set n=1
 pardo 1~rule crew~const n = 2~procs i < n~shared A[n]~code~A[i] := 7~ \
     | 0 pram 3~cells 1~procs 1~steps 3~rule crew~{}

@@ -28,7 +28,7 @@ pub use names::Naming;
 pub use progress::{Teller, tell_steps};
 pub use refusals::{
     CONFLICT, CommandFault, DONE, Explanation, FAILED, Look, MEMORY, REFUSED, Reasons, Refusal,
-    UNFINISHED, tell,
+    UNFINISHED, Unset, tell, tell_unset,
 };
 pub use server::{serve, serve_alone};
 pub use sources::{Console, Inputs, Sources, Spelled};

@@ -16,7 +16,7 @@ use std::alloc::{AllocError, Global};
 use std::fmt;
 
 /// What explains that memory ran out, and needs none.
-const MEMORY_SENTENCE: &str = "out of memory, or the system refused a thread\n";
+pub(crate) const MEMORY_SENTENCE: &str = "out of memory, or the system refused a thread\n";
 
 /// Why the sources of a line failed, where they did.
 #[derive(Clone, Copy, Debug, PartialEq, Eq)]
@@ -76,7 +76,11 @@ impl fmt::Display for Explanation<'_> {
     }
 }
 
-fn on_file<W: fmt::Write>(f: &mut fmt::Formatter<W>, file: &str, sentence: &str) -> fmt::Result {
+pub(crate) fn on_file<W: fmt::Write>(
+    f: &mut fmt::Formatter<W>,
+    file: &str,
+    sentence: &str,
+) -> fmt::Result {
     writeln!(f, "{file}: {sentence}")
 }
 

@@ -7,6 +7,7 @@ mod notes;
 mod refusal;
 pub mod sentences;
 mod telling;
+mod unset;
 mod words;
 
 pub use explanation::{Explanation, Reasons};
@@ -15,3 +16,4 @@ pub use notes::tell_notes;
 pub use pardo_explain::Look;
 pub use refusal::{CONFLICT, DONE, FAILED, MEMORY, REFUSED, Refusal, UNFINISHED, tell};
 pub use telling::tell_fault;
+pub use unset::{Unset, tell_unset};

@@ -1,7 +1,7 @@
 //! The sentences that say what is wrong with a text, a plan or a file. The playground shows those
 //! on a text, too: its maker reads them here.
 use pardo_job::{JobKind, Refusal};
-use pardo_text::PardoKind;
+use pardo_text::{PardoKind, SetKind};
 use pram_streams::Reason;
 use pram_text::TextKind;
 use stop_plan::PlanKind;
@@ -63,6 +63,20 @@ fn of_program_job(kind: JobKind) -> &'static str {
         JobKind::TooLong => "a program has at most 4,096 instructions",
         JobKind::Endless => "the program is still here after 1,048,576 steps",
         JobKind::Memory => "there is no memory to read it",
+    }
+}
+
+/// Why a name is not set.
+pub fn of_setting(kind: SetKind) -> &'static str {
+    match kind {
+        SetKind::BadSetting => "a setting is NAME=V, NAME=V,V,.. or NAME=@FILE",
+        SetKind::BadNumber => "a value must be a number, in digits alone",
+        SetKind::OutOfLimits => "a value is greater than 4,294,967,295",
+        SetKind::DuplicateName => "the name is set twice",
+        SetKind::WrongLength => "there must be as many values as places",
+        SetKind::UnknownName => "the text declares no such name",
+        SetKind::WrongKind => "the name is neither a constant nor shared",
+        SetKind::Memory => "there is no memory to read it",
     }
 }
 

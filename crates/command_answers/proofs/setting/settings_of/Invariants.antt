@@ -1,6 +1,4 @@
-use Rattle.std.proofs.Common.{List, [], drop, map}
-use Rattle.std.specs.Borrow.{Bor}
-use Rattle.clap.specs.Words.{Text}
+use Rattle.std.proofs.Common.{List, [], drop}
 use Rattle.pardo_text.specs.Settings.{SettingData}
 use Rattle.command_answers.specs.Setting.{SetNames}
 use Rattle.command_answers.proofs.Texts.{texts_of}
