@@ -1,8 +1,7 @@
 //! The sentence that explains a refusal.
 use pram_commands::{
     Ask, AskAlone, Bytes, CommandFault, Console, Explanation, Line, Look, Reasons, Sources,
-    Workers,
-    serve,
+    Workers, serve,
 };
 use pram_streams::{Empty, IntoWrite, Reason};
 use pram_text::TextKind;
@@ -162,8 +161,7 @@ fn a_program_is_explained_where_it_is_wrong(rt: HostRuntime) -> Result<(), Fail>
     Ok(())
 }
 
-const SHIFTED: &[u8] =
-    b"pardo 1\nrule crew\nprocs i < 4\nprivate x\ncode\n  x := i << x + 1\n";
+const SHIFTED: &[u8] = b"pardo 1\nrule crew\nprocs i < 4\nprivate x\ncode\n  x := i << x + 1\n";
 
 const NOTE: &str = "\
 job:6:10: note: here `i` is shifted by `x`: a shift binds as `*` does

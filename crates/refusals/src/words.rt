@@ -1,6 +1,6 @@
 //! Which word of a line of the machine a fault is about, as near as its kind tells.
 use pram_text::TextKind;
-use text_lines::next_word;
+use text_lines::{is_word, next_word};
 
 /// What a word is, and where it stands.
 #[derive(Clone, Copy, Debug)]
@@ -8,7 +8,7 @@ enum Sought {
     First,
     /// The first one that is no label.
     Name,
-    /// After the name the first one that is no number.
+    /// After the name, or that of an array, the first one that is no number.
     NoNumber,
     /// After the name the first number.
     Number,
@@ -45,7 +45,7 @@ pub(crate) fn start_of(kind: TextKind, line: &[u8]) -> usize {
         if is_sought(word_of(kind), word, is_named) {
             return last;
         }
-        is_named |= !is_label(word);
+        is_named |= !is_label(word) && !is_word(word, "array");
         left = rest;
     }
     last
