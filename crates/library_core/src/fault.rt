@@ -186,12 +186,6 @@ fn request_sentence(fault: RequestFault) -> &'static str {
 fn setting_sentence(kind: SetKind) -> &'static str {
     match kind {
         SetKind::BadSetting => "a setting is NAME=V or NAME=V,V,..",
-        SetKind::BadNumber => "a value must be a number, in digits alone",
-        SetKind::OutOfLimits => "a value is greater than 4,294,967,295",
-        SetKind::DuplicateName => "the name is set twice",
-        SetKind::WrongLength => "there must be as many values as places",
-        SetKind::UnknownName => "the text declares no such name",
-        SetKind::WrongKind => "the name is neither a constant nor shared",
-        SetKind::Memory => "out of memory",
+        _ => sentences::of_setting(kind),
     }
 }

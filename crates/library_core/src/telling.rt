@@ -56,7 +56,7 @@ pub fn refuse(alloc: Global, fault: CommandFault, text: &[u8], answer: &mut Answ
 }
 
 /// Does that of any fault.
-pub fn refuse_fault(alloc: Global, fault: CallFault, text: &[u8], answer: &mut Answer) -> u32
+pub(crate) fn refuse_fault(alloc: Global, fault: CallFault, text: &[u8], answer: &mut Answer) -> u32
     ensures ending { ¬ IsEndingStatus result }
     ensures refused { RefusesOrNot (IsThisOrMemory fault) answer.old answer.new result }
 {
