@@ -33,8 +33,9 @@ pub enum AskAlone {
     /// Run the job on the plain machine; after the answer what became of the processors, if it is
     /// asked for.
     Plain { why: bool },
-    /// Say what the run of the job costs, and which model of the PRAM it needs.
-    Cost,
+    /// Say what the run of the job costs, and which model of the PRAM it needs; or, if it is asked
+    /// for, what each counted line of its program costs.
+    Cost { lines: bool },
     /// Run the job on the plain machine, and print what each processor asks for in each step from
     /// one to another, counted from 1; after these rows the answer, unless they are to stand alone.
     Steps { from: u32, to: u32, alone: bool },

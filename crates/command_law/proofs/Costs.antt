@@ -51,6 +51,8 @@ use Rattle.pram_commands.specs.Costs.{place_or_cell}
 use Rattle.pram_commands.specs.Names.{AreNames, IsNaming, NamingData}
 use Rattle.command_law.specs.Programs.{AreLineCosts, AreProgramsCosts}
 use Rattle.command_law.specs.Programs.{CostsTellTheProgramsLines, IsMeetingOf, line_cost_by}
+use Rattle.command_law.specs.Programs.{AreProgramsRecords, RecordsTellTheProgramsLines}
+use Rattle.pram_commands.specs.LineRecords.{TellsLines, records_text}
 use Rattle.command_law.specs.Programs.{BothWrite, IsProgramsJob, MeetByMeaning}
 use Rattle.command_law.proofs.Executing.{halt_access, pid_access}
 use Rattle.command_law.proofs.Jobs.{lawful, nested, no_machines, procs_are, programs_job}
@@ -339,3 +341,23 @@ by_names text job bytes answer one (Some naming) names tells same =
 pub costs_tell : CostsTellTheProgramsLines
 costs_tell text job bytes answer one comes =
     by_names text job bytes answer one comes.names comes.are_names comes refl
+
+records_by_names : (text : List ℕ) (job : JobData) (bytes : List ℕ) (answer : Option RunAnswer) →
+    is_program text ≡ true → (names : Option NamingData) → AreNames text job names →
+    (tells : TellsLines text job bytes answer) → tells.names ≡ names →
+    AreProgramsRecords text job bytes
+records_by_names text job bytes answer one None names tells same =
+    no_machines text job one names
+records_by_names text job bytes answer one (Some naming) names tells same =
+    let is = programs_job text job naming names in record {
+      naming = naming;
+      is = is;
+      lines = line_costs (Some naming) job;
+      lines_cost = costs_by_meaning text job naming names is;
+      prints = tells.prints
+          ∙ ap (λ (n : Option NamingData). records_text text (line_costs n job)) same;
+    }
+
+pub records_tell : RecordsTellTheProgramsLines
+records_tell text job bytes answer one comes =
+    records_by_names text job bytes answer one comes.names comes.are_names comes refl

@@ -50,6 +50,7 @@ use Rattle.pardo_answers.specs.Language.{is_program}
 use Rattle.pram_commands.specs.CellLists.{AreCellsOf}
 use Rattle.pram_commands.specs.declared.line_costs.LineCost.{LineCost}
 use Rattle.pram_commands.specs.Costs.{cost_words, costing, place_or_cell, spot_in}
+use Rattle.pram_commands.specs.LineRecords.{costing_by, records_text}
 use Rattle.pram_commands.specs.Names.{Means, NamingData}
 use Rattle.pram_commands.specs.Plain.{checking, no_plan, plainly}
 use Rattle.pram_commands.specs.Replayed.{replaying}
@@ -272,6 +273,19 @@ abbrev pub CostsTellTheProgramsLines : Type 0
 CostsTellTheProgramsLines = (text : List ℕ) (job : JobData) (bytes : List ℕ)
     (answer : Option RunAnswer) → is_program text ≡ true →
     costing.Comes text job no_plan bytes answer → AreProgramsCosts text job bytes
+
+-- The bytes are the records of the program's counted lines, by the meaning.
+pub record AreProgramsRecords (text : List ℕ) (job : JobData) (bytes : List ℕ) : Type 0 where
+  pub naming : NamingData
+  pub is : IsProgramsJob text job naming
+  pub lines : List LineCost
+  pub lines_cost : AreLineCosts naming.program lines
+  pub prints : bytes ≡ records_text text lines
+
+abbrev pub RecordsTellTheProgramsLines : Type 0
+RecordsTellTheProgramsLines = (text : List ℕ) (job : JobData) (bytes : List ℕ)
+    (answer : Option RunAnswer) → is_program text ≡ true →
+    (costing_by true).Comes text job no_plan bytes answer → AreProgramsRecords text job bytes
 
 -- ---- `--why`
 

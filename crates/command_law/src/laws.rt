@@ -2,8 +2,8 @@
 ghost use Rattle.command_law.specs.Laws.{CompilePrintsTheSameJob, PlainPrintsTheProgramsAnswer};
 ghost use Rattle.command_law.specs.Laws.{RunsPrintTheProgramsAnswer};
 ghost use Rattle.command_law.specs.Programs.{CheckTellsTheProgramsJob, CostsTellTheProgramsLines};
-ghost use Rattle.command_law.specs.Programs.{PlainTellsWhy, ReplaysPrintTheProgramsAnswer};
-ghost use Rattle.command_law.specs.Programs.{RunsTellWhy};
+ghost use Rattle.command_law.specs.Programs.{PlainTellsWhy, RecordsTellTheProgramsLines};
+ghost use Rattle.command_law.specs.Programs.{ReplaysPrintTheProgramsAnswer, RunsTellWhy};
 ghost use Rattle.command_law.specs.Programs.{StepsTellTheProgramsLines, WatchesTellThePrograms};
 
 /// What `plain` prints of a program is the program's answer, by its meaning.
@@ -52,6 +52,13 @@ pub fn replays_print_the_programs_answer()
 /// the program's.
 pub fn costs_tell_the_programs_lines()
     ensures { CostsTellTheProgramsLines }
+{}
+
+/// The records that `cost --lines` prints of a program say what its counted lines cost by its
+/// meaning: how often each is made, with how many processors. Their sums are its time and its
+/// operations.
+pub fn records_tell_the_programs_lines()
+    ensures { RecordsTellTheProgramsLines }
 {}
 
 /// With `--why` what `plain` prints of a program is the program's answer, and then who of its

@@ -63,6 +63,10 @@ on_file name =
 abbrev pub on_plain : App
 on_plain = with_rule (on_file (codes "plain")) (flag_rule (codes "why"))
 
+-- cost FILE [--lines]
+abbrev pub on_cost : App
+on_cost = with_rule (on_file (codes "cost")) (flag_rule (codes "lines"))
+
 -- steps FILE [--from A] [--to B] [--csv]
 abbrev pub on_steps : App
 on_steps = with_rule (with_rule (with_rule (on_file (codes "steps"))
@@ -110,7 +114,7 @@ on_machine =
     (on_file (codes "check")).top)
     (on_file (codes "compile")).top)
     on_plain.top)
-    (on_file (codes "cost")).top)
+    on_cost.top)
     on_steps.top
 
 -- the program's command
@@ -209,7 +213,8 @@ IsMetAlone matches file plan Check = HasFile matches (codes "check") file × (pl
 IsMetAlone matches file plan Compile = HasFile matches (codes "compile") file × (plan ≡ None)
 IsMetAlone matches file plan (Plain why) =
     HasFile matches (codes "plain") file × HasFlag (codes "why") matches why × (plan ≡ None)
-IsMetAlone matches file plan Cost = HasFile matches (codes "cost") file × (plan ≡ None)
+IsMetAlone matches file plan (Cost lines) =
+    HasFile matches (codes "cost") file × HasFlag (codes "lines") matches lines × (plan ≡ None)
 IsMetAlone matches file plan (Steps from to alone) =
     HasSteps matches (codes "steps") file from to alone × (plan ≡ None)
 IsMetAlone matches file plan (Replay workers alone) =

@@ -13,7 +13,8 @@ ghost use Rattle.command_line.specs.CommandLine.{IsNumberIfSet, IsNumberOf, IsNu
 ghost use Rattle.command_line.specs.CommandLine.{MeanNoLine, bare};
 ghost use Rattle.command_line.specs.CommandLine.{HasSettings, flag_rule, list_rule, needed};
 ghost use Rattle.command_line.specs.CommandLine.{number_rule, on_file};
-ghost use Rattle.command_line.specs.CommandLine.{on_machine, on_plain, on_replay, on_run, on_steps};
+ghost use Rattle.command_line.specs.CommandLine.{on_cost, on_machine, on_plain, on_replay};
+ghost use Rattle.command_line.specs.CommandLine.{on_run, on_steps};
 ghost use Rattle.command_line.specs.CommandLine.{on_watch, option_rule, placed_rule, pramx};
 ghost use Rattle.command_line.specs.CommandLine.{SuitsTerminal, telling_of};
 ghost use Rattle.command_line.specs.CommandLine.{with_manner, with_progress, with_workers};
@@ -58,6 +59,8 @@ const SET: &str =
     "Set a constant or an array of a program: NAME=V, NAME=V,V,.. or NAME=@FILE, as CSV";
 
 const WHY: &str = "Say after the answer what became of the processors";
+
+const LINES: &str = "Print what each counted line of a program costs, as records";
 
 const FROM: &str = "The first step to print, which the job must have; 1 if it is left out";
 
@@ -274,11 +277,10 @@ fn machine_command<'a>(alloc: Global) -> Result<Command<'a>, AllocError>
 {
     let check = "Say whether a text spells a job, and how large it is";
     let compile = "Print the job of a program as a text of the machine";
-    let cost = "Say what the run of a job costs, and which model of the PRAM it needs";
     let command = with(bare_command(alloc), file_command(alloc, "check", check))?;
     let command = with(command, file_command(alloc, "compile", compile))?;
     let command = with(command, plain_command(alloc))?;
-    let command = with(command, file_command(alloc, "cost", cost))?;
+    let command = with(command, cost_command(alloc))?;
     with(command, steps_command(alloc))
 }
 
@@ -328,6 +330,14 @@ fn plain_command<'a>(alloc: Global) -> Result<Command<'a>, AllocError>
 {
     let command = file_command(alloc, "plain", "Run a job on the plain machine");
     with_arg(command, flag(alloc, "why", WHY))
+}
+
+fn cost_command<'a>(alloc: Global) -> Result<Command<'a>, AllocError>
+    ensures { IfOk result (λ command. app_of command ≡ on_cost) }
+{
+    let about = "Say what the run of a job costs, and which model of the PRAM it needs";
+    let command = file_command(alloc, "cost", about);
+    with_arg(command, flag(alloc, "lines", LINES))
 }
 
 fn steps_command<'a>(alloc: Global) -> Result<Command<'a>, AllocError>
@@ -552,11 +562,14 @@ fn line_of<'a>(matches: &ArgMatches<'a>, on_terminal: bool) -> Option<Line<'a>>
                 ask: Ask::Alone(AskAlone::Plain { why }),
             })
         }
-        "cost" => Some(Line {
-            file,
-            plan: None,
-            ask: Ask::Alone(AskAlone::Cost),
-        }),
+        "cost" => {
+            let lines = inner.get_flag("lines");
+            Some(Line {
+                file,
+                plan: None,
+                ask: Ask::Alone(AskAlone::Cost { lines }),
+            })
+        }
         _ => rows_line_of(matches, on_terminal),
     }
 }

@@ -138,6 +138,15 @@ pram 1~cells 1~procs 3~steps 2~code~pid r0~st r1 r0~ \
     needs CRCW priority~same read none~same write step=2 cell=0 processors=0,1~\
     other value step=2 cell=0 processors=0,1~conflict step=2 cell=0 processors=0,1~
 pram 1~cells 1~procs 1~steps 1~code~ | 2 text line=6 kind=NoCode~
+-- a sum by a tree; a line with a comma, in which two write; a text of the machine
+$ pramx cost job --lines
+pardo 1~rule crew~const n = 8~procs i < n / 2~shared A[n]~code~for h = 1 to lg(n)~\
+    if i < n >> h~A[i] := A[2 * i] + A[2 * i + 1]~end~end~ \
+    | 0 line,times,time,operations,most,text~9,3,3,7,4,A[i] := A[2 * i] + A[2 * i + 1]~
+pardo 1~rule common~procs i < 4~shared A[4]~shared s~code~if A[i] = 0~s := min(i, 1)~end~ \
+    | 1 line,times,time,operations,most,text~7,1,1,4,4,if A[i] = 0~\
+    8,1,1,4,4,\"s := min(i, 1)\"~
+pram 1~cells 1~procs 1~steps 0~code~halt~ | 0 line,times,time,operations,most,text~
 -- the rows of two steps
 $ pramx steps job --from 2 --to 3
 pram 1~cells 1~procs 3~steps 2~code~pid r0~st r1 r0~ \

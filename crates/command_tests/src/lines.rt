@@ -22,7 +22,10 @@ pramx plain f -> Asked { line: Line { file: \"f\", plan: None, ask: Alone(Plain 
     }, explain: false }
 pramx plain --why f -> Asked { line: Line { file: \"f\", plan: None, ask: Alone(Plain { why: \
     true }) }, explain: false }
-pramx cost f -> Asked { line: Line { file: \"f\", plan: None, ask: Alone(Cost) }, explain: false }
+pramx cost f -> Asked { line: Line { file: \"f\", plan: None, ask: Alone(Cost { lines: false }) \
+    }, explain: false }
+pramx cost --lines f -> Asked { line: Line { file: \"f\", plan: None, ask: Alone(Cost { lines: \
+    true }) }, explain: false }
 pramx steps f -> Asked { line: Line { file: \"f\", plan: None, ask: Alone(Steps { from: 1, to: \
     4294967295, alone: false }) }, explain: false }
 pramx steps f --from 101 -> Asked { line: Line { file: \"f\", plan: None, ask: Alone(Steps { \

@@ -46,7 +46,7 @@ abbrev pub IsAskOf : Call → Request → AskAlone → Type 0
 IsAskOf Check request ask.Check = ⊤
 IsAskOf Compile request ask.Compile = ⊤
 IsAskOf Plain request (ask.Plain why) = why ≡ is_set request.why
-IsAskOf Cost request ask.Cost = ⊤
+IsAskOf Cost request (ask.Cost lines) = lines ≡ false
 IsAskOf Steps request (ask.Steps from to alone) =
     (from ≡ from_of request) × (to ≡ to_of request) × (alone ≡ is_set request.rows_alone)
 IsAskOf Replay request (ask.Replay workers alone) =

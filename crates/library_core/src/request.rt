@@ -145,7 +145,7 @@ pub(crate) fn ask_of(call: Call, request: &Request) -> AskAlone
         Call::Plain => AskAlone::Plain {
             why: request.why == 1,
         },
-        Call::Cost => AskAlone::Cost,
+        Call::Cost => AskAlone::Cost { lines: false },
         Call::Steps => AskAlone::Steps {
             from: first_step(request),
             to: last_step(request),

@@ -33,3 +33,8 @@ pub mod Counted
 pub mod Initial
 pub mod Starts
 pub mod Great
+pub mod Splitters
+pub mod FlatLines
+pub mod FlatLawful
+pub mod Flats
+pub mod FlatWhole

@@ -1,21 +1,21 @@
 -- The flat program. Where three registers are too few for a line, hidden lines come before it, with
 -- its number and depth. They give parts of its expressions to private variables without a name,
 -- which follow those of the text.
-use Rattle.std.specs.Prelude.{ℕ, ◌+◌, ◌-◌, Bool, true, false, not, ◌&&◌, ◌||◌, nat_le}
+use Rattle.std.specs.Prelude.{◌≡◌, ℕ, ◌+◌, ◌-◌, ◌*◌, ◌<◌, Some, slice_get, Bool, true, false, not, ◌&&◌, ◌||◌, nat_le}
 use Rattle.std.specs.Prelude.{if◌then◌else◌, max, min}
 use Rattle.std.specs.Prelude.{List, [], ◌∷◌, ◌++◌, length, replicate, take, sum_by}
 use Rattle.std.specs.List.{flat_map}
 use Rattle.pardo_text.specs.declared.operation.Op.{Op}
-use Rattle.pardo_text.specs.declared.operation.Op.TheVariants.{Add, Sub, Mul, Div, Rem, Shl, Shr}
-use Rattle.pardo_text.specs.declared.operation.Op.TheVariants.{BitAnd, BitOr, BitXor, Eq, Ne}
-use Rattle.pardo_text.specs.declared.operation.Op.TheVariants.{Lt, Le, Gt, Ge, And, Or, Min, Max}
+use Rattle.pardo_text.specs.declared.operation.Op.TheVariants.{Sub, Div, Rem, Shl, Shr}
+use Rattle.pardo_text.specs.declared.operation.Op.TheVariants.{Lt, Le, Gt, Ge, And, Min, Max}
 use Rattle.pardo_text.specs.declared.statement.Line.{Line}
 use Rattle.pardo_text.specs.declared.statement.Statement.{Statement}
 use Rattle.pardo_text.specs.declared.statement.Statement.TheVariants.{Assign, If}
 use Rattle.pardo_text.specs.declared.statement.Statement.TheVariants.{While, EndWhile, For, EndFor}
 use Rattle.pardo_text.specs.declared.statement.Target.TheVariants.{Private, Array as Shared}
 use Rattle.pardo_text.specs.Expression.{Tree, number, own, loop, private, place, apply}
-use Rattle.pardo_text.specs.Program.{ProgramData, PrivateData}
+use Rattle.pardo_text.specs.declared.limits.TheConstants.{MAX_CELLS}
+use Rattle.pardo_text.specs.Program.{ProgramData, PrivateData, shared_cells}
 use Rattle.pardo_job.specs.Operations.{gives_truth}
 
 -- ---- registers
@@ -188,3 +188,20 @@ flat program = record program {
       ++ replicate (most_pieces program program.lines) (nameless program);
   lines = flat_map (lines_for program) program.lines;
 }
+
+-- of the first n lines this is the first that hidden lines come before
+pub record IsFirstSplit (program : ProgramData) (number n : ℕ) : Type 0 where
+  pub j : ℕ
+  pub line : Line
+  pub within : j < n
+  pub is_there : slice_get program.lines j ≡ Some line
+  pub number_is : number ≡ line.number
+  pub has_pieces : 0 < length (pieces_of program line)
+  pub before : (k : ℕ) (other : Line) → k < j → slice_get program.lines k ≡ Some other →
+      length (pieces_of program other) ≡ 0
+
+-- with a private variable for each piece of the line that has most there are too many cells
+pub record IsTooWide (program : ProgramData) (number : ℕ) : Type 0 where
+  pub first : IsFirstSplit program number (length program.lines)
+  pub cells : MAX_CELLS < shared_cells program.arrays + program.procs
+      * (length (flat program).privates + program.loops + program.choices)

@@ -1,12 +1,13 @@
 //! Where the values of a program lie in the machine's cells: the shared arrays in their order, and
 //! then rows of a cell for each processor, one row for each private variable, then one for each
 //! depth of loops, then one for each depth of `if`s.
-ghost use Rattle.std.specs.Prelude.{◌≡◌, ◌+◌, ◌<◌, ◌≤◌, length, IfOk};
+ghost use Rattle.std.specs.Prelude.{◌≡◌, ◌+◌, ◌*◌, ◌<◌, ◌≤◌, length, nat_le, IfOk};
 ghost use Rattle.pardo_text.specs.Lawful.{IsProgram};
 ghost use Rattle.pardo_job.specs.Layouts.{array_cells, cell_count, program_layout, loop_cells};
 ghost use Rattle.pardo_job.specs.Layouts.{mask_cells, private_cells, row};
 
 use pardo_text::Program;
+use pardo_text::limits::MAX_CELLS;
 use pram_job::Array;
 use std::alloc::{AllocError, Global};
 use std::marker::Model;
@@ -119,6 +120,16 @@ impl Layout {
         ensures { result ≡ mask_cells self.now (depth + 1) }
     {
         self.row(self.privates + self.loops + depth as u32)
+    }
+
+    /// Whether there are cells enough for so many rows more.
+    pub(crate) fn has_rows(&self, more: usize) -> bool
+        ensures { result ≡ nat_le (self.now.shared
+            + (self.now.privates + self.now.loops + self.now.choices) * self.now.procs
+            + more * self.now.procs) MAX_CELLS }
+    {
+        let end = self.row(self.privates + self.loops + self.choices).base as usize;
+        more.saturating_mul(self.procs as usize).saturating_add(end) <= MAX_CELLS as usize
     }
 
     // The cells of a row.

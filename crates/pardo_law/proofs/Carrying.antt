@@ -2,10 +2,9 @@
 use Rattle.std.proofs.Common.{◌≡◌, ℕ, zero, suc, ◌+◌, ◌<◌, ◌≤◌, Bool, true, List, [], ◌∷◌, ◌++◌}
 use Rattle.std.proofs.Common.{Option, Some, None}
 use Rattle.std.proofs.Common.{refl, sym, ap, ◌∙◌, subst, inl, arith, length, length-append}
-use Rattle.std.proofs.Common.{append_assoc, unwrap_or}
+use Rattle.std.proofs.Common.{append_assoc}
 use Rattle.std.specs.Prelude.{slice_get, is_some}
-use Rattle.std.specs.List.{All}
-use Rattle.std.proofs.lemmas.Option.{slice_get_within, unwrap_or-slice_get}
+use Rattle.std.proofs.lemmas.Option.{slice_get_within}
 use Rattle.pram_job.specs.declared.instr.Instr.{Instr}
 use Rattle.pram_job.specs.declared.instr.Instr.TheVariants.{St, Jz, Jmp}
 use Rattle.pram_job.specs.declared.instr.Rule.{Rule}
@@ -33,6 +32,7 @@ use Rattle.pardo_job.specs.Values.{value_code, value_operand, takes}
 use Rattle.pardo_job.proofs.Assigning.{both_code}
 use Rattle.pardo_job.proofs.Meanings.{next_at, asked_at}
 use Rattle.pardo_job.proofs.Shallow.{shallow_front}
+pub use Rattle.pardo_job.proofs.FlatLines.{all_at}
 use Rattle.pardo_law.specs.Locals.{HasCodeAt}
 use Rattle.pardo_law.proofs.Carried.{Carried, Advance, AgreesIn, cost, loop_cost, shallow_masked}
 use Rattle.pardo_law.proofs.Carried.{shallow_choosing}
@@ -51,11 +51,6 @@ use Rattle.pardo_law.proofs.Picturing.{IsOf, IsHere, code_is, rule_is, procs_are
 use Rattle.pardo_law.proofs.Picturing.{loop_count, choice_count}
 use Rattle.pardo_law.proofs.Rows.{held_below}
 use Rattle.pardo_law.proofs.Starting.{starts_carried}
-
-pub all_at : {A : Type 0} (P : A → Type 0) (xs : List A) (k : ℕ) (x : A) → All P xs → slice_get xs k
-    ≡ Some x → P x
-all_at P xs k x are is = subst P (sym (unwrap_or-slice_get xs k x) ∙ ap (λ o. unwrap_or o x) is)
-    (are k x (slice_get_within xs k x is))
 
 shallow_none : (layout : ProgramLayoutData) (up : Bool) (first last : Tree) →
     is_shallow (none_code layout up first last) ≡ true →

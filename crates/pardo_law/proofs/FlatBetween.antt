@@ -31,7 +31,7 @@ use Rattle.pardo_law.proofs.FlatCarrying.{carries_flat, count_next, few_in, find
 use Rattle.pardo_law.proofs.FlatCarrying.{keeps_line, line_next_in}
 use Rattle.pardo_law.proofs.FlatCarrying.{no_line_after, none_next, of_flat, over_to, pieces_next}
 use Rattle.pardo_law.proofs.FlatCarrying.{same_number, stands, time, time_flat, time_rises}
-use Rattle.pardo_law.proofs.FlatLines.{none_stands}
+use Rattle.pardo_job.proofs.FlatLines.{none_stands}
 use Rattle.pardo_law.proofs.Picturing.{IsOf, procs_are}
 use Rattle.pardo_law.proofs.Showing.{out_shows}
 

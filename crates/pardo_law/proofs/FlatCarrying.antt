@@ -41,8 +41,9 @@ use Rattle.pardo_law.proofs.Carrying.{time_of}
 use Rattle.pardo_law.proofs.Disputing.{line_number_is}
 use Rattle.pardo_law.proofs.Ending.{done, ends_as}
 use Rattle.pardo_law.proofs.Finishing.{finishes, reached_next}
-use Rattle.pardo_law.proofs.FlatLawful.{flat_lawful, flat_tied}
-use Rattle.pardo_law.proofs.FlatLines.{flat_at, flat_end, last_stands}
+use Rattle.pardo_job.proofs.FlatLawful.{flat_lawful}
+use Rattle.pardo_law.proofs.FlatLawful.{flat_tied}
+use Rattle.pardo_job.proofs.FlatLines.{flat_at, flat_end, last_stands}
 use Rattle.pardo_law.proofs.FlatStates.{some_at}
 use Rattle.pardo_law.proofs.Flattening.{after_next, flattening_keeps_runs, gone_later, size}
 use Rattle.pardo_law.proofs.Picturing.{IsOf}

@@ -1,6 +1,6 @@
 -- What is left of a line does to the flat state after its pieces what the line does to the state.
-use Rattle.std.proofs.Common.{◌≡◌, ℕ, zero, suc, ◌+◌, ◌<◌, ◌==◌, ◌⊎◌, Bool, true, false}
-use Rattle.std.proofs.Common.{◌&&◌, not, List, [], ◌∷◌, Option, Some, None, refl, sym, ap}
+use Rattle.std.proofs.Common.{◌≡◌, ℕ, ◌+◌, ◌<◌, ◌==◌, ◌⊎◌, Bool, true, false}
+use Rattle.std.proofs.Common.{◌&&◌, not, List, [], Option, Some, None, refl, sym, ap}
 use Rattle.std.proofs.Common.{◌∙◌, subst, inl, inr, ⊎_elim, arith, if◌then◌else◌, length, unwrap_or}
 use Rattle.std.specs.Prelude.{is_some, slice_get}
 use Rattle.std.specs.Option.{option_map, option_and_then, option_or, is_none}
@@ -25,7 +25,8 @@ use Rattle.pardo_job.specs.Flat.{flat, first_flat_of, has_room, last_line, last_
 use Rattle.pardo_job.specs.Flat.{shape_of, split, split_statement, split_store, taken}
 use Rattle.pardo_law.specs.Flattening.{Shares, StandsFor}
 use Rattle.pardo_law.proofs.Carrying.{all_at}
-use Rattle.pardo_law.proofs.FlatLines.{flat_end, last_next, last_stands, last_is}
+use Rattle.pardo_job.proofs.FlatLines.{flat_end, last_next, last_stands, last_is}
+pub use Rattle.pardo_job.proofs.FlatLines.{some_at}
 use Rattle.pardo_law.proofs.Splitting.{NoneOf, Ran, ReadsBelow, SameBoth, active_there, after_pieces}
 use Rattle.pardo_law.proofs.Splitting.{below_kept, beside_ran, cells_kept, gone_outside}
 use Rattle.pardo_law.proofs.Splitting.{inactive_gone, loops_kept, masks_kept, reads_more}
@@ -45,12 +46,6 @@ expression_reads b (apply op first second) is =
 if_same : {A : Type 0} (b : Bool) (x : A) → (if b then x else x) ≡ x
 if_same true x = refl
 if_same false x = refl
-
-pub some_at : (lines : List Line) (k : ℕ) → k < length lines →
-    (line : Line) × (slice_get lines k ≡ Some line)
-some_at [] k lt = absurd (omega (arith, lt))
-some_at (line ∷ lines) zero lt = (line, refl)
-some_at (line ∷ lines) (suc k) lt = some_at lines k (omega (arith, lt))
 
 module _ (program : ProgramData) (source flat_source : Source)
     (stands : StandsFor program source flat_source) (text_line depth : ℕ) where

@@ -17,7 +17,7 @@ use Rattle.pardo_job.specs.Flat.{line_parts, pieces_of}
 use Rattle.pardo_law.specs.Flattening.{FlatteningKeepsRuns, KeepsLine, Shares, StandsFor}
 use Rattle.pardo_law.specs.Flattening.{flat_count, size_next}
 use Rattle.pardo_law.proofs.Carrying.{all_at}
-use Rattle.pardo_law.proofs.FlatLines.{first_next, get_front, hidden_is, hidden_stands, last_stands}
+use Rattle.pardo_job.proofs.FlatLines.{first_next, get_front, hidden_is, hidden_stands, last_stands}
 use Rattle.pardo_law.proofs.FlatStates.{line_stands, now_shares}
 use Rattle.pardo_law.proofs.Splitting.{after_pieces}
 

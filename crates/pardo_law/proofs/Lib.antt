@@ -30,7 +30,6 @@ pub mod Ruling
 pub mod Answering
 pub mod Between
 pub mod Splitting
-pub mod FlatLines
 pub mod FlatStates
 pub mod FlatLawful
 pub mod Flattening
@@ -42,3 +41,4 @@ pub mod Telling
 pub mod FlatLevel
 pub mod FlatLineLevels
 pub mod Summing
+pub mod FlatTelling

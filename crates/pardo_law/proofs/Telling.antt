@@ -40,7 +40,7 @@ use Rattle.pardo_law.proofs.Theorem.{carries, of, step_of}
 
 -- ---- places rise with the lines
 
-sum_rises : (f : Line → ℕ) (lines : List Line) (a b : ℕ) → a ≤ b →
+pub sum_rises : (f : Line → ℕ) (lines : List Line) (a b : ℕ) → a ≤ b →
     sum_by f (take a lines) ≤ sum_by f (take b lines)
 sum_rises f lines zero b le = omega arith
 sum_rises f lines (suc a) zero le = absurd (omega arith)

@@ -1,12 +1,13 @@
 -- Three registers are enough for what is left of an expression, and for its pieces.
-use Rattle.std.specs.Prelude.{◌≡◌, ℕ, ◌+◌, ◌≤◌, true, []}
+use Rattle.std.specs.Prelude.{◌≡◌, ℕ, ◌+◌, ◌≤◌, true, [], slice_get, Some}
 use Rattle.std.specs.List.{All}
 use Rattle.pardo_text.specs.declared.statement.Line.{Line}
 use Rattle.pardo_text.specs.declared.statement.Statement.{Statement}
 use Rattle.pardo_text.specs.declared.statement.Statement.TheVariants.{Assign, If}
 use Rattle.pardo_text.specs.Expression.{Tree}
+use Rattle.pardo_text.specs.Lawful.{IsProgram}
 use Rattle.pardo_text.specs.Program.{ProgramData}
-use Rattle.pardo_job.specs.Flat.{flat, lines_for, shape_of, split}
+use Rattle.pardo_job.specs.Flat.{fits, flat, lines_for, shape_of, split}
 use Rattle.pardo_job.specs.Layouts.{ProgramLayoutData}
 use Rattle.pardo_job.specs.Operations.{is_shallow}
 use Rattle.pardo_job.specs.Refusals.{is_level}
@@ -37,3 +38,10 @@ IsPlain _ = ⊥
 abbrev pub FlatLinesAreLevel : Type 0
 FlatLinesAreLevel = (program : ProgramData) (line : Line) → IsPlain line.statement →
     All (λ one. is_level (flat program) one ≡ true) (lines_for program line)
+
+-- A program of which each line fits is flat already.
+abbrev pub FittingIsFlat : Type 0
+FittingIsFlat = (program : ProgramData) → IsProgram program →
+    ((j : ℕ) (line : Line) → slice_get program.lines j ≡ Some line →
+    fits line.statement ≡ true) →
+    flat program ≡ program

@@ -3,9 +3,9 @@
 ghost use Rattle.pardo_job.specs.Laws.{AnyWriterCounts, CrewIsAccepted, OneLineDispute};
 ghost use Rattle.pardo_job.specs.Laws.{RuleChangesNoState, UnwrittenIsKept};
 ghost use Rattle.pardo_law.specs.Between.{JobsGoThrough, LinesNeverFall};
-ghost use Rattle.pardo_law.specs.Counted.{JobsTellLines, LinesAddUp};
-ghost use Rattle.pardo_law.specs.FlatLevels.{FlatLinesAreLevel, PiecesAreSmall, RoomIsEnough};
-ghost use Rattle.pardo_law.specs.FlatLevels.{SmallIsWhole};
+ghost use Rattle.pardo_law.specs.Counted.{FlatJobsTellLines, JobsTellLines, LinesAddUp};
+ghost use Rattle.pardo_law.specs.FlatLevels.{FittingIsFlat, FlatLinesAreLevel, PiecesAreSmall};
+ghost use Rattle.pardo_law.specs.FlatLevels.{RoomIsEnough, SmallIsWhole};
 ghost use Rattle.pardo_law.specs.Flattening.{FlatJobsCarryPrograms, FlatJobsGoThrough};
 ghost use Rattle.pardo_law.specs.Flattening.{FlatteningKeepsRuns};
 ghost use Rattle.pardo_law.specs.Locals.{EachByItself, ExpressionsAreStraight, IdlingStays};
@@ -127,6 +127,12 @@ pub fn flat_jobs_go_through()
     ensures { FlatJobsGoThrough }
 {}
 
+/// The run of the job that the compiler makes of a flat program tells of each counted line of the
+/// program what the run of the job of the program would.
+pub fn flat_jobs_tell_lines()
+    ensures { FlatJobsTellLines }
+{}
+
 /// Three registers are enough for an expression that is said to need no more.
 pub fn room_is_enough()
     ensures { RoomIsEnough }
@@ -145,4 +151,9 @@ pub fn small_is_whole()
 /// Three registers are enough for each of the flat lines of an assignment or an `if`.
 pub fn flat_lines_are_level()
     ensures { FlatLinesAreLevel }
+{}
+
+/// A program of which each line fits three registers is flat already.
+pub fn fitting_is_flat()
+    ensures { FittingIsFlat }
 {}

@@ -4,7 +4,7 @@ ghost use Rattle.pardo_text.specs.Program.{shared_cells, array_after};
 
 use crate::fault::PardoKind;
 use crate::limits::MAX_CELLS;
-use std::alloc::Global;
+use std::alloc::{AllocError, Global};
 use std::marker::Model;
 
 /// A shared array, or a scalar, which is an array of one place.
@@ -44,6 +44,15 @@ impl Array {
             base,
             start,
         }
+    }
+
+    /// The same array once more.
+    pub(crate) fn copied(&self, alloc: Global) -> Result<Self, AllocError>
+        ensures { IfOk result (λ array. array ≡ self.now) }
+    {
+        let name = Vec::from_slice(alloc, self.name())?;
+        let start = Vec::from_slice(alloc, self.start())?;
+        Ok(Array::new(name, self.is_scalar, self.base, start))
     }
 
     /// The name.

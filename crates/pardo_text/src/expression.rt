@@ -1,6 +1,7 @@
 //! Expressions.
 ghost use Rattle.std.specs.Prelude.{◌≡◌, ◌≢◌, ◌<◌, [], ◌∷◌, drop, length, IfOk, IsTrue, Some, None};
-ghost use Rattle.pardo_text.specs.Expression.{number, place, apply, first_of, tree_of};
+ghost use Rattle.pardo_text.specs.Expression.{number, own, loop, private, place, apply};
+ghost use Rattle.pardo_text.specs.Expression.{first_of, tree_of};
 ghost use Rattle.pardo_text.specs.Expressions.{applied, constant_of};
 ghost use Rattle.pardo_text.specs.Inner.Nodes.{IsLeaf, IsLastNumber};
 ghost use Rattle.pardo_text.specs.Names.{tree_from};
@@ -50,11 +51,66 @@ impl Expr {
     ghost use Rattle.pardo_text.specs.Expression.{postfix};
 
     /// A number.
-    pub(crate) fn number(alloc: Global, value: u32) -> Result<Self, AllocError>
+    pub fn number(alloc: Global, value: u32) -> Result<Self, AllocError>
         ensures { IfOk result (λ expr. expr ≡ number value) }
     {
         Ok(Expr {
             nodes: Vec::from_slice(alloc, &[Node::Number(value)])?,
+        })
+    }
+
+    /// The processor's own number.
+    pub fn own(alloc: Global) -> Result<Self, AllocError>
+        ensures { IfOk result (λ expr. expr ≡ own) }
+    {
+        Ok(Expr {
+            nodes: Vec::from_slice(alloc, &[Node::Own])?,
+        })
+    }
+
+    /// The variable of the loop that stands in so many others.
+    pub fn loop_variable(alloc: Global, nest: usize) -> Result<Self, AllocError>
+        ensures { IfOk result (λ expr. expr ≡ loop nest) }
+    {
+        Ok(Expr {
+            nodes: Vec::from_slice(alloc, &[Node::Loop(nest)])?,
+        })
+    }
+
+    /// A private variable.
+    pub fn private(alloc: Global, variable: usize) -> Result<Self, AllocError>
+        ensures { IfOk result (λ expr. expr ≡ private variable) }
+    {
+        Ok(Expr {
+            nodes: Vec::from_slice(alloc, &[Node::Private(variable)])?,
+        })
+    }
+
+    /// The place of an array whose index it is.
+    pub fn place_of(self, array: usize) -> Result<Self, AllocError>
+        ensures { IfOk result (λ expr. expr ≡ place array self) }
+    {
+        let mut nodes = self.nodes;
+        nodes.push(Node::Place(array))?;
+        Ok(Expr { nodes })
+    }
+
+    /// An operation of it and of a second expression.
+    pub fn apply(self, op: Op, second: &Expr) -> Result<Self, AllocError>
+        ensures { IfOk result (λ expr. expr ≡ apply op self second.now) }
+    {
+        let mut nodes = self.nodes;
+        nodes.extend_from_slice(second.nodes())?;
+        nodes.push(Node::Apply(op))?;
+        Ok(Expr { nodes })
+    }
+
+    /// The same expression once more.
+    pub fn copied(&self, alloc: Global) -> Result<Self, AllocError>
+        ensures { IfOk result (λ expr. expr ≡ self.now) }
+    {
+        Ok(Expr {
+            nodes: Vec::from_slice(alloc, self.nodes())?,
         })
     }
 

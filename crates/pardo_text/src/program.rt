@@ -1,9 +1,10 @@
 //! Programs.
-ghost use Rattle.std.specs.Prelude.{◌≡◌};
+ghost use Rattle.std.specs.Prelude.{◌≡◌, ◌++◌, IfOk, OnOk, [], replicate};
 
 use crate::arrays::Array;
 use crate::statement::Line;
 use pram_job::Rule;
+use std::alloc::{AllocError, Global};
 use std::marker::Model;
 
 /// A private variable.
@@ -26,6 +27,14 @@ impl Private {
         ensures { result ≡ record { name = name.items; start = start.items } }
     {
         Private { name, start }
+    }
+
+    fn copied(&self, alloc: Global) -> Result<Self, AllocError>
+        ensures { IfOk result (λ variable. variable ≡ self.now) }
+    {
+        let name = Vec::from_slice(alloc, self.name())?;
+        let start = Vec::from_slice(alloc, self.start())?;
+        Ok(Private::new(name, start))
     }
 
     /// The name.
@@ -125,4 +134,69 @@ impl Program {
     {
         self.lines.as_slice()
     }
+
+    /// The same program with these lines, and with so many private variables more, which have no
+    /// name and start with 0.
+    pub fn with_lines(
+        &self,
+        alloc: Global,
+        more: usize,
+        lines: Vec<Line>,
+    ) -> Result<Self, AllocError>
+        ensures { IfOk result (λ program. program ≡ record self.now {
+          privates = self.now.privates
+              ++ replicate more (record { name = []; start = replicate self.now.procs 0 });
+          lines = lines.items;
+        }) }
+    {
+        let mut privates = copied_privates(alloc, self.privates())?;
+        push_nameless(&mut privates, alloc, more, self.procs)?;
+        Ok(Program {
+            rule: self.rule,
+            procs: self.procs,
+            arrays: copied_arrays(alloc, self.arrays())?,
+            privates,
+            loops: self.loops,
+            choices: self.choices,
+            lines,
+        })
+    }
+}
+
+fn copied_arrays(alloc: Global, arrays: &[Array]) -> Result<Vec<Array>, AllocError>
+    ensures { IfOk result (λ copies. copies.items ≡ arrays.now) }
+{
+    let mut copies = Vec::with_capacity(alloc, arrays.len())?;
+    for array in arrays {
+        copies.push(array.copied(alloc)?)?;
+    }
+    Ok(copies)
+}
+
+fn copied_privates(alloc: Global, privates: &[Private]) -> Result<Vec<Private>, AllocError>
+    ensures { IfOk result (λ copies. copies.items ≡ privates.now) }
+{
+    let mut copies = Vec::with_capacity(alloc, privates.len())?;
+    for variable in privates {
+        copies.push(variable.copied(alloc)?)?;
+    }
+    Ok(copies)
+}
+
+// So many private variables more, which have no name and start with 0.
+fn push_nameless(
+    privates: &mut Vec<Private>,
+    alloc: Global,
+    more: usize,
+    procs: u32,
+) -> Result<(), AllocError>
+    ensures { OnOk result (privates.new.items ≡ privates.old.items
+        ++ replicate more (record { name = []; start = replicate procs 0 })) }
+{
+    for _count in 0..more {
+        let mut start = Vec::new(alloc);
+        start.resize(procs as usize, 0)?;
+        privates.push(Private::new(Vec::new(alloc), start))?;
+    }
+    Ok(())
 }

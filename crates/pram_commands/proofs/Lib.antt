@@ -11,3 +11,5 @@ pub mod Rows
 pub mod Failing
 pub mod Costed
 pub mod Lined
+pub mod Explaining
+pub mod LineFinding

@@ -1,5 +1,5 @@
 -- The status of a line: that of what was done, or of the refusal that was told.
-use Rattle.std.proofs.Common.{Result, Ok, Err, IfOk, IfErr, IsTrue, ap, ◌≡◌, ◌≢◌, ◌⊎◌, ◌∙◌, ◌<◌}
+use Rattle.std.proofs.Common.{Result, Ok, Err, IfOk, IfErr, IsTrue, ap, ◌≡◌, ◌≢◌, ◌⊎◌, ◌∙◌, ◌<◌, true, false}
 use Rattle.std.proofs.Common.{◌≤◌, ℕ, Option, Some, None, refl, sym, subst, inl, inr, arith}
 use Rattle.std.specs.Prelude.{is_some}
 use Rattle.std.specs.Option.{option_map}
@@ -164,7 +164,10 @@ module _ (taken : Taking) (w : Writing) where
       let comes = prints.work.comes in
       absurd (ended-plain prints.work.job comes.ended prints.answer comes.ends
       comes.gives (sym prints.is ∙ three))
-  stops_alone alone.Cost status prints three =
+  stops_alone (alone.Cost false) status prints three =
+      let comes = prints.work.comes in
+      absurd (ended-cost comes.cost prints.answer comes.gives (sym prints.is ∙ three))
+  stops_alone (alone.Cost true) status prints three =
       let comes = prints.work.comes in
       absurd (ended-cost comes.cost prints.answer comes.gives (sym prints.is ∙ three))
   stops_alone (alone.Steps from to rows_alone) status prints three =

@@ -6,3 +6,4 @@ pub mod Watching
 pub mod Places
 pub mod Lines
 pub mod Costed
+pub mod Finding

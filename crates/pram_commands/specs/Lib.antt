@@ -7,6 +7,7 @@ pub mod Following
 pub mod Inner
 pub mod Inputs
 pub mod Line
+pub mod LineRecords
 pub mod Names
 pub mod Plain
 pub mod Progress

@@ -1,7 +1,7 @@
 -- The command that a line asks for.
 use Rattle.command_data.specs.CellLists.{parts_of}
-use Rattle.pram_commands.specs.Costs.{costing}
 use Rattle.pram_commands.specs.Did.{Command}
+use Rattle.pram_commands.specs.LineRecords.{costing_by}
 use Rattle.pram_commands.specs.Plain.{checking, plainly}
 use Rattle.pram_commands.specs.Replayed.{replaying}
 use Rattle.pram_commands.specs.Steps.{stepping}
@@ -21,7 +21,7 @@ abbrev pub command_alone : AskAlone → Command
 command_alone Check = checking
 command_alone Compile = compiling
 command_alone (Plain why) = plainly why
-command_alone Cost = costing
+command_alone (Cost lines) = costing_by lines
 command_alone (Steps from to alone) = stepping alone (record { from = from; to = to })
 command_alone (Replay workers alone) = replaying alone workers.count
 

@@ -13,7 +13,7 @@ mod on_threads;
 
 use crate::names::print_told;
 use crate::sources::{Sources, Spelled};
-pub use alone::{check, compile, cost, plain, replay, steps, take_answer};
+pub use alone::{check, compile, cost, cost_by_lines, plain, replay, steps, take_answer};
 use command_data::{AskAlone, AskOnThreads};
 pub use on_threads::{run, watch};
 use pram_cost::Cost;
@@ -47,8 +47,12 @@ pub fn do_alone<J: Source, P: Source, O: Sink>(
             Ok(DONE)
         }
         AskAlone::Plain { why } => ended(plain(alloc, why, sources, out)),
-        AskAlone::Cost => {
+        AskAlone::Cost { lines: false } => {
             let cost = cost(alloc, sources, out)?;
+            Ok(cost_status(&cost))
+        }
+        AskAlone::Cost { lines: true } => {
+            let cost = cost_by_lines(alloc, sources, out)?;
             Ok(cost_status(&cost))
         }
         AskAlone::Steps { from, to, alone } => {

@@ -8,6 +8,7 @@ pub mod commands;
 mod files;
 mod inputs;
 mod line_costs;
+mod line_records;
 mod names;
 mod places;
 mod printing;

@@ -1,13 +1,14 @@
 //! An answer, and what became of the processors.
-ghost use Rattle.std.specs.Prelude.{◌≡◌, false, string_bytes, IfOk};
-ghost use Rattle.pram_commands.specs.Did.{writing};
-ghost use Rattle.pram_commands.specs.Inner.Puts.{HasAnswered};
+ghost use Rattle.std.specs.Prelude.{◌≡◌, false, true, string_bytes, IfOk};
+ghost use Rattle.pram_commands.specs.Did.{tells, writing};
+ghost use Rattle.pram_commands.specs.Inner.Puts.{HasAnswered, PutsAnswer};
 ghost use Rattle.pram_commands.specs.Names.{AreNames, line_at};
-ghost use Rattle.pram_commands.specs.Why.{Follows, told_steps};
+ghost use Rattle.pram_commands.specs.Why.{Explaining, Follows, told_steps};
+ghost use Rattle.pram_step.specs.Runs.{IsAnswer};
 
 use crate::names::{origin_of, print_told};
 use crate::sources::Spelled;
-use pram_fates::{fates_after, fates_text};
+use pram_fates::{answer_with_fates, fates_after, fates_text};
 use pram_job::Job;
 use pram_step::RunAnswer;
 use pram_streams::{PrintFault, Sink, put};
@@ -29,8 +30,69 @@ pub(crate) fn put_told<O: Sink>(
         answer.now result }
 {
     let back = following(alloc, why, spelled, answer)?;
-    print_told(alloc, out, spelled, answer)?;
-    put(out, back.as_bytes())?;
+    put_both(
+        alloc,
+        out,
+        &Told {
+            why,
+            spelled,
+            answer,
+            back: back.as_str(),
+        },
+    )
+}
+
+/// Prints the answer of a job of the machine, and what became of its processors. Nothing is printed
+/// before memory for both was found.
+pub(crate) fn put_explained<O: Sink>(
+    alloc: Global,
+    out: &mut O,
+    spelled: &Spelled,
+) -> Result<RunAnswer, PrintFault>
+    requires output { O.has_failed out.old ≡ false }
+    requires names { AreNames spelled.now.text.items spelled.now.job spelled.now.names }
+    ensures { let read = spelled.now in
+        PutsAnswer (Explaining true (IsAnswer read.job) read.text.items read.job) ⊥
+        (writing O.Sink out.old out.new) tells result }
+{
+    let (answer, fates) = answer_with_fates(alloc, &spelled.job)?;
+    let origin = origin_of(spelled.text.as_slice(), &spelled.names);
+    let back = fates_text(alloc, origin, &fates)?;
+    put_both(
+        alloc,
+        out,
+        &Told {
+            why: true,
+            spelled,
+            answer: &answer,
+            back: back.as_str(),
+        },
+    )?;
+    Ok(answer)
+}
+
+/// An answer, whether what became of the processors was asked for, and the lines that follow it.
+#[derive(Drop)]
+struct Told<'a> {
+    why: bool,
+    spelled: &'a Spelled,
+    answer: &'a RunAnswer,
+    back: &'a str,
+}
+
+fn put_both<O: Sink>(alloc: Global, out: &mut O, told: &Told<'_>) -> Result<(), PrintFault>
+    requires output { O.has_failed out.old ≡ false }
+    requires names { let read = told.now.spelled.now in
+        AreNames read.text.items read.job read.names }
+    requires follows { let read = told.now.spelled.now in
+        Follows told.now.why (line_at read.text.items read.names) read.job told.now.answer.now
+        told.now.back.now }
+    ensures { let read = told.now.spelled.now in
+        HasAnswered told.now.why read.text.items read.job (writing O.Sink out.old out.new)
+        told.now.answer.now result }
+{
+    print_told(alloc, out, told.spelled, told.answer)?;
+    put(out, told.back.as_bytes())?;
     Ok(())
 }
 

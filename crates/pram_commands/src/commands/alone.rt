@@ -1,5 +1,5 @@
 //! The commands that start no thread: `check`, `compile`, `plain`, `cost`, `steps` and `replay`.
-ghost use Rattle.std.specs.Prelude.{◌≡◌, ◌↔◌, ⊤, false, IfErr, IfOk, IsErrOf, IsTrue};
+ghost use Rattle.std.specs.Prelude.{◌≡◌, ◌↔◌, ⊤, true, false, IfErr, IfOk, IsErrOf, IsTrue};
 ghost use Rattle.pram_streams.specs.Transfer.{GivesSome};
 ghost use Rattle.pram_commands.specs.Did.{Did, Showing, tells, tells_none, writing};
 ghost use Rattle.pram_commands.specs.Inner.Costed.{IsCosted};
@@ -10,6 +10,7 @@ ghost use Rattle.pram_commands.specs.Plain.{TellsSummary, checking, plainly};
 ghost use Rattle.pram_step.specs.Runs.{IsAnswer};
 ghost use Rattle.pram_commands.specs.Names.{AreNames};
 ghost use Rattle.pram_commands.specs.Costs.{TellsCost, costing, tells_conflict};
+ghost use Rattle.pram_commands.specs.LineRecords.{TellsLines, costing_by};
 ghost use Rattle.pram_commands.specs.Steps.{TellsSteps, stepping};
 ghost use Rattle.pram_commands.specs.Replayed.{TellsTrace, replaying};
 ghost use Rattle.pram_commands.specs.Texts.{TellsText, compiling};
@@ -19,9 +20,10 @@ ghost use Rattle.refusals.specs.declared.fault.CommandFault.TheVariants.{JobDevi
 use crate::commands::{print_ending, printed};
 use crate::inputs::{take_costed, take_inputs, take_job, take_text};
 use crate::line_costs::{Costed, Costs};
+use crate::line_records::records_of;
 use crate::names::lines_of;
 use crate::sources::{Inputs, Sources, Spelled};
-use crate::why::put_told;
+use crate::why::{put_explained, put_told};
 use command_data::Workers;
 use job_text::print_text;
 use pram_cost::{Cost, print_cost};
@@ -29,7 +31,7 @@ use pram_job::Job;
 use pram_rows::{Shown, Window, print_steps};
 use pram_run::replay_to;
 use pram_step::{RunAnswer, plain_answer};
-use pram_streams::{PrintFault, Sink, Source, print_summary};
+use pram_streams::{PrintFault, Sink, Source, print_summary, put};
 use refusals::CommandFault;
 use std::alloc::{AllocError, Global};
 
@@ -80,7 +82,7 @@ fn put_job<O: Sink>(alloc: Global, job: &Job, out: &mut O) -> Result<(), PrintFa
 }
 
 /// Reads a job, and prints its answer, and if it is asked for what became of the processors. The
-/// time is that of reading the text and running the job, or of running it twice.
+/// time is that of reading the text and running the job; where some stop, of running it twice.
 pub fn plain<J: Source, P: Source, O: Sink>(
     alloc: Global,
     why: bool,
@@ -107,6 +109,9 @@ fn put_plain<O: Sink>(
         PutsAnswer (Explaining why (IsAnswer read.job) read.text.items read.job) ⊥
         (writing O.Sink out.old out.new) tells result }
 {
+    if why && spelled.names.is_none() {
+        return put_explained(alloc, out, spelled);
+    }
     let answer = answer_of(alloc, spelled)?;
     put_told(alloc, out, why, spelled, &answer)?;
     Ok(answer)
@@ -169,6 +174,37 @@ fn put_cost<O: Sink>(
         lines: costs.lines.as_slice(),
     };
     print_cost(alloc, out, &costs.cost, pram, &names)?;
+    Ok(costs.cost)
+}
+
+/// Reads a job, and prints what its run costs in each counted line of its program, as records. It
+/// takes the time of `cost`.
+pub fn cost_by_lines<J: Source, P: Source, O: Sink>(
+    alloc: Global,
+    sources: &mut Sources<J, P>,
+    out: &mut O,
+) -> Result<Cost, CommandFault>
+    requires { AreReady J.Source P.Source O.Sink sources.old out.old }
+    ensures { Did (costing_by true) (taking J.Source P.Source sources.old sources.new)
+        (writing O.Sink out.old out.new) tells_conflict result }
+{
+    let (spelled, costs) = take_costed(alloc, &mut sources.job)?;
+    printed(put_records(alloc, &spelled, &costs, out))
+}
+
+fn put_records<O: Sink>(
+    alloc: Global,
+    spelled: &Spelled,
+    costs: &Costs,
+    out: &mut O,
+) -> Result<Cost, PrintFault>
+    requires output { O.has_failed out.old ≡ false }
+    requires costs { IsCosted spelled.now costs.now }
+    ensures { PutsAnswer (TellsLines spelled.now.text.items spelled.now.job) ⊥
+        (writing O.Sink out.old out.new) tells_conflict result }
+{
+    let records = records_of(alloc, spelled.text.as_slice(), costs.lines.as_slice())?;
+    put(out, records.as_slice())?;
     Ok(costs.cost)
 }
 

@@ -12,3 +12,13 @@ returns-in-plain-clause-met c = rw (← c.in-plain.is) (
       c.get_flag-why.ensures.value c.get_flag-why.ensures.other),
   refl,
 )
+
+pub returns-in-cost-clause-met : goal.returns-in-cost-clause-met
+returns-in-cost-clause-met c = rw (← c.in-cost.is) (
+  met_file _ _ _ _ c.in_ok-name.ensures.name c.in_ok-name.ensures.rows c.in_ok-file.ensures,
+  has_flag _ _ (found_of c.in_ok-name.inner.now) (codes "lines") _
+      (pair_of _ _ _ _ _ c.in_ok-name.ensures.name c.in_ok-name.ensures.rows)
+      (flag_of (found_of c.in_ok-name.inner.now) (codes "lines") _ c.get_flag-lines.ensures.none
+      c.get_flag-lines.ensures.value c.get_flag-lines.ensures.other),
+  refl,
+)

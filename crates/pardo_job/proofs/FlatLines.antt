@@ -2,6 +2,9 @@
 use Rattle.std.proofs.Common.{◌≡◌, ℕ, zero, suc, ◌+◌, ◌-◌, ◌<◌, ◌≤◌, List, [], ◌∷◌, ◌++◌}
 use Rattle.std.proofs.Common.{Some, None, refl, sym, ap, ◌∙◌, subst, ⊎_elim, arith, length}
 use Rattle.std.proofs.Common.{length-append, take}
+use Rattle.std.specs.List.{All}
+use Rattle.std.specs.Prelude.{unwrap_or}
+use Rattle.std.proofs.lemmas.Option.{slice_get_within, unwrap_or-slice_get}
 use Rattle.std.specs.Prelude.{slice_get, sum_by}
 use Rattle.std.specs.List.{flat_map}
 use Rattle.std.proofs.lemmas.Bool.{cases_lt}
@@ -19,6 +22,17 @@ use Rattle.pardo_job.specs.Flat.{first_flat_of, flat, hidden, last_line, last_of
 use Rattle.pardo_job.specs.Flat.{flat_size}
 
 -- ---- places in lists
+
+pub all_at : {A : Type 0} (P : A → Type 0) (xs : List A) (k : ℕ) (x : A) → All P xs → slice_get xs k
+    ≡ Some x → P x
+all_at P xs k x are is = subst P (sym (unwrap_or-slice_get xs k x) ∙ ap (λ o. unwrap_or o x) is)
+    (are k x (slice_get_within xs k x is))
+
+pub some_at : (lines : List Line) (k : ℕ) → k < length lines →
+    (line : Line) × (slice_get lines k ≡ Some line)
+some_at [] k lt = absurd (omega (arith, lt))
+some_at (line ∷ lines) zero lt = (line, refl)
+some_at (line ∷ lines) (suc k) lt = some_at lines k (omega (arith, lt))
 
 pub get_front : {A : Type 0} (xs ys : List A) (k : ℕ) → k < length xs →
     slice_get (xs ++ ys) k ≡ slice_get xs k

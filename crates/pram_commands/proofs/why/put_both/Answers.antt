@@ -4,7 +4,7 @@ use Rattle.pram_streams.proofs.Beginnings.{beginning-after, beginning-longer}
 use Rattle.pram_streams.specs.declared.print.PrintFault.TheVariants.{Device, Memory}
 use Rattle.pram_commands.proofs.Doing.{err_is, ok_not_err, put_failed, well}
 use Rattle.pram_commands.proofs.Told.{tells_all}
-use Rattle.pram_commands.proofs.why.put_told.Goals as goal
+use Rattle.pram_commands.proofs.why.put_both.Goals as goal
 
 device_memory : Device ≡ Memory → ⊥
 device_memory is = cc is
@@ -12,12 +12,12 @@ device_memory is = cc is
 pub returns-in_err-print_told : goal.returns-in_err-print_told
 returns-in_err-print_told g c =
     put_failed _ _ _ _ _ c.in_err-print_told.field-0.0
-    (err_is _ _ c.from_residual-in_err-print_told.ensures)
+    (err_is _ _ c.from_residual.ensures)
     (record {
       text = _;
       answer = Some _;
       comes = tells_all _ _ _ _ _ _ _ _ c.requires.names refl refl
-          c.in_ok-back.ensures;
+          c.requires.follows;
       takes = beginning-longer _ _ _ _ c.in_err-print_told.ensures.beginning;
     })
     (λ e. inl (c.in_err-print_told.ensures.memory (ap (λ x. Err x) e)))
@@ -30,7 +30,7 @@ returns-in_err-put g c =
       text = _;
       answer = Some _;
       comes = tells_all _ _ _ _ _ _ _ _ c.requires.names refl c.as_bytes.ensures.value
-          c.in_ok-back.ensures;
+          c.requires.follows;
       takes = beginning-after _ _ _ _ _ c.in_ok-print_told.ensures.ok
           c.in_err-put.ensures.beginning;
     })
@@ -43,7 +43,7 @@ returns g c = record {
     text = _;
     answer = Some _;
     comes = tells_all _ _ _ _ _ _ _ _ c.requires.names refl c.as_bytes.ensures.value
-        c.in_ok-back.ensures;
+        c.requires.follows;
     takes = Appends-trans _ _ _ _ _ c.in_ok-print_told.ensures.ok c.in_ok-put.ensures.ok;
     is = refl;
   };

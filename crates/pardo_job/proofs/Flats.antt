@@ -1,0 +1,441 @@
+-- The flat program, line by line.
+use Rattle.std.proofs.Common.{◌≡◌, ℕ, zero, suc, ◌+◌, ◌-◌, ◌*◌, ◌<◌, ◌≤◌, ◌==◌, Bool, true, false}
+use Rattle.std.proofs.Common.{List, [], ◌∷◌, ◌++◌, Some, refl, sym, ap, ◌∙◌, subst, ⊎_elim, arith}
+use Rattle.std.proofs.Common.{if◌then◌else◌, length, length-append, append_assoc, append-nil, take}
+use Rattle.std.proofs.Common.{below_more, drop, get_or, map, max, set, length-take}
+use Rattle.std.specs.Prelude.{nat_le, replicate, slice_get, slice_index, sum_by}
+use Rattle.std.specs.List.{flat_map}
+use Rattle.std.proofs.Math.Nat.{add-mul, mul_comm}
+use Rattle.std.proofs.Math.Seq.{take-length}
+use Rattle.std.proofs.lemmas.Bool.{cases_lt, eq-eqb, leb-false, leb-true, ne_eqb}
+use Rattle.std.proofs.lemmas.Grind.{flat_map-append}
+use Rattle.std.proofs.lemmas.List.{get_or_append_left, get_or_push, map-append, take_more}
+use Rattle.std.proofs.lemmas.List.Concat.{length-flat_map}
+use Rattle.std.proofs.lemmas.Option.{none-some, same_Some}
+use mathlib.Core.Path.{fun_ext}
+use Rattle.pardo_text.specs.declared.limits.TheConstants.{MAX_CELLS}
+use Rattle.pardo_text.specs.declared.statement.Line.{Line}
+use Rattle.pardo_text.specs.declared.statement.Statement.{Statement}
+use Rattle.pardo_text.specs.declared.statement.Statement.TheVariants.{Assign, If, Else, EndIf}
+use Rattle.pardo_text.specs.declared.statement.Statement.TheVariants.{While, EndWhile, For, EndFor}
+use Rattle.pardo_text.specs.declared.statement.Target.TheVariants.{Private, Array as Shared}
+use Rattle.pardo_text.specs.Expression.{Tree}
+use Rattle.pardo_text.specs.Lawful.{IsProgram, IsLine, IsStatement, bounds_of}
+use Rattle.pardo_text.specs.Program.{PrivateData, ProgramData, shared_cells}
+use Rattle.pardo_job.specs.Flat.{first_flat_of, fits, flat, flat_size, hidden, line_parts}
+use Rattle.pardo_job.specs.Flat.{lines_for, most_pieces, moved_statement, nameless, pieces_of}
+use Rattle.pardo_job.specs.Flat.{split_statement}
+use Rattle.pardo_job.specs.declared.flat.Flat.{Flat}
+use Rattle.pardo_job.specs.declared.flat.FlatLines.{FlatLines}
+use Rattle.pardo_job.specs.Inner.Flats.{AreFirsts, AreFlat, AreFlatSoFar, moved_by, moved_line, parted}
+use Rattle.pardo_job.specs.Inner.Flats.{IsFlatProgram, parted_line, parts_from}
+use Rattle.pardo_job.specs.Flat.{IsFirstSplit, IsTooWide}
+use Rattle.pardo_job.specs.Layouts.{ProgramLayoutData, program_layout}
+use Rattle.pardo_job.proofs.FlatLawful.{flat_lawful, most_in, privates_are}
+use Rattle.pardo_job.proofs.FlatLines.{all_at, length-hidden}
+
+-- ---- lists
+
+take_next : (xs : List Line) (n : ℕ) (x : Line) → slice_get xs n ≡ Some x →
+    take (suc n) xs ≡ take n xs ++ x ∷ []
+take_next [] n x is = absurd (none-some x is)
+take_next (y ∷ ys) zero x is = ap (λ z. z ∷ []) (same_Some y x is)
+take_next (y ∷ ys) (suc n) x is = ap (λ l. y ∷ l) (take_next ys n x is)
+
+pub take_one_more : (xs : List Line) (n : ℕ) (x : Line) → slice_get xs n ≡ Some x →
+    take (n + 1) xs ≡ take n xs ++ x ∷ []
+take_one_more xs n x is =
+    ap (λ k. take k xs) (let e : n + 1 ≡ suc n = omega arith in e) ∙ take_next xs n x is
+
+get_take : (xs : List Line) (n k : ℕ) → k < n → slice_get (take n xs) k ≡ slice_get xs k
+get_take [] zero k lt = absurd (omega (arith, lt))
+get_take [] (suc n) k lt = refl
+get_take (y ∷ ys) zero k lt = absurd (omega (arith, lt))
+get_take (y ∷ ys) (suc n) zero lt = refl
+get_take (y ∷ ys) (suc n) (suc k) lt = get_take ys n k (omega (arith, lt))
+
+-- ---- hidden lines
+
+pub hidden_more : (line : Line) (t : ℕ) (pieces : List Tree) (piece : Tree) →
+    hidden line t (pieces ++ piece ∷ [])
+    ≡ hidden line t pieces
+    ++ record line { statement = Assign (Private (t + length pieces)) piece } ∷ []
+hidden_more line t [] piece =
+    ap (λ x. record line { statement = Assign (Private x) piece } ∷ [])
+    (let e : t ≡ t + 0 = omega arith in e)
+hidden_more line t (first ∷ pieces) piece =
+    ap (λ (l : List Line). record line { statement = Assign (Private t) first } ∷ l)
+    (hidden_more line (t + 1) pieces piece
+    ∙ ap (λ x. hidden line (t + 1) pieces
+    ++ record line { statement = Assign (Private x) piece } ∷ [])
+    (let e : t + 1 + length pieces ≡ t + length (first ∷ pieces) = omega arith in e))
+
+pub hidden_step : (line : Line) (t i : ℕ) (pieces : List Tree) (d piece : Tree)
+    (before lines new_lines : List Line) → i < length pieces → piece ≡ get_or pieces i d →
+    lines ≡ before ++ hidden line t (take i pieces) →
+    new_lines ≡ lines ++ record line { statement = Assign (Private (t + i)) piece } ∷ [] →
+    new_lines ≡ before ++ hidden line t (take (i + 1) pieces)
+hidden_step line t i pieces d piece before lines new_lines lt is so_far more =
+    let count : length (take i pieces) ≡ i = omega (arith, length-take i pieces, lt) in
+    more ∙ ap (λ (l : List Line). l
+    ++ record line { statement = Assign (Private (t + i)) piece } ∷ []) so_far
+    ∙ append_assoc before (hidden line t (take i pieces))
+    (record line { statement = Assign (Private (t + i)) piece } ∷ [])
+    ∙ ap (λ (l : List Line). before ++ l)
+    (ap (λ n. hidden line t (take i pieces)
+    ++ record line { statement = Assign (Private (t + n)) piece } ∷ []) (sym count)
+    ∙ sym (hidden_more line t (take i pieces) piece)
+    ∙ ap (λ x. hidden line t (take i pieces ++ x ∷ [])) is
+    ∙ ap (λ (l : List Tree). hidden line t l) (sym (take_more pieces i d lt)))
+
+-- ---- a line moved
+
+module _ (f : Line → Line) where
+  front_at : (old : List Line) (i : ℕ) (d : Line) → i < length old →
+      get_or (map f (take i old) ++ drop i old) i d ≡ get_or old i d
+  front_at [] i d lt = absurd (omega (arith, lt))
+  front_at (x ∷ xs) zero d lt = refl
+  front_at (x ∷ xs) (suc i) d lt = front_at xs i d (omega (arith, lt))
+
+  front_set : (old : List Line) (i : ℕ) (d new : Line) → i < length old →
+      new ≡ f (get_or old i d) →
+      set (map f (take i old) ++ drop i old) i new
+      ≡ map f (take (suc i) old) ++ drop (suc i) old
+  front_set [] i d new lt is = absurd (omega (arith, lt))
+  front_set (x ∷ xs) zero d new lt is = ap (λ z. z ∷ xs) is
+  front_set (x ∷ xs) (suc i) d new lt is =
+      ap (λ l. f x ∷ l) (front_set xs i d new (omega (arith, lt)) is)
+
+  pub moved_more : (old lines : List Line) (i : ℕ) (d new : Line) → i < length old →
+      lines ≡ map f (take i old) ++ drop i old → new ≡ f (get_or lines i d) →
+      set lines i new ≡ map f (take (i + 1) old) ++ drop (i + 1) old
+  moved_more old lines i d new lt e is =
+      ap (λ (l : List Line). set l i new) e
+      ∙ front_set old i d new lt (is ∙ ap (λ (l : List Line). f (get_or l i d)) e
+      ∙ ap f (front_at old i d lt))
+      ∙ ap (λ n. map f (take n old) ++ drop n old)
+      (let a : suc i ≡ i + 1 = omega arith in a)
+
+-- ---- the lines for each line
+
+module _ (program : ProgramData) where
+  abbrev base : ℕ
+  base = length program.privates
+
+  parted_size : (line : Line) → length (parted program line) ≡ flat_size program line
+  parted_size line = length-append (hidden line base (pieces_of program line))
+      (record line { statement = (line_parts program line).1 } ∷ [])
+      ∙ ap (λ n. n + 1) (length-hidden line base (pieces_of program line))
+
+  next_first : (n : ℕ) (lines : List Line) → lines ≡ flat_map (parted program) (take n program.lines) →
+      length lines ≡ first_flat_of program n
+  unfolding first_flat_of
+  next_first n lines are = ap (λ (l : List Line). length l) are
+      ∙ length-flat_map (parted program) (take n program.lines)
+      ∙ ap (λ (f : Line → ℕ). sum_by f (take n program.lines)) (fun_ext parted_size)
+
+  most_next : (lines : List Line) (line : Line) →
+      most_pieces program (lines ++ line ∷ [])
+      ≡ max (most_pieces program lines) (length (pieces_of program line))
+  most_next [] line = omega arith
+  most_next (first ∷ lines) line = let e = most_next lines line in omega (arith, e)
+
+  pub none_flat : (lines : List Line) (firsts : List ℕ) (split : ℕ) → lines ≡ [] → firsts ≡ [] →
+      AreFlatSoFar program 0 lines firsts 0 split
+  none_flat lines firsts split none no_first = record {
+    lines_are = none;
+    count = ap (λ (l : List ℕ). length l) no_first;
+    firsts_are = λ j lt. absurd (omega (arith, lt));
+    most_is = refl;
+    split_is = λ lt. absurd (omega (arith, lt));
+  }
+
+  module _ (n : ℕ) (line : Line) (lines : List Line) (firsts : List ℕ) (most split : ℕ)
+      (there : slice_get program.lines n ≡ Some line)
+      (so_far : AreFlatSoFar program n lines firsts most split) where
+    few_before : (k : ℕ) (other : Line) → k < n → slice_get program.lines k ≡ Some other →
+        most ≡ 0 → length (pieces_of program other) ≡ 0
+    few_before k other lt is none =
+        let e = most_in program (take n program.lines) k other
+        (get_take program.lines n k lt ∙ is) in
+        let f = so_far.most_is in omega (arith, e, f, none)
+
+    split_next : (new_split : ℕ) →
+        new_split ≡ (if most == 0 then line.number else split) →
+        0 < max most (length (pieces_of program line)) → IsFirstSplit program new_split (n + 1)
+    split_next new_split is some = ⊎_elim
+        (λ (old : 0 < most).
+        let first = so_far.split_is old in record {
+          j = first.j;
+          line = first.line;
+          within = let e = first.within in omega (arith, e);
+          is_there = first.is_there;
+          number_is = is ∙ ap (λ b. if b then line.number else split)
+              (ne_eqb most 0 (λ e. absurd (omega (arith, e, old)))) ∙ first.number_is;
+          has_pieces = first.has_pieces;
+          before = first.before;
+        })
+        (λ (new : most ≤ 0).
+        let none : most ≡ 0 = omega (arith, new) in record {
+          j = n;
+          line = line;
+          within = omega arith;
+          is_there = there;
+          number_is = is ∙ ap (λ b. if b then line.number else split) (eq-eqb most 0 none);
+          has_pieces = omega (arith, some, none);
+          before = λ k other lt found. few_before k other lt found none;
+        })
+        (cases_lt 0 most)
+
+    pub flat_more : (b : ℕ) (new_lines : List Line) (new_firsts : List ℕ) (new_most new_split : ℕ)
+        (pieces : List Tree) (rest : Statement) → b ≡ base →
+        pieces ≡ (parts_from b line.statement).0 →
+        rest ≡ (parts_from b line.statement).1 →
+        new_lines ≡ lines ++ parted_line b line pieces rest →
+        new_firsts ≡ firsts ++ length lines ∷ [] →
+        new_most ≡ max most (length pieces) →
+        new_split ≡ (if most == 0 then line.number else split) →
+        AreFlatSoFar program (n + 1) new_lines new_firsts new_most new_split
+    flat_more b new_lines new_firsts new_most new_split pieces rest from a d e f g h =
+        let pieces_are : pieces ≡ pieces_of program line =
+        a ∙ ap (λ k. (parts_from k line.statement).0) from in
+        let rest_is : rest ≡ (line_parts program line).1 =
+        d ∙ ap (λ k. (parts_from k line.statement).1) from in
+        let taken = take_one_more program.lines n line there in
+        let most_same : new_most ≡ max most (length (pieces_of program line)) =
+        g ∙ ap (λ (l : List Tree). max most (length l)) pieces_are in
+        record {
+          lines_are = e ∙ ap (λ (l : List Line). l ++ parted_line b line pieces rest)
+              so_far.lines_are
+              ∙ ap (λ k. flat_map (parted program) (take n program.lines)
+              ++ parted_line k line pieces rest) from
+              ∙ ap (λ (l : List Tree). flat_map (parted program) (take n program.lines)
+              ++ parted_line base line l rest) pieces_are
+              ∙ ap (λ (s : Statement). flat_map (parted program) (take n program.lines)
+              ++ parted_line base line (pieces_of program line) s) rest_is
+              ∙ ap (λ (l : List Line). flat_map (parted program) (take n program.lines) ++ l)
+              (sym (append-nil (parted program line)))
+              ∙ sym (flat_map-append (parted program) (take n program.lines) (line ∷ []))
+              ∙ sym (ap (λ (l : List Line). flat_map (parted program) l) taken);
+          count = let i = ap (λ (l : List ℕ). length l) f in
+              let j = length-append firsts (length lines ∷ []) in
+              let k = so_far.count in omega (arith, i, j, k);
+          firsts_are = below_more (λ j. slice_index new_firsts j ≡ first_flat_of program j) n
+              (λ j lt. ap (λ (l : List ℕ). slice_index l j) f
+              ∙ get_or_append_left firsts (length lines ∷ []) 0 j
+              (let c = so_far.count in omega (arith, c, lt)) ∙ so_far.firsts_are j lt)
+              (ap (λ (l : List ℕ). slice_index l n) f
+              ∙ get_or_push firsts (length lines) 0 n so_far.count
+              ∙ next_first n lines so_far.lines_are);
+          most_is = most_same ∙ ap (λ m. max m (length (pieces_of program line))) so_far.most_is
+              ∙ sym (most_next (take n program.lines) line)
+              ∙ sym (ap (λ (l : List Line). most_pieces program l) taken);
+          split_is = λ lt. split_next new_split h (subst (λ m. 0 < m) most_same lt);
+        }
+
+-- ---- lines that loops name
+
+module _ (program : ProgramData) (firsts : List ℕ) (are : AreFirsts program firsts) where
+  abbrev first : ℕ → ℕ
+  first = slice_index firsts
+
+  last_same : (end : ℕ) → end < length program.lines →
+      first (end + 1) - 1 ≡ first_flat_of program (end + 1) - 1
+  last_same end lt = ap (λ n. n - 1) (are (end + 1) (omega (arith, lt)))
+
+  moved_same : (statement : Statement) → IsStatement (bounds_of program) statement →
+      moved_by first statement ≡ moved_statement program statement
+  moved_same (Assign target tree) is = refl
+  moved_same (If tree) is = refl
+  moved_same Else is = refl
+  moved_same EndIf is = refl
+  moved_same (While tree end) is = ap (While tree) (last_same end is.1)
+  moved_same (EndWhile begin) is = ap EndWhile (are begin (omega (arith, is)))
+  moved_same (For nest low high up end) is = ap (For nest low high up) (last_same end is.3)
+  moved_same (EndFor begin) is = ap EndFor (last_same begin is)
+
+  rest_same : (level : Bool) (statement : Statement) → IsStatement (bounds_of program) statement →
+      moved_by first (if level then ([], statement)
+      else split_statement (length program.privates) statement).1
+      ≡ moved_statement program (if level then ([], statement)
+      else split_statement (length program.privates) statement).1
+  rest_same true statement is = moved_same statement is
+  rest_same false (Assign (Private x) tree) is = refl
+  rest_same false (Assign (Shared array index) tree) is = refl
+  rest_same false (If tree) is = refl
+  rest_same false Else is = refl
+  rest_same false EndIf is = refl
+  rest_same false (While tree end) is = moved_same (While tree end) is
+  rest_same false (EndWhile begin) is = moved_same (EndWhile begin) is
+  rest_same false (For nest low high up end) is = moved_same (For nest low high up end) is
+  rest_same false (EndFor begin) is = moved_same (EndFor begin) is
+
+  hidden_same : (line : Line) (t : ℕ) (pieces : List Tree) →
+      map (moved_line first) (hidden line t pieces) ≡ hidden line t pieces
+  hidden_same line t [] = refl
+  hidden_same line t (piece ∷ pieces) =
+      ap (λ (l : List Line). record line { statement = Assign (Private t) piece } ∷ l)
+      (hidden_same line (t + 1) pieces)
+
+  line_same : (line : Line) → IsStatement (bounds_of program) line.statement →
+      map (moved_line first) (parted program line) ≡ lines_for program line
+  unfolding lines_for
+  line_same line is =
+      map-append (moved_line first)
+      (hidden line (length program.privates) (pieces_of program line))
+      (record line { statement = (line_parts program line).1 } ∷ [])
+      ∙ ap (λ (l : List Line). l
+      ++ record line { statement = moved_by first (line_parts program line).1 } ∷ [])
+      (hidden_same line (length program.privates) (pieces_of program line))
+      ∙ ap (λ (s : Statement). hidden line (length program.privates) (pieces_of program line)
+      ++ record line { statement = s } ∷ []) (rest_same (fits line.statement) line.statement is)
+
+  lines_same : (lines : List Line) → ((j : ℕ) (line : Line) → slice_get lines j ≡ Some line →
+      IsStatement (bounds_of program) line.statement) →
+      map (moved_line first) (flat_map (parted program) lines) ≡ flat_map (lines_for program) lines
+  lines_same [] is = refl
+  lines_same (line ∷ lines) is =
+      map-append (moved_line first) (parted program line) (flat_map (parted program) lines)
+      ∙ ap (λ (l : List Line). l ++ map (moved_line first) (flat_map (parted program) lines))
+      (line_same line (is 0 line refl))
+      ∙ ap (λ (l : List Line). lines_for program line ++ l)
+      (lines_same lines (λ j other e. is (suc j) other e))
+
+  pub moved_all : (lawful : IsProgram program) →
+      map (moved_line first) (flat_map (parted program) program.lines)
+      ≡ flat_map (lines_for program) program.lines
+  moved_all lawful = lines_same program.lines (λ j line e.
+      (all_at (IsLine (bounds_of program)) program.lines j line lawful.lines e).0)
+
+-- ---- the whole
+
+pub flat_is : (program given : ProgramData) (most : ℕ) (lines : List Line) →
+    given ≡ record program {
+      privates = program.privates ++ replicate most (nameless program);
+      lines = lines;
+    } → most ≡ most_pieces program program.lines →
+    lines ≡ flat_map (lines_for program) program.lines → given ≡ flat program
+flat_is program given most lines is e f =
+    is ∙ ap (λ n. record program {
+      privates = program.privates ++ replicate {A = PrivateData} n (nameless program);
+      lines = lines;
+    }) e
+    ∙ ap (λ (l : List Line). record program {
+      privates = program.privates
+          ++ replicate {A = PrivateData} (most_pieces program program.lines) (nameless program);
+      lines = l;
+    }) f
+
+-- the cells of rows, counted in another order
+pub cells_same : (shared procs p l c m : ℕ) →
+    shared + (p + l + c) * procs + m * procs ≡ shared + procs * ((p + m) + l + c)
+cells_same shared procs p l c m =
+    let a = add-mul (p + l + c) m procs in
+    let b = mul_comm procs ((p + m) + l + c) in
+    let d : p + l + c + m ≡ (p + m) + l + c = omega arith in
+    let e = ap (λ n. n * procs) d in omega (arith, a, b, e)
+
+-- the end of the last line is known, too
+pub all_flat : (program : ProgramData) (n : ℕ) (flat : FlatLines) (lines : List Line)
+    (firsts : List ℕ) (most split : ℕ) → length program.lines ≤ n → n ≤ length program.lines →
+    AreFlatSoFar program n lines firsts most split → flat.lines.items ≡ lines →
+    flat.firsts.items ≡ firsts ++ length lines ∷ [] → flat.most ≡ most → flat.split ≡ split →
+    AreFlat program flat
+all_flat program n flat lines firsts most split le ge so_far e f g h =
+    let all : n ≡ length program.lines = omega (arith, le, ge) in
+    let whole : take n program.lines ≡ program.lines =
+    ap (λ k. take k program.lines) all ∙ take-length program.lines in record {
+      lines_are = e ∙ so_far.lines_are ∙ ap (λ (l : List Line). flat_map (parted program) l) whole;
+      count = let a = ap (λ (l : List ℕ). length l) f in
+          let b = length-append firsts (length lines ∷ []) in
+          let c = so_far.count in omega (arith, a, b, c, all);
+      firsts_are = λ j low. ap (λ (l : List ℕ). slice_index l j) f ∙ ⊎_elim
+          (λ (lt : j < n). get_or_append_left firsts (length lines ∷ []) 0 j
+          (let c = so_far.count in omega (arith, c, lt)) ∙ so_far.firsts_are j lt)
+          (λ (high : n ≤ j).
+          let same : n ≡ j = omega (arith, high, low, all) in
+          subst (λ k. slice_index (firsts ++ length lines ∷ []) k ≡ first_flat_of program k) same
+          (get_or_push firsts (length lines) 0 n so_far.count
+          ∙ next_first program n lines so_far.lines_are))
+          (cases_lt j n);
+      most_is = g ∙ so_far.most_is ∙ ap (λ (l : List Line). most_pieces program l) whole;
+      split_is = λ some.
+          subst (λ s. IsFirstSplit program s (length program.lines)) (sym h)
+          (subst (λ k. IsFirstSplit program split k) all
+          (so_far.split_is (subst (λ m. 0 < m) g some)));
+    }
+
+-- ---- whether there are cells enough
+
+-- the cells of the flat program, as its layout counts them
+module _ (program : ProgramData) (lawful : IsProgram program) (flat_lines : FlatLines)
+    (layout : ProgramLayoutData) (enough : Bool) (are : AreFlat program flat_lines)
+    (laid : layout ≡ program_layout program)
+    (told : enough ≡ nat_le (layout.shared
+    + (layout.privates + layout.loops + layout.choices) * layout.procs
+    + flat_lines.most * layout.procs) MAX_CELLS) where
+  abbrev most : ℕ
+  most = most_pieces program program.lines
+
+  abbrev needed : ℕ
+  needed = shared_cells program.arrays
+      + program.procs * (length (flat program).privates + program.loops + program.choices)
+
+  counted : layout.shared + (layout.privates + layout.loops + layout.choices) * layout.procs
+      + flat_lines.most * layout.procs ≡ needed
+  unfolding program_layout
+  counted =
+      ap (λ (l : ProgramLayoutData). l.shared + (l.privates + l.loops + l.choices) * l.procs
+      + flat_lines.most * l.procs) laid
+      ∙ ap (λ n. shared_cells program.arrays
+      + (length program.privates + program.loops + program.choices) * program.procs
+      + n * program.procs) are.most_is
+      ∙ cells_same (shared_cells program.arrays) program.procs (length program.privates)
+      program.loops program.choices most
+      ∙ ap (λ n. shared_cells program.arrays
+      + program.procs * (n + program.loops + program.choices))
+      (sym (privates_are program lawful))
+
+  told_needed : enough ≡ nat_le needed MAX_CELLS
+  told_needed = told ∙ ap (λ n. nat_le n MAX_CELLS) counted
+
+  without : most ≡ 0 → needed ≤ MAX_CELLS
+  without none =
+      let all = privates_are program lawful in
+      let same : length (flat program).privates ≡ length program.privates =
+      omega (arith, all, none) in
+      let e = ap (λ n. shared_cells program.arrays
+      + program.procs * (n + program.loops + program.choices)) same in
+      let f = lawful.cells in omega (arith, e, f)
+
+  pub too_wide : enough ≡ false → IsTooWide program flat_lines.split
+  too_wide missing =
+      let over : MAX_CELLS < needed = leb-false needed MAX_CELLS (sym told_needed ∙ missing) in record {
+        first = are.split_is (⊎_elim
+            (λ (some : 0 < flat_lines.most). some)
+            (λ (few : flat_lines.most ≤ 0).
+            let e = are.most_is in
+            let none : most ≡ 0 = omega (arith, few, e) in
+            let le = without none in absurd (omega (arith, le, over)))
+            (cases_lt 0 flat_lines.most));
+        cells = over;
+      }
+
+  pub flat_whole : (given : Flat) (moved : List Line) → enough ≡ true →
+      moved ≡ map (moved_line (slice_index flat_lines.firsts.items)) flat_lines.lines.items →
+      given.program ≡ record program {
+        privates = program.privates ++ replicate flat_lines.most (nameless program);
+        lines = moved;
+      } → given.firsts.items ≡ flat_lines.firsts.items → IsFlatProgram program given
+  flat_whole given moved there e f g =
+      let lines_are : moved ≡ flat_map (lines_for program) program.lines =
+      e ∙ ap (map (moved_line (slice_index flat_lines.firsts.items))) are.lines_are
+      ∙ moved_all program flat_lines.firsts.items are.firsts_are lawful in
+      let same = flat_is program given.program flat_lines.most moved f are.most_is lines_are in
+      record {
+        program_is = same;
+        lawful = subst IsProgram (sym same) (flat_lawful program lawful
+            (leb-true needed MAX_CELLS (sym told_needed ∙ there)));
+        count = ap (λ (l : List ℕ). length l) g ∙ are.count;
+        firsts_are = λ j le. ap (λ (l : List ℕ). slice_index l j) g ∙ are.firsts_are j le;
+      }

@@ -1,0 +1,13 @@
+use Rattle.std.proofs.Common.{◌≡◌}
+use Rattle.pardo_text.specs.Expression.{postfix}
+use Rattle.pardo_job.specs.Inner.Splits.{AreSplit}
+use Rattle.pardo_job.proofs.Splitters.{SoFar}
+use Rattle.pardo_job.proofs.splitter.Splitter.split.Given as goal
+
+abbrev pub invariant-loop-node : goal.invariant-loop-node
+invariant-loop-node l = record {
+  base : l.self.base ≡ l.initial.self.base;
+  nodes : l.node-items ≡ postfix l.expr;
+  so_far : SoFar (λ trees. AreSplit l.initial.self.base l.initial.self.pieces.items trees
+      l.self.pieces.items l.self.parts.items) l.node-items l.node-index;
+}

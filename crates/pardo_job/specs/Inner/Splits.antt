@@ -1,0 +1,108 @@
+-- Expressions by pieces, node by node.
+use Rattle.std.specs.Prelude.{◌≡◌, ℕ, ◌+◌, Bool, false, List, [], ◌∷◌, ◌++◌, length}
+use Rattle.std.specs.Prelude.{if◌then◌else◌}
+use Rattle.pardo_text.specs.declared.operation.Op.{Op}
+use Rattle.pardo_text.specs.declared.expression.Node.{Node}
+use Rattle.pardo_text.specs.declared.expression.Node.TheVariants.{Number, Own, Loop}
+use Rattle.pardo_text.specs.declared.expression.Node.TheVariants.{Private, Place, Apply}
+use Rattle.pardo_text.specs.Expression.{Tree, apply, private, with_node}
+use Rattle.pardo_job.specs.declared.splitter.Part.{Part}
+use Rattle.pardo_job.specs.Flat.{ShapeData, applied_shape, computed_shape, is_beside, shape_of, split}
+
+-- what is left of an expression, with its shape and that of the whole expression
+abbrev pub part_of : ℕ → Tree → Part
+part_of t tree = record {
+  rest = (split t tree).1;
+  shape = shape_of (split t tree).1;
+  whole = shape_of tree;
+}
+
+-- the pieces after these expressions, the last one first, and what is left of each
+abbrev pub pieces_after : ℕ → List Tree → List Tree → List Tree
+pieces_after t before [] = before
+pieces_after t before (tree ∷ trees) = pieces_after t before trees
+    ++ (split (t + length (pieces_after t before trees)) tree).0
+
+abbrev pub parts_after : ℕ → List Tree → List Tree → List Part
+parts_after t before [] = []
+parts_after t before (tree ∷ trees) = parts_after t before trees
+    ++ part_of (t + length (pieces_after t before trees)) tree ∷ []
+
+-- the operands of a node are there
+abbrev pub HasOperands : List Tree → Node → Type 0
+HasOperands trees (Number k) = Unit {0}
+HasOperands trees Own = Unit {0}
+HasOperands trees (Loop nest) = Unit {0}
+HasOperands trees (Private x) = Unit {0}
+HasOperands (index ∷ trees) (Place array) = Unit {0}
+HasOperands [] (Place array) = ⊥
+HasOperands (second ∷ first ∷ trees) (Apply op) = Unit {0}
+HasOperands (second ∷ []) (Apply op) = ⊥
+HasOperands [] (Apply op) = ⊥
+
+-- these pieces and parts are those of these expressions
+pub record AreSplit (t : ℕ) (before trees pieces : List Tree) (parts : List Part) : Type 0 where
+  pub pieces_are : pieces ≡ pieces_after t before trees
+  pub parts_are : parts ≡ parts_after t before trees
+
+-- with one node more, whatever came before
+abbrev pub TakesNode : ℕ → Node → List Tree → List Part → List Tree → List Part → Type 0
+TakesNode t node pieces parts new_pieces new_parts = (before trees : List Tree) →
+    AreSplit t before trees pieces parts → HasOperands trees node →
+    AreSplit t before (with_node trees node) new_pieces new_parts
+
+-- the operands of the node are there
+pub record CanSplit (t : ℕ) (node : Node) (pieces : List Tree) (parts : List Part) : Type 0 where
+  pub before : List Tree
+  pub trees : List Tree
+  pub are : AreSplit t before trees pieces parts
+  pub ready : HasOperands trees node
+
+-- each of these nodes finds its operands, and they make one expression
+abbrev pub AreTaken : List Tree → List Node → Type 0
+AreTaken trees [] = length trees ≡ 1
+AreTaken trees (node ∷ nodes) =
+    HasOperands trees node × AreTaken (with_node trees node) nodes
+
+-- an operation of two parts: the second one is the last piece where it has no room beside the first
+abbrev pub joined : ℕ → Op → Bool → Part → Part → List Tree → List Tree × Part
+joined t op room first second pieces =
+    if room then (
+      pieces,
+      record {
+        rest = apply op first.rest second.rest;
+        shape = applied_shape op first.shape second.shape;
+        whole = applied_shape op first.whole second.whole;
+      },
+    )
+    else (
+      pieces ++ second.rest ∷ [],
+      record {
+        rest = apply op first.rest (private (t + length pieces));
+        shape = applied_shape op first.shape (computed_shape false 1);
+        whole = applied_shape op first.whole second.whole;
+      },
+    )
+
+abbrev pub JoinsTo : ℕ → Op → Part → Part → List Tree → List Part → List Tree → List Part → Type 0
+JoinsTo t op first second pieces parts new_pieces new_parts =
+    let to = joined t op (is_beside op first.shape second.whole) first second pieces in
+    (new_pieces ≡ to.0) × (new_parts ≡ parts ++ to.1 ∷ [])
+
+-- ---- shapes alone
+
+-- those of expressions, the last one first
+abbrev pub shapes_of : List Tree → List ShapeData
+shapes_of [] = []
+shapes_of (tree ∷ trees) = shapes_of trees ++ shape_of tree ∷ []
+
+-- with one node more, whatever expressions there are
+abbrev pub ShapesNode : Node → List ShapeData → List ShapeData → Type 0
+ShapesNode node shapes new_shapes = (trees : List Tree) → shapes ≡ shapes_of trees →
+    HasOperands trees node → new_shapes ≡ shapes_of (with_node trees node)
+
+-- the operands of the node are there
+pub record CanShape (node : Node) (shapes : List ShapeData) : Type 0 where
+  pub trees : List Tree
+  pub are : shapes ≡ shapes_of trees
+  pub ready : HasOperands trees node

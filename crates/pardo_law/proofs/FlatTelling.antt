@@ -1,0 +1,392 @@
+-- What the run of the job of a flat program tells of the counted lines of the program.
+use Rattle.std.proofs.Common.{◌≡◌, ◌≢◌, ℕ, zero, suc, ◌+◌, ◌<◌, ◌≤◌, ◌==◌, Bool, true}
+use Rattle.std.proofs.Common.{false, List, [], ◌∷◌, Some, length, if◌then◌else◌}
+use Rattle.std.proofs.Common.{◌++◌, ◌&&◌, length-append}
+use Rattle.std.proofs.Common.{refl, sym, ap, ◌∙◌, subst, inl, inr, ⊎_elim, arith}
+use Rattle.std.specs.Option.{is_none}
+use Rattle.std.proofs.lemmas.Option.{slice_get_within}
+use Rattle.std.specs.Prelude.{count_by, max, slice_get}
+use Rattle.std.specs.List.{range_with_len}
+use Rattle.std.proofs.lemmas.Bool.{cases_eq, cases_lt, eq-eqb, ne_eqb}
+use Rattle.pram_job.specs.Job.{JobData}
+use Rattle.pram_step.specs.declared.answer.Dispute.{Dispute}
+use Rattle.pram_step.specs.Runs.{state_after}
+use Rattle.pram_cost.specs.Profiles.{executed_at, most_at, standing_at_index, steps_at}
+use Rattle.pardo_text.specs.declared.operation.Op.{Op}
+use Rattle.pardo_text.specs.declared.statement.Line.{Line}
+use Rattle.pardo_text.specs.declared.statement.Statement.{Statement}
+use Rattle.pardo_text.specs.declared.statement.Statement.TheVariants.{Assign, If, Else, EndIf}
+use Rattle.pardo_text.specs.declared.statement.Statement.TheVariants.{While, EndWhile, For, EndFor}
+use Rattle.pardo_text.specs.declared.statement.Target.TheVariants.{Private, Array as Shared}
+use Rattle.pardo_text.specs.Expression.{Tree, number, own as own_number, loop, private, place}
+use Rattle.pardo_text.specs.Expression.{apply}
+use Rattle.pardo_text.specs.Lawful.{IsProgram}
+use Rattle.pardo_text.specs.Operations.{bit}
+use Rattle.pardo_text.specs.Program.{ProgramData}
+use Rattle.pardo_job.specs.Compiled.{AreLineNumbers, IsWhole}
+use Rattle.pardo_job.specs.Flat.{beside, first_flat_of, fits, flat, is_beside, last_line, moved_statement}
+use Rattle.pardo_job.specs.Flat.{pieces_of, shape_of, flat_size, split, split_statement}
+use Rattle.pardo_job.specs.Lines.{place_of}
+use Rattle.pardo_job.specs.Meaning.{after}
+use Rattle.pardo_job.specs.Runs.{IsLineReached, IsProgramConflict, IsProgramOver}
+use Rattle.pardo_job.specs.Times.{AreAllLines, behind_mask, is_counted, line_most}
+use Rattle.pardo_job.specs.Times.{line_operations, line_time, line_times, reads_shared}
+use Rattle.pardo_job.specs.Times.{taking_part}
+use Rattle.pardo_law.specs.Counted.{FlatJobsTellLines, TellsFlatLine}
+use Rattle.pardo_law.specs.Flattening.{flat_count}
+use Rattle.pardo_law.proofs.Carrying.{carried_made, time_of}
+use Rattle.pardo_law.proofs.Counting.{taking_by}
+use Rattle.pardo_law.proofs.FlatCarrying.{all_back, count_next, ends_flat, in_line, keeps_line}
+use Rattle.pardo_law.proofs.FlatCarrying.{line_next_in}
+use Rattle.pardo_law.proofs.FlatCarrying.{made_flat, made_on, of_flat, over_to, stands}
+use Rattle.pardo_job.proofs.FlatLines.{first_next, flat_at, hidden_is, hidden_stands, last_stands}
+use Rattle.pardo_law.proofs.Picturing.{IsOf}
+use Rattle.pardo_law.proofs.Telling.{CarriedAt, add_zero, all_told, at_end, at_start, begun, first}
+use Rattle.pardo_law.proofs.Telling.{first_inside, first_is_turn, in_it, in_other, max_zero, own}
+use Rattle.pardo_law.proofs.Telling.{own_from, own_inside, own_is_turn, own_share, share}
+use Rattle.pardo_law.proofs.Telling.{share_none, share_some, some_bit, sum_rises}
+
+-- ---- what is split off
+
+two_none : (t : ℕ) (op : Op) (first second : Tree) (left right : List Tree × Tree) (b : Bool) →
+    (length left.0 ≡ 0 → left.1 ≡ first) → (length right.0 ≡ 0 → right.1 ≡ second) →
+    length (beside t b left right).0 ≡ 0 →
+    apply op (beside t b left right).1 (beside t b left right).2 ≡ apply op first second
+two_none t op first second left right true one other few =
+    let long = length-append left.0 right.0 in
+    ap (λ (x : Tree). apply op x right.1) (one (omega (arith, few, long)))
+    ∙ ap (apply op first) (other (omega (arith, few, long)))
+two_none t op first second left right false one other few =
+    let long = length-append left.0 (right.0 ++ right.1 ∷ []) in
+    let more = length-append right.0 (right.1 ∷ []) in absurd (omega (arith, few, long, more))
+
+split_none : (t : ℕ) (tree : Tree) → length (split t tree).0 ≡ 0 → (split t tree).1 ≡ tree
+split_none t (number k) none = refl
+split_none t own_number none = refl
+split_none t (loop nest) none = refl
+split_none t (private x) none = refl
+split_none t (place array index) none = ap (place array) (split_none t index none)
+split_none t (apply op first second) none =
+    two_none t op first second (split t first) (split (t + length (split t first).0) second)
+    (is_beside op (shape_of (split t first).1) (shape_of second))
+    (λ few. split_none t first few)
+    (λ few. split_none (t + length (split t first).0) second few) none
+
+-- ---- where the lines for a line stand
+
+module _ (program : ProgramData) where
+  first_rises : (a b : ℕ) → a ≤ b → first_flat_of program a ≤ first_flat_of program b
+  unfolding first_flat_of
+  first_rises a b le = sum_rises (flat_size program) program.lines a b le
+
+  -- of the lines for the line a, only the first may be the first for the line j
+  first_only : (a j k : ℕ) (line other : Line) → slice_get program.lines a ≡ Some line →
+      slice_get program.lines j ≡ Some other → k ≤ length (pieces_of program line) →
+      first_flat_of program a + k ≡ first_flat_of program j → (a ≡ j) × (k ≡ 0)
+  first_only a j k line other is found le same = ⊎_elim
+      (λ (low : a < j).
+      let e = first_next program a line is in
+      let f = first_rises (a + 1) j (omega arith) in absurd (omega (arith, e, f, le, same)))
+      (λ (high : j ≤ a). ⊎_elim
+      (λ (more : j < a).
+      let e = first_next program j other found in
+      let f = first_rises (j + 1) a (omega arith) in absurd (omega (arith, e, f, same)))
+      (λ (less : a ≤ j).
+      let one : a ≡ j = omega arith in
+      let e = ap (first_flat_of program) one in (one, omega (arith, e, same)))
+      (cases_lt j a))
+      (cases_lt a j)
+
+  -- ---- the first line for a counted line is counted
+
+  module _ (j : ℕ) (line : Line) (is : slice_get program.lines j ≡ Some line)
+      (counted : is_counted line.statement ≡ true) where
+    rest_counts : (t : ℕ) (statement : Statement) → is_counted statement ≡ true → (b : Bool) →
+        length (if b then ([], statement) else split_statement t statement).0 ≡ 0 →
+        is_counted (moved_statement program (if b then ([], statement)
+        else split_statement t statement).1) ≡ true
+    rest_counts t (Assign (Private x) tree) counts true none = refl
+    rest_counts t (Assign (Private x) tree) counts false none = refl
+    rest_counts t (Assign (Shared array index) tree) counts true none = refl
+    rest_counts t (Assign (Shared array index) tree) counts false none = refl
+    rest_counts t (If tree) counts true none = counts
+    rest_counts t (If tree) counts false none = ap reads_shared (split_none t tree none) ∙ counts
+    rest_counts t Else counts b none = absurd (let e : false ≡ true = counts in cc)
+    rest_counts t EndIf counts b none = absurd (let e : false ≡ true = counts in cc)
+    rest_counts t (While tree end) counts b none = absurd (let e : false ≡ true = counts in cc)
+    rest_counts t (EndWhile begin) counts b none = absurd (let e : false ≡ true = counts in cc)
+    rest_counts t (For nest first last up end) counts b none =
+        absurd (let e : false ≡ true = counts in cc)
+    rest_counts t (EndFor begin) counts b none = absurd (let e : false ≡ true = counts in cc)
+
+    pub record FirstLine : Type 0 where
+      pub line_is : Line
+      pub found : slice_get (flat program).lines (first_flat_of program j) ≡ Some line_is
+      pub depth : line_is.depth ≡ line.depth
+      pub counts : is_counted line_is.statement ≡ true
+
+    last_counts : length (pieces_of program line) ≡ 0 →
+        is_counted (last_line program line).statement ≡ true
+    last_counts none =
+        rest_counts (length program.privates) line.statement counted (fits line.statement) none
+
+    pub first_line : FirstLine
+    first_line = ⊎_elim
+        (λ (some : 0 < length (pieces_of program line)).
+        let there = hidden_is line (length program.privates) (pieces_of program line) 0 some in
+        let e : first_flat_of program j + 0 ≡ first_flat_of program j = omega arith in record {
+          line_is = record line { statement = Assign (Private there.0) there.1 };
+          found = ap (slice_get (flat program).lines) (sym e)
+              ∙ hidden_stands program j line is 0 some ∙ there.2;
+          depth = refl;
+          counts = refl;
+        })
+        (λ (none : length (pieces_of program line) ≤ 0).
+        let zero_is : length (pieces_of program line) ≡ 0 = omega arith in
+        let e : first_flat_of program j ≡ first_flat_of program j + length (pieces_of program line) =
+        omega (arith, none) in record {
+          line_is = last_line program line;
+          found = ap (slice_get (flat program).lines) e ∙ last_stands program j line is;
+          depth = refl;
+          counts = last_counts zero_is;
+        })
+        (cases_lt 0 (length (pieces_of program line)))
+
+-- ---- the run
+
+module _ (program : ProgramData) (lawful : IsProgram program) (job : JobData) (line_of : ℕ → ℕ)
+    (the : IsOf (flat program) job) (whole : IsWhole job)
+    (numbers : AreLineNumbers (flat program) line_of) (j : ℕ) (line : Line)
+    (is : slice_get program.lines j ≡ Some line) (counted : is_counted line.statement ≡ true)
+  where
+    abbrev other : ProgramData
+    other = flat program
+
+    abbrev count : ℕ → ℕ
+    count n = flat_count program n
+
+    abbrev time : ℕ → ℕ
+    time n = time_of other (count n)
+
+    abbrev its : FirstLine program j line is counted
+    its = first_line program j line is counted
+
+    abbrev place_in : ℕ
+    place_in = first_flat_of program j
+
+    abbrev its_line : Line
+    its_line = its.line_is
+
+    carried : (n : ℕ) → IsLineReached program n →
+        CarriedAt other job the place_in its_line its.found its.counts (count n)
+    carried n reached = carried_made other job the (count n) (made_flat program lawful n reached)
+
+    -- who takes part in the first line for it takes part in the line
+    flat_taking : (n : ℕ) → (after program n).at ≡ j →
+        taking_part other (after other (count n)) ≡ taking_part program (after program n)
+    flat_taking n here =
+        let s = stands program lawful n in
+        taking_by other (after other (count n)) its_line
+        (ap (slice_get other.lines) (s.at ∙ ap (first_flat_of program) here) ∙ its.found) its.counts
+        ∙ (λ k. count_by (λ i. s.shares.masks k (its.depth k) i && is_none (s.gone k i))
+        (range_with_len 0 program.procs))
+        ∙ sym (taking_by program (after program n) line (ap (slice_get program.lines) here ∙ is)
+        counted)
+
+    at_first : (n : ℕ) → (after program n).at ≡ j → (after other (count n)).at ≡ place_in
+    at_first n here = (stands program lawful n).at ∙ ap (first_flat_of program) here
+
+    not_over : (n : ℕ) → (IsProgramOver program (after program n) → ⊥) →
+        (after program n).at ≡ j → IsProgramOver other (after other (count n)) → ⊥
+    not_over n goes_on here (inl ends) =
+        let lt = slice_get_within other.lines place_in its_line its.found in
+        let e = at_first n here in omega (arith, ends, lt, e)
+    not_over n goes_on here (inr all) = goes_on (inr (all_back program lawful n all))
+
+    last_step : (n : ℕ) (dispute : Dispute) → IsProgramConflict program n dispute →
+        job.steps ≡ time (suc n)
+    last_step n dispute at =
+        let found = line_next_in program lawful job line_of the whole numbers n at.goes_on in
+        let m : ℕ = count n + length (pieces_of program found.0) in
+        let last = in_line program lawful job line_of the whole numbers n dispute at found.0 found.1 m
+        refl in
+        last.steps_are ∙ sym last.time_is
+        ∙ ap (time_of other) (sym (count_next program lawful n found.0 found.1))
+
+    -- of the instruction p
+    module _ (p : ℕ) (from : place_of other place_in ≤ p) (to : p < place_of other (place_in + 1))
+        (combine : ℕ → ℕ → ℕ) (part : ℕ → ℕ) (empty : (a : ℕ) → combine a (part 0) ≡ a)
+        (gathered : ℕ → ℕ) (grows : (n : ℕ) → gathered (suc n)
+        ≡ combine (gathered n) (part (standing_at_index job p (state_after job n)))) where
+      -- the lines after the first for a line
+      hidden_none : (n : ℕ) (found : Line) → IsLineReached program n →
+          slice_get program.lines (after program n).at ≡ Some found → (k : ℕ) →
+          k ≤ length (pieces_of program found) →
+          gathered (time_of other (count n + 1 + k)) ≡ gathered (time_of other (count n + 1))
+      hidden_none n found reached at zero le =
+          let e : count n + 1 + 0 ≡ count n + 1 = omega arith in
+          ap (λ m. gathered (time_of other m)) e
+      hidden_none n found reached at (suc k) le =
+          let e : count n + 1 + suc k ≡ suc (count n + suc k) = omega arith in
+          let f : count n + suc k ≡ count n + 1 + k = omega arith in
+          let here = (keeps_line program lawful n found at).at (suc k) le in
+          let line_there = flat_at program (after program n).at found at (suc k) le in
+          ap (λ m. gathered (time_of other m)) e
+          ∙ in_other other job the place_in its_line its.found its.counts p from to combine part
+          empty gathered grows (count n + suc k)
+          (carried_made other job the (count n + suc k)
+          (made_on program lawful n (suc k) found at le (made_flat program lawful n reached)))
+          line_there.0 (ap (slice_get other.lines) here ∙ line_there.1)
+          (λ same. let only = first_only program (after program n).at j (suc k) found line at is le
+          (sym here ∙ same) in let none = only.1 in absurd (omega (arith, none)))
+          ∙ ap (λ m. gathered (time_of other m)) f
+          ∙ hidden_none n found reached at k (omega (arith, le))
+
+      after_first : (n : ℕ) (found : Line) → IsLineReached program n →
+          slice_get program.lines (after program n).at ≡ Some found →
+          gathered (time (suc n)) ≡ gathered (time_of other (suc (count n)))
+      after_first n found reached at =
+          let next = count_next program lawful n found at in
+          let e : count (suc n) ≡ count n + 1 + length (pieces_of program found) =
+          omega (arith, next) in
+          let f : count n + 1 ≡ suc (count n) = omega arith in
+          ap (λ m. gathered (time_of other m)) e
+          ∙ hidden_none n found reached at (length (pieces_of program found)) (omega arith)
+          ∙ ap (λ m. gathered (time_of other m)) f
+
+      elsewhere : (n : ℕ) (found : Line) → IsLineReached program n →
+          slice_get program.lines (after program n).at ≡ Some found → (after program n).at ≢ j →
+          gathered (time (suc n)) ≡ gathered (time n)
+      elsewhere n found reached at apart =
+          let s = stands program lawful n in
+          let line_there = flat_at program (after program n).at found at 0 (omega arith) in
+          let e : (after other (count n)).at ≡ first_flat_of program (after program n).at + 0 =
+          s.at ∙ (let f : first_flat_of program (after program n).at
+          ≡ first_flat_of program (after program n).at + 0 = omega arith in f) in
+          after_first n found reached at
+          ∙ in_other other job the place_in its_line its.found its.counts p from to combine part
+          empty gathered grows (count n) (carried n reached) line_there.0
+          (ap (slice_get other.lines) e ∙ line_there.1)
+          (λ same. apart (first_only program (after program n).at j 0 found line at is (omega arith)
+          (sym e ∙ same)).0)
+
+      module _ (added told : ℕ → ℕ) (starts : told 0 ≡ gathered 0)
+          (rises : (n : ℕ) → told (suc n) ≡ combine (told n) (added n))
+          (nothing : (n a : ℕ) → (after program n).at ≢ j → combine a (added n) ≡ a)
+          (something : (n : ℕ) → IsLineReached program n →
+          (IsProgramOver program (after program n) → ⊥) → (after program n).at ≡ j →
+          gathered (time_of other (suc (count n))) ≡ combine (gathered (time n)) (added n)) where
+        each : (n : ℕ) → IsLineReached program n → (IsProgramOver program (after program n) → ⊥) →
+            gathered (time (suc n)) ≡ combine (gathered (time n)) (added n)
+        each n reached goes_on =
+            let found = line_next_in program lawful job line_of the whole numbers n goes_on in
+            ⊎_elim
+            (λ (here : (after program n).at ≡ j).
+            after_first n found.0 reached found.1 ∙ something n reached goes_on here)
+            (λ (apart : (after program n).at ≢ j).
+            elsewhere n found.0 reached found.1 apart ∙ sym (nothing n (gathered (time n)) apart))
+            (cases_eq (after program n).at j)
+
+        told_by : (n : ℕ) → AreAllLines program n → gathered job.steps ≡ told n
+        told_by = all_told program j combine gathered time added told
+            (starts ∙ sym (at_start other job the place_in its_line its.found its.counts p from to
+            combine part empty gathered grows)) rises each job.steps
+            (λ n end. let ending = (ends_flat program lawful job line_of the whole numbers n end).0 in
+            at_end other job the place_in its_line its.found its.counts p from to combine part empty
+            gathered grows (count n) (carried n end.reached)
+            (over_to program lawful n end.over) ending.stopped ending.reached)
+            last_step
+
+    -- ---- the instructions of the line
+
+    abbrev own_p : ℕ
+    own_p = own other job the place_in its_line its.found its.counts
+
+    abbrev first_p : ℕ
+    first_p = first other job the place_in its_line its.found its.counts
+
+    low_p : first_p ≤ own_p
+    low_p = own_from other job the place_in its_line its.found its.counts
+
+    high_p : own_p < place_of other (place_in + 1)
+    high_p = own_inside other job the place_in its_line its.found its.counts
+
+    high_first : first_p < place_of other (place_in + 1)
+    high_first = first_inside other job the place_in its_line its.found its.counts
+
+    taken : (combine : ℕ → ℕ → ℕ) (part : ℕ → ℕ) (empty : (a : ℕ) → combine a (part 0) ≡ a)
+        (gathered : ℕ → ℕ) (grows : (n : ℕ) → gathered (suc n)
+        ≡ combine (gathered n) (part (standing_at_index job own_p (state_after job n))))
+        (n : ℕ) → IsLineReached program n → (after program n).at ≡ j →
+        gathered (time_of other (suc (count n)))
+        ≡ combine (gathered (time n)) (part (share program j n))
+    taken combine part empty gathered grows n reached here =
+        let c = carried n reached in
+        let there = at_first n here in
+        in_it other job the place_in its_line its.found its.counts own_p low_p high_p combine part
+        empty gathered grows (count n) (behind_mask its_line.depth) (share program j n) c there
+        (own_is_turn other job the place_in its_line its.found its.counts (count n) c there)
+        (own_share other job the place_in its_line its.found its.counts (count n) c there
+        ∙ flat_taking n here ∙ share_some program j n here)
+
+    operations_told : (n : ℕ) → AreAllLines program n →
+        executed_at job own_p job.steps ≡ line_operations program j n
+    unfolding executed_at line_operations
+    operations_told = told_by own_p low_p high_p (λ a b. a + b) (λ v. v) add_zero
+        (executed_at job own_p) (λ n. refl) (share program j) (line_operations program j) refl
+        (λ n. refl)
+        (λ n a apart. ap (λ v. a + v) (share_none program j n apart) ∙ add_zero a)
+        (λ n reached goes_on here. taken (λ a b. a + b) (λ v. v) add_zero (executed_at job own_p)
+        (λ m. refl) n reached here)
+
+    time_told : (n : ℕ) → AreAllLines program n →
+        steps_at job own_p job.steps ≡ line_time program j n
+    unfolding steps_at line_time
+    time_told = told_by own_p low_p high_p (λ a b. a + b) some_bit add_zero
+        (steps_at job own_p) (λ n. refl) (λ n. some_bit (share program j n)) (line_time program j)
+        refl (λ n. refl)
+        (λ n a apart. ap (λ v. a + some_bit v) (share_none program j n apart) ∙ add_zero a)
+        (λ n reached goes_on here. taken (λ a b. a + b) some_bit add_zero (steps_at job own_p)
+        (λ m. refl) n reached here)
+
+    most_told : (n : ℕ) → AreAllLines program n →
+        most_at job own_p job.steps ≡ line_most program j n
+    unfolding most_at line_most
+    most_told = told_by own_p low_p high_p max (λ v. v) max_zero
+        (most_at job own_p) (λ n. refl) (share program j) (line_most program j) refl (λ n. refl)
+        (λ n a apart. ap (max a) (share_none program j n apart) ∙ max_zero a)
+        (λ n reached goes_on here. taken max (λ v. v) max_zero (most_at job own_p)
+        (λ m. refl) n reached here)
+
+    times_told : (n : ℕ) → AreAllLines program n →
+        steps_at job first_p job.steps ≡ line_times program j n
+    unfolding steps_at line_times
+    times_told = told_by first_p (omega arith) high_first (λ a b. a + b) some_bit add_zero
+        (steps_at job first_p) (λ n. refl) (λ n. bit ((after program n).at == j))
+        (line_times program j) refl (λ n. refl)
+        (λ n a apart. ap (λ b. a + bit b) (ne_eqb (after program n).at j apart) ∙ add_zero a)
+        (λ n reached goes_on here.
+        let c = carried n reached in
+        let there = at_first n here in
+        in_it other job the place_in its_line its.found its.counts first_p (omega arith)
+        high_first (λ a b. a + b) some_bit add_zero (steps_at job first_p) (λ m. refl) (count n) 0 _
+        c there (first_is_turn other job the place_in its_line its.found its.counts (count n) c
+        there) refl
+        ∙ ap (λ v. steps_at job first_p (time n) + v)
+        (begun other job the place_in its_line its.found its.counts (count n) c
+        (not_over n goes_on here) there
+        ∙ sym (ap bit (eq-eqb (after program n).at j here))))
+
+    pub tells_flat : (n : ℕ) → AreAllLines program n → TellsFlatLine program job n j its_line.depth
+    tells_flat n lines = record {
+      times = times_told n lines;
+      time = time_told n lines;
+      operations = operations_told n lines;
+      most = most_told n lines;
+    }
+
+pub flat_jobs_tell_lines : FlatJobsTellLines
+flat_jobs_tell_lines program job line_of n j line lawful nested compiled lines is counted =
+    subst (TellsFlatLine program job n j) (first_line program j line is counted).depth
+    (tells_flat program lawful job line_of (of_flat program job line_of lawful nested compiled)
+    compiled.whole compiled.numbers j line is counted n lines)
