@@ -188,7 +188,7 @@ pub fn cost_by_lines<J: Source, P: Source, O: Sink>(
     ensures { Did (costing_by true) (taking J.Source P.Source sources.old sources.new)
         (writing O.Sink out.old out.new) tells_conflict result }
 {
-    let (spelled, costs) = take_costed(alloc, &mut sources.job)?;
+    let (spelled, costs) = take_costed(alloc, &mut sources.job, &mut sources.text)?;
     printed(put_records(alloc, &spelled, &costs, out))
 }
 
