@@ -1,7 +1,7 @@
 //! What a text is, and how an answer is told by it.
-ghost use Rattle.std.specs.Prelude.{◌≡◌, ◌<◌, ◌≤◌, ◌++◌, ℕ, true, false, Some, None, IfOk, IfErr, OnOk};
+ghost use Rattle.std.specs.Prelude.{◌≡◌, ◌<◌, ◌++◌, ℕ, true, false, Some, None, IfOk, IfErr, OnOk};
 ghost use Rattle.std.specs.Option.{option_copied};
-ghost use Rattle.std.specs.Prelude.{MatchOption};
+ghost use Rattle.std.specs.Prelude.{MatchOption, ◌≤◌};
 ghost use Rattle.pardo_text.specs.Lawful.{AreArrays};
 ghost use Rattle.pardo_job.specs.Compiled.{IsWhole};
 ghost use Rattle.pardo_job.specs.Printed.{cell_text};
