@@ -66,15 +66,16 @@ A[1],s,0 : pardo 1~rule crew~procs i < 2~shared A[2]~shared s~code~A[i] := i + 7
     1,stop,0~ | 3 step,place,value~0,A[1],0~0,s,0~0,A[0],0~unfinished step=0~
 s,A[2],9 : same under 0,stop,0~1,stop,0~ | 2 watch place=A[2]~
 s,9,A[2] : same under 0,stop,0~1,stop,0~ | 2 watch cell=9~
-A : same under 0,stop,0~1,stop,0~ | 2 watch place=A~
+s,A,0 : same under 0,stop,0~1,stop,0~ \
+    | 3 step,place,value~0,s,0~0,A[0],0~0,A[1],0~0,A[0],0~unfinished step=0~
 0,s : pram 1~cells 1~procs 1~steps 1~code~set r0 7~ under 0,stop,0~1,stop,0~ | 2 watch place=s~
 A[11],A1,B[1],A[1],13,A1,A[0] : pardo 1~rule crew~procs i < 2~shared A[12]~shared A1~shared B[2]~\
     code~A[i] := i + 7~ under 0,stop,0~1,stop,0~ \
     | 3 step,place,value~0,A[11],0~0,A1,0~0,B[1],0~0,A[1],0~0,B[0],0~0,A1,0~0,A[0],0~\
     unfinished step=0~
 -- words that are nearly places
-A : pardo 1~rule crew~procs i < 2~shared A[12]~shared A1~code~A[i] := i + 7~ under 0,stop,0~\
-    1,stop,0~ | 2 watch place=A~
+A] : pardo 1~rule crew~procs i < 2~shared A[12]~shared A1~code~A[i] := i + 7~ under 0,stop,0~\
+    1,stop,0~ | 2 watch place=A]~
 A[ : same under 0,stop,0~1,stop,0~ | 2 watch place=A[~
 A[] : same under 0,stop,0~1,stop,0~ | 2 watch place=A[]~
 A[1 : same under 0,stop,0~1,stop,0~ | 2 watch place=A[1~

@@ -39,7 +39,8 @@ impl Wanted {
             Wanted::Version => "`pardo 1`",
             Wanted::Rule => "`rule common`, `rule priority` or `rule crew`",
             Wanted::Declaration => "`const`, `procs`, `shared`, `private` or `code`",
-            Wanted::LineOfCode => "a name, `if`, `elsif`, `else`, `for`, `while`, `assert` or `end`",
+            Wanted::LineOfCode =>
+                "a name, `if`, `elsif`, `else`, `for`, `while`, `assert` or `end`",
             Wanted::NewName => "a new name",
             Wanted::Operand => "a number, a name, `(`, `min`, `max` or `lg`",
             Wanted::Value => "a number, a name, `(`, `min`, `max`, `lg` or `...`",

@@ -1,10 +1,13 @@
 //! The cells of a job that a word of the command line names.
-ghost use Rattle.std.specs.Prelude.{◌≡◌, ◌<◌, ◌≤◌, ◌⊎◌, ℕ, All, IfOk, IfErr};
-ghost use Rattle.std.specs.Prelude.{◌++◌, ◌∷◌, [], MatchOption, OnOk};
+ghost use Rattle.std.specs.Prelude.{◌≡◌, ◌+◌, ◌^◌, ◌<◌, ◌≤◌, ◌⊎◌, ◌∷◌, ◌++◌, [], All, IfOk, IfErr};
+ghost use Rattle.std.specs.Prelude.{MatchOption, OnOk};
+ghost use Rattle.std.specs.List.{flat_map};
 ghost use Rattle.command_data.specs.CellLists.{SpellsCell, cell_listed, parts_of};
-ghost use Rattle.pram_commands.specs.CellLists.{AreCellsOf, HasCell, IsCellOf, IsOutside};
-ghost use Rattle.pram_commands.specs.CellLists.{IsPlaceOf};
+ghost use Rattle.pram_commands.specs.CellLists.{AreCellsOf, AreNamed, ArePlaces, HasCells, IsAlone};
+ghost use Rattle.pram_commands.specs.CellLists.{IsOutside, NamesCells, cells_from};
+ghost use Rattle.pram_commands.specs.declared.places.Stretch.{Stretch};
 
+use crate::places::Stretch;
 use crate::sources::Spelled;
 use command_data::cell_of;
 use refusals::CommandFault;
@@ -22,54 +25,111 @@ pub(crate) fn cells_in(
     ensures outside { IfErr result (IsOutside spelled.now.names spelled.now.job
         (parts_of text.now)) }
 {
-    let mut cells = Vec::new(alloc);
-    for part in text.split(',') {
-        let Some(cell) = cell_in(alloc, part, spelled)? else {
-            return Err(outside(part, cells.len()));
-        };
-        keep(&mut cells, cell)?;
-    }
-    Ok(cells)
+    let named = named_in(alloc, text, spelled)?;
+    Ok(all_of(alloc, named.as_slice())?)
 }
 
-fn keep(cells: &mut Vec<u32>, cell: u32) -> Result<(), AllocError>
-    ensures { OnOk result (cells.new.items ≡ cells.old.items ++ cell ∷ []) }
+// What each part names.
+fn named_in(alloc: Global, text: &str, spelled: &Spelled) -> Result<Vec<Stretch>, CommandFault>
+    ensures named { IfOk result (λ named. AreNamed spelled.now.names
+        (parts_of text.now) named.items) }
+    ensures within { IfOk result (λ named.
+        All (λ cells. cells.end ≤ spelled.now.job.cells) named.items) }
+    ensures outside { IfErr result (IsOutside spelled.now.names spelled.now.job
+        (parts_of text.now)) }
 {
-    cells.push(cell)?;
+    let mut named = Vec::new(alloc);
+    for part in text.split(',') {
+        let Some(cells) = cells_of(alloc, part, spelled)? else {
+            return Err(outside(part, named.len()));
+        };
+        keep(&mut named, cells)?;
+    }
+    Ok(named)
+}
+
+fn keep(named: &mut Vec<Stretch>, cells: Stretch) -> Result<(), AllocError>
+    ensures { OnOk result (named.new.items ≡ named.old.items ++ cells ∷ []) }
+{
+    named.push(cells)?;
     Ok(())
 }
 
-// The cell that a part names, if the job has it.
-fn cell_in(alloc: Global, part: &str, spelled: &Spelled) -> Result<Option<u32>, AllocError>
+// All of these cells, in order.
+fn all_of(alloc: Global, named: &[Stretch]) -> Result<Vec<u32>, AllocError>
+    ensures { IfOk result (λ all. all.items ≡ flat_map cells_from named.now) }
+{
+    let mut all = Vec::new(alloc);
+    for cells in named {
+        push_cells(&mut all, *cells)?;
+    }
+    Ok(all)
+}
+
+fn push_cells(all: &mut Vec<u32>, cells: Stretch) -> Result<(), AllocError>
+    ensures { OnOk result (all.new.items ≡ all.old.items ++ cells_from cells) }
+{
+    for cell in cells.first..cells.end {
+        all.push(cell)?;
+    }
+    Ok(())
+}
+
+// The cells that a part names, if the job has them.
+fn cells_of(alloc: Global, part: &str, spelled: &Spelled) -> Result<Option<Stretch>, AllocError>
     ensures { IfOk result (λ found. MatchOption found
-        (¬ HasCell spelled.now.names spelled.now.job part.now)
-        (λ cell. IsCellOf spelled.now.names part.now cell × (cell < spelled.now.job.cells))) }
+        (¬ HasCells spelled.now.names spelled.now.job part.now)
+        (λ cells. NamesCells spelled.now.names part.now cells
+        × (cells.end ≤ spelled.now.job.cells))) }
 {
     match cell_of(part) {
         Some(cell) => Ok(if_below(cell, spelled.job.cells())),
-        None => place_in(alloc, part, spelled),
+        None => places_in(alloc, part, spelled),
     }
 }
 
-fn if_below(cell: u32, count: u32) -> Option<u32>
-    ensures { MatchOption result (count ≤ cell) (λ found. (found ≡ cell) × (cell < count)) }
+fn if_below(cell: u32, count: u32) -> Option<Stretch>
+    ensures { MatchOption result (count ≤ cell) (λ cells. IsAlone cell cells × (cell < count)) }
 {
-    if cell < count { Some(cell) } else { None }
+    if cell < count {
+        Some(alone(cell))
+    } else {
+        None
+    }
 }
 
-// The cell that is the place of a part, which is no number.
-fn place_in(alloc: Global, part: &str, spelled: &Spelled) -> Result<Option<u32>, AllocError>
+fn alone(cell: u32) -> Stretch
+    requires { cell + 1 < 2 ^ 32 }
+    ensures { IsAlone cell result }
+{
+    Stretch {
+        first: cell,
+        end: cell + 1,
+    }
+}
+
+// The cells that a part names which is no number.
+fn places_in(alloc: Global, part: &str, spelled: &Spelled) -> Result<Option<Stretch>, AllocError>
     ensures { IfOk result (λ found. MatchOption found
-        ((cell : ℕ) → cell < spelled.now.job.cells → ¬ IsPlaceOf spelled.now.names cell part.now)
-        (λ cell. (cell < spelled.now.job.cells) × IsPlaceOf spelled.now.names cell part.now)) }
+        ((cells : Stretch) → cells.end ≤ spelled.now.job.cells
+        → ¬ ArePlaces spelled.now.names part.now cells)
+        (λ cells. (cells.end ≤ spelled.now.job.cells)
+        × ArePlaces spelled.now.names part.now cells)) }
 {
-    match &spelled.names {
+    let Some(naming) = &spelled.names else {
+        return Ok(None);
+    };
+    let (part, count) = (part.as_bytes(), spelled.job.cells());
+    if let Some(cells) = naming.array_at(part, count) {
+        return Ok(Some(cells));
+    }
+    match naming.cell_at(alloc, part, count)? {
+        Some(cell) => Ok(Some(alone(cell))),
         None => Ok(None),
-        Some(naming) => naming.cell_at(alloc, part.as_bytes(), spelled.job.cells()),
     }
 }
 
-// What is said of a part that names no cell of the job.
+// What is said of a part that names no cells of the job.
 fn outside(part: &str, at: usize) -> CommandFault
     ensures { (SpellsCell part.now × (result ≡ CommandFault.OutsideCell (cell_listed part.now)))
         ⊎ ((¬ SpellsCell part.now) × (result ≡ CommandFault.OutsidePlace at)) }

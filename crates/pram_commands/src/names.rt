@@ -1,7 +1,7 @@
 //! What a text is, and how an answer is told by it.
 ghost use Rattle.std.specs.Prelude.{◌≡◌, ◌<◌, ◌++◌, ℕ, true, false, Some, None, IfOk, IfErr, OnOk};
 ghost use Rattle.std.specs.Option.{option_copied};
-ghost use Rattle.std.specs.Prelude.{MatchOption};
+ghost use Rattle.std.specs.Prelude.{MatchOption, ◌≤◌};
 ghost use Rattle.pardo_text.specs.Lawful.{AreArrays};
 ghost use Rattle.pardo_job.specs.Compiled.{IsWhole};
 ghost use Rattle.pardo_job.specs.Printed.{cell_text};
@@ -14,14 +14,15 @@ ghost use Rattle.pram_commands.specs.Did.{writing};
 ghost use Rattle.pram_commands.specs.Inner.Costed.{AreCosts};
 ghost use Rattle.pram_commands.specs.Inner.Hearing.{PutText};
 ghost use Rattle.pram_commands.specs.Inner.Refusals.{IsBadOrMemory, IsFaultOf};
-ghost use Rattle.pram_commands.specs.CellLists.{IsPlaceOf};
+ghost use Rattle.pram_commands.specs.CellLists.{AreAnArrays, IsPlaceOf};
+ghost use Rattle.pram_commands.specs.declared.places.Stretch.{Stretch};
 ghost use Rattle.pram_commands.specs.Costs.{cost_words, spot_in};
 ghost use Rattle.pram_commands.specs.Names.{AreNames, IsMachines, line_at, printed_answer};
 ghost use Rattle.pram_commands.specs.Steps.{numbers_told};
 ghost use Rattle.pram_commands.specs.Threads.{cell_words, or_number};
 
 use crate::line_costs::{Costed, Costs, costs_of, push_sums};
-use crate::places::{cell_at, place_text, push_told};
+use crate::places::{Stretch, array_at, cell_at, place_text, push_told};
 use crate::sources::Spelled;
 use pardo_answers::{Names, is_program, print_named, push_conflict};
 use pardo_job::{
@@ -80,6 +81,15 @@ impl Naming {
             (λ cell. (cell < count) × IsPlaceOf (Some self.now) cell place.now)) }
     {
         cell_at(alloc, self.program.arrays(), place, count)
+    }
+
+    /// The cells of the array of this name, if there is one and all of them are below the count.
+    pub(crate) fn array_at(&self, name: &[u8], count: u32) -> Option<Stretch>
+        ensures { MatchOption result
+            ((cells : Stretch) → cells.end ≤ count → ¬ AreAnArrays (Some self.now) name.now cells)
+            (λ cells. (cells.end ≤ count) × AreAnArrays (Some self.now) name.now cells) }
+    {
+        array_at(self.program.arrays(), name, count)
     }
 
     /// The answer of the job, which was found with its lines.

@@ -1,13 +1,23 @@
 //! The places of a program's cells, and the cell that a place names.
 ghost use Rattle.std.specs.Prelude.{◌≡◌, ◌≢◌, ◌+◌, ◌<◌, ◌≤◌, ◌^◌, ◌↔◌, ◌++◌, ℕ, List, true};
 ghost use Rattle.std.specs.Prelude.{codes, decimal, length, IfOk, OnOk, IsTrue, MatchOption};
+ghost use Rattle.std.specs.Option.{option_copied};
 ghost use Rattle.pardo_text.specs.Lawful.{AreArrays};
 ghost use Rattle.pardo_job.specs.Printed.{cell_text, has_cell, place_text};
 ghost use Rattle.pram_commands.specs.Inner.Places.{IsPlaceText, read_on, with_digit};
+ghost use Rattle.pram_commands.specs.CellLists.{AreOfArray, array_named};
+ghost use Rattle.pram_commands.specs.declared.places.Stretch.{Stretch};
 
 use pardo_answers::push_cell;
 use pardo_text::Array;
 use std::alloc::{AllocError, Global};
+
+/// Cells that follow one another: the first one, and the one after the last.
+#[derive(Clone, Copy, Debug, PartialEq, Eq)]
+pub(crate) struct Stretch {
+    pub(crate) first: u32,
+    pub(crate) end: u32,
+}
 
 // A number in brackets is read on as long as it is below.
 const MOST: usize = 1 << 32;
@@ -60,6 +70,36 @@ pub(crate) fn place_text(
     let mut text = Vec::new(alloc);
     push_told(&mut text, arrays, cell)?;
     Ok(text)
+}
+
+/// The cells of the array of this name, if there is one and all of them are below the count.
+pub(crate) fn array_at(arrays: &[Array], name: &[u8], count: u32) -> Option<Stretch>
+    ensures { MatchOption result
+        ((cells : Stretch) → cells.end ≤ count → ¬ AreOfArray arrays.now name.now cells)
+        (λ cells. (cells.end ≤ count) × AreOfArray arrays.now name.now cells) }
+{
+    let array = array_named(arrays, name)?;
+    let (base, len) = (array.base(), array.start().len());
+    let count = count as usize;
+    if base > count || len > count - base {
+        return None;
+    }
+    Some(Stretch {
+        first: base as u32,
+        end: (base + len) as u32,
+    })
+}
+
+// The array of this name.
+fn array_named<'a>(arrays: &'a [Array], name: &[u8]) -> Option<&'a Array>
+    ensures { option_copied result ≡ array_named arrays.now name.now }
+{
+    for array in arrays {
+        if !array.is_scalar() && array.name() == name {
+            return Some(array);
+        }
+    }
+    None
 }
 
 /// The cell, of so many, whose place is told by this text, if there is one. Arrays are gone through

@@ -1,73 +1,19 @@
-use Rattle.std.proofs.Common.{◌≡◌, ◌⊎◌, ◌<◌, ℕ, List, [], ◌∷◌, ◌++◌, All, lit<, sym, subst}
-use Rattle.std.proofs.Common.{arith, length, map}
-use Rattle.std.proofs.lemmas.Iterator.Consumers.{YieldsList-at, YieldsList-end, YieldsList-so_far}
-use Rattle.std.proofs.lemmas.Iterator.Consumers.{YieldsList-turn}
-use Rattle.std.proofs.lemmas.Iterator.Splits.{YieldsList-from_str_split}
-use Rattle.std.proofs.lemmas.List.{length-map, map-append}
-use Rattle.std.proofs.lemmas.List.Elements.{All-push}
-use Rattle.std.specs.Borrow.{Bor}
-use Rattle.command_data.specs.CellLists.{SpellsCell, cell_listed, parts_of}
-use Rattle.pram_commands.specs.CellLists.{AreCellsOf}
-use Rattle.refusals.specs.declared.fault.CommandFault.TheVariants.{OutsideCell, OutsidePlace}
-use Rattle.pram_commands.proofs.Cells.{as_many, cells_more, first_without, found_none, found_some}
-use Rattle.pram_commands.proofs.Cells.{said_outside}
+use Rattle.std.proofs.Common.{◌∙◌, ◌<◌, ℕ, List, All, ap, sym, subst}
+use Rattle.std.specs.List.{flat_map}
+use Rattle.pram_commands.specs.CellLists.{cells_from}
+use Rattle.pram_commands.proofs.Cells.{all_below}
 use Rattle.pram_commands.proofs.cell_list.cells_in.Goals as goal
 
-abbrev now_of : Bor (List ℕ) → List ℕ
-now_of part = part.now
-
-pub returns-in_default-clause-outside : goal.returns-in_default-clause-outside
-returns-in_default-clause-outside c =
-    let names = c.args.spelled.now.names in
-    let job = c.args.spelled.now.job in
-    let parts = parts_of c.args.text.now in
-    let yielded = c.loop-part.yielded in
-    let part = c.in-Some.part.now in
-    let road = YieldsList-at c.into_iter-part-iterator.ensures.into_iter_gives
-    (YieldsList-from_str_split 44 c.args.text.now (lit< tt) c.split-part-items.ensures.text
-    c.split-part-items.ensures.has_more c.split-part-items.ensures.pattern) in
-    let turn = YieldsList-turn road yielded _ c.loop-part.yielded_by _ _ c.in-Some.part
-    c.in-Some.is c.next.ensures.steps in
-    let front = YieldsList-so_far road yielded _ c.loop-part.yielded_by in
-    let many : length (map now_of yielded) ≡ length yielded = length-map yielded now_of in
-    let all = as_many names (map now_of yielded) c.loop-part.cells.items c.loop-part.invariant.are in
-    let count : c.len.result ≡ length yielded =
-    omega (arith, c.len.ensures, c.loop-part.cells.ok, all, many) in
-    let none = found_none c.in_ok-cell.field-0 _ _ c.in_ok-cell.ensures c.in_default.not-Some in
-    said_outside names job parts (length yielded) part c.outside.result
-    (first_without names job parts (map now_of yielded) c.loop-part.cells.items (length yielded)
-    part front many c.loop-part.invariant.are c.loop-part.invariant.within turn none) turn
-    (subst (λ (n : ℕ). (SpellsCell part × (c.outside.result ≡ OutsideCell (cell_listed part)))
-    ⊎ ((¬ SpellsCell part) × (c.outside.result ≡ OutsidePlace n))) count c.outside.ensures)
-
-pub loop-part-preserved : goal.loop-part-preserved
-loop-part-preserved c =
-    let names = c.args.spelled.now.names in
-    let yielded = c.loop-part.yielded in
-    let found = found_some c.in_ok-cell.field-0 _ _ c.in-Some-2.cell c.in_ok-cell.ensures
-    c.in-Some-2.is in
-    let kept = c.in_ok-keep.ensures in
-    let more : AreCellsOf names (map now_of (yielded ++ c.in-Some.part ∷ [])) c.keep.new.cells.items =
-    subst (λ (l : List ℕ). AreCellsOf names (map now_of (yielded ++ c.in-Some.part ∷ [])) l)
-    (sym kept)
-    (subst (λ (ps : List (List ℕ)).
-    AreCellsOf names ps (c.loop-part.cells.items ++ c.in-Some-2.cell ∷ []))
-    (sym (map-append now_of yielded (c.in-Some.part ∷ [])))
-    (cells_more names (map now_of yielded) c.loop-part.cells.items c.in-Some.part.now
-    c.in-Some-2.cell c.loop-part.invariant.are found.0)) in
-    record {
-      are = more;
-      within = subst (λ (l : List ℕ). All (λ cell. cell < c.args.spelled.now.job.cells) l) (sym kept)
-          (All-push (λ cell. cell < c.args.spelled.now.job.cells) c.loop-part.cells.items
-          c.in-Some-2.cell c.loop-part.invariant.within found.1);
-    }
-
 pub returns-clause-cells : goal.returns-clause-cells
-returns-clause-cells c =
-    let road = YieldsList-at c.into_iter-part-iterator.ensures.into_iter_gives
-    (YieldsList-from_str_split 44 c.args.text.now (lit< tt) c.split-part-items.ensures.text
-    c.split-part-items.ensures.has_more c.split-part-items.ensures.pattern) in
-    let whole = YieldsList-end road c.loop-part.yielded
-    _ c.loop-part.yielded_by _ _ c.in-None.is c.next.ensures.steps in
-    subst (λ (ps : List (List ℕ)). AreCellsOf c.args.spelled.now.names ps c.loop-part.cells.items)
-    whole.0 c.loop-part.invariant.are
+returns-clause-cells c = (
+  c.in_ok-named.named.items,
+  c.in_ok-named.ensures.named,
+  c.in_ok-all_of.ensures ∙ ap (flat_map cells_from) c.as_slice.ensures.value,
+)
+
+pub returns-clause-within : goal.returns-clause-within
+returns-clause-within c =
+    let all = c.in_ok-all_of.ensures ∙ ap (flat_map cells_from) c.as_slice.ensures.value in
+    let job = c.args.spelled.now.job in
+    subst (λ (cells : List ℕ). All (λ cell. cell < job.cells) cells) (sym all)
+    (all_below job.cells c.in_ok-named.named.items c.in_ok-named.ensures.within)
