@@ -28,7 +28,7 @@ no job~ | 2 text line=1 kind=BadHeader~
 $ pramx check job --explain
 no job~ \
     | 2 text line=1 kind=BadHeader~\
-    job, line 1: a line of the header is wrong, missing or repeated~
+    job:1:1: a line of the header is wrong, missing or repeated~    no job~    ^~
 -- a file is named by its word
 $ pramx check plan --explain
  | 2 text line=1 kind=BadHeader~\

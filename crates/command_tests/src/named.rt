@@ -135,51 +135,72 @@ fn programs_of_courses_are_answered_by_names(rt: HostRuntime) -> Result<(), Fail
 
 const HEADER: &str = "pardo 1~rule common~procs i < 4~shared A[4]~shared s~private x~code~";
 
-// How programs are refused. `@` stands for the header, and `?` for many lines.
+// How programs are refused. `@` stands for the header, and `MANY` for many lines.
 const REFUSED: &str = "\
 $ pramx check job --explain
 @x := 1 \x07~ \
     | 2 text line=8 kind=NotAscii~\
-    job, line 8: a character here is neither printable ASCII nor a tab~
-@x := 1 # 2~ | 2 text line=8 kind=BadSymbol~job, line 8: a character here has no meaning~
+    job:8:8: a character that is not allowed: texts are ASCII, in comments too~    x := 1 \
+    ?~           ^~
+@x := 1 # 2~ \
+    | 2 text line=8 kind=BadSymbol~\
+    job:8:8: a comment begins with `;`~    x := 1 # 2~           ^~
 @x = 1~ \
     | 2 text line=8 kind=BadLine~\
-    job, line 8: something is missing here, left over, or in the wrong place~
-@x := y~ | 2 text line=8 kind=UnknownName~job, line 8: a name here is not known~
+    job:8:3: an assignment is `:=`; `=` compares~    x = 1~      ^~
+@x := y~ \
+    | 2 text line=8 kind=UnknownName~\
+    job:8:6: nothing is named `y`; there is `i`~    x := y~         ^~
 @for x = 1 to 2~end~ \
     | 2 text line=8 kind=DuplicateName~\
-    job, line 8: the name that is declared here is known already~
+    job:8:5: `x` is declared already, in line 6: the variable of a loop has a new name~    for \
+    x = 1 to 2~        ^~
 @while x~end~ \
     | 2 text line=8 kind=WrongKind~\
-    job, line 8: a name here stands for something that has no place here~
+    job:8:7: the condition of a `while` is the same for all processors: constants, shared \
+    scalars and the variables of loops around may stand, and `x` is a private variable; let an \
+    `if` within the loop look at it~    while x~          ^~
 @x := 4294967296~ \
     | 2 text line=8 kind=OutOfLimits~\
-    job, line 8: a number is outside its limits, or something is divided by 0~
-@end~ | 2 text line=8 kind=BadBlock~job, line 8: this else or end belongs to nothing~
+    job:8:6: 4294967296 is out of limits: numbers go from 0 to 4,294,967,295~    x := \
+    4294967296~         ^~
+@end~ \
+    | 2 text line=8 kind=BadBlock~\
+    job:8:1: no block is open here: one `end` is too many~    end~    ^~
 @x := A[x] + A[x] * (A[x] + A[x] * A[x])~ \
     | 2 text line=8 kind=TooDeep~\
-    job, line 8: three registers are too few for an expression: use a private variable~
+    job:8:1: three registers are too few for an expression: use a private variable~    x := \
+    A[x] + A[x] * (A[x] + A[x] * A[x])~    ^~
 @if i~x := 1~ \
-    | 2 text line=10 kind=OpenBlock~job, line 10: the text ends here, and a block is not closed~
-@ | 2 text line=8 kind=NoCode~job, line 8: no line of code follows the line code~
+    | 2 text line=10 kind=OpenBlock~\
+    job:10:1: the `if` of line 8 has no `end`~    ~    ^~
+@ \
+    | 2 text line=8 kind=NoCode~\
+    job:8:1: no line of code follows `code`~    ~    ^~
 pardo 2~ \
     | 2 text line=1 kind=BadHeader~\
-    job, line 1: a line of the header is wrong, missing or repeated~
+    job:1:1: the language is `pardo 1`~    pardo 2~    ^~
 pardo 1~rule crew~shared A[1] = 1, 2~ \
     | 2 text line=3 kind=WrongLength~\
-    job, line 3: the array gets too many values, or too few without ...~
+    job:3:15: there are not as many values as places; `, ...` fills the rest with the last \
+    one~    shared A[1] = 1, 2~                  ^~
 pardo 1~rule crew~procs i < 1~code~while 1~end~ \
-    | 2 text line=5 kind=Endless~job, line 5: the program is still here after 1,048,576 steps~
+    | 2 text line=5 kind=Endless~\
+    job:5:1: the program is still here after 1,048,576 steps~    while 1~    ^~
 pardo 1~rule crew~shared A[65000]~shared B[600]~ \
-    | 2 text line=4 kind=TooManyCells~job, line 4: a program has at most 65,536 cells~
-@? | 2 text line=380 kind=TooLong~job, line 380: a program has at most 4,096 instructions~
+    | 2 text line=4 kind=TooManyCells~\
+    job:4:1: more than 65,536 cells: an array takes one for each place; a private variable, a \
+    depth of loops and one of `if`s take one for each processor~    shared B[600]~    ^~
+@MANY \
+    | 2 text line=380 kind=TooLong~\
+    job:380:1: a program has at most 4,096 instructions~    x := x + s + A[x] + A[x + 1]~    ^~
 ";
 
 #[test]
 fn refused_programs_are_explained(rt: HostRuntime) -> Result<(), Fail> {
     let alloc = rt.alloc();
     let many = "x := x + s + A[x] + A[x + 1]~".repeat(alloc, 600)?;
-    let table = REFUSED.replace(alloc, "?", many.as_str())?;
+    let table = REFUSED.replace(alloc, "MANY", many.as_str())?;
     let table = table.replace(alloc, "@", HEADER)?;
     expect(&rt, alloc, table.as_str())
 }
