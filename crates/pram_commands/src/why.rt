@@ -5,31 +5,32 @@ ghost use Rattle.pram_commands.specs.Inner.Puts.{HasAnswered};
 ghost use Rattle.pram_commands.specs.Names.{AreNames, line_at};
 ghost use Rattle.pram_commands.specs.Why.{Follows, told_steps};
 
-use crate::names::{origin_of, print_told};
+use crate::names::{origin_of, print_styled};
 use crate::sources::Spelled;
+use command_data::Style;
 use pram_fates::{fates_after, fates_text};
 use pram_job::Job;
 use pram_step::RunAnswer;
 use pram_streams::{PrintFault, Sink, put};
 use std::alloc::{AllocError, Global};
 
-/// Prints an answer, and if it is asked for, what became of the processors. Nothing is printed
-/// before memory for both was found.
+/// Prints an answer in a style. Nothing is printed before memory for it and for what became of the
+/// processors was found.
 pub(crate) fn put_told<O: Sink>(
     alloc: Global,
     out: &mut O,
-    why: bool,
+    style: Style,
     spelled: &Spelled,
     answer: &RunAnswer,
 ) -> Result<(), PrintFault>
     requires output { O.has_failed out.old ≡ false }
     requires names { AreNames spelled.now.text.items spelled.now.job spelled.now.names }
-    ensures { HasAnswered why spelled.now.text.items spelled.now.job
+    ensures { HasAnswered style spelled.now.text.items spelled.now.job
         (writing O.Sink out.old out.new)
         answer.now result }
 {
-    let back = following(alloc, why, spelled, answer)?;
-    print_told(alloc, out, spelled, answer)?;
+    let back = following(alloc, style.why, spelled, answer)?;
+    print_styled(alloc, out, style.csv, spelled, answer)?;
     put(out, back.as_bytes())?;
     Ok(())
 }
