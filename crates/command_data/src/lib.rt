@@ -10,6 +10,6 @@ mod workers;
 
 pub use block::Block;
 pub use cell_list::{CellList, cell_of};
-pub use line::{Ask, AskAlone, AskOnThreads, AskRun, AskWatch, Line};
+pub use line::{Ask, AskAlone, AskOnThreads, AskRun, AskWatch, Line, Style};
 pub use manner::{Manner, Telling};
 pub use workers::Workers;

@@ -30,9 +30,8 @@ pub enum AskAlone {
     Check,
     /// Print the job as a text of the machine.
     Compile,
-    /// Run the job on the plain machine; after the answer what became of the processors, if it is
-    /// asked for.
-    Plain { why: bool },
+    /// Run the job on the plain machine.
+    Plain(Style),
     /// Say what the run of the job costs, and which model of the PRAM it needs; or, if it is asked
     /// for, what each counted line of its program costs.
     Cost { lines: bool },
@@ -44,6 +43,14 @@ pub enum AskAlone {
     Replay { workers: Workers, alone: bool },
 }
 
+/// How an answer is told: with cells as records, if that is asked for, and with what became of the
+/// processors after it, if that is.
+#[derive(Clone, Copy, Debug, PartialEq, Eq)]
+pub struct Style {
+    pub csv: bool,
+    pub why: bool,
+}
+
 /// What is done on threads.
 #[derive(Clone, Copy, Debug, PartialEq, Eq)]
 pub enum AskOnThreads<'a> {
@@ -51,12 +58,11 @@ pub enum AskOnThreads<'a> {
     Watch(AskWatch<'a>),
 }
 
-/// Run the job on threads, in this manner; after the answer what became of the processors, if it is
-/// asked for.
+/// Run the job on threads, in this manner, and tell its answer in this style.
 #[derive(Clone, Copy, Debug, PartialEq, Eq)]
 pub struct AskRun {
     pub manner: Manner,
-    pub why: bool,
+    pub style: Style,
 }
 
 /// Run the job on threads, in this manner, with a reader beside the workers, which goes so many

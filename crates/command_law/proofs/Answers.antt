@@ -19,16 +19,19 @@ use Rattle.pardo_text.proofs.LawNesting.{programs_are_nested}
 use Rattle.pardo_law.proofs.Theorem.{jobs_carry_programs}
 use Rattle.pardo_answers.specs.Language.{is_program}
 use Rattle.pardo_answers.proofs.LawAnswers.{printed_answers_are_the_programs}
-use Rattle.command_law.specs.Laws.{IsCutOff, IsProgramsAnswer}
+use Rattle.pardo_answers.proofs.LawAnswers.{recorded_answers_are_the_programs}
+use Rattle.pardo_answers.specs.Laws.{IsCarrying}
+use Rattle.command_law.specs.Laws.{IsCutOff, IsProgramsAnswer, IsProgramsRecords}
+use Rattle.command_law.specs.Laws.{PlainRecordsTheProgramsEnd, RunsRecordTheProgramsEnd}
 use Rattle.command_law.specs.Laws.{PlainPrintsTheProgramsAnswer, RunsPrintTheProgramsAnswer}
 use Rattle.pram_commands.specs.Names.{AreNames, IsNaming, NamingData, printed_answer}
+use Rattle.pram_commands.specs.Names.{recorded}
 use Rattle.pram_commands.specs.Threads.{EndsAt}
 
--- by the names of a program
-by_names : (text : List ℕ) (job : JobData) (naming : NamingData) (answer : RunAnswer) →
-    IsNaming text job naming → IsAnswer job answer →
-    IsProgramsAnswer text job (printed_answer (Some naming) answer job.steps)
-by_names text job naming answer is answers =
+-- its job carries it
+carried : (text : List ℕ) (job : JobData) (naming : NamingData) → IsNaming text job naming →
+    IsCarrying naming.program job (slice_index naming.numbers)
+carried text job naming is =
     let lawful : IsProgram naming.program =
     subst (λ (r : Result ProgramData PardoFault). IfOk r IsProgram) is.reads
     (programs_are_lawful text) in
@@ -36,18 +39,32 @@ by_names text job naming answer is answers =
     subst (λ (r : Result ProgramData PardoFault). IfOk r (λ program. IsNested program.lines)) is.reads
     (programs_are_nested text) in
     record {
-      program = naming.program;
-      reads = is.reads;
-      answers = printed_answers_are_the_programs naming.program job (slice_index naming.numbers)
-          answer naming.ended.lines
-          (record {
-            lawful = lawful;
-            made = is.makes.made;
-            carries = jobs_carry_programs naming.program job (slice_index naming.numbers) lawful
-                nested is.makes;
-          })
-          answers is.ends.ends_in;
+      lawful = lawful;
+      made = is.makes.made;
+      carries = jobs_carry_programs naming.program job (slice_index naming.numbers) lawful
+          nested is.makes;
     }
+
+-- by the names of a program
+by_names : (text : List ℕ) (job : JobData) (naming : NamingData) (answer : RunAnswer) →
+    IsNaming text job naming → IsAnswer job answer →
+    IsProgramsAnswer text job (printed_answer (Some naming) answer job.steps)
+by_names text job naming answer is answers = record {
+  program = naming.program;
+  reads = is.reads;
+  answers = printed_answers_are_the_programs naming.program job (slice_index naming.numbers)
+      answer naming.ended.lines (carried text job naming is) answers is.ends.ends_in;
+}
+
+recorded_by_names : (text : List ℕ) (job : JobData) (naming : NamingData) (answer : RunAnswer) →
+    IsNaming text job naming → IsAnswer job answer →
+    IsProgramsRecords text (recorded (Some naming) answer job.steps)
+recorded_by_names text job naming answer is answers = record {
+  program = naming.program;
+  reads = is.reads;
+  answers = recorded_answers_are_the_programs naming.program job (slice_index naming.numbers)
+      answer naming.ended.lines (carried text job naming is) answers is.ends.ends_in;
+}
 
 -- the text of a program is no text of the machine
 pub told_answer : (text : List ℕ) (job : JobData) (names : Option NamingData) (answer : RunAnswer) →
@@ -56,17 +73,31 @@ pub told_answer : (text : List ℕ) (job : JobData) (names : Option NamingData) 
 told_answer text job None answer one is answers = absurd (false≢true (sym is.is_none ∙ one))
 told_answer text job (Some naming) answer one is answers = by_names text job naming answer is answers
 
+told_records : (text : List ℕ) (job : JobData) (names : Option NamingData) (answer : RunAnswer) →
+    is_program text ≡ true → AreNames text job names → IsAnswer job answer →
+    IsProgramsRecords text (recorded names answer job.steps)
+told_records text job None answer one is answers = absurd (false≢true (sym is.is_none ∙ one))
+told_records text job (Some naming) answer one is answers =
+    recorded_by_names text job naming answer is answers
+
 -- nothing follows the answer
-alone : (text : List ℕ) (job : JobData) (bytes told back : List ℕ) → bytes ≡ told ++ back →
-    back ≡ [] → IsProgramsAnswer text job told → IsProgramsAnswer text job bytes
-alone text job bytes told back prints follows is =
-    subst (λ (b : List ℕ). IsProgramsAnswer text job b)
+alone : (Is : List ℕ → Type 0) (bytes told back : List ℕ) → bytes ≡ told ++ back → back ≡ [] →
+    Is told → Is bytes
+alone Is bytes told back prints follows is =
+    subst Is
     (sym (prints ∙ ap (λ (b : List ℕ). told ++ b) follows ∙ append-nil told)) is
 
 pub plain_prints : PlainPrintsTheProgramsAnswer
 plain_prints text job bytes answer one comes =
-    alone text job bytes (printed_answer comes.names comes.ended job.steps) comes.back comes.prints
-    comes.follows (told_answer text job comes.names comes.ended one comes.are_names comes.ends)
+    alone (IsProgramsAnswer text job) bytes (printed_answer comes.names comes.ended job.steps)
+    comes.back comes.prints comes.follows
+    (told_answer text job comes.names comes.ended one comes.are_names comes.ends)
+
+pub plain_records : PlainRecordsTheProgramsEnd
+plain_records text job bytes answer one comes =
+    alone (IsProgramsRecords text) bytes (recorded comes.names comes.ended job.steps)
+    comes.back comes.prints comes.follows
+    (told_records text job comes.names comes.ended one comes.are_names comes.ends)
 
 -- how a run ended
 pub ended_so : (job : JobData) (plan : PlanData) (later : SeatData) (answer : RunAnswer) →
@@ -84,9 +115,20 @@ pub runs_print : RunsPrintTheProgramsAnswer
 runs_print text job plan workers bytes answer one comes =
     elim (ended_so job plan comes.ends.0 comes.ended comes.ends.1) [
       | inl answers ↦ inl
-          (alone text job bytes (printed_answer comes.names comes.ended job.steps) comes.back
-          comes.prints
-          comes.follows (told_answer text job comes.names comes.ended one comes.are_names answers))
+          (alone (IsProgramsAnswer text job) bytes
+          (printed_answer comes.names comes.ended job.steps) comes.back comes.prints comes.follows
+          (told_answer text job comes.names comes.ended one comes.are_names answers))
+      | inr cut ↦ inr
+          (subst (λ (a : Option RunAnswer). IsCutOff plan a) (sym comes.gives) cut)
+    ]
+
+pub runs_record : RunsRecordTheProgramsEnd
+runs_record text job plan workers bytes answer one comes =
+    elim (ended_so job plan comes.ends.0 comes.ended comes.ends.1) [
+      | inl answers ↦ inl
+          (alone (IsProgramsRecords text) bytes (recorded comes.names comes.ended job.steps)
+          comes.back comes.prints comes.follows
+          (told_records text job comes.names comes.ended one comes.are_names answers))
       | inr cut ↦ inr
           (subst (λ (a : Option RunAnswer). IsCutOff plan a) (sym comes.gives) cut)
     ]

@@ -56,6 +56,7 @@ use Rattle.pram_commands.specs.Plain.{checking, no_plan, plainly}
 use Rattle.pram_commands.specs.Replayed.{replaying}
 use Rattle.pram_commands.specs.Steps.{stepping}
 use Rattle.pram_commands.specs.Threads.{cell_words, running, watching}
+use Rattle.pram_commands.specs.Why.{in_lines}
 use Rattle.command_law.specs.Laws.{IsCutOff, IsProgramsAnswer}
 
 -- ---- the program and its job
@@ -344,12 +345,12 @@ pub record IsProgramsWhy (text : List ℕ) (job : JobData) (bytes : List ℕ)
 
 abbrev pub PlainTellsWhy : Type 0
 PlainTellsWhy = (text : List ℕ) (job : JobData) (bytes : List ℕ) (answer : Option RunAnswer) →
-    is_program text ≡ true → (plainly true).Comes text job no_plan bytes answer →
+    is_program text ≡ true → (plainly (in_lines true)).Comes text job no_plan bytes answer →
     IsProgramsWhy text job bytes answer (IsProgramsAnswer text job)
 
 abbrev pub RunsTellWhy : Type 0
 RunsTellWhy = (text : List ℕ) (job : JobData) (plan : PlanData) (workers : ℕ) (bytes : List ℕ)
     (answer : Option RunAnswer) → is_program text ≡ true →
-    (running true workers).Comes text job plan bytes answer →
+    (running (in_lines true) workers).Comes text job plan bytes answer →
     IsProgramsWhy text job bytes answer
     (λ front. IsProgramsAnswer text job front ⊎ IsCutOff plan answer)

@@ -1,6 +1,7 @@
 //! Laws of what is printed: each function does nothing, and says to a proof that its law holds.
 ghost use Rattle.command_law.specs.Laws.{CompilePrintsTheSameJob, PlainPrintsTheProgramsAnswer};
-ghost use Rattle.command_law.specs.Laws.{RunsPrintTheProgramsAnswer};
+ghost use Rattle.command_law.specs.Laws.{PlainRecordsTheProgramsEnd, RunsPrintTheProgramsAnswer};
+ghost use Rattle.command_law.specs.Laws.{RunsRecordTheProgramsEnd};
 ghost use Rattle.command_law.specs.Programs.{CheckTellsTheProgramsJob, CostsTellTheProgramsLines};
 ghost use Rattle.command_law.specs.Programs.{PlainTellsWhy, RecordsTellTheProgramsLines};
 ghost use Rattle.command_law.specs.Programs.{ReplaysPrintTheProgramsAnswer, RunsTellWhy};
@@ -15,6 +16,18 @@ pub fn plain_prints_the_programs_answer()
 /// plan stops every worker.
 pub fn runs_print_the_programs_answer()
     ensures { RunsPrintTheProgramsAnswer }
+{}
+
+/// What `plain` prints as records of a program is the program's end, by its meaning, or its
+/// conflict.
+pub fn plain_records_the_programs_end()
+    ensures { PlainRecordsTheProgramsEnd }
+{}
+
+/// What a run on threads prints as records of a program is that too, unless its plan stops every
+/// worker.
+pub fn runs_record_the_programs_end()
+    ensures { RunsRecordTheProgramsEnd }
 {}
 
 /// What `compile` prints of a text is a text of the machine, whose one job is the one that the text

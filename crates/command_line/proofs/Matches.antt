@@ -9,7 +9,8 @@ use Rattle.clap.specs.declared.ArgMatches.{ArgMatches}
 use Rattle.clap.specs.declared.parser.matches.Found.{Found}
 use Rattle.clap.proofs.WalkLemmas.{first_value-rows, one_text-rows, raw_values-rows}
 use Rattle.clap.specs.Matches.{matched_of, raw_values}
-use Rattle.command_line.specs.CommandLine.{HasFile, HasFlag, HasSettings, IsFlag}
+use Rattle.command_data.specs.declared.line.Style.{Style}
+use Rattle.command_line.specs.CommandLine.{HasFile, HasFlag, HasSettings, HasStyle, IsFlag}
 
 abbrev pub both : {B X Y : Type 0} → (B → X) → (B → Y) → B → X × Y
 both f g b = (f b, g b)
@@ -46,6 +47,15 @@ pub has_flag : (matches : Option (Text × List Row)) (name : Text) (f : Found) (
     HasFlag option matches flag
 has_flag matches name f option flag is holds =
     subst (λ (o : Option (Text × List Row)). HasFlag option o flag) (sym is) holds
+
+-- a style that was met
+pub has_style : (matches : Option (Text × List Row)) (name : Text) (f : Found) (style : Style) →
+    matches ≡ Some (name, rows_of f) → IsFlag (one_of (codes "csv") (rows_of f)) style.csv →
+    IsFlag (one_of (codes "why") (rows_of f)) style.why → HasStyle matches style
+has_style matches name f style is csv why = record {
+  csv = has_flag matches name f (codes "csv") style.csv is csv;
+  why = has_flag matches name f (codes "why") style.why is why;
+}
 
 -- what a subcommand that was met has
 pub met_with : (P : Text → List Row → Type 0) (matches : Option (Text × List Row)) (name : Text)

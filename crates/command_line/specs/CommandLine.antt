@@ -26,6 +26,7 @@ use Rattle.command_data.specs.declared.line.AskAlone.TheVariants.{Steps, Replay}
 use Rattle.command_data.specs.declared.line.AskOnThreads.{AskOnThreads}
 use Rattle.command_data.specs.declared.line.AskOnThreads.TheVariants.{Run, Watch}
 use Rattle.command_data.specs.declared.line.Line.{Line}
+use Rattle.command_data.specs.declared.line.Style.{Style}
 use Rattle.command_line.specs.declared.line.Asked.{Asked}
 
 -- an argument that is known by its place
@@ -59,9 +60,13 @@ on_file name =
     with_rule (with_rule (with_rule (new_app name) (needed (placed_rule (codes "file"))))
     (flag_rule (codes "explain"))) (list_rule (codes "set"))
 
--- plain FILE [--why]
+-- [--csv] [--why]
+abbrev pub with_style : App → App
+with_style app = with_rule (with_rule app (flag_rule (codes "csv"))) (flag_rule (codes "why"))
+
+-- plain FILE, and these
 abbrev pub on_plain : App
-on_plain = with_rule (on_file (codes "plain")) (flag_rule (codes "why"))
+on_plain = with_style (on_file (codes "plain"))
 
 -- cost FILE [--lines]
 abbrev pub on_cost : App
@@ -88,9 +93,9 @@ with_progress app = with_rule (with_rule app (flag_rule (codes "progress")))
 abbrev pub with_manner : App → App
 with_manner app = with_rule (with_progress app) (number_rule (codes "block") 1 64)
 
--- run FILE --workers W [--plan P], these, and [--why]
+-- run FILE --workers W [--plan P], these, and a style
 abbrev pub on_run : App
-on_run = with_rule (with_manner (with_workers (codes "run"))) (flag_rule (codes "why"))
+on_run = with_style (with_manner (with_workers (codes "run")))
 
 -- watch FILE --workers W --cells C,C,.. --rounds R [--plan P], and these
 abbrev pub on_watch : App
@@ -207,12 +212,17 @@ pub record HasWatch (matches : Option (Text × List Row)) (name file : Text) (pl
   pub spells : SpellsCells cells
   pub has_rounds : IsNumberOf (codes "rounds") has_run.of_file.rows rounds
 
+-- What was met has this style.
+pub record HasStyle (matches : Option (Text × List Row)) (style : Style) : Type 0 where
+  pub csv : HasFlag (codes "csv") matches style.csv
+  pub why : HasFlag (codes "why") matches style.why
+
 -- a file, a plan if there is one, and what the thread that calls is asked alone are what was met
 abbrev pub IsMetAlone : Option (Text × List Row) → Text → Option Text → AskAlone → Type 0
 IsMetAlone matches file plan Check = HasFile matches (codes "check") file × (plan ≡ None)
 IsMetAlone matches file plan Compile = HasFile matches (codes "compile") file × (plan ≡ None)
-IsMetAlone matches file plan (Plain why) =
-    HasFile matches (codes "plain") file × HasFlag (codes "why") matches why × (plan ≡ None)
+IsMetAlone matches file plan (Plain style) =
+    HasFile matches (codes "plain") file × HasStyle matches style × (plan ≡ None)
 IsMetAlone matches file plan (Cost lines) =
     HasFile matches (codes "cost") file × HasFlag (codes "lines") matches lines × (plan ≡ None)
 IsMetAlone matches file plan (Steps from to alone) =
@@ -224,7 +234,7 @@ IsMetAlone matches file plan (Replay workers alone) =
 abbrev pub IsMetOnThreads : Option (Text × List Row) → Text → Option Text → AskOnThreads → Type 0
 IsMetOnThreads matches file plan (Run run) =
     HasRunArguments matches (codes "run") file plan run.manner
-    × HasFlag (codes "why") matches run.why
+    × HasStyle matches run.style
 IsMetOnThreads matches file plan (Watch watch) =
     HasWatch matches (codes "watch") file plan watch.manner watch.cells.text.now watch.rounds
 

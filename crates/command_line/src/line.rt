@@ -1,9 +1,9 @@
 //! The command line.
 ghost use Rattle.std.specs.Prelude.{◌≡◌, ◌≢◌, ◌≤◌, ◌-◌, ◌^◌, Some, codes};
 ghost use Rattle.std.specs.Prelude.{true, false, map, IfOk, IfErr, IfSome, MatchOption};
-ghost use Rattle.clap.specs.Words.{App, Rule, app_of, first_of, found_of, kind_of, with_rule};
+ghost use Rattle.clap.specs.Words.{App, Rule, app_of, first_of, found_of, kind_of, one_of};
 ghost use Rattle.clap.specs.Words.{rows_of, rule_of, subcommand_of, subcommand_rows_of};
-ghost use Rattle.clap.specs.Words.{with_subcommand};
+ghost use Rattle.clap.specs.Words.{with_rule, with_subcommand};
 ghost use Rattle.command_data.specs.CellLists.{SpellsCells};
 ghost use Rattle.command_data.specs.Manner.{is_told};
 ghost use Rattle.command_line.specs.CommandLine.{AreRefused, FailsByWords, HasBadBlock};
@@ -16,14 +16,16 @@ ghost use Rattle.command_line.specs.CommandLine.{number_rule, on_file};
 ghost use Rattle.command_line.specs.CommandLine.{on_cost, on_machine, on_plain, on_replay};
 ghost use Rattle.command_line.specs.CommandLine.{on_run, on_steps};
 ghost use Rattle.command_line.specs.CommandLine.{on_watch, option_rule, placed_rule, pramx};
-ghost use Rattle.command_line.specs.CommandLine.{SuitsTerminal, telling_of};
-ghost use Rattle.command_line.specs.CommandLine.{with_manner, with_progress, with_workers};
+ghost use Rattle.command_line.specs.CommandLine.{IsFlag, SuitsTerminal, telling_of};
+ghost use Rattle.command_line.specs.CommandLine.{with_manner, with_progress, with_style};
+ghost use Rattle.command_line.specs.CommandLine.{with_workers};
 
 use clap::builder::ValueParser;
 use clap::error::ErrorKind;
 use clap::{Arg, ArgAction, ArgMatches, Command, Error, value_parser};
 use command_data::{
-    Ask, AskAlone, AskOnThreads, AskRun, AskWatch, Block, CellList, Line, Manner, Telling, Workers,
+    Ask, AskAlone, AskOnThreads, AskRun, AskWatch, Block, CellList, Line, Manner, Style, Telling,
+    Workers,
 };
 use std::alloc::{AllocError, Global};
 
@@ -67,6 +69,8 @@ const FROM: &str = "The first step to print, which the job must have; 1 if it is
 const TO: &str = "The last step to print, from 1; the job's last if it is left out";
 
 const CSV: &str = "Print the rows alone, without the answer";
+
+const RECORDS: &str = "Print the final cells as records, with commas between";
 
 const WORKERS: &str = "How many workers there are, from 1 to 64";
 
@@ -329,6 +333,18 @@ fn plain_command<'a>(alloc: Global) -> Result<Command<'a>, AllocError>
     ensures { IfOk result (λ command. app_of command ≡ on_plain) }
 {
     let command = file_command(alloc, "plain", "Run a job on the plain machine");
+    with_style(alloc, command)
+}
+
+// The command, if it was made, with the style of its answer.
+fn with_style<'a>(
+    alloc: Global,
+    made: Result<Command<'a>, AllocError>,
+) -> Result<Command<'a>, AllocError>
+    ensures { (app : App) → IfOk made.entry (λ it. app_of it ≡ app)
+        → IfOk result (λ it. app_of it ≡ with_style app) }
+{
+    let command = with_arg(made, flag(alloc, "csv", RECORDS));
     with_arg(command, flag(alloc, "why", WHY))
 }
 
@@ -378,7 +394,7 @@ fn run_command<'a>(alloc: Global) -> Result<Command<'a>, AllocError>
 {
     let command = workers_command(alloc, "run", "Run a job on threads");
     let command = with_manner(alloc, command);
-    with_arg(command, flag(alloc, "why", WHY))
+    with_style(alloc, command)
 }
 
 fn watch_command<'a>(alloc: Global) -> Result<Command<'a>, AllocError>
@@ -555,11 +571,11 @@ fn line_of<'a>(matches: &ArgMatches<'a>, on_terminal: bool) -> Option<Line<'a>>
             ask: Ask::Alone(AskAlone::Compile),
         }),
         "plain" => {
-            let why = inner.get_flag("why");
+            let style = style_of(inner);
             Some(Line {
                 file,
                 plan: None,
-                ask: Ask::Alone(AskAlone::Plain { why }),
+                ask: Ask::Alone(AskAlone::Plain(style)),
             })
         }
         "cost" => {
@@ -571,6 +587,17 @@ fn line_of<'a>(matches: &ArgMatches<'a>, on_terminal: bool) -> Option<Line<'a>>
             })
         }
         _ => rows_line_of(matches, on_terminal),
+    }
+}
+
+// How an answer is told.
+fn style_of(inner: &ArgMatches<'_>) -> Style
+    ensures csv { IsFlag (one_of (codes "csv") (rows_of (found_of inner.now))) result.csv }
+    ensures why { IsFlag (one_of (codes "why") (rows_of (found_of inner.now))) result.why }
+{
+    Style {
+        csv: inner.get_flag("csv"),
+        why: inner.get_flag("why"),
     }
 }
 
@@ -615,11 +642,11 @@ fn threads_line_of<'a>(matches: &ArgMatches<'a>, on_terminal: bool) -> Option<Li
     match name {
         "run" => {
             let manner = manner_of(inner, on_terminal)?;
-            let why = inner.get_flag("why");
+            let style = style_of(inner);
             Some(Line {
                 file,
                 plan,
-                ask: Ask::OnThreads(AskOnThreads::Run(AskRun { manner, why })),
+                ask: Ask::OnThreads(AskOnThreads::Run(AskRun { manner, style })),
             })
         }
         "watch" => {

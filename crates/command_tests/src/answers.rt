@@ -129,6 +129,17 @@ pram 1~cells 2~procs 4~steps 9~init 0 5~code~pid r0~ld r1 r0~st r0 r1~ \
 pram 1~cells 2~procs 4~steps 9~code~pid r0~ld r1 r0~set r2 0~st r2 r0~ \
     | 1 conflict step=4 cell=0 processors=0,1~lost processor=2 step=2 line=7~
 pram 1~cells 1~procs 3~steps 2~code~pid r0~st r1 r0~ | 1 conflict step=2 cell=0 processors=0,1~
+-- the cells as records
+$ pramx plain job --csv & pramx run job --workers 2 --csv
+pram 1~cells 3~procs 2~steps 3~init 2 8~code~pid r0~set r1 6~st r0 r1~ \
+    | 0 cell,value~0,6~1,6~2,8~
+pram 1~cells 1~procs 3~steps 2~code~pid r0~st r1 r0~ | 1 conflict step=2 cell=0 processors=0,1~
+pardo 1~rule common~procs i < 4~shared A[4]~shared s~private x~code~A[i] := i~~x := A[i + 2]~\
+    s := 7~ \
+    | 0 name,index,value~A,0,0~A,1,1~A,2,2~A,3,3~s,,7~gone processor,2,10~gone processor,3,10~
+pardo 1~rule common~procs i < 2~shared s~code~s := i~ | 1 conflict line=6 place=s processors=0,1~
+$ pramx plain job --csv --why
+pram 1~cells 1~procs 1~steps 2~code~set r0 7~ | 0 cell,value~0,0~stopped step=1~
 $ pramx cost job
 pram 1~cells 1~procs 1~steps 0~init 0 5~code~halt~ \
     | 0 cost of this input~steps 0~processors 1~product 0~work 0~most 0~reading 0~writing 0~\

@@ -18,10 +18,12 @@ pramx check f --set n=3 --set A=@g -> Asked { line: Line { file: \"f\", plan: No
     Alone(Check) }, explain: false } [\"n=3\", \"A=@g\"]
 pramx compile f -> Asked { line: Line { file: \"f\", plan: None, ask: Alone(Compile) }, explain: \
     false }
-pramx plain f -> Asked { line: Line { file: \"f\", plan: None, ask: Alone(Plain { why: false }) \
-    }, explain: false }
-pramx plain --why f -> Asked { line: Line { file: \"f\", plan: None, ask: Alone(Plain { why: \
-    true }) }, explain: false }
+pramx plain f -> Asked { line: Line { file: \"f\", plan: None, ask: Alone(Plain(Style { csv: \
+    false, why: false })) }, explain: false }
+pramx plain --why f -> Asked { line: Line { file: \"f\", plan: None, ask: Alone(Plain(Style { \
+    csv: false, why: true })) }, explain: false }
+pramx plain f --csv -> Asked { line: Line { file: \"f\", plan: None, ask: Alone(Plain(Style { \
+    csv: true, why: false })) }, explain: false }
 pramx cost f -> Asked { line: Line { file: \"f\", plan: None, ask: Alone(Cost { lines: false }) \
     }, explain: false }
 pramx cost --lines f -> Asked { line: Line { file: \"f\", plan: None, ask: Alone(Cost { lines: \
@@ -36,16 +38,20 @@ pramx steps --csv f -> Asked { line: Line { file: \"f\", plan: None, ask: Alone(
     to: 4294967295, alone: true }) }, explain: false }
 pramx run job.txt --workers 2 --plan p.csv --progress -> Asked { line: Line { file: \"job.txt\", \
     plan: Some(\"p.csv\"), ask: OnThreads(Run(AskRun { manner: Manner { workers: Workers { \
-    count: 2 }, progress: Lines, pace: None, block: None }, why: false })) }, explain: false }
+    count: 2 }, progress: Lines, pace: None, block: None }, style: Style { csv: false, why: \
+    false } })) }, explain: false }
 pramx run job.txt --workers 2 --progress on a terminal -> Asked { line: Line { file: \
     \"job.txt\", plan: None, ask: OnThreads(Run(AskRun { manner: Manner { workers: Workers { \
-    count: 2 }, progress: OneLine, pace: None, block: None }, why: false })) }, explain: false }
+    count: 2 }, progress: OneLine, pace: None, block: None }, style: Style { csv: false, why: \
+    false } })) }, explain: false }
 pramx run f --workers 1 --pace 1000000 -> Asked { line: Line { file: \"f\", plan: None, ask: \
     OnThreads(Run(AskRun { manner: Manner { workers: Workers { count: 1 }, progress: Silent, \
-    pace: Some(1000000), block: None }, why: false })) }, explain: false }
+    pace: Some(1000000), block: None }, style: Style { csv: false, why: false } })) }, explain: \
+    false }
 pramx run --workers=64 --block=1 job.txt --why -> Asked { line: Line { file: \"job.txt\", plan: \
     None, ask: OnThreads(Run(AskRun { manner: Manner { workers: Workers { count: 64 }, progress: \
-    Silent, pace: None, block: Some(Block { exponent: 0 }) }, why: true })) }, explain: false }
+    Silent, pace: None, block: Some(Block { exponent: 0 }) }, style: Style { csv: false, why: \
+    true } })) }, explain: false }
 pramx watch job.txt --workers 3 --cells 7,0,7 --rounds 1000000 --pace=0 --block 64 -> Asked { \
     line: Line { file: \"job.txt\", plan: None, ask: OnThreads(Watch(AskWatch { manner: Manner { \
     workers: Workers { count: 3 }, progress: Silent, pace: Some(0), block: Some(Block { \

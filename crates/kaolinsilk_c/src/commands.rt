@@ -2,8 +2,8 @@
 ghost use Rattle.std.specs.Prelude.{◌≡◌, ◌+◌, ◌*◌, []};
 ghost use Rattle.library_core.specs.Calls.{IsCall};
 ghost use Rattle.library_core.specs.Cells.{AreCells, MeansNoJob};
-ghost use Rattle.library_core.specs.Commands.{checking, compiling, costing, plainly, replaying};
-ghost use Rattle.library_core.specs.Commands.{stepping};
+ghost use Rattle.library_core.specs.Commands.{checking, compiling, costing, in_lines, plainly};
+ghost use Rattle.library_core.specs.Commands.{replaying, stepping};
 ghost use Rattle.library_core.specs.Plans.{AreRows, IsNoPlan};
 ghost use Rattle.library_core.specs.Requests.{is_set, window_of, wrong_in};
 ghost use Rattle.library_core.specs.Serving.{ServesRequest};
@@ -89,7 +89,8 @@ pub extern "C" fn ks_plain(
     out: &mut [u8],
     answer: &mut Answer,
 ) -> u32
-    ensures { ServesRequest (plainly (is_set request.now.why)) (wrong_in Plain request.now) text.now
+    ensures { ServesRequest (plainly (in_lines (is_set request.now.why)))
+        (wrong_in Plain request.now) text.now
         []
         out.old out.new answer.old answer.new result }
 {

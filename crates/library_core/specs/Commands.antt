@@ -4,3 +4,4 @@ pub use Rattle.pram_commands.specs.Plain.{checking, plainly}
 pub use Rattle.pram_commands.specs.Replayed.{replaying}
 pub use Rattle.pram_commands.specs.Steps.{stepping}
 pub use Rattle.pram_commands.specs.Texts.{compiling}
+pub use Rattle.pram_commands.specs.Why.{in_lines}

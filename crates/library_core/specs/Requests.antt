@@ -10,6 +10,7 @@ use Rattle.pram_commands.specs.Plain.{checking, plainly}
 use Rattle.pram_commands.specs.Replayed.{replaying}
 use Rattle.pram_commands.specs.Steps.{stepping}
 use Rattle.pram_commands.specs.Texts.{compiling}
+use Rattle.pram_commands.specs.Why.{in_lines}
 use Rattle.pram_rows.specs.declared.window.Window.{Window}
 use Rattle.library_core.specs.declared.request.Call.{Call}
 use Rattle.library_core.specs.declared.request.Call.TheVariants.{Check, Compile, Plain, Cost}
@@ -36,7 +37,7 @@ window_of request = record { from = from_of request; to = to_of request }
 abbrev pub command_asked : Call → Request → Command
 command_asked Check request = checking
 command_asked Compile request = compiling
-command_asked Plain request = plainly (is_set request.why)
+command_asked Plain request = plainly (in_lines (is_set request.why))
 command_asked Cost request = costing
 command_asked Steps request = stepping (is_set request.rows_alone) (window_of request)
 command_asked Replay request = replaying (is_set request.rows_alone) request.workers
@@ -45,7 +46,7 @@ command_asked Replay request = replaying (is_set request.rows_alone) request.wor
 abbrev pub IsAskOf : Call → Request → AskAlone → Type 0
 IsAskOf Check request ask.Check = ⊤
 IsAskOf Compile request ask.Compile = ⊤
-IsAskOf Plain request (ask.Plain why) = why ≡ is_set request.why
+IsAskOf Plain request (ask.Plain style) = style ≡ in_lines (is_set request.why)
 IsAskOf Cost request (ask.Cost lines) = lines ≡ false
 IsAskOf Steps request (ask.Steps from to alone) =
     (from ≡ from_of request) × (to ≡ to_of request) × (alone ≡ is_set request.rows_alone)

@@ -4,7 +4,7 @@ ghost use Rattle.library_core.specs.Requests.{IsAskOf, are_zero, from_of, is_bad
 ghost use Rattle.library_core.specs.Requests.{wrong_field, wrong_flag, wrong_in, wrong_replay};
 ghost use Rattle.library_core.specs.Requests.{wrong_steps};
 
-use command_data::{AskAlone, Workers};
+use command_data::{AskAlone, Style, Workers};
 
 /// What a call is asked beside its text, as C sees it. The size is `REQUEST_SIZE`, and what is
 /// reserved is 0. What a call does not use is not looked at. A flag is 0 or 1: with `why` what
@@ -142,9 +142,10 @@ pub(crate) fn ask_of(call: Call, request: &Request) -> AskAlone
     match call {
         Call::Check => AskAlone::Check,
         Call::Compile => AskAlone::Compile,
-        Call::Plain => AskAlone::Plain {
+        Call::Plain => AskAlone::Plain(Style {
+            csv: false,
             why: request.why == 1,
-        },
+        }),
         Call::Cost => AskAlone::Cost { lines: false },
         Call::Steps => AskAlone::Steps {
             from: first_step(request),

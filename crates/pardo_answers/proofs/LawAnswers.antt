@@ -27,6 +27,8 @@ use Rattle.pardo_job.specs.Runs.{IsProgramConflict, IsProgramEnd, line_number}
 use Rattle.pardo_job.specs.declared.ended.Lines.{Lines}
 use Rattle.pardo_job.specs.Ends.{EndsIn, gone_in}
 use Rattle.pardo_answers.specs.Laws.{PrintedAnswersAreThePrograms, IsCarrying}
+use Rattle.pardo_answers.specs.Laws.{RecordedAnswersAreThePrograms}
+use Rattle.pardo_answers.specs.Records.{array_records, end_records, gone_record, place_record}
 use Rattle.pram_step.specs.Runs.{dispute_of}
 
 -- ---- texts that agree where they are told
@@ -55,6 +57,24 @@ arrays_same cells other (array ∷ arrays) base are same =
     ap₂ (λ (x y : List ℕ). x ++ y)
     (ap (λ (v : List ℕ). array.name ++ codes " =" ++ v ++ codes "\n") values)
     (arrays_same cells other arrays (base + length array.start) are.3
+    (λ cell low. same cell (omega (arith, whole))))
+
+arrays_recorded : (cells other : ℕ → ℕ) (arrays : List ArrayData) (base : ℕ) →
+    AreArrays arrays base →
+    ((cell : ℕ) → cell < base + shared_cells arrays → cells cell ≡ other cell) →
+    flat_map (array_records cells) arrays ≡ flat_map (array_records other) arrays
+arrays_recorded cells other [] base are same = refl
+arrays_recorded cells other (array ∷ arrays) base are same =
+    let whole : shared_cells (array ∷ arrays) ≡ length array.start + shared_cells arrays =
+    sum_by-cons (λ (x : ArrayData). length x.start) array arrays in
+    let base_is = are.0 in
+    let places : array_records cells array ≡ array_records other array =
+    flat_map-range_same (λ k. place_record array k (cells (array.base + k)))
+    (λ k. place_record array k (other (array.base + k))) 0 (length array.start)
+    (λ k least most. ap (place_record array k)
+    (same (array.base + k) (omega (arith, whole, base_is)))) in
+    ap₂ (λ (x y : List ℕ). x ++ y) places
+    (arrays_recorded cells other arrays (base + length array.start) are.3
     (λ cell low. same cell (omega (arith, whole))))
 
 -- ---- lines in which processors leave
@@ -114,32 +134,49 @@ procs_are program job made = ap (λ (j : JobData). j.procs) made
 
 module _ (program : ProgramData) (job : JobData) (line_of : ℕ → ℕ) (lines : Lines)
     (c : IsCarrying program job line_of) (ends : EndsIn job line_of lines) (n : ℕ) where
-  -- the text of the end
-  end_same : (cells : List ℕ) (state : State) → IsStateAfter job job.steps state →
-      cells ≡ take job.cells state → IsProgramEnd program n →
-      end_text program job.steps (slice_index cells) (gone_in lines.gone.items)
-      ≡ end_text program job.steps (after program n).cells (after program n).gone
-  end_same cells state is_after are is_end =
-      let shared = shared_is program in
-      let fits = shared_fits program job c.made in
-      let procs = procs_are program job c.made in
-      let held : (cell : ℕ) → cell < 0 + shared_cells program.arrays →
-      slice_index cells cell ≡ (after program n).cells cell = λ cell low.
-      ap (λ (l : List ℕ). get_or l cell 0) are
-      ∙ get_or-take job.cells state cell 0 (omega (arith, shared, fits))
-      ∙ ap (λ (s : State). get_or s cell 0) is_after.state
-      ∙ (c.carries.ends n is_end).0.cells cell (omega (arith, shared)) in
-      let left : (i : ℕ) → 0 ≤ i → i < 0 + program.procs →
-      gone_line i (gone_in lines.gone.items i) ≡ gone_line i ((after program n).gone i) =
-      λ i least low. ap (gone_line i) (one_line job line_of c.carries.job_is i
-      (omega (arith, procs)) job.steps _ _
-      (ends.gone is_after.reached i (omega (arith, procs)))
-      ((c.carries.ends n is_end).0.gone i (omega arith))) in
-      ap₂ (λ (x y : List ℕ). codes "done steps=" ++ decimal job.steps ++ codes "\n" ++ x ++ y)
-      (arrays_same (slice_index cells) (after program n).cells program.arrays 0 c.lawful.arrays
-      held)
-      (flat_map-range_same (λ i. gone_line i (gone_in lines.gone.items i))
-      (λ i. gone_line i ((after program n).gone i)) 0 program.procs left)
+  module _ (cells : List ℕ) (state : State) (is_after : IsStateAfter job job.steps state)
+      (are : cells ≡ take job.cells state) (is_end : IsProgramEnd program n) where
+    -- what the arrays hold
+    held_same : (cell : ℕ) → cell < 0 + shared_cells program.arrays →
+        slice_index cells cell ≡ (after program n).cells cell
+    held_same cell low =
+        let shared = shared_is program in
+        let fits = shared_fits program job c.made in
+        ap (λ (l : List ℕ). get_or l cell 0) are
+        ∙ get_or-take job.cells state cell 0 (omega (arith, shared, fits))
+        ∙ ap (λ (s : State). get_or s cell 0) is_after.state
+        ∙ (c.carries.ends n is_end).0.cells cell (omega (arith, shared))
+
+    -- who is gone
+    left_same : (i : ℕ) → i < 0 + program.procs →
+        gone_in lines.gone.items i ≡ (after program n).gone i
+    left_same i low =
+        let procs = procs_are program job c.made in
+        one_line job line_of c.carries.job_is i (omega (arith, procs)) job.steps _ _
+        (ends.gone is_after.reached i (omega (arith, procs)))
+        ((c.carries.ends n is_end).0.gone i (omega arith))
+
+    -- the text of the end
+    end_same : end_text program job.steps (slice_index cells) (gone_in lines.gone.items)
+        ≡ end_text program job.steps (after program n).cells (after program n).gone
+    end_same =
+        ap₂ (λ (x y : List ℕ). codes "done steps=" ++ decimal job.steps ++ codes "\n" ++ x ++ y)
+        (arrays_same (slice_index cells) (after program n).cells program.arrays 0 c.lawful.arrays
+        held_same)
+        (flat_map-range_same (λ i. gone_line i (gone_in lines.gone.items i))
+        (λ i. gone_line i ((after program n).gone i)) 0 program.procs
+        (λ i least low. ap (gone_line i) (left_same i low)))
+
+    -- and its records
+    records_same : end_records program (slice_index cells) (gone_in lines.gone.items)
+        ≡ end_records program (after program n).cells (after program n).gone
+    records_same =
+        ap₂ (λ (x y : List ℕ). codes "name,index,value\n" ++ x ++ y)
+        (arrays_recorded (slice_index cells) (after program n).cells program.arrays 0
+        c.lawful.arrays held_same)
+        (flat_map-range_same (λ i. gone_record i (gone_in lines.gone.items i))
+        (λ i. gone_record i ((after program n).gone i)) 0 program.procs
+        (λ i least low. ap (gone_record i) (left_same i low)))
 
   -- and that of a conflict
   conflict_same : (fault : Fault) (dispute : Dispute) → IsFault job fault →
@@ -181,3 +218,23 @@ printed_answers_are_the_programs program job line_of (Conflict fault) lines c is
       )
     ]
 printed_answers_are_the_programs program job line_of (Unfinished step) lines c is ends = absurd is
+
+pub recorded_answers_are_the_programs : RecordedAnswersAreThePrograms
+recorded_answers_are_the_programs program job line_of (Final cells) lines c is ends =
+    elim c.carries.over.1 [
+      | inl is_end ↦ inl (
+        c.carries.over.0,
+        is_end,
+        records_same program job line_of lines c ends c.carries.over.0 cells is.0 is.1 is.2 is_end,
+      )
+      | inr (dispute, conflict) ↦
+          let d = c.carries.disputes c.carries.over.0 dispute conflict in
+          absurd (conflict_ends job _ job.steps d.3.first d.3.within is.1.reached)
+    ]
+recorded_answers_are_the_programs program job line_of (Conflict fault) lines c is ends =
+    elim (printed_answers_are_the_programs program job line_of (Conflict fault) lines c is ends) [
+      | inl ended ↦ absurd (conflict_ends job fault job.steps is.first is.within
+          (c.carries.ends ended.0 ended.1).0.reached)
+      | inr conflict ↦ inr conflict
+    ]
+recorded_answers_are_the_programs program job line_of (Unfinished step) lines c is ends = absurd is

@@ -1,3 +1,4 @@
 pub mod Language
 pub mod Named
+pub mod Records
 pub mod Laws

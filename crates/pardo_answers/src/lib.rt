@@ -5,8 +5,10 @@
 mod language;
 pub mod laws;
 mod print;
+mod records;
 mod text;
 
 pub use language::is_program;
 pub use print::{Names, print_named, push_conflict};
+pub use records::print_records;
 pub use text::push_cell;

@@ -48,7 +48,12 @@ pub fn print_named<W: Sink>(
     Ok(())
 }
 
-fn named_text(alloc: Global, names: &Names<'_>, answer: &RunAnswer) -> Result<Vec<u8>, AllocError>
+/// The answer of a program's job by names.
+pub(crate) fn named_text(
+    alloc: Global,
+    names: &Names<'_>,
+    answer: &RunAnswer,
+) -> Result<Vec<u8>, AllocError>
     ensures { IfOk result (λ text. text.items
         ≡ named_answer names.now.program.now names.now.steps names.now.lines.now answer.now) }
 {
@@ -87,8 +92,8 @@ fn push_gone(text: &mut Vec<u8>, procs: u32, lines: &Lines) -> Result<(), AllocE
     Ok(())
 }
 
-// The line in which a processor left, if it did.
-fn gone_in(lines: &Lines, processor: u32) -> Option<u64>
+/// The line in which a processor left, if it did.
+pub(crate) fn gone_in(lines: &Lines, processor: u32) -> Option<u64>
     ensures { result ≡ gone_in lines.now.gone.items processor }
 {
     lines.gone.get(processor as usize).copied().unwrap_or(None)

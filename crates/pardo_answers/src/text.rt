@@ -45,8 +45,8 @@ fn push_values(text: &mut Vec<u8>, array: &Array, cells: &[u32]) -> Result<(), A
     Ok(())
 }
 
-// What a cell holds.
-fn value_at(cells: &[u32], cell: usize) -> u32
+/// What a cell holds.
+pub(crate) fn value_at(cells: &[u32], cell: usize) -> u32
     ensures { result ≡ slice_index cells.now cell }
 {
     cells.get(cell).copied().unwrap_or(0)

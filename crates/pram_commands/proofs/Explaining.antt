@@ -30,10 +30,10 @@ told_all job (Final cells) is = refl
 told_all job (Conflict fault) is = refl
 told_all job (Unfinished step) is = absurd is
 
-pub follows_answer : (line_of line_at : ℕ → ℕ) (job : JobData) (ended : RunAnswer)
-    (fates : Fates) (back : List ℕ) → line_of ≡ line_at → IsAnswer job ended →
+pub follows_answer : (why : Bool) (line_of line_at : ℕ → ℕ) (job : JobData) (ended : RunAnswer)
+    (fates : Fates) (back : List ℕ) → why ≡ true → line_of ≡ line_at → IsAnswer job ended →
     AreFates job job.steps fates → back ≡ fates_text line_of fates →
-    Follows true line_at job ended back
-follows_answer line_of line_at job ended fates back same is are told =
-    follows true line_of line_at job ended fates job.steps back refl same
+    Follows why line_at job ended back
+follows_answer why line_of line_at job ended fates back asked same is are told =
+    follows why line_of line_at job ended fates job.steps back asked same
     (told_all job ended is) are told

@@ -1,5 +1,5 @@
 -- What printing an answer as it is heard came to.
-use Rattle.std.proofs.Common.{◌≡◌, ◌∙◌, ◌⊎◌, ℕ, Bool, List, Result, Ok, Err, IsTrue, sym, ap}
+use Rattle.std.proofs.Common.{◌≡◌, ◌∙◌, ◌⊎◌, ℕ, List, Result, Ok, Err, IsTrue, sym, ap}
 use Rattle.std.proofs.Common.{subst, inl, inr}
 use Rattle.std.specs.Prelude.{IfOk, IsErrOf, OnOk}
 use Rattle.pram_job.specs.Job.{JobData}
@@ -9,6 +9,7 @@ use Rattle.pram_streams.specs.declared.print.PrintFault.TheVariants.{Device, Mem
 use Rattle.stop_plan.specs.Plan.{PlanData}
 use Rattle.pram_board.specs.Seats.{Desk, SeatData}
 use Rattle.pram_run.specs.Heard.{Ended, HasRunBeside}
+use Rattle.command_data.specs.declared.line.Style.{Style}
 use Rattle.pram_commands.specs.Did.{Writing, tells}
 use Rattle.pram_commands.specs.Inner.Hearing.{HasToldEnd}
 use Rattle.pram_commands.specs.Inner.Puts.{PutsAnswer, outcome}
@@ -22,18 +23,18 @@ use Rattle.pram_commands.proofs.Told.{told_as}
 no_device : IsErrOf {T = RunAnswer} (Err Memory) Device → ⊥
 no_device is = cc is
 
-module _ (why : Bool) (job_text : List ℕ) (job : JobData) (plan : PlanData) (w : Writing) where
+module _ (style : Style) (job_text : List ℕ) (job : JobData) (plan : PlanData) (w : Writing) where
   -- what a run comes to whose end was told
   pub puts_heard : (ended : Ended) (put : Result (Unit {0}) PrintFault)
       (result : Result RunAnswer PrintFault) → IfOk ended (SomeRunEndsIn job plan) →
-      HasToldEnd why job_text job w ended put →
+      HasToldEnd style job_text job w ended put →
       (w.Unwritten → IsTrue w.failed → ⊥) → result ≡ outcome put ended →
-      PutsAnswer (Explaining why (SomeRunEndsIn job plan) job_text job) ⊥ w tells result
+      PutsAnswer (Explaining style (SomeRunEndsIn job plan) job_text job) ⊥ w tells result
   puts_heard (Ok answer) put result ends h well is =
-      told_as why (SomeRunEndsIn job plan) job_text job w answer ends put h result is
+      told_as style (SomeRunEndsIn job plan) job_text job w answer ends put h result is
   puts_heard (Err refused) put result ends h well is =
       subst (λ (x : Result RunAnswer PrintFault).
-      PutsAnswer (Explaining why (SomeRunEndsIn job plan) job_text job) ⊥ w tells x)
+      PutsAnswer (Explaining style (SomeRunEndsIn job plan) job_text job) ⊥ w tells x)
       (sym (is ∙ ap (λ (x : Result (Unit {0}) PrintFault). outcome x (Err refused)) h.0)) (record {
         done = tt;
         wrote = inl h.1;

@@ -160,7 +160,7 @@ module _ (taken : Taking) (w : Writing) where
       let none = ap ends_with prints.work.comes.1 in absurd (omega (arith, prints.is, three, none))
   stops_alone alone.Compile status prints three =
       let none = ap ends_with prints.work.comes.1 in absurd (omega (arith, prints.is, three, none))
-  stops_alone (alone.Plain why) status prints three =
+  stops_alone (alone.Plain style) status prints three =
       let comes = prints.work.comes in
       absurd (ended-plain prints.work.job comes.ended prints.answer comes.ends
       comes.gives (sym prints.is ∙ three))

@@ -1,42 +1,43 @@
 -- An answer that was told with what follows it.
-use Rattle.std.proofs.Common.{◌≡◌, ℕ, Bool, List, ◌++◌, Option, Some, Result, Ok, Err}
+use Rattle.std.proofs.Common.{◌≡◌, ℕ, List, ◌++◌, Option, Some, Result, Ok, Err}
 use Rattle.std.proofs.Common.{refl, sym, ap₂, subst, inl, inr}
 use Rattle.pram_job.specs.Job.{JobData}
 use Rattle.pram_step.specs.declared.answer.RunAnswer.{RunAnswer}
 use Rattle.pram_streams.specs.declared.print.PrintFault.{PrintFault}
 use Rattle.pram_streams.specs.declared.print.PrintFault.TheVariants.{Device, Memory}
+use Rattle.command_data.specs.declared.line.Style.{Style}
 use Rattle.pram_commands.specs.Did.{Writing, tells}
 use Rattle.pram_commands.specs.Inner.Puts.{HasAnswered, PutBeginning, PutsAnswer, outcome}
-use Rattle.pram_commands.specs.Names.{AreNames, NamingData, line_at, printed_answer}
+use Rattle.pram_commands.specs.Names.{AreNames, NamingData, line_at, styled}
 use Rattle.pram_commands.specs.Why.{Explaining, Follows}
 use Rattle.pram_commands.proofs.Doing.{ok_not_err, other_fault}
 
 -- what is told of an answer
-abbrev pub Told : Bool → List ℕ → JobData → RunAnswer → List ℕ → Option RunAnswer → Type 0
-Told why job_text job answer = Explaining why (λ ended. ended ≡ answer) job_text job
+abbrev pub Told : Style → List ℕ → JobData → RunAnswer → List ℕ → Option RunAnswer → Type 0
+Told style job_text job answer = Explaining style (λ ended. ended ≡ answer) job_text job
 
-pub tells_all : (why : Bool) (job_text : List ℕ) (job : JobData) (names : Option NamingData)
+pub tells_all : (style : Style) (job_text : List ℕ) (job : JobData) (names : Option NamingData)
     (answer : RunAnswer) (steps : ℕ) (back bytes : List ℕ) → AreNames job_text job names →
-    steps ≡ job.steps → bytes ≡ back → Follows why (line_at job_text names) job answer back →
-    Told why job_text job answer (printed_answer names answer steps ++ bytes) (Some answer)
-tells_all why job_text job names answer steps back bytes are_names same is follows = record {
+    steps ≡ job.steps → bytes ≡ back → Follows style.why (line_at job_text names) job answer back →
+    Told style job_text job answer (styled style.csv names answer steps ++ bytes) (Some answer)
+tells_all style job_text job names answer steps back bytes are_names same is follows = record {
   ended = answer;
   back = back;
   names = names;
   ends = refl;
   are_names = are_names;
   follows = follows;
-  prints = ap₂ (λ (n : ℕ) (b : List ℕ). printed_answer names answer n ++ b) same is;
+  prints = ap₂ (λ (n : ℕ) (b : List ℕ). styled style.csv names answer n ++ b) same is;
   gives = refl;
 }
 
-module _ (why : Bool) (Ends : RunAnswer → Type 0) (job_text : List ℕ) (job : JobData) (w : Writing)
+module _ (style : Style) (Ends : RunAnswer → Type 0) (job_text : List ℕ) (job : JobData) (w : Writing)
     (answer : RunAnswer) (ends : Ends answer) where
   abbrev Comes : List ℕ → Option RunAnswer → Type 0
-  Comes = Explaining why Ends job_text job
+  Comes = Explaining style Ends job_text job
 
   -- it is what a command comes to that ends so
-  comes_so : (text : List ℕ) (given : Option RunAnswer) → Told why job_text job answer text given →
+  comes_so : (text : List ℕ) (given : Option RunAnswer) → Told style job_text job answer text given →
       Comes text given
   comes_so text given so = record {
     ended = so.ended;
@@ -49,7 +50,7 @@ module _ (why : Bool) (Ends : RunAnswer → Type 0) (job_text : List ℕ) (job :
     gives = so.gives;
   }
 
-  begins_so : PutBeginning (Told why job_text job answer) w → PutBeginning Comes w
+  begins_so : PutBeginning (Told style job_text job answer) w → PutBeginning Comes w
   begins_so some = record {
     text = some.text;
     answer = some.answer;
@@ -57,7 +58,7 @@ module _ (why : Bool) (Ends : RunAnswer → Type 0) (job_text : List ℕ) (job :
     takes = some.takes;
   }
 
-  pub told_as : (put : Result (Unit {0}) PrintFault) → HasAnswered why job_text job w answer put →
+  pub told_as : (put : Result (Unit {0}) PrintFault) → HasAnswered style job_text job w answer put →
       (result : Result RunAnswer PrintFault) → result ≡ outcome put (Ok answer) →
       PutsAnswer Comes ⊥ w tells result
   told_as (Ok done) puts result is =

@@ -20,7 +20,7 @@ use Rattle.command_data.specs.declared.line.AskOnThreads.TheVariants.{Run, Watch
 abbrev pub command_alone : AskAlone → Command
 command_alone Check = checking
 command_alone Compile = compiling
-command_alone (Plain why) = plainly why
+command_alone (Plain style) = plainly style
 command_alone (Cost lines) = costing_by lines
 command_alone (Steps from to alone) = stepping alone (record { from = from; to = to })
 command_alone (Replay workers alone) = replaying alone workers.count
@@ -28,7 +28,7 @@ command_alone (Replay workers alone) = replaying alone workers.count
 -- what is asked on threads: the command says which bytes it prints on a job and a plan, and how it
 -- ends
 abbrev pub command_on_threads : AskOnThreads → Command
-command_on_threads (Run run) = running run.why run.manner.workers.count
+command_on_threads (Run run) = running run.style run.manner.workers.count
 command_on_threads (Watch watch) =
     watching watch.manner.workers.count (parts_of watch.cells.text.now) watch.rounds
 

@@ -1,5 +1,5 @@
 -- What a text is: one of the machine, or a program; and how answers are told by it.
-use Rattle.std.specs.Prelude.{◌≡◌, ℕ, true, false, List, Option, Some, None, Ok, slice_index}
+use Rattle.std.specs.Prelude.{◌≡◌, ℕ, Bool, true, false, List, Option, Some, None, Ok, slice_index}
 use Rattle.pram_text.specs.InstructionLines.{line_of}
 use Rattle.pram_job.specs.Job.{JobData}
 use Rattle.pram_text.specs.Text.{Spells}
@@ -11,6 +11,8 @@ use Rattle.pardo_job.specs.Compiled.{IsCompiled}
 use Rattle.pardo_job.specs.Ends.{HasEnded}
 use Rattle.pardo_answers.specs.Language.{is_program}
 use Rattle.pardo_answers.specs.Named.{named_answer}
+use Rattle.pardo_answers.specs.Records.{recorded_answer}
+use Rattle.pram_rows.specs.Cells.{answer_records}
 use Rattle.pardo_job.specs.declared.ended.Ended.{Ended}
 
 -- What the answers of a program are told by: the program, the numbers of the lines that its job's
@@ -46,6 +48,17 @@ abbrev pub printed_answer : Option NamingData → RunAnswer → ℕ → List ℕ
 printed_answer None answer steps = printed answer steps
 printed_answer (Some naming) answer steps =
     named_answer naming.program steps naming.ended.lines answer
+
+-- the same, with its cells as records
+abbrev pub recorded : Option NamingData → RunAnswer → ℕ → List ℕ
+recorded None answer steps = answer_records answer steps
+recorded (Some naming) answer steps =
+    recorded_answer naming.program steps naming.ended.lines answer
+
+-- an answer as records, or as it is printed
+abbrev pub styled : Bool → Option NamingData → RunAnswer → ℕ → List ℕ
+styled false names answer steps = printed_answer names answer steps
+styled true names answer steps = recorded names answer steps
 
 -- the number of the line that an instruction came from
 abbrev pub line_at : List ℕ → Option NamingData → ℕ → ℕ

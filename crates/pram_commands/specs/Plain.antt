@@ -1,10 +1,11 @@
 -- What the commands come to that run a job on the plain machine, or only judge it.
-use Rattle.std.specs.Prelude.{◌≡◌, ℕ, Bool, List, [], Option, None, ⊤}
+use Rattle.std.specs.Prelude.{◌≡◌, ℕ, List, [], Option, None, ⊤}
 use Rattle.pram_job.specs.Job.{JobData}
 use Rattle.pram_step.specs.Runs.{IsAnswer}
 use Rattle.pram_step.specs.declared.answer.RunAnswer.{RunAnswer}
 use Rattle.pram_streams.specs.Printed.{summary}
 use Rattle.stop_plan.specs.Plan.{PlanData}
+use Rattle.command_data.specs.declared.line.Style.{Style}
 use Rattle.pram_commands.specs.Did.{Command}
 use Rattle.pram_commands.specs.Why.{Explaining}
 
@@ -32,6 +33,6 @@ TellsSummary job text answer = (text ≡ summary job) × (answer ≡ None)
 abbrev pub checking : Command
 checking = on_job (λ job_text. TellsSummary)
 
--- it prints the answer of the job, and if it is asked for what became of the processors
-abbrev pub plainly : Bool → Command
-plainly why = on_job (λ job_text job. Explaining why (IsAnswer job) job_text job)
+-- it prints the answer of the job in a style
+abbrev pub plainly : Style → Command
+plainly style = on_job (λ job_text job. Explaining style (IsAnswer job) job_text job)

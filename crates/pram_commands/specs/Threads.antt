@@ -1,5 +1,5 @@
 -- What the commands come to that run a job on threads.
-use Rattle.std.specs.Prelude.{◌≡◌, ◌<◌, ℕ, Bool, List, [], ◌∷◌, Option, None, Some, ⊤, map}
+use Rattle.std.specs.Prelude.{◌≡◌, ◌<◌, ℕ, List, [], ◌∷◌, Option, None, Some, ⊤, map}
 use Rattle.std.specs.Prelude.{slice_index, All, codes, decimal}
 use Rattle.std.specs.List.{repeat}
 use Rattle.std.specs.List.Sorted.{IsNonDecreasingBy}
@@ -15,6 +15,7 @@ use Rattle.pram_run.specs.Printed.{CellWords, by_numbers, sights_text}
 use Rattle.pardo_job.specs.Printed.{cell_text}
 use Rattle.pram_run.specs.Watching.{HasReadBeside, IsWatch}
 use Rattle.pram_run.specs.declared.sight.Sight.{Sight}
+use Rattle.command_data.specs.declared.line.Style.{Style}
 use Rattle.pram_commands.specs.CellLists.{AreCellsOf, LacksCell}
 use Rattle.pram_commands.specs.Did.{Answering, Command}
 use Rattle.pram_commands.specs.Following.{LacksNone, following}
@@ -44,11 +45,10 @@ pub record EndsAt (job : JobData) (plan : PlanData) (later : SeatData) (answer :
 abbrev pub SomeRunEndsIn : JobData → PlanData → RunAnswer → Type 0
 SomeRunEndsIn job plan answer = (later : SeatData) × EndsAt job plan later answer
 
--- it prints the answer of a run of the job under the plan, and if it is asked for what became of
--- the processors
-abbrev pub running : Bool → ℕ → Command
-running why workers = following workers LacksNone ⊥
-    (λ job_text job plan. Explaining why (SomeRunEndsIn job plan) job_text job)
+-- it prints the answer of a run of the job under the plan in a style
+abbrev pub running : Style → ℕ → Command
+running style workers = following workers LacksNone ⊥
+    (λ job_text job plan. Explaining style (SomeRunEndsIn job plan) job_text job)
 
 -- what the cell holds after the step, which is reached
 pub record IsTrueOf (job : JobData) (sight : Sight) : Type 0 where

@@ -6,7 +6,8 @@ use Rattle.pram_step.specs.declared.answer.RunAnswer.TheVariants.{Final, Conflic
 use Rattle.pram_fates.specs.Fates.{AreFates}
 use Rattle.pram_fates.specs.Told.{fates_text}
 use Rattle.pram_fates.specs.declared.fates.Fates.{Fates}
-use Rattle.pram_commands.specs.Names.{AreNames, NamingData, line_at, printed_answer}
+use Rattle.command_data.specs.declared.line.Style.{Style}
+use Rattle.pram_commands.specs.Names.{AreNames, NamingData, line_at, styled}
 
 -- the steps that an answer speaks of: all of the job's, or those that an unfinished run made
 abbrev pub told_steps : JobData → RunAnswer → ℕ
@@ -21,14 +22,22 @@ Follows false line_of job ended back = back ≡ []
 Follows true line_of job ended back = (fates : Fates)
     × AreFates job (told_steps job ended) fates × (back ≡ fates_text line_of fates)
 
--- What a command comes to that may explain its answer: the printed answer, and what follows it.
-pub record Explaining (why : Bool) (Ends : RunAnswer → Type 0) (job_text : List ℕ) (job : JobData)
+-- a style without records
+abbrev pub in_lines : Bool → Style
+in_lines why = record { csv = false; why = why }
+
+-- the style of records alone
+abbrev pub in_records : Style
+in_records = record { csv = true; why = false }
+
+-- What a command comes to that tells an answer in a style: the answer, and what follows it.
+pub record Explaining (style : Style) (Ends : RunAnswer → Type 0) (job_text : List ℕ) (job : JobData)
     (text : List ℕ) (answer : Option RunAnswer) : Type 0 where
   pub ended : RunAnswer
   pub back : List ℕ
   pub names : Option NamingData
   pub ends : Ends ended
   pub are_names : AreNames job_text job names
-  pub follows : Follows why (line_at job_text names) job ended back
-  pub prints : text ≡ printed_answer names ended job.steps ++ back
+  pub follows : Follows style.why (line_at job_text names) job ended back
+  pub prints : text ≡ styled style.csv names ended job.steps ++ back
   pub gives : answer ≡ Some ended

@@ -46,7 +46,7 @@ pub fn do_alone<J: Source, P: Source, O: Sink>(
             compile(alloc, sources, out)?;
             Ok(DONE)
         }
-        AskAlone::Plain { why } => ended(plain(alloc, why, sources, out)),
+        AskAlone::Plain(style) => ended(plain(alloc, style, sources, out)),
         AskAlone::Cost { lines: false } => {
             let cost = cost(alloc, sources, out)?;
             Ok(cost_status(&cost))

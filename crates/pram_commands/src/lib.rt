@@ -20,7 +20,8 @@ mod why;
 
 pub use bytes::Bytes;
 pub use command_data::{
-    Ask, AskAlone, AskOnThreads, AskRun, AskWatch, Block, CellList, Line, Manner, Telling, Workers,
+    Ask, AskAlone, AskOnThreads, AskRun, AskWatch, Block, CellList, Line, Manner, Style, Telling,
+    Workers,
 };
 pub use commands::{do_alone, take_answer};
 pub use files::{Folder, serve_files, serve_files_alone, serve_text, serve_text_alone};

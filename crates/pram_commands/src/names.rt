@@ -18,13 +18,14 @@ ghost use Rattle.pram_commands.specs.CellLists.{AreAnArrays, IsPlaceOf};
 ghost use Rattle.pram_commands.specs.declared.places.Stretch.{Stretch};
 ghost use Rattle.pram_commands.specs.Costs.{cost_words, spot_in};
 ghost use Rattle.pram_commands.specs.Names.{AreNames, IsMachines, line_at, printed_answer};
+ghost use Rattle.pram_commands.specs.Names.{recorded, styled};
 ghost use Rattle.pram_commands.specs.Steps.{numbers_told};
 ghost use Rattle.pram_commands.specs.Threads.{cell_words, or_number};
 
 use crate::line_costs::{Costed, Costs, costs_of, push_sums};
 use crate::places::{Stretch, array_at, cell_at, place_text, push_told};
 use crate::sources::Spelled;
-use pardo_answers::{Names, is_program, print_named, push_conflict};
+use pardo_answers::{Names, is_program, print_named, print_records, push_conflict};
 use pardo_job::{
     Ended, JobFault, JobKind, Refusal as ProgramRefusal, compile, counted_lines, draft_in, finish,
 };
@@ -32,6 +33,7 @@ use pardo_text::{Array, PardoFault, PardoKind, Program};
 use pram_cost::{ByCells, CostNames, Measure, Meeting, cost_of};
 use pram_fates::Origin;
 use pram_job::Job;
+use pram_rows::print_cells;
 use pram_run::{CellNames, Numbers};
 use pram_step::{Cells, Fault, RunAnswer};
 use pram_streams::{PrintFault, Sink, print_answer};
@@ -375,6 +377,49 @@ fn print_by<O: Sink>(
                 lines: &naming.ended.lines,
             };
             print_named(alloc, out, &names, answer)
+        }
+    }
+}
+
+/// Prints an answer as records, or as it is told without, or a beginning of it where the sink fails.
+/// Nothing is printed before memory for all of it was found.
+pub(crate) fn print_styled<O: Sink>(
+    alloc: Global,
+    out: &mut O,
+    csv: bool,
+    spelled: &Spelled,
+    answer: &RunAnswer,
+) -> Result<(), PrintFault>
+    requires { O.has_failed out.old ≡ false }
+    ensures { PutText (writing O.Sink out.old out.new)
+        (styled csv spelled.now.names answer.now spelled.now.job.steps) result }
+{
+    if csv {
+        return print_recorded(alloc, out, &spelled.names, spelled.job.steps(), answer);
+    }
+    print_told(alloc, out, spelled, answer)
+}
+
+// Prints the answer of a job of so many steps by these names, with its cells as records.
+fn print_recorded<O: Sink>(
+    alloc: Global,
+    out: &mut O,
+    names: &Option<Naming>,
+    steps: u32,
+    answer: &RunAnswer,
+) -> Result<(), PrintFault>
+    requires { O.has_failed out.old ≡ false }
+    ensures { PutText (writing O.Sink out.old out.new) (recorded names.now answer.now steps) result }
+{
+    match names {
+        None => print_cells(alloc, out, answer, steps),
+        Some(naming) => {
+            let names = Names {
+                program: &naming.program,
+                steps,
+                lines: &naming.ended.lines,
+            };
+            print_records(alloc, out, &names, answer)
         }
     }
 }

@@ -12,6 +12,7 @@ ghost use Rattle.pram_commands.specs.Threads.{cell_words};
 use crate::names::print_told;
 use crate::sources::Spelled;
 use crate::why::put_told;
+use command_data::Style;
 use pram_board::Seat;
 use pram_run::{Listener, Reads, Shared, Sight, print_reads};
 use pram_step::RunAnswer;
@@ -19,12 +20,12 @@ use pram_streams::{PrintFault, Sink};
 use std::alloc::{AllocError, Global};
 use stop_plan::Gate;
 
-/// Prints the answer of a job to an output, and if it is asked for what became of the processors.
-/// It hands the output back with what came of that.
+/// Prints the answer of a job to an output in a style. It hands the output back with what came of
+/// that.
 #[derive(Drop)]
 pub(crate) struct Printing<'a, O> {
     pub alloc: Global,
-    pub why: bool,
+    pub style: Style,
     pub spelled: &'a Spelled,
     pub out: &'a mut O,
 }
@@ -36,18 +37,18 @@ impl<'a, O: Sink> Listener for Printing<'a, O> {
         × AreNames p.spelled.now.text.items p.spelled.now.job p.spelled.now.names };
 
     ghost hears = { λ p ended heard. (heard.0.ghost_name ≡ p.out.ghost_name)
-        × HasToldEnd p.why p.spelled.now.text.items p.spelled.now.job
+        × HasToldEnd p.style p.spelled.now.text.items p.spelled.now.job
         (writing O.Sink p.out.now heard.0.now) ended heard.1 };
 
     fn hear(self, ended: &Result<RunAnswer, AllocError>) -> (&'a mut O, Result<(), PrintFault>) {
         let Printing {
             alloc,
-            why,
+            style,
             spelled,
             out,
         } = self;
         let printed = match ended {
-            Ok(answer) => put_told(alloc, out, why, spelled, answer),
+            Ok(answer) => put_told(alloc, out, style, spelled, answer),
             Err(AllocError) => Err(PrintFault::Memory),
         };
         (out, printed)

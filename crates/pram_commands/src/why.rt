@@ -6,35 +6,36 @@ ghost use Rattle.pram_commands.specs.Names.{AreNames, line_at};
 ghost use Rattle.pram_commands.specs.Why.{Explaining, Follows, told_steps};
 ghost use Rattle.pram_step.specs.Runs.{IsAnswer};
 
-use crate::names::{origin_of, print_told};
+use crate::names::{origin_of, print_styled};
 use crate::sources::Spelled;
+use command_data::Style;
 use pram_fates::{answer_with_fates, fates_after, fates_text};
 use pram_job::Job;
 use pram_step::RunAnswer;
 use pram_streams::{PrintFault, Sink, put};
 use std::alloc::{AllocError, Global};
 
-/// Prints an answer, and if it is asked for, what became of the processors. Nothing is printed
-/// before memory for both was found.
+/// Prints an answer in a style. Nothing is printed before memory for it and for what became of the
+/// processors was found.
 pub(crate) fn put_told<O: Sink>(
     alloc: Global,
     out: &mut O,
-    why: bool,
+    style: Style,
     spelled: &Spelled,
     answer: &RunAnswer,
 ) -> Result<(), PrintFault>
     requires output { O.has_failed out.old ≡ false }
     requires names { AreNames spelled.now.text.items spelled.now.job spelled.now.names }
-    ensures { HasAnswered why spelled.now.text.items spelled.now.job
+    ensures { HasAnswered style spelled.now.text.items spelled.now.job
         (writing O.Sink out.old out.new)
         answer.now result }
 {
-    let back = following(alloc, why, spelled, answer)?;
+    let back = following(alloc, style.why, spelled, answer)?;
     put_both(
         alloc,
         out,
         &Told {
-            why,
+            style,
             spelled,
             answer,
             back: back.as_str(),
@@ -47,12 +48,14 @@ pub(crate) fn put_told<O: Sink>(
 pub(crate) fn put_explained<O: Sink>(
     alloc: Global,
     out: &mut O,
+    style: Style,
     spelled: &Spelled,
 ) -> Result<RunAnswer, PrintFault>
+    requires asked { style.why ≡ true }
     requires output { O.has_failed out.old ≡ false }
     requires names { AreNames spelled.now.text.items spelled.now.job spelled.now.names }
     ensures { let read = spelled.now in
-        PutsAnswer (Explaining true (IsAnswer read.job) read.text.items read.job) ⊥
+        PutsAnswer (Explaining style (IsAnswer read.job) read.text.items read.job) ⊥
         (writing O.Sink out.old out.new) tells result }
 {
     let (answer, fates) = answer_with_fates(alloc, &spelled.job)?;
@@ -62,7 +65,7 @@ pub(crate) fn put_explained<O: Sink>(
         alloc,
         out,
         &Told {
-            why: true,
+            style,
             spelled,
             answer: &answer,
             back: back.as_str(),
@@ -71,10 +74,10 @@ pub(crate) fn put_explained<O: Sink>(
     Ok(answer)
 }
 
-/// An answer, whether what became of the processors was asked for, and the lines that follow it.
+/// An answer, the style that it is told in, and the lines that follow it.
 #[derive(Drop)]
 struct Told<'a> {
-    why: bool,
+    style: Style,
     spelled: &'a Spelled,
     answer: &'a RunAnswer,
     back: &'a str,
@@ -85,13 +88,13 @@ fn put_both<O: Sink>(alloc: Global, out: &mut O, told: &Told<'_>) -> Result<(), 
     requires names { let read = told.now.spelled.now in
         AreNames read.text.items read.job read.names }
     requires follows { let read = told.now.spelled.now in
-        Follows told.now.why (line_at read.text.items read.names) read.job told.now.answer.now
+        Follows told.now.style.why (line_at read.text.items read.names) read.job told.now.answer.now
         told.now.back.now }
     ensures { let read = told.now.spelled.now in
-        HasAnswered told.now.why read.text.items read.job (writing O.Sink out.old out.new)
+        HasAnswered told.now.style read.text.items read.job (writing O.Sink out.old out.new)
         told.now.answer.now result }
 {
-    print_told(alloc, out, told.spelled, told.answer)?;
+    print_styled(alloc, out, told.style.csv, told.spelled, told.answer)?;
     put(out, told.back.as_bytes())?;
     Ok(())
 }

@@ -1,3 +1,4 @@
+pub mod Cells
 pub mod Inner
 pub mod Instructions
 pub mod Rows

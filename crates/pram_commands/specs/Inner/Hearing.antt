@@ -1,5 +1,5 @@
 -- What comes of an answer that is printed as it is heard.
-use Rattle.std.specs.Prelude.{◌≡◌, ◌↔◌, ℕ, Bool, List, Option, Result, Ok, Err, OnOk, IsErrOf}
+use Rattle.std.specs.Prelude.{◌≡◌, ◌↔◌, ℕ, List, Option, Result, Ok, Err, OnOk, IsErrOf}
 use Rattle.std.specs.Prelude.{IsTrue}
 use Rattle.std.specs.Io.KnownBytes.{Appends}
 use Rattle.pram_job.specs.Job.{JobData}
@@ -7,6 +7,7 @@ use Rattle.pram_streams.specs.Transfer.{AppendsBeginning}
 use Rattle.pram_streams.specs.declared.print.PrintFault.{PrintFault}
 use Rattle.pram_streams.specs.declared.print.PrintFault.TheVariants.{Device, Memory}
 use Rattle.pram_run.specs.Heard.{Ended}
+use Rattle.command_data.specs.declared.line.Style.{Style}
 use Rattle.pram_commands.specs.Did.{Writing}
 use Rattle.pram_commands.specs.Inner.Puts.{HasAnswered}
 use Rattle.pram_commands.specs.Names.{NamingData, printed_answer}
@@ -27,7 +28,8 @@ HasPrinted writes names steps (Ok answer) put =
 HasPrinted writes names steps (Err refused) put = (put ≡ Err Memory) × writes.Unwritten
 
 -- An answer with what follows it was printed, or nothing where the run was out of memory.
-abbrev pub HasToldEnd : Bool → List ℕ → JobData → Writing → Ended → Result (Unit {0}) PrintFault
+abbrev pub HasToldEnd : Style → List ℕ → JobData → Writing → Ended → Result (Unit {0}) PrintFault
     → Type 0
-HasToldEnd why job_text job writes (Ok answer) put = HasAnswered why job_text job writes answer put
-HasToldEnd why job_text job writes (Err refused) put = (put ≡ Err Memory) × writes.Unwritten
+HasToldEnd style job_text job writes (Ok answer) put =
+    HasAnswered style job_text job writes answer put
+HasToldEnd style job_text job writes (Err refused) put = (put ≡ Err Memory) × writes.Unwritten

@@ -1,5 +1,5 @@
 -- What printing to the output came to, for a job and a plan at hand.
-use Rattle.std.specs.Prelude.{◌≡◌, ◌⊎◌, ◌↔◌, List, ℕ, Bool, Option, Result, Ok, Err, IfOk, IfErr}
+use Rattle.std.specs.Prelude.{◌≡◌, ◌⊎◌, ◌↔◌, List, ℕ, Option, Result, Ok, Err, IfOk, IfErr}
 use Rattle.std.specs.Prelude.{IsErrOf, IsTrue}
 use Rattle.std.specs.Io.KnownBytes.{Appends}
 use Rattle.pram_job.specs.Job.{JobData}
@@ -8,6 +8,7 @@ use Rattle.pram_streams.specs.Transfer.{AppendsBeginning}
 use Rattle.pram_streams.specs.declared.print.PrintFault.{PrintFault}
 use Rattle.pram_streams.specs.declared.print.PrintFault.TheVariants.{Device, Memory}
 use Rattle.pram_run.specs.Heard.{Ended}
+use Rattle.command_data.specs.declared.line.Style.{Style}
 use Rattle.pram_commands.specs.Did.{Writing, status_of, tells}
 use Rattle.pram_commands.specs.Faults.{fault_of_print}
 use Rattle.pram_commands.specs.Why.{Explaining}
@@ -42,11 +43,11 @@ pub record PutsAnswer {A : Type 0} (Comes : List ℕ → Option RunAnswer → Ty
 
 -- The answer was printed with what follows it, or a beginning of both; nothing where memory ran
 -- out.
-abbrev pub HasAnswered : Bool → List ℕ → JobData → Writing → RunAnswer →
+abbrev pub HasAnswered : Style → List ℕ → JobData → Writing → RunAnswer →
     Result (Unit {0}) PrintFault
     → Type 0
-HasAnswered why job_text job writes answer =
-    PutsAnswer (Explaining why (λ ended. ended ≡ answer) job_text job) ⊥ writes
+HasAnswered style job_text job writes answer =
+    PutsAnswer (Explaining style (λ ended. ended ≡ answer) job_text job) ⊥ writes
     (λ done. tells answer)
 
 -- what a command answers that printed how a run ended

@@ -24,7 +24,7 @@ use crate::line_records::records_of;
 use crate::names::lines_of;
 use crate::sources::{Inputs, Sources, Spelled};
 use crate::why::{put_explained, put_told};
-use command_data::Workers;
+use command_data::{Style, Workers};
 use job_text::print_text;
 use pram_cost::{Cost, print_cost};
 use pram_job::Job;
@@ -81,39 +81,39 @@ fn put_job<O: Sink>(alloc: Global, job: &Job, out: &mut O) -> Result<(), PrintFa
     print_text(alloc, out, job)
 }
 
-/// Reads a job, and prints its answer, and if it is asked for what became of the processors. The
-/// time is that of reading the text and running the job; where some stop, of running it twice.
+/// Reads a job, and prints its answer in a style. The time is that of reading the text and running
+/// the job; of running it twice where it tells what became of processors of which some stop.
 pub fn plain<J: Source, P: Source, O: Sink>(
     alloc: Global,
-    why: bool,
+    style: Style,
     sources: &mut Sources<J, P>,
     out: &mut O,
 ) -> Result<RunAnswer, CommandFault>
     requires { AreReady J.Source P.Source O.Sink sources.old out.old }
-    ensures { Did (plainly why) (taking J.Source P.Source sources.old sources.new)
+    ensures { Did (plainly style) (taking J.Source P.Source sources.old sources.new)
         (writing O.Sink out.old out.new) tells result }
 {
     let spelled = take_text(alloc, &mut sources.job, &mut sources.text)?;
-    printed(put_plain(alloc, why, &spelled, out))
+    printed(put_plain(alloc, style, &spelled, out))
 }
 
 fn put_plain<O: Sink>(
     alloc: Global,
-    why: bool,
+    style: Style,
     spelled: &Spelled,
     out: &mut O,
 ) -> Result<RunAnswer, PrintFault>
     requires output { O.has_failed out.old ≡ false }
     requires names { AreNames spelled.now.text.items spelled.now.job spelled.now.names }
     ensures { let read = spelled.now in
-        PutsAnswer (Explaining why (IsAnswer read.job) read.text.items read.job) ⊥
+        PutsAnswer (Explaining style (IsAnswer read.job) read.text.items read.job) ⊥
         (writing O.Sink out.old out.new) tells result }
 {
-    if why && spelled.names.is_none() {
-        return put_explained(alloc, out, spelled);
+    if style.why && spelled.names.is_none() {
+        return put_explained(alloc, out, style, spelled);
     }
     let answer = answer_of(alloc, spelled)?;
-    put_told(alloc, out, why, spelled, &answer)?;
+    put_told(alloc, out, style, spelled, &answer)?;
     Ok(answer)
 }
 

@@ -37,14 +37,14 @@ pub fn run<R: Threads + Wait + Clock + Eprint + Sync, J: Source, P: Source, O: S
     out: &mut O,
 ) -> Result<RunAnswer, CommandFault>
     requires { AreReady J.Source P.Source O.Sink sources.old out.old }
-    ensures { Did (running ask.why ask.manner.workers.count)
+    ensures { Did (running ask.style ask.manner.workers.count)
         (taking J.Source P.Source sources.old sources.new)
         (writing O.Sink out.old out.new) tells result }
 {
     let inputs = take_inputs(alloc, ask.manner.workers, sources)?;
     let listener = Printing {
         alloc,
-        why: ask.why,
+        style: ask.style,
         spelled: &inputs.spelled,
         out,
     };

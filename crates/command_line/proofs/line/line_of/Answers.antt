@@ -1,15 +1,14 @@
-use Rattle.std.proofs.Common.{codes, refl}
+use Rattle.std.proofs.Common.{refl}
 use Rattle.clap.specs.Words.{found_of}
-use Rattle.command_line.proofs.Matches.{flag_of, has_flag, met_file, pair_of}
+use Rattle.command_line.proofs.Matches.{has_style, met_file, pair_of}
 use Rattle.command_line.proofs.line.line_of.Goals as goal
 
 pub returns-in-plain-clause-met : goal.returns-in-plain-clause-met
 returns-in-plain-clause-met c = rw (← c.in-plain.is) (
   met_file _ _ _ _ c.in_ok-name.ensures.name c.in_ok-name.ensures.rows c.in_ok-file.ensures,
-  has_flag _ _ (found_of c.in_ok-name.inner.now) (codes "why") _
+  has_style _ _ (found_of c.in_ok-name.inner.now) _
       (pair_of _ _ _ _ _ c.in_ok-name.ensures.name c.in_ok-name.ensures.rows)
-      (flag_of (found_of c.in_ok-name.inner.now) (codes "why") _ c.get_flag-why.ensures.none
-      c.get_flag-why.ensures.value c.get_flag-why.ensures.other),
+      c.style_of-style.ensures.csv c.style_of-style.ensures.why,
   refl,
 )
 

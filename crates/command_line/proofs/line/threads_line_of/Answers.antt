@@ -1,6 +1,5 @@
-use Rattle.std.proofs.Common.{codes}
 use Rattle.clap.specs.Words.{found_of}
-use Rattle.command_line.proofs.Matches.{flag_of, has_flag, met_file, met_plan, pair_of}
+use Rattle.command_line.proofs.Matches.{has_style, met_file, met_plan, pair_of}
 use Rattle.command_line.proofs.line.threads_line_of.Goals as goal
 
 pub returns-in_ok-manner-in-run-clause-met : goal.returns-in_ok-manner-in-run-clause-met
@@ -11,10 +10,9 @@ returns-in_ok-manner-in-run-clause-met c = rw (← c.in-run.is) (
     has_plan = met_plan c.in_ok-name.inner.now _ c.get_str-plan.ensures;
     has_manner = c.in_ok-manner-in-run.ensures.has;
   },
-  has_flag _ _ (found_of c.in_ok-name.inner.now) (codes "why") _
+  has_style _ _ (found_of c.in_ok-name.inner.now) _
       (pair_of _ _ _ _ _ c.in_ok-name.ensures.name c.in_ok-name.ensures.rows)
-      (flag_of (found_of c.in_ok-name.inner.now) (codes "why") _ c.get_flag-why.ensures.none
-      c.get_flag-why.ensures.value c.get_flag-why.ensures.other),
+      c.style_of-style.ensures.csv c.style_of-style.ensures.why,
 )
 
 pub returns-in_ok-cells-in-watch-clause-met : goal.returns-in_ok-cells-in-watch-clause-met

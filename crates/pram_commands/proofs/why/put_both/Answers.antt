@@ -9,19 +9,19 @@ use Rattle.pram_commands.proofs.why.put_both.Goals as goal
 device_memory : Device ≡ Memory → ⊥
 device_memory is = cc is
 
-pub returns-in_err-print_told : goal.returns-in_err-print_told
-returns-in_err-print_told g c =
-    put_failed _ _ _ _ _ c.in_err-print_told.field-0.0
+pub returns-in_err-print_styled : goal.returns-in_err-print_styled
+returns-in_err-print_styled g c =
+    put_failed _ _ _ _ _ c.in_err-print_styled.field-0.0
     (err_is _ _ c.from_residual.ensures)
     (record {
       text = _;
       answer = Some _;
       comes = tells_all _ _ _ _ _ _ _ _ c.requires.names refl refl
           c.requires.follows;
-      takes = beginning-longer _ _ _ _ c.in_err-print_told.ensures.beginning;
+      takes = beginning-longer _ _ _ _ c.in_err-print_styled.ensures.beginning;
     })
-    (λ e. inl (c.in_err-print_told.ensures.memory (ap (λ x. Err x) e)))
-    c.in_err-print_told.ensures.failed
+    (λ e. inl (c.in_err-print_styled.ensures.memory (ap (λ x. Err x) e)))
+    c.in_err-print_styled.ensures.failed
 
 pub returns-in_err-put : goal.returns-in_err-put
 returns-in_err-put g c =
@@ -31,7 +31,7 @@ returns-in_err-put g c =
       answer = Some _;
       comes = tells_all _ _ _ _ _ _ _ _ c.requires.names refl c.as_bytes.ensures.value
           c.requires.follows;
-      takes = beginning-after _ _ _ _ _ c.in_ok-print_told.ensures.ok
+      takes = beginning-after _ _ _ _ _ c.in_ok-print_styled.ensures.ok
           c.in_err-put.ensures.beginning;
     })
     (λ e. absurd (device_memory e))
@@ -44,7 +44,7 @@ returns g c = record {
     answer = Some _;
     comes = tells_all _ _ _ _ _ _ _ _ c.requires.names refl c.as_bytes.ensures.value
         c.requires.follows;
-    takes = Appends-trans _ _ _ _ _ c.in_ok-print_told.ensures.ok c.in_ok-put.ensures.ok;
+    takes = Appends-trans _ _ _ _ _ c.in_ok-print_styled.ensures.ok c.in_ok-put.ensures.ok;
     is = refl;
   };
   wrote = tt;

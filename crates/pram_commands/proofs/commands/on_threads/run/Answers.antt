@@ -8,13 +8,13 @@ use Rattle.pram_commands.proofs.commands.on_threads.run.Goals as goal
 pub returns : goal.returns
 returns g c =
     let took = c.in_ok-inputs.ensures in
-    let why = c.args.ask.why in
+    let style = c.args.ask.style in
     let inputs = c.in_ok-inputs.inputs in
     let spelled = inputs.spelled in
     let ended = c.run_job-ended.result in
     let w = writing g.O.Sink c.args.out.now ended.1.0.now in
     let ends = ends_unread _ _ inputs _ _ _ c.run_job-ended.ensures in
-    let puts = puts_heard why spelled.text.items spelled.job inputs.plan w ended.0 ended.1.1
+    let puts = puts_heard style spelled.text.items spelled.job inputs.plan w ended.0 ended.1.1
     c.outcome.result ends.0 ends.1.1
     (λ un f. well _ (ap g.O.Sink.has_failed un ∙ c.requires.output) f) c.outcome.ensures in
     rw (c.out-1.given.1 (sym ends.1.0) ∙ c.take_back.ensures)

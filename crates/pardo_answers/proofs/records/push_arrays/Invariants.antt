@@ -1,0 +1,11 @@
+use Rattle.std.proofs.Common.{◌≡◌, ◌++◌, drop, get_or}
+use Rattle.std.specs.List.{flat_map}
+use Rattle.pardo_answers.specs.Records.{array_records}
+use Rattle.pardo_answers.proofs.records.push_arrays.Given as goal
+
+-- the records so far and those to come are all records
+abbrev pub invariant-loop-array : goal.invariant-loop-array
+invariant-loop-array l =
+    l.text.items ++ flat_map (array_records (λ cell. get_or l.cells cell 0))
+    (drop l.array-index l.arrays)
+    ≡ l.fn.text.items ++ flat_map (array_records (λ cell. get_or l.cells cell 0)) l.arrays
