@@ -1,5 +1,4 @@
-use Rattle.std.proofs.Common.{◌-◌, ◌≤◌, ℕ, arith, refl, sym, subst, Option}
-use Rattle.pram_fates.specs.declared.fates.Lost.{Lost}
+use Rattle.std.proofs.Common.{◌-◌, ◌≤◌, arith, refl, sym, subst}
 use Rattle.pram_fates.specs.Fates.{IsFirstLostOrNone}
 use Rattle.pram_fates.proofs.Ending.{fates_disputed}
 use Rattle.pram_fates.proofs.Losing.{lost_if_before}
