@@ -7,7 +7,8 @@ use Rattle.pardo_text.specs.declared.expression.Node.TheVariants.{Number, Own, L
 use Rattle.pardo_text.specs.declared.expression.Node.TheVariants.{Private, Place, Apply}
 use Rattle.pardo_text.specs.Expression.{Tree, apply, private, with_node}
 use Rattle.pardo_job.specs.declared.splitter.Part.{Part}
-use Rattle.pardo_job.specs.Flat.{ShapeData, applied_shape, computed_shape, is_beside, shape_of, split}
+use Rattle.pardo_job.specs.Flat.{ShapeData, applied_shape, computed_shape, is_beside}
+use Rattle.pardo_job.specs.Flat.{shape_of, split}
 
 -- what is left of an expression, with its shape and that of the whole expression
 abbrev pub part_of : ℕ → Tree → Part
