@@ -1,6 +1,6 @@
-use Rattle.std.proofs.Common.{refl}
+use Rattle.std.proofs.Common.{codes, refl}
 use Rattle.clap.specs.Words.{found_of}
-use Rattle.command_line.proofs.Matches.{has_style, met_file, pair_of}
+use Rattle.command_line.proofs.Matches.{flag_of, has_flag, has_style, met_file, pair_of}
 use Rattle.command_line.proofs.line.line_of.Goals as goal
 
 pub returns-in-plain-clause-met : goal.returns-in-plain-clause-met
