@@ -86,8 +86,11 @@ async function testGallery() {
     await page.click('#tab-workers');
     await page.choose('#worker-count', '2');
     await page.click('#to-end');
-    await page.until('/^(Done|Conflict)/.test(document.getElementById("outcome").textContent)');
-    await has(`${file} by workers`, '#outcome', 'the same answer as the plain machine');
+    await page.until('/^(Done|Conflict)/.test(document.getElementById("outcome").textContent) || ' +
+      '!document.getElementById("full").hidden');
+    // A long program fills its schedule before it ends.
+    await has(`${file} by workers`, '#outcome', await isShown('#full')
+      ? `of ${steps} steps` : 'the same answer as the plain machine');
     await page.click('#tab-lockstep');
   }
 }
