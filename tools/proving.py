@@ -190,6 +190,12 @@ def fault(said, status):
     return f"{what}: {lines[-1].strip()[:300] if lines else 'rt said nothing'}", False
 
 
+def anew():
+    """The word by which rt ci uses nothing that was kept. A kit that keeps nothing has none."""
+    told = subprocess.run(["rt", "help"], capture_output=True, text=True, errors="replace")
+    return ["--anew"] if "--anew" in told.stdout + told.stderr else []
+
+
 def run(words, folder, program, room, look=lambda said: None):
     """Has rt prove and build the program. Where the machine is at fault, what rt said is kept."""
     log = room / "log"
