@@ -8,6 +8,8 @@ use Rattle.pardo_text.specs.declared.statement.Statement.TheVariants.{While, End
 use Rattle.pardo_text.specs.Expression.{Tree}
 use Rattle.pardo_text.specs.Lawful.{IsProgram}
 use Rattle.pardo_text.specs.Program.{ProgramData}
+use Rattle.pram_job.specs.declared.limits.TheConstants.{MAX_CODE}
+use Rattle.pardo_job.specs.Lines.{place_of}
 use Rattle.pardo_job.specs.declared.flat.Flat.{Flat}
 use Rattle.pardo_job.specs.declared.flat.FlatLines.{FlatLines}
 use Rattle.pardo_job.specs.declared.flat.Flattened.{Flattened}
@@ -76,6 +78,12 @@ DoAllFit lines = (j : ℕ) (line : Line) → slice_get lines j ≡ Some line →
     fits line.statement ≡ true
 
 abbrev pub IsFlattened : ProgramData → Flattened → Type 0
-IsFlattened program flattened.Same = flat program ≡ program
+IsFlattened program flattened.Same = DoAllFit program.lines
 IsFlattened program (flattened.Flat given) = IsFlatProgram program given
 IsFlattened program (flattened.TooWide number) = IsTooWide program number
+
+-- where the code of these lines begins, by the places of all
+pub record AreFirstPlaces (lines : ProgramData) (firsts places : List ℕ) : Type 0 where
+  pub each : (j : ℕ) → j < length firsts → slice_index firsts j < length lines.lines →
+      slice_index places j ≡ place_of lines (slice_index firsts j)
+  pub short : place_of lines (length lines.lines) < MAX_CODE
