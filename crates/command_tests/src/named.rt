@@ -191,6 +191,10 @@ pardo 1~rule crew~shared A[65000]~shared B[600]~ \
     | 2 text line=4 kind=TooManyCells~\
     job:4:1: more than 65,536 cells: an array takes one for each place; a private variable, a \
     depth of loops and one of `if`s take one for each processor~    shared B[600]~    ^~
+pardo 1~rule crew~procs i < 4~shared A[65533]~code~A[i] := A[i] * (A[i] * (A[i] * A[i]))~ \
+    | 2 text line=6 kind=TooManyCells~\
+    job:6:1: with its hidden lines a program has at most 65,536 cells~    A[i] := \
+    A[i] * (A[i] * (A[i] * A[i]))~    ^~
 @MANY \
     | 2 text line=380 kind=TooLong~\
     job:380:1: a program has at most 4,096 instructions~    x := x + s + A[x] + A[x + 1]~    ^~

@@ -13,7 +13,7 @@ use Rattle.pram_job.specs.Job.{JobData}
 use Rattle.pardo_text.specs.declared.statement.Line.{Line}
 use Rattle.pardo_text.specs.Lawful.{IsLine, IsProgram, bounds_of}
 use Rattle.pardo_text.specs.Program.{ProgramData}
-use Rattle.pardo_job.specs.Compiled.{IsCompiled, IsJobOf}
+use Rattle.pardo_job.specs.Compiled.{IsCompiled, IsLinesJob}
 use Rattle.pardo_job.specs.Flat.{flat}
 use Rattle.pardo_job.proofs.FlatCompiled.{compiled_lawful}
 use Rattle.pardo_job.specs.Layouts.{cell_count, program_layout}
@@ -116,7 +116,7 @@ unfolding job_of
 code_same program steps = refl
 
 lines_land : (program : ProgramData) (job : JobData) (line_of : ℕ → ℕ) → IsProgram program →
-    IsJobOf program job line_of → JumpsLand job
+    IsLinesJob program job line_of → JumpsLand job
 lines_land program job line_of is compiled =
     let len : ℕ = place_of program (length program.lines) in
     let code : job.code ≡ code_of program =

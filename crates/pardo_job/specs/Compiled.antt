@@ -39,7 +39,7 @@ AreLevel program = (j : ℕ) (line : Line) → slice_get program.lines j ≡ Som
     is_level program line ≡ true
 
 -- what the compiler makes of lines as they stand
-pub record IsJobOf (program : ProgramData) (job : JobData) (line_of : ℕ → ℕ) : Type 0 where
+pub record IsLinesJob (program : ProgramData) (job : JobData) (line_of : ℕ → ℕ) : Type 0 where
   pub job_is : IsJob job
   pub made : job ≡ job_of program job.steps
   pub level : AreLevel program
@@ -48,4 +48,4 @@ pub record IsJobOf (program : ProgramData) (job : JobData) (line_of : ℕ → �
 
 -- it compiles the flat program
 abbrev pub IsCompiled : ProgramData → JobData → (ℕ → ℕ) → Type 0
-IsCompiled program job line_of = IsJobOf (flat program) job line_of
+IsCompiled program job line_of = IsLinesJob (flat program) job line_of

@@ -28,8 +28,8 @@ abbrev pub parted_line : ℕ → Line → List Tree → Statement → List Line
 parted_line base line pieces rest =
     hidden line base pieces ++ record line { statement = rest } ∷ []
 
-abbrev pub parted : ProgramData → Line → List Line
-parted program line = parted_line (length program.privates) line (line_parts program line).0
+abbrev pub unmoved_lines : ProgramData → Line → List Line
+unmoved_lines program line = parted_line (length program.privates) line (line_parts program line).0
     (line_parts program line).1
 
 -- the lines that loops name, where these are the first of the lines for each
@@ -46,7 +46,7 @@ moved_line first line = record line { statement = moved_by first line.statement 
 -- the lines for the first n lines of the program
 pub record AreFlatSoFar (program : ProgramData) (n : ℕ) (lines : List Line) (firsts : List ℕ)
     (most split : ℕ) : Type 0 where
-  pub lines_are : lines ≡ flat_map (parted program) (take n program.lines)
+  pub lines_are : lines ≡ flat_map (unmoved_lines program) (take n program.lines)
   pub count : length firsts ≡ n
   pub firsts_are : (j : ℕ) → j < n → slice_index firsts j ≡ first_flat_of program j
   pub most_is : most ≡ most_pieces program (take n program.lines)
@@ -59,7 +59,7 @@ AreFirsts program firsts = (j : ℕ) → j ≤ length program.lines →
 
 -- the lines for all lines
 pub record AreFlat (program : ProgramData) (flat : FlatLines) : Type 0 where
-  pub lines_are : flat.lines.items ≡ flat_map (parted program) program.lines
+  pub lines_are : flat.lines.items ≡ flat_map (unmoved_lines program) program.lines
   pub count : length flat.firsts.items ≡ length program.lines + 1
   pub firsts_are : AreFirsts program flat.firsts.items
   pub most_is : flat.most ≡ most_pieces program program.lines
