@@ -501,12 +501,12 @@ finished_code stage.Code (block ∷ blocks) lines d e is = tt
 finished_code stage.Code [] [] d e is = tt
 finished_code stage.Code [] (first ∷ lines) d e is =
     nested_kept d.lines (known_of (said_so_far d)) (
-  subst (LinesLead 0 [] d.lines) (ap spelled_out e) is.leads,
-  is.tied,
-  λ begin end said. elim (is.begun begin end said) [
-    | inl among ↦ absurd (subst (Among begin) (ap spelled_out e) among)
-    | inr there ↦ there
-  ],
+      subst (LinesLead 0 [] d.lines) (ap spelled_out e) is.leads,
+      is.tied,
+      λ begin end said. elim (is.begun begin end said) [
+        | inl among ↦ absurd (subst (Among begin) (ap spelled_out e) among)
+        | inr there ↦ there
+      ],
     )
 
 program_code : (d : Draft) → Code d → IfOk (program_in d) Nested

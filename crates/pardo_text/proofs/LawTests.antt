@@ -1,9 +1,9 @@
 -- A program without tests is lawful and nested where the program is.
-use Rattle.std.proofs.Common.{◌≡◌, ℕ, ◌+◌, ◌^◌, ◌<◌, ◌≤◌, Bool, true, false, List, [], ◌∷◌, ◌++◌}
-use Rattle.std.proofs.Common.{length, if◌then◌else◌, Option, Some, None, refl, sym, ap, ◌∙◌, subst}
+use Rattle.std.proofs.Common.{◌≡◌, ℕ, ◌+◌, ◌≤◌, Bool, true, false, List, [], ◌∷◌, ◌++◌}
+use Rattle.std.proofs.Common.{length, if◌then◌else◌, Option, Some, refl, sym, ap, ◌∙◌, subst}
 use Rattle.std.proofs.Common.{slice_get, zero, suc}
 use Rattle.std.specs.List.{All}
-use Rattle.std.proofs.lemmas.List.Elements.{All-nil, All-cons, All-head, All-tail}
+use Rattle.std.proofs.lemmas.List.Elements.{All-cons, All-head, All-tail}
 use Rattle.pardo_text.specs.declared.block.Block.{Block}
 use Rattle.pardo_text.specs.declared.operation.Op.{Op}
 use Rattle.pardo_text.specs.declared.operation.Op.TheVariants as op
@@ -15,8 +15,8 @@ use Rattle.pardo_text.specs.declared.statement.Target.TheVariants as target
 use Rattle.pardo_text.specs.Expression.{Tree, number, own, loop, private, place, apply}
 use Rattle.pardo_text.specs.Expressions.{constant_of}
 use Rattle.pardo_text.specs.Lawful.{Bounds, IsExpression, IsTarget, IsStatement, IsLine, masks_of}
-use Rattle.pardo_text.specs.Nested.{LinesLead, StandsInBlocks, Belongs, IsNested, around, opened_by}
-use Rattle.pardo_text.specs.Nested.{EndsAreTied, BeginsAreTied, loop_begin, loop_end_told, said_by}
+use Rattle.pardo_text.specs.Nested.{LinesLead, Belongs, IsNested, around, opened_by}
+use Rattle.pardo_text.specs.Nested.{loop_begin, loop_end_told, said_by}
 use Rattle.pardo_text.specs.Blocks.{choice_depth}
 use Rattle.pardo_text.specs.Tests.{Known, is_below, untested, without_tests, target_untested}
 use Rattle.pardo_text.specs.Tests.{statement_untested, known_after, lines_untested}
@@ -138,8 +138,8 @@ lead_kept (line ∷ lines) known at blocks last lead =
         same_belongs known blocks said lead.0.0,
         lead.0.1 ∙ ap choice_depth (sym (same_around known said blocks)),
       ),
-      subst (λ (open : List Block).
-      LinesLead (at + 1) open (lines_untested (known_after known said) lines) last)
+      subst (λ (within : List Block).
+          LinesLead (at + 1) within (lines_untested (known_after known said) lines) last)
           (sym (ap (λ (opened : List Block). opened ++ around (statement_untested known said) blocks)
           (same_opened known at said)
           ∙ ap (λ (out : List Block). opened_by at said ++ out) (same_around known said blocks)))
@@ -182,8 +182,8 @@ pub nested_kept : (lines : List Line) (known : Known) → IsNested lines →
 nested_kept lines known nested = (
   lead_kept lines known 0 [] [] nested.0,
   λ at begin said.
-  let tied = nested.1 at begin (sym (same_said loop_begin same_begin lines known at) ∙ said) in
-  (tied.0, same_said loop_end_told same_end lines known begin ∙ tied.1),
+      let tied = nested.1 at begin (sym (same_said loop_begin same_begin lines known at) ∙ said) in
+      (tied.0, same_said loop_end_told same_end lines known begin ∙ tied.1),
   λ begin end said. same_said loop_begin same_begin lines known end
-  ∙ nested.2 begin end (sym (same_said loop_end_told same_end lines known begin) ∙ said),
+      ∙ nested.2 begin end (sym (same_said loop_end_told same_end lines known begin) ∙ said),
 )

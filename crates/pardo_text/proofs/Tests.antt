@@ -1,7 +1,7 @@
 -- Tests of indices are left out, node by node.
-use Rattle.std.proofs.Common.{◌≡◌, ℕ, ◌<◌, Bool, true, false, List, [], ◌∷◌, ◌++◌, length, drop, map}
-use Rattle.std.proofs.Common.{Option, Some, None, refl, sym, ap, ◌∙◌, arith, append_assoc}
-use Rattle.std.proofs.Common.{◌+◌, zero, suc, get_or, take}
+use Rattle.std.proofs.Common.{◌≡◌, ℕ, ◌<◌, Bool, false, List, [], ◌∷◌, ◌++◌, length, drop, map}
+use Rattle.std.proofs.Common.{refl, sym, ap, ◌∙◌, arith, append_assoc}
+use Rattle.std.proofs.Common.{◌+◌, zero, suc, get_or, take, nat_le, slice_get}
 use Rattle.std.proofs.Math.ListN.{set}
 use Rattle.std.proofs.lemmas.List.{same_from_push}
 use Rattle.pardo_text.specs.declared.expression.Node.{Node}
@@ -15,7 +15,8 @@ use Rattle.pardo_text.specs.Inner.Postfixes.{postfixes, HasOperands}
 use Rattle.pardo_text.specs.declared.statement.Line.{Line}
 use Rattle.pardo_text.specs.declared.statement.Statement.{Statement}
 use Rattle.pardo_text.specs.declared.statement.Statement.TheVariants as statement
-use Rattle.pardo_text.specs.Tests.{Known, is_below, is_rest_below, untested, without_tests}
+use Rattle.pardo_text.specs.Tests.{Known, is_below, is_most_below, is_rest_below, untested}
+use Rattle.pardo_text.specs.Tests.{without_tests}
 use Rattle.pardo_text.specs.Tests.{known_after, lines_untested, statement_untested}
 
 -- ---- the last node
@@ -58,9 +59,9 @@ last_is tree trees nodes front last e f =
 -- what the last node alone tells
 abbrev pub below_by : Known → ℕ → Tree → Node → Bool
 below_by known n tree (Number k) = false
-below_by known n tree Own = is_below known n own
-below_by known n tree (Loop nest) = is_below known n (loop nest)
-below_by known n tree (Private x) = is_below known n (private x)
+below_by known n tree Own = nat_le known.procs n
+below_by known n tree (Loop nest) = is_most_below n (slice_get known.loops nest)
+below_by known n tree (Private x) = is_most_below n (slice_get known.privates x)
 below_by known n tree (Place array) = false
 below_by known n tree (Apply op) = is_below known n tree
 

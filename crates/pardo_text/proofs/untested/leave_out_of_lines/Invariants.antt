@@ -6,4 +6,4 @@ use Rattle.pardo_text.proofs.untested.leave_out_of_lines.Given as goal
 abbrev pub invariant-loop-line : goal.invariant-loop-line
 invariant-loop-line l =
     take l.line-index l.lines ++ lines_untested l.so_far (drop l.line-index l.lines)
-    ≡ lines_untested l.known l.initial.lines
+    ≡ lines_untested l.fn.known l.initial.lines

@@ -6,6 +6,6 @@ use Rattle.pardo_text.proofs.expression.Expr.leave_tests_out.Given as goal
 
 abbrev pub invariant-loop-node : goal.invariant-loop-node
 invariant-loop-node l = record {
-  nodes : l.node-items ≡ postfix l.self;
+  nodes : l.node-items ≡ postfix l.fn.self;
   so_far : SoFar (λ trees. l.exprs ≡ map (without_tests l.known) trees) l.node-items l.node-index;
 }
