@@ -3,11 +3,16 @@ use Rattle.std.proofs.Common.{◌≡◌, ℕ, ◌<◌, Bool, false, List, [], �
 use Rattle.std.proofs.Common.{refl, sym, ap, ◌∙◌, arith, append_assoc}
 use Rattle.std.proofs.Common.{◌+◌, zero, suc, get_or, take, nat_le, slice_get}
 use Rattle.std.proofs.Math.ListN.{set}
+use Rattle.std.proofs.Common.{◌||◌, true, false, Option}
+use Rattle.std.specs.List.{list_any}
+use Rattle.std.proofs.lemmas.List.Folds.{list_any-append}
 use Rattle.std.proofs.lemmas.List.{same_from_push}
 use Rattle.pardo_text.specs.declared.expression.Node.{Node}
 use Rattle.pardo_text.specs.declared.expression.Node.TheVariants.{Number, Own, Loop, Private}
 use Rattle.pardo_text.specs.declared.expression.Node.TheVariants.{Place, Apply}
 use Rattle.pardo_text.specs.declared.operation.Op.{Op}
+use Rattle.pardo_text.specs.declared.operation.Op.TheVariants.{Within}
+use Rattle.pardo_text.specs.Inner.Untested.{is_test}
 use Rattle.pardo_text.specs.Expression.{Tree, number, own, loop, private, place, apply, postfix}
 use Rattle.pardo_text.specs.Expression.{first_of, with_node}
 use Rattle.pardo_text.specs.Expressions.{constant_of}
@@ -107,6 +112,38 @@ below_applied known n (tree ∷ trees) nodes front op result e some f shared =
         let node : Apply op ≡ Apply other = is.1 in
         let same : op ≡ other = cc in
         shared by (divided ∷ trees) is.0 ∙ ap (λ o. is_rest_below n o (constant_of by)) same
+
+-- ---- an expression without a test
+
+no_either : (a b : Bool) → (a || b) ≡ false → (a ≡ false) × (b ≡ false)
+no_either false b e = (refl, e)
+no_either true b e = absurd (let no : true ≡ false = e in cc)
+
+other_stays : (known : Known) (op : Op) (first second : Tree) (n : Option ℕ) →
+    is_test (Apply op) ≡ false → untested known op first second n ≡ apply op first second
+other_stays known Within first second n e = absurd (let no : true ≡ false = e in cc)
+other_stays known op first second n e = refl
+
+pub none_left_out : (known : Known) (tree : Tree) → list_any is_test (postfix tree) ≡ false →
+    without_tests known tree ≡ tree
+none_left_out known (number k) e = refl
+none_left_out known own e = refl
+none_left_out known (loop nest) e = refl
+none_left_out known (private x) e = refl
+none_left_out known (place array index) e =
+    let parts = no_either (list_any is_test (postfix index)) _
+    (sym (list_any-append is_test (postfix index) (Place array ∷ [])) ∙ e) in
+    ap (place array) (none_left_out known index parts.0)
+none_left_out known (apply op first second) e =
+    let parts = no_either (list_any is_test (postfix first)) _
+    (sym (list_any-append is_test (postfix first) (postfix second ++ Apply op ∷ [])) ∙ e) in
+    let more = no_either (list_any is_test (postfix second)) _
+    (sym (list_any-append is_test (postfix second) (Apply op ∷ [])) ∙ parts.1) in
+    let last = no_either (is_test (Apply op)) false more.1 in
+    let bound : Tree = without_tests known second in
+    other_stays known op (without_tests known first) bound (constant_of bound) last.0
+    ∙ ap (λ t. apply op t bound) (none_left_out known first parts.0)
+    ∙ ap (λ t. apply op first t) (none_left_out known second more.0)
 
 -- ---- one node more
 

@@ -7,7 +7,8 @@ ghost use Rattle.std.specs.Prelude.{List};
 ghost use Rattle.pardo_text.specs.Expression.{Tree};
 ghost use Rattle.pardo_text.specs.Inner.Nodes.{IsLeaf, IsLastNumber};
 ghost use Rattle.pardo_text.specs.Inner.Postfixes.{postfixes};
-ghost use Rattle.pardo_text.specs.Inner.Untested.{CanTake, TakesUntested};
+ghost use Rattle.pardo_text.specs.Inner.Untested.{CanTake, TakesUntested, is_test};
+ghost use Rattle.std.specs.List.{list_any};
 ghost use Rattle.pardo_text.specs.Tests.{is_below, is_rest_below, untested, without_tests};
 ghost use Rattle.pardo_text.specs.Names.{tree_from};
 ghost use Rattle.pardo_text.specs.Operations.{is_division};
@@ -134,6 +135,9 @@ impl Expr {
     pub(crate) fn leave_tests_out(&mut self, known: &Known) -> Result<(), AllocError>
         ensures { IfOk result (λ _. self.new ≡ without_tests known.now self.old) }
     {
+        if !has_test(self.nodes()) {
+            return Ok(());
+        }
         let mut exprs = Exprs::new(*self.nodes.allocator());
         for node in self.nodes() {
             exprs.take_untested(known, *node)?;
@@ -336,6 +340,19 @@ impl Exprs {
         nodes.shrink_to_fit();
         Expr { nodes }
     }
+}
+
+// Whether an index is tested.
+fn has_test(nodes: &[Node]) -> bool
+    ensures { result ≡ list_any is_test nodes.now }
+{
+    nodes.iter().any(|node| is_test(*node))
+}
+
+fn is_test(node: Node) -> bool
+    ensures { result ≡ is_test node }
+{
+    matches!(node, Node::Apply(Op::Within))
 }
 
 // The number that the last node is, if it is one.

@@ -1,6 +1,8 @@
 -- Expressions without tests, node by node.
-use Rattle.std.specs.Prelude.{◌≡◌, List, map}
+use Rattle.std.specs.Prelude.{◌≡◌, Bool, true, false, List, map}
 use Rattle.pardo_text.specs.declared.expression.Node.{Node}
+use Rattle.pardo_text.specs.declared.expression.Node.TheVariants.{Apply}
+use Rattle.pardo_text.specs.declared.operation.Op.TheVariants.{Within}
 use Rattle.pardo_text.specs.Expression.{Tree, with_node}
 use Rattle.pardo_text.specs.Inner.Postfixes.{HasOperands}
 use Rattle.pardo_text.specs.Tests.{Known, without_tests}
@@ -16,3 +18,7 @@ pub record CanTake (known : Known) (node : Node) (before : List Tree) : Type 0 w
   pub trees : List Tree
   pub are : before ≡ map (without_tests known) trees
   pub ready : HasOperands trees node
+
+abbrev pub is_test : Node → Bool
+is_test (Apply Within) = true
+is_test _ = false
