@@ -85,7 +85,7 @@ within_below at first second shallow =
     let index : ℕ = register_or_spare spare first in
     let test : ℕ = test_register at index in
     shallow_target (instr.Div at index (Register test)) []
-    (shallow_rest (instr.Lt test index second) _
+    (shallow_rest (instr.Lt test index second) (instr.Div at index (Register test) ∷ [])
     (shallow_back (register_code spare first) (index_code at index second) shallow))
 
 pub operation_below : (op : Op) (at : ℕ) (t : Bool) (first second : Operand) →

@@ -2,7 +2,7 @@
 -- is not within its bound.
 use Rattle.std.proofs.Common.{◌≡◌, ◌≢◌, ℕ, ◌+◌, ◌<◌, ◌==◌, ◌&&◌, Bool, true, false, List, [], ◌∷◌}
 use Rattle.std.proofs.Common.{Option, Some, None, refl, sym, ap, ◌∙◌, subst, ⊎_elim, arith}
-use Rattle.std.proofs.Common.{if◌then◌else◌, nat_lt, ◌≤◌, not, eq-eqb}
+use Rattle.std.proofs.Common.{if◌then◌else◌, nat_lt, ◌≤◌, ◌/◌, not, eq-eqb}
 use Rattle.std.proofs.lemmas.Bool.{eqb-true}
 use Rattle.std.specs.Option.{option_map, option_and_then}
 use Rattle.std.proofs.Math.Nat.{div-one}
@@ -154,7 +154,8 @@ module _ (memory : ℕ → ℕ) (i at : ℕ) where
   unfolding within_code
   within_of a b held (Register register) second c shallow =
       index_of register second a b held c.below
-      (shallow_target (instr.Lt (test_register at register) register second) _ shallow)
+      (shallow_target (instr.Lt (test_register at register) register second)
+      (instr.Div at register (Register (test_register at register)) ∷ []) shallow)
       c.first_is c.second_is
   within_of a b held (Number number) second c shallow =
       let spare : ℕ = at + taken_by second in
@@ -165,7 +166,8 @@ module _ (memory : ℕ → ℕ) (i at : ℕ) where
       after_put memory i at spare number code (one ∷ code) held (worked_out Within a b) refl
       (not_kept memory i at spare (omega arith) less)
       (index_of spare second a b (put spare number held) c.below
-      (shallow_target (instr.Lt test spare second) _ (shallow_rest one code shallow))
+      (shallow_target (instr.Lt test spare second) (instr.Div at spare (Register test) ∷ [])
+      (shallow_rest one code shallow))
       (put_same spare number held ∙ c.first_is)
       (operand_kept at number held second c.below less
       (first_apart at (Number number) second c.second_at) ∙ c.second_is))

@@ -202,7 +202,7 @@ room_operation at op.Within truths a b s =
     let index : ℕ = register_or_spare (at + taken_by b) a in
     let test : ℕ = test_register at index in
     shallow_target (instr.Div at index (Register test)) []
-    (shallow_rest (instr.Lt test index b) _
+    (shallow_rest (instr.Lt test index b) (instr.Div at index (Register test) ∷ [])
     (shallow_back (register_code (at + taken_by b) a) (index_code at index b) s))
 room_operation at op.Add truths a b s = room_native at op.Add a b s
 room_operation at op.Sub truths a b s = room_native at op.Sub a b s
