@@ -68,7 +68,7 @@ lines_same cells other array same = by_width array.width
     by_width (Some width) =
         flat_map-range_same (row_line cells array width) (row_line other array width) 0
         (length array.start / width) (λ row least most.
-        let fits = row_within row width (length array.start) most in
+        let fits = row_within row width (length array.start) (omega (arith, most)) in
         ap (λ (v : List ℕ).
         array.name ++ codes "[" ++ decimal row ++ codes "] =" ++ v ++ codes "\n")
         (values_same cells other (array.base + row * width) width

@@ -290,7 +290,8 @@ fn remedy(scope: Scope, sort: Sort) -> &'static str {
         (Scope::Bound | Scope::Uniform, Sort::Private | Sort::Own) => {
             "; let an `if` within the loop look at it"
         }
-        (Scope::Uniform, Sort::Array | Sort::Table) => "; bring the value into a shared scalar before",
+        (Scope::Uniform, Sort::Array | Sort::Table) =>
+            "; bring the value into a shared scalar before",
         (Scope::Bound, Sort::Scalar | Sort::Array | Sort::Table) => "; use a `while`",
         _ => "",
     }

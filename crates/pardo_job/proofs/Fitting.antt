@@ -249,9 +249,11 @@ within_fits cells len at first second lt f s shallow =
     let back : List Instr = index_code at index second in
     let quiet : is_shallow front ≡ true = shallow_front front back shallow in
     let index_low : index < 4 = register_below spare first f quiet in
-    let test_low : test < 4 = omega (arith,
-    shallow_target (instr.Lt test index second) (instr.Div at index (Register test) ∷ [])
-    (shallow_back front back shallow)) in
+    let test_low : test < 4 = omega (
+      arith,
+      shallow_target (instr.Lt test index second) (instr.Div at index (Register test) ∷ [])
+          (shallow_back front back shallow),
+    ) in
     let low : at < 4 = omega arith in
     fit_both cells len front back (register_fits cells len spare first f quiet)
     ((test_low, index_low, s), ((low, index_low, test_low), tt))

@@ -46,6 +46,7 @@ module _ (program : ProgramData) (source : Source) (i : ℕ) where
     where
       same : m ≡ k
       same = let some : Some m ≡ Some k = e in cc
+
       by_test : (t : Bool) → nat_lt m n ≡ t →
           of (if t then number m else apply Within (number m) (number n))
           ≡ (if nat_lt k n then Some k else None)

@@ -295,7 +295,7 @@ unfolding within_code
 within_level at a b (Number k) y is too few =
     let less : at + 2 ≤ 3 = for_number a.is_computed a.is_number is.1 is.0 few in
     let spare : ℕ = at + taken_by y in
-    more (instr.Set spare k) _ spare refl (omega (arith, less, taken_small y))
+    more (instr.Set spare k) (index_code at spare y) spare refl (omega (arith, less, taken_small y))
     (index_level at spare y (omega (arith, less)) (test_low at spare less))
   where
     for_number : (c n : Bool) → c ≡ false → n ≡ true → at + (if c || n then 2 else 1) ≤ 3 →
