@@ -1,5 +1,5 @@
 //! Names and numbers as text.
-ghost use Rattle.std.specs.Prelude.{◌≡◌, ◌≤◌, ◌/◌, ◌++◌, length, slice_index, OnOk};
+ghost use Rattle.std.specs.Prelude.{◌≡◌, ◌≤◌, ◌+◌, ◌*◌, ◌/◌, ◌++◌, length, slice_index, OnOk};
 ghost use Rattle.std.specs.List.{flat_map, range_with_len};
 ghost use Rattle.pardo_job.specs.Printed.{array_lines, cell_text, has_cell, index_text, place_text};
 ghost use Rattle.pardo_job.specs.Printed.{row_line, values_text};
@@ -67,9 +67,24 @@ fn push_row(
     text.extend_from_slice(array.name())?;
     push_labelled(text, b"[", row as u64)?;
     text.extend_from_slice(b"] =")?;
+    push_row_values(text, array, width, row, cells)?;
+    text.push(b'\n')?;
+    Ok(())
+}
+
+// What the cells of a row hold.
+fn push_row_values(
+    text: &mut Vec<u8>,
+    array: &Array,
+    width: usize,
+    row: usize,
+    cells: &[u32],
+) -> Result<(), AllocError>
+    ensures { OnOk result (text.new.items ≡ text.old.items
+        ++ values_text (slice_index cells.now) (array.now.base + row * width) width) }
+{
     let first = array.base().saturating_add(row.saturating_mul(width));
     push_values(text, first, width, cells)?;
-    text.push(b'\n')?;
     Ok(())
 }
 
