@@ -35,11 +35,18 @@ export function answerFar(far, found, onTold) {
     onTold({ ...found, most, answer, isAnswering: false }));
 }
 
+// What an array holds: all of it, or of two indices row by row.
+function arrayInWords({ name, base, len, width }, cells) {
+  const held = (from, count) => cells.slice(from, from + count).join(' ');
+  if (!width) return ` ${name} = ${held(base, len)}.`;
+  return Array.from({ length: len / width }, (_, row) =>
+    ` ${name}[${row}] = ${held(base + row * width, width)}.`).join('');
+}
+
 // What the arrays of a program hold, as `pramx plain` prints it.
 function arraysInWords({ source }, cells) {
-  const lines = (source?.arrays ?? []).slice(0, MOST_ARRAYS).map(({ name, base, len }) =>
-    ` ${name} = ${cells.slice(base, base + len).join(' ')}.`);
-  return shortened(lines.join(''), MOST_CHARACTERS);
+  const shown = (source?.arrays ?? []).slice(0, MOST_ARRAYS);
+  return shortened(shown.map((array) => arrayInWords(array, cells)).join(''), MOST_CHARACTERS);
 }
 
 // Where the conflict is: in the line of a program, where it is known.

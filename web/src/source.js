@@ -15,11 +15,16 @@ const decoder = new TextDecoder();
 function namedRows({ cells, names }) {
   const bytes = encoder.encode(names);
   let at = 0;
-  return cells.map(({ base, len, name, kind }) => {
+  return cells.map(({ base, len, name, width, kind }) => {
     at += name;
     const word = decoder.decode(bytes.subarray(at - name, at));
-    return { base, len, kind, name: shortened(word, MOST_LETTERS) };
+    return { base, len, width, kind, name: shortened(word, MOST_LETTERS) };
   });
+}
+
+// The index of a place, or both indices where it has two.
+function indexIn({ width }, index) {
+  return width ? `${Math.floor(index / width)},${index % width}` : `${index}`;
 }
 
 // The words of an instruction, with the names of the program's cells in place of those that the
@@ -90,10 +95,12 @@ export class Source {
     return row && cell < row.base + row.len ? row : undefined;
   }
 
-  // Whether a cell is the first of an array, or of scalars that follow one another.
+  // Whether a cell is the first of an array, or of one of its rows, or of scalars that follow one
+  // another.
   isFirst(cell) {
     const at = this.numberOfRow(cell);
     const row = this.rows[at];
+    if (row?.width) return (cell - row.base) % row.width === 0;
     if (row?.base !== cell) return false;
     return row.kind !== CELLS.SCALAR || this.rows[at - 1]?.kind !== CELLS.SCALAR;
   }
@@ -113,7 +120,7 @@ export class Source {
     const index = cell - row.base;
     switch (row.kind) {
       case CELLS.SCALAR: return row.name;
-      case CELLS.ARRAY: return `${row.name}[${index}]`;
+      case CELLS.ARRAY: return `${row.name}[${indexIn(row, index)}]`;
       default: return `${this.nameOf(row)} of P${index}`;
     }
   }

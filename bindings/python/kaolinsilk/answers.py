@@ -8,8 +8,7 @@ from typing import Any, Callable, Dict, List, NamedTuple, Optional, Union
 from . import _library, texts
 from .errors import Conflict, KaolinsilkError, Unfinished
 from .tables import table
-
-Value = Union[int, List[int]]
+from .texts import Value
 
 
 class Gone(NamedTuple):
@@ -24,8 +23,8 @@ class Answer:
 
     `status` is "done", "conflict" or "unfinished"; `step` the last step of the job, that of the
     conflict where it is known, or the last finished one. Where it is done, `answer["A"]` is the
-    list of an array's values and `answer["total"]` a scalar's value; of a text of the machine
-    `answer[3]` is cell 3. Where it is not, these raise the `Conflict` or the `Unfinished` of
+    list of an array's values, of two indices a list of rows, and `answer["total"]` a scalar's value;
+    of a text of the machine `answer[3]` is cell 3. Where it is not, these raise the `Conflict` or the `Unfinished` of
     `answer.failure`.
 
     >>> import kaolinsilk
@@ -115,9 +114,16 @@ class Answer:
 
 
 def _short(value: Value) -> str:
-    shown = value[:64] if isinstance(value, list) else [value]
-    more = " …" if isinstance(value, list) and len(value) > 64 else ""
-    return " ".join(map(str, shown)) + more
+    values = flat(value)
+    more = " …" if len(values) > 64 else ""
+    return " ".join(map(str, values[:64])) + more
+
+
+def flat(value: Any) -> List[int]:
+    """All values of an array or a scalar, those of two indices row by row."""
+    if not isinstance(value, list):
+        return [value]
+    return [it for row in value for it in flat(row)]
 
 
 def meeting_of(said: str) -> Optional[Dict[str, Any]]:
@@ -145,10 +151,7 @@ def values_of(text: bytes, cells: List[int]) -> Dict[str, Value]:
     """The cells of the job of a text by its names."""
     if not texts.is_program(text):
         return {"cells": cells}
-    return {
-        it.name: cells[it.first : it.first + it.length] if it.is_array else cells[it.first]
-        for it in texts.shared_of(text)
-    }
+    return {it.name: it.value(cells) for it in texts.shared_of(text)}
 
 
 def _values_told(text: bytes, lines: List[str]) -> Dict[str, Value]:
@@ -157,7 +160,14 @@ def _values_told(text: bytes, lines: List[str]) -> Dict[str, Value]:
         pairs = (line.partition(": ") for line in lines)
         return {"cells": [int(value) for _, sign, value in pairs if sign]}
     rows = [line.partition(" = ") for line in lines]
-    lists = {name: list(map(int, values.split())) for name, sign, values in rows if sign}
+    lists: Dict[str, Any] = {}
+    for told, sign, values in rows:
+        name, is_row, _ = told.partition("[")
+        held = list(map(int, values.split()))
+        if is_row:
+            lists.setdefault(name, []).append(held)
+        elif sign:
+            lists[name] = held
     # A scalar is told as an array of one place is.
     arrays = texts.arrays_of(text) if any(len(it) == 1 for it in lists.values()) else set(lists)
     return {name: it if name in arrays else it[0] for name, it in lists.items()}

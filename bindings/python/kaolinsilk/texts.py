@@ -10,6 +10,9 @@ from typing import Iterable, List, Mapping, NamedTuple, Optional, Set, Union
 from . import _library
 from .errors import BadRequest, Refused
 
+# What a name holds: a number, those of an array, or its rows where it has two indices.
+Value = Union[int, List[int], List[List[int]]]
+
 # A text as it stands, or the path of a file that has it (a `pathlib.Path`).
 Source = Union[str, bytes, "os.PathLike[str]"]
 # What constants, shared scalars and shared arrays are set to, by their names.
@@ -81,9 +84,19 @@ class Shared(NamedTuple):
     first: int
     length: int
     is_array: bool
+    width: int = 0
 
     def place(self, index: int) -> str:
-        return f"{self.name}[{index}]" if self.is_array else self.name
+        row, column = divmod(index, self.width or 1)
+        at = f"{row},{column}" if self.width else f"{index}"
+        return f"{self.name}[{at}]" if self.is_array else self.name
+
+    def value(self, cells: List[int]) -> Value:
+        """What it holds, of all cells: of two indices a list for each row."""
+        values = cells[self.first : self.first + self.length]
+        if self.width:
+            return [values[k : k + self.width] for k in range(0, self.length, self.width)]
+        return values if self.is_array else values[0]
 
 
 def arrays_of(text: bytes) -> Set[str]:
@@ -100,21 +113,24 @@ def shared_of(text: bytes) -> List[Shared]:
     """
     code = b"\n".join([*header_of(text), b"while 0", b"end", b""])
     rows = _library.told("ks_plain", code).output.decode("ascii").splitlines()[1:]
-    arrays, found, first = arrays_of(text), [], 0
-    for name, _, values in (row.partition(" = ") for row in rows):
+    arrays, found, first = arrays_of(text), {}, 0
+    for told, _, values in (row.partition(" = ") for row in rows):
+        name, is_row, _ = told.partition("[")
         length = values.count(" ") + 1
-        found.append(Shared(name, first, length, name in arrays))
+        it = found.get(name, Shared(name, first, 0, name in arrays, length if is_row else 0))
+        found[name] = it._replace(length=it.length + length)
         first += length
-    return found
+    return list(found.values())
 
 
 def cell_of(shared: List[Shared], place: str) -> int:
-    """The cell that answers name so: "A[3]", or a scalar by its name."""
-    found = re.fullmatch(r"(\w+)(?:\[(0|[1-9]\d*)\])?", place)
-    name, index = found.groups() if found else ("", None)
+    """The cell that answers name so: "A[3]", "A[1,2]", or a scalar by its name."""
+    found = re.fullmatch(r"(\w+)(?:\[(\d+)(?:,(\d+))?\])?", place)
+    name, row, column = found.groups() if found else ("", None, None)
     for it in shared:
-        if it.name == name and it.is_array == bool(index) and int(index or 0) < it.length:
-            return it.first + int(index or 0)
+        index = int(row or 0) * (it.width or 1) + int(column or 0)
+        if it.name == name and index < it.length and it.place(index) == place:
+            return it.first + index
     raise BadRequest(f"the program has no place {place}")
 
 

@@ -109,6 +109,12 @@ no line of code :  -> 10:1
 all processors : forall i~end -> 10:1
 names are declared before `code` : private y -> 10:1
 a new line : x := i x := 2 -> 10:8
+$ slip spot: pardo 1~rule crew~procs i < 4~shared A[4]~shared B[min(2, 3), 4]~private x~code~
+has two indices : x := B[i] -> 8:9
+its two indices stand in `[ ]` : x := B -> 8:6
+one index : x := A[i, i] -> 8:9
+an operator or `,` : x := B[i := 2 -> 8:10
+an operator or `]` : B[A[i], i, i] := x -> 8:10
 $ slip spot
 another language : #include <stdio.h>~int main() {} -> 1:1
 another language : def main():~  pass -> 1:11
@@ -134,6 +140,8 @@ numbers go from 0 : pardo 1~rule crew~const n = 4294967296 -> 3:11
 an operator, `,` or the end of the line : pardo 1~rule crew~shared A[2] = 1 2 -> 3:17
 closes nothing : pardo 1~rule crew~procs i < 4~shared s~code~s := 1) -> 6:7
 a new name : pardo 1~rule crew~const = 4 -> 3:7
+an operator, `,` or `]` : pardo 1~rule crew~shared A[2 2] -> 3:12
+an operator or `]` : pardo 1~rule crew~shared A[2, 2, 2] -> 3:14
 $ note: pardo 1~rule common~procs i < 4~shared A[4]~private x~code~
 `i` is shifted by `x` : x := i << x + 1 -> 7:8
 `1` is shifted by `x` : A[i - 1 << x] := 2 -> 7:9

@@ -1,7 +1,7 @@
 -- What is told of programs of `pardo`.
 use Rattle.std.specs.Prelude.{◌≡◌, ◌⊎◌, ℕ, ◌+◌, ◌<◌, ◌==◌, false, nat_lt, if◌then◌else◌}
 use Rattle.std.specs.Prelude.{List, [], ◌++◌, length, map, take, slice_get, slice_index}
-use Rattle.std.specs.Prelude.{Some, None, Ok}
+use Rattle.std.specs.Prelude.{Some, None, Ok, unwrap_or}
 use Rattle.std.specs.List.{flat_map, range_with_len}
 use Rattle.pram_job.specs.declared.instr.Array.{Array}
 use Rattle.pram_job.specs.Job.{JobData}
@@ -151,14 +151,19 @@ AreLinesOf text bytes rows = (program : ProgramData) × (program_of text ≡ Ok 
 
 -- ---- the names of cells
 
--- these cells, the length of their name, and what they are for
-abbrev pub cells_row : Array → ℕ → ℕ → CellsRow
-cells_row cells name kind =
-    record { base = cells.base; len = cells.len; name = name; kind = kind }
+-- these cells, the length of their name, how many columns they have, and what they are for
+abbrev pub cells_row : Array → ℕ → ℕ → ℕ → CellsRow
+cells_row cells name width kind = record {
+  base = cells.base;
+  len = cells.len;
+  name = name;
+  width = width;
+  kind = kind;
+}
 
 abbrev pub shared_row : ArrayData → CellsRow
 shared_row array = cells_row (cells_of_array array) (length array.name)
-    (if array.is_scalar then SCALAR else ARRAY)
+    (unwrap_or array.width 0) (if array.is_scalar then SCALAR else ARRAY)
 
 -- how many rows of a cell for each processor there are
 abbrev pub own_count : ProgramData → ℕ
@@ -177,7 +182,7 @@ own_kind program which = if nat_lt which (length program.privates) then PRIVATE
 
 abbrev pub own_row : ProgramData → ℕ → CellsRow
 own_row program which =
-    cells_row (row (program_layout program) which) (length (own_name program.privates which))
+    cells_row (row (program_layout program) which) (length (own_name program.privates which)) 0
     (own_kind program which)
 
 -- the shared arrays, the private variables, the variables of loops, the masks

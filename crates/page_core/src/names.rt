@@ -14,14 +14,16 @@ use pardo_text::{Array, Private, Program};
 use std::alloc::{AllocError, Global};
 
 /// Cells of a program's job: `len` of them, the first of which is `base`. Their name has so many
-/// bytes. Their kind is that of the codes: a shared scalar, a shared array, and then rows with a
-/// cell for each processor, of a private variable, of the variable of a loop, or of a mask.
+/// bytes. They have so many columns, if they are an array of two indices, and else 0. Their kind is
+/// that of the codes: a shared scalar, a shared array, and then rows with a cell for each processor,
+/// of a private variable, of the variable of a loop, or of a mask.
 #[repr(C)]
 #[derive(Clone, Copy)]
 pub struct CellsRow {
     pub base: u64,
     pub len: u64,
     pub name: u64,
+    pub width: u64,
     pub kind: u64,
 }
 
@@ -93,6 +95,7 @@ fn shared_row(array: &Array) -> CellsRow
         base: array.base() as u64,
         len: array.start().len() as u64,
         name: array.name().len() as u64,
+        width: u64::from(array.width().unwrap_or(0)),
         kind: if array.is_scalar() { SCALAR } else { ARRAY },
     }
 }
@@ -123,6 +126,7 @@ fn own_row(program: &Program, shared: usize, which: usize) -> CellsRow
         base: (shared + which * procs) as u64,
         len: procs as u64,
         name: name_len(program.privates(), which) as u64,
+        width: 0,
         kind: own_kind(program, which),
     }
 }

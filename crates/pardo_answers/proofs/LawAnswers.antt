@@ -1,9 +1,10 @@
 -- What is printed of a job is the answer of the program that it carries.
-use Rattle.std.proofs.Common.{◌≡◌, ℕ, zero, suc, ◌+◌, ◌-◌, ◌<◌, ◌≤◌, List, [], ◌∷◌, ◌++◌}
+use Rattle.std.proofs.Common.{◌≡◌, ℕ, zero, suc, ◌+◌, ◌-◌, ◌*◌, ◌/◌, ◌<◌, ◌≤◌, List, [], ◌∷◌, ◌++◌}
 use Rattle.std.proofs.Common.{Option, Some, None, codes, decimal, get_or, length, take, refl, sym}
 use Rattle.std.proofs.Common.{ap, ap₂, subst, inl, inr, ◌∙◌, arith}
 use Rattle.std.specs.List.{flat_map, range_with_len}
 use Rattle.std.specs.Prelude.{slice_index}
+use Rattle.std.proofs.Math.Nat.{div-mul-le_self, mul-le-mul_right, suc-mul}
 use Rattle.std.proofs.lemmas.List.{get_or-take}
 use Rattle.std.proofs.lemmas.List.Sums.{sum_by-cons}
 use Rattle.std.proofs.lemmas.Bool.{cases_order}
@@ -22,8 +23,8 @@ use Rattle.pardo_job.specs.Leaving.{GoneIn, Leaves}
 use Rattle.pardo_job.specs.Flat.{flat}
 use Rattle.pardo_job.specs.Lines.{job_of}
 use Rattle.pardo_job.specs.Meaning.{after}
-use Rattle.pardo_job.specs.Printed.{array_values_line, conflict_text, end_text, gone_line}
-use Rattle.pardo_job.specs.Printed.{values_text}
+use Rattle.pardo_job.specs.Printed.{array_lines, conflict_text, end_text, gone_line}
+use Rattle.pardo_job.specs.Printed.{lines_of_width, row_line, values_text}
 use Rattle.pardo_job.specs.Runs.{IsProgramConflict, IsProgramEnd, line_number}
 use Rattle.pardo_job.specs.declared.ended.Lines.{Lines}
 use Rattle.pardo_job.specs.Ends.{EndsIn, gone_in}
@@ -41,22 +42,49 @@ flat_map-range_same f g a (suc n) same =
     ap₂ (λ (x y : List ℕ). x ++ y) (same a (omega arith) (omega arith))
     (flat_map-range_same f g (a + 1) n (λ k least most. same k (omega arith) (omega arith)))
 
+values_same : (cells other : ℕ → ℕ) (first count : ℕ) →
+    ((k : ℕ) → k < first + count → cells k ≡ other k) →
+    values_text cells first count ≡ values_text other first count
+values_same cells other first count same =
+    flat_map-range_same (λ cell. codes " " ++ decimal (cells cell))
+    (λ cell. codes " " ++ decimal (other cell)) first count
+    (λ k least most. ap (λ (v : ℕ). codes " " ++ decimal v) (same k most))
+
+-- whole rows lie in the array
+row_within : (row width len : ℕ) → row < len / width → row * width + width ≤ len
+row_within row width len lt =
+    let up : suc row ≤ len / width = omega (arith, lt) in
+    omega (arith, mul-le-mul_right width up, suc-mul row width, div-mul-le_self len width)
+
+lines_same : (cells other : ℕ → ℕ) (array : ArrayData) →
+    ((k : ℕ) → k < array.base + length array.start → cells k ≡ other k) →
+    array_lines cells array ≡ array_lines other array
+lines_same cells other array same = by_width array.width
+  where
+    by_width : (width : Option ℕ) →
+        lines_of_width cells array width ≡ lines_of_width other array width
+    by_width None = ap (λ (v : List ℕ). array.name ++ codes " =" ++ v ++ codes "\n")
+        (values_same cells other array.base (length array.start) same)
+    by_width (Some width) =
+        flat_map-range_same (row_line cells array width) (row_line other array width) 0
+        (length array.start / width) (λ row least most.
+        let fits = row_within row width (length array.start) (omega (arith, most)) in
+        ap (λ (v : List ℕ).
+        array.name ++ codes "[" ++ decimal row ++ codes "] =" ++ v ++ codes "\n")
+        (values_same cells other (array.base + row * width) width
+        (λ k low. same k (omega (arith, fits, low)))))
+
 -- arrays by cells that hold the same
 arrays_same : (cells other : ℕ → ℕ) (arrays : List ArrayData) (base : ℕ) → AreArrays arrays base →
     ((cell : ℕ) → cell < base + shared_cells arrays → cells cell ≡ other cell) →
-    flat_map (array_values_line cells) arrays ≡ flat_map (array_values_line other) arrays
+    flat_map (array_lines cells) arrays ≡ flat_map (array_lines other) arrays
 arrays_same cells other [] base are same = refl
 arrays_same cells other (array ∷ arrays) base are same =
     let whole : shared_cells (array ∷ arrays) ≡ length array.start + shared_cells arrays =
     sum_by-cons (λ (x : ArrayData). length x.start) array arrays in
     let base_is = are.0 in
-    let values : values_text cells array ≡ values_text other array =
-    flat_map-range_same (λ cell. codes " " ++ decimal (cells cell))
-    (λ cell. codes " " ++ decimal (other cell)) array.base (length array.start)
-    (λ k least most. ap (λ (v : ℕ). codes " " ++ decimal v)
-    (same k (omega (arith, whole, base_is)))) in
     ap₂ (λ (x y : List ℕ). x ++ y)
-    (ap (λ (v : List ℕ). array.name ++ codes " =" ++ v ++ codes "\n") values)
+    (lines_same cells other array (λ k low. same k (omega (arith, low, whole, base_is))))
     (arrays_same cells other arrays (base + length array.start) are.3
     (λ cell low. same cell (omega (arith, whole))))
 

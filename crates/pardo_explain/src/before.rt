@@ -19,6 +19,8 @@ pub(crate) enum Sort {
     Constant,
     Own,
     Array,
+    /// An array of two indices.
+    Table,
     Scalar,
     Private,
     Loop,
@@ -31,6 +33,7 @@ impl Sort {
             Sort::Constant => "a constant",
             Sort::Own => "the own number",
             Sort::Array => "an array",
+            Sort::Table => "an array of two indices",
             Sort::Scalar => "a shared scalar",
             Sort::Private => "a private variable",
             Sort::Loop => "the variable of a loop",
@@ -62,6 +65,24 @@ pub(crate) struct Before<'t> {
     pub(crate) open: Vec<Open<'t>>,
     /// The bad line, without its line feed.
     pub(crate) line: &'t [u8],
+}
+
+// What a shared name stands for, by what follows it in a line of so many bytes.
+fn shared_sort(len: usize, pieces: &mut Pieces<'_>) -> Sort {
+    if !is_word(pieces.take_spelled(), "[") {
+        return Sort::Scalar;
+    }
+    let mut open = 0usize;
+    for _turn in 0..len {
+        match pieces.take_spelled() {
+            b"(" => open = open.saturating_add(1),
+            b")" => open = open.saturating_sub(1),
+            b"," if open == 0 => return Sort::Table,
+            b"]" | b"" => break,
+            _ => (),
+        }
+    }
+    Sort::Array
 }
 
 /// What the lines before that of this number say.
@@ -102,8 +123,8 @@ impl<'t> Before<'t> {
             Part::Version => self.part = Part::Rule,
             Part::Rule => self.part = Part::Header,
             Part::Header => {
-                let is_array = is_word(pieces.take_spelled(), "[");
-                return self.take_declaration(number, first, second, is_array);
+                let shared = shared_sort(line.len(), &mut pieces);
+                return self.take_declaration(number, first, second, shared);
             }
             Part::Code => return self.take_code(number, first, second),
         }
@@ -115,14 +136,13 @@ impl<'t> Before<'t> {
         line: u64,
         first: &'t [u8],
         name: &'t [u8],
-        is_array: bool,
+        shared: Sort,
     ) -> Result<(), AllocError> {
         let sort = match first {
             b"const" => Sort::Constant,
             b"procs" => Sort::Own,
             b"private" => Sort::Private,
-            b"shared" if is_array => Sort::Array,
-            b"shared" => Sort::Scalar,
+            b"shared" => shared,
             _ => {
                 self.part = Part::Code;
                 return Ok(());

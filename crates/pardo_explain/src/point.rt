@@ -1,5 +1,5 @@
 //! The point at which the reader stopped, and the tokens around it.
-use crate::before::{Before, Part};
+use crate::before::Before;
 use crate::piece::Pieces;
 use crate::scan::Scan;
 use crate::wanted::Wanted;
@@ -40,10 +40,10 @@ pub(crate) fn point_of<'t>(
     let at = match (stop.read, stop.fault.kind) {
         (None, _) => usize::MAX,
         (_, PardoKind::BadSymbol) => first_bad(line),
-        (Some(read), kind) => token_of(alloc, before.part, line, kind, read)?,
+        (Some(read), kind) => token_of(alloc, before, line, kind, read)?,
     };
     let mut point = window(line, at);
-    let scan = scanned(alloc, before.part, line, at)?;
+    let scan = scanned(alloc, before, line, at)?;
     point.kind = stop.fault.kind;
     point.wanted = scan.wanted();
     point.is_within_log = scan.is_within_log();
@@ -55,10 +55,10 @@ pub(crate) fn point_of<'t>(
 }
 
 // Which token of the line the fault is of, where so many were read.
-fn token_of(
+fn token_of<'t>(
     alloc: Global,
-    part: Part,
-    line: &[u8],
+    before: &Before<'t>,
+    line: &'t [u8],
     kind: PardoKind,
     read: usize,
 ) -> Result<usize, AllocError> {
@@ -66,13 +66,13 @@ fn token_of(
     let spelled = window(line, last);
     Ok(match kind {
         PardoKind::BadLine => {
-            let scan = scanned(alloc, part, line, last)?;
+            let scan = scanned(alloc, before, line, last)?;
             if scan.takes(spelled.here) { read } else { last }
         }
         PardoKind::WrongKind if is_word(spelled.here, "[") => last.saturating_sub(1),
         PardoKind::OutOfLimits if is_too_great(spelled.here) => last,
-        PardoKind::OutOfLimits => value_out(&scanned(alloc, part, line, read)?, &spelled),
-        PardoKind::WrongLength => scanned(alloc, part, line, read)?.value,
+        PardoKind::OutOfLimits => value_out(&scanned(alloc, before, line, read)?, &spelled),
+        PardoKind::WrongLength => scanned(alloc, before, line, read)?.value,
         PardoKind::BadHeader => header_token(&spelled),
         PardoKind::TooDeep => read,
         PardoKind::BadBlock | PardoKind::TooManyCells | PardoKind::NotAscii => 0,
@@ -92,7 +92,7 @@ fn is_too_great(token: &[u8]) -> bool {
 }
 
 // The division, where the last token is a divisor of 0, or else the value that is out of limits.
-fn value_out(scan: &Scan<'_>, last: &Point<'_>) -> usize {
+fn value_out(scan: &Scan<'_, '_>, last: &Point<'_>) -> usize {
     let is_division = scan.division > 0 && is_word(last.here, "0");
     match last.first {
         b"procs" | b"private" if !is_division => scan.value,
@@ -111,13 +111,13 @@ fn header_token(line: &Point<'_>) -> usize {
 }
 
 // The tokens before a point.
-fn scanned<'t>(
+fn scanned<'b, 't>(
     alloc: Global,
-    part: Part,
+    before: &'b Before<'t>,
     line: &'t [u8],
     at: usize,
-) -> Result<Scan<'t>, AllocError> {
-    let mut scan = Scan::new(alloc, part);
+) -> Result<Scan<'b, 't>, AllocError> {
+    let mut scan = Scan::new(alloc, before);
     let mut pieces = Pieces::new(line);
     for _turn in 0..line.len().min(at) {
         let Some(piece) = pieces.take() else {

@@ -1,5 +1,5 @@
 //! A line, token by token, up to a point in it: what could stand there.
-use crate::before::Part;
+use crate::before::{Before, Part, Sort};
 use crate::wanted::Wanted;
 use crate::words::{ends_operand, is_among, is_comparison, is_name};
 use std::alloc::{AllocError, Global};
@@ -13,6 +13,12 @@ enum Bracket {
     /// That of `min` or `max`, before its `,`.
     Pair,
     Index,
+    /// That of an array of two indices, before its `,`.
+    Row,
+    /// The same, after it.
+    Column,
+    /// That in which a line says how many places or rows an array has.
+    Length,
 }
 
 /// An open bracket, and what was known before it.
@@ -24,18 +30,21 @@ struct Open {
 }
 
 impl Open {
-    // Only the operands of `min` or `max` are two.
+    // Only the operands of `min` or `max` are two, the indices of some arrays, and their rows and
+    // columns.
     fn pass_comma(&mut self) {
-        if self.bracket == Bracket::Pair {
-            self.bracket = Bracket::Plain;
-        }
+        self.bracket = match self.bracket {
+            Bracket::Pair => Bracket::Plain,
+            Bracket::Row | Bracket::Length => Bracket::Column,
+            other => other,
+        };
     }
 }
 
 /// The tokens of a line so far.
 #[derive(Debug, Drop)]
-pub(crate) struct Scan<'t> {
-    part: Part,
+pub(crate) struct Scan<'b, 't> {
+    known: &'b Before<'t>,
     /// The first one; where an assignment goes on, the one after.
     first: &'t [u8],
     before: &'t [u8],
@@ -53,11 +62,11 @@ pub(crate) struct Scan<'t> {
     is_bounded: bool,
 }
 
-impl<'t> Scan<'t> {
-    /// No token of a line.
-    pub(crate) fn new(alloc: Global, part: Part) -> Self {
+impl<'b, 't> Scan<'b, 't> {
+    /// No token of a line, which comes after these.
+    pub(crate) fn new(alloc: Global, known: &'b Before<'t>) -> Self {
         Scan {
-            part,
+            known,
             first: b"",
             before: b"",
             count: 0,
@@ -97,7 +106,7 @@ impl<'t> Scan<'t> {
 
     fn open(&mut self, token: &[u8]) -> Result<(), AllocError> {
         let bracket = if is_word(token, "[") {
-            Bracket::Index
+            self.index_bracket()
         } else if is_word(self.before, "lg") {
             Bracket::Log
         } else if is_among("min max", self.before) {
@@ -112,6 +121,17 @@ impl<'t> Scan<'t> {
         })?;
         self.is_compared = false;
         Ok(())
+    }
+
+    // The bracket that opens after the name of an array.
+    fn index_bracket(&self) -> Bracket {
+        if self.count == 2 && is_word(self.first, "shared") {
+            return Bracket::Length;
+        }
+        match self.known.known(self.before) {
+            Some(known) if known.sort == Sort::Table => Bracket::Row,
+            _ => Bracket::Index,
+        }
     }
 
     fn close(&mut self) {
@@ -170,15 +190,18 @@ impl<'t> Scan<'t> {
 
     /// What could come next.
     pub(crate) fn wanted(&self) -> Wanted {
-        if self.count == 0 || self.part == Part::Version || self.part == Part::Rule {
+        let part = self.known.part;
+        if self.count == 0 || part == Part::Version || part == Part::Rule {
             return self.wanted_first();
         }
         if let Some(open) = self.open.last()
             && ends_operand(self.before)
         {
             return match open.bracket {
-                Bracket::Pair => Wanted::Comma,
+                Bracket::Pair | Bracket::Row => Wanted::Comma,
                 Bracket::Index => Wanted::ClosingIndex,
+                Bracket::Column => Wanted::ClosingColumn,
+                Bracket::Length => Wanted::ClosingLength,
                 Bracket::Plain | Bracket::Log => Wanted::Closing,
             };
         }
@@ -193,7 +216,7 @@ impl<'t> Scan<'t> {
     }
 
     fn wanted_first(&self) -> Wanted {
-        match self.part {
+        match self.known.part {
             Part::Version => Wanted::Version,
             Part::Rule => Wanted::Rule,
             Part::Header => Wanted::Declaration,

@@ -219,12 +219,19 @@ fn scope_of(point: &Point<'_>) -> Scope {
 }
 
 fn wrong_kind(before: &Before<'_>, point: &Point<'_>) -> Sentence {
+    if is_word(point.here, "]") {
+        return Sentence("this array has two indices, as in `[r, c]`", "");
+    }
     let Some(known) = before.known(point.here) else {
         return Sentence("`{here}` cannot stand here", "");
     };
     let is_target = point.at == 0 && !is_word(point.after, "[");
     match (scope_of(point), known.sort) {
         (Scope::Any, Sort::Array) => without_index(point),
+        (Scope::Any, Sort::Table) => Sentence(
+            "`{here}` is an array: its two indices stand in `[ ]`, as `{here}[r, c]`",
+            "",
+        ),
         (Scope::Any, sort) if is_target => Sentence(untouched(sort), ""),
         (Scope::Any, _) | (Scope::Uniform, Sort::Scalar) | (_, Sort::Constant) => {
             Sentence("`{here}` is {sort} and has no index", "")
@@ -283,8 +290,9 @@ fn remedy(scope: Scope, sort: Sort) -> &'static str {
         (Scope::Bound | Scope::Uniform, Sort::Private | Sort::Own) => {
             "; let an `if` within the loop look at it"
         }
-        (Scope::Uniform, Sort::Array) => "; bring the value into a shared scalar before",
-        (Scope::Bound, Sort::Scalar | Sort::Array) => "; use a `while`",
+        (Scope::Uniform, Sort::Array | Sort::Table) =>
+            "; bring the value into a shared scalar before",
+        (Scope::Bound, Sort::Scalar | Sort::Array | Sort::Table) => "; use a `while`",
         _ => "",
     }
 }

@@ -15,7 +15,11 @@ pub(crate) enum Wanted {
     Opening,
     Closing,
     ClosingIndex,
-    /// The `,` between two operands.
+    /// The end of the second index of two.
+    ClosingColumn,
+    /// The end of how many places or rows there are.
+    ClosingLength,
+    /// The `,` between two operands, or two indices.
     Comma,
     /// `:=` after a target.
     Assignment,
@@ -46,7 +50,8 @@ impl Wanted {
             Wanted::Value => "a number, a name, `(`, `min`, `max`, `lg` or `...`",
             Wanted::Opening => "`(`",
             Wanted::Closing => "an operator or `)`",
-            Wanted::ClosingIndex => "an operator or `]`",
+            Wanted::ClosingIndex | Wanted::ClosingColumn => "an operator or `]`",
+            Wanted::ClosingLength => "an operator, `,` or `]`",
             Wanted::Comma => "an operator or `,`",
             Wanted::Assignment => "`:=`",
             Wanted::Equals => "`=`",
@@ -66,6 +71,8 @@ impl Wanted {
             self,
             Wanted::Closing
                 | Wanted::ClosingIndex
+                | Wanted::ClosingColumn
+                | Wanted::ClosingLength
                 | Wanted::Comma
                 | Wanted::Way
                 | Wanted::Whole
@@ -85,7 +92,8 @@ impl Wanted {
             Wanted::Value => begins_operand(token) || is_among("...", token),
             Wanted::Opening => is_among("(", token),
             Wanted::Closing => is_among(")", token),
-            Wanted::ClosingIndex => is_among("]", token),
+            Wanted::ClosingIndex | Wanted::ClosingColumn => is_among("]", token),
+            Wanted::ClosingLength => is_among(", ]", token),
             Wanted::Comma | Wanted::NextValue => is_among(",", token),
             Wanted::Assignment => is_among(":= [", token),
             Wanted::Equals | Wanted::EqualsOrEnd => is_among("=", token),

@@ -13,7 +13,8 @@ use Rattle.pardo_text.specs.declared.operation.Op.{Op}
 use Rattle.pardo_text.specs.declared.operation.Op.TheVariants.{Add, Sub, Mul, Div, Rem, Shl, Shr}
 use Rattle.pardo_text.specs.declared.operation.Op.TheVariants.{BitAnd, BitOr, BitXor, Eq, Ne}
 use Rattle.pardo_text.specs.declared.operation.Op.TheVariants.{Lt, Le, Gt, Ge, And, Or, Min, Max}
-use Rattle.pardo_text.specs.Operations.{bit, operation_value, is_division}
+use Rattle.pardo_text.specs.declared.operation.Op.TheVariants.{Within}
+use Rattle.pardo_text.specs.Operations.{bit, operation_value}
 use Rattle.pardo_job.specs.Operations.{native, choice, operation_code}
 use Rattle.pardo_job.specs.Operations.{taken_by, is_shallow, negation}
 use Rattle.pardo_job.specs.Straight.{Registers, operand_in, Computes}
@@ -182,11 +183,18 @@ choice_of op memory i at a b held first second is c shallow =
     computes_choice op memory i at a b held first second is c.below c.own c.first_at c.second_at
     c.first_fits c.second_fits c.first_is c.second_is shallow
 
+-- an operation that always has a value
+abbrev pub IsPlain : Op → Type 0
+IsPlain Div = ⊥
+IsPlain Rem = ⊥
+IsPlain Within = ⊥
+IsPlain _ = Unit {0}
+
 pub computes_operation : (op : Op) (are_truths : Bool) (memory : ℕ → ℕ) (i at a b : ℕ)
-    (held : Registers) (first second : Operand) → is_division op ≡ false →
+    (held : Registers) (first second : Operand) → IsPlain op →
     Operands at i a b held first second → (are_truths ≡ true → IsTruth a × IsTruth b) →
     ComputesOperation op are_truths memory i at a b held first second
-unfolding operation_code operation_value is_division
+unfolding operation_code operation_value
 computes_operation Add t memory i at a b held first second plain c truths shallow =
     native_of Add memory i at a b held first second tt c shallow
 computes_operation Sub t memory i at a b held first second plain c truths shallow =
@@ -194,9 +202,9 @@ computes_operation Sub t memory i at a b held first second plain c truths shallo
 computes_operation Mul t memory i at a b held first second plain c truths shallow =
     native_of Mul memory i at a b held first second tt c shallow
 computes_operation Div t memory i at a b held first second plain c truths shallow =
-    absurd (let no : true ≡ false = plain in cc)
+    absurd plain
 computes_operation Rem t memory i at a b held first second plain c truths shallow =
-    absurd (let no : true ≡ false = plain in cc)
+    absurd plain
 computes_operation Shl t memory i at a b held first second plain c truths shallow =
     native_of Shl memory i at a b held first second tt c shallow
 computes_operation Shr t memory i at a b held first second plain c truths shallow =
@@ -228,3 +236,5 @@ computes_operation Min t memory i at a b held first second plain c truths shallo
     choice_of Min memory i at a b held first second tt c shallow
 computes_operation Max t memory i at a b held first second plain c truths shallow =
     choice_of Max memory i at a b held first second tt c shallow
+computes_operation Within t memory i at a b held first second plain c truths shallow =
+    absurd plain

@@ -10,16 +10,17 @@ use Rattle.pardo_text.specs.declared.operation.Op.{Op}
 use Rattle.pardo_text.specs.declared.operation.Op.TheVariants.{Add, Sub, Mul, Div, Rem, Shl, Shr}
 use Rattle.pardo_text.specs.declared.operation.Op.TheVariants.{BitAnd, BitOr, BitXor, Eq, Ne}
 use Rattle.pardo_text.specs.declared.operation.Op.TheVariants.{Lt, Le, Gt, Ge, And, Or, Min, Max}
+use Rattle.pardo_text.specs.declared.operation.Op.TheVariants.{Within}
 use Rattle.pardo_text.specs.Expression.{Tree, number, own, loop, private, place, apply}
 use Rattle.pardo_job.specs.Layouts.{ProgramLayoutData, private_cells, loop_cells, array_cells}
 use Rattle.pardo_job.specs.Operations.{native, in_order, is_turned, choice, conjunction}
-use Rattle.pardo_job.specs.Operations.{operation_code}
+use Rattle.pardo_job.specs.Operations.{operation_code, within_code, index_code, test_register}
 use Rattle.pardo_job.specs.Operations.{taken_by, is_shallow, negation, register_code}
 use Rattle.pardo_job.specs.Operations.{register_or_spare, instruction_of, zero_test, tested_in}
 use Rattle.pardo_job.specs.Operations.{copy_code}
 use Rattle.pardo_job.specs.Operations.{first_chosen, second_chosen}
 use Rattle.pardo_job.specs.Values.{value_code, takes, value_operand, is_truth, own_load}
-use Rattle.pardo_job.proofs.Shallow.{shallow_front, shallow_back, shallow_target}
+use Rattle.pardo_job.proofs.Shallow.{shallow_front, shallow_back, shallow_rest, shallow_target}
 use Rattle.pardo_job.proofs.Shallow.{instruction_target}
 use Rattle.pardo_job.proofs.Choices.{test_shallow}
 
@@ -76,6 +77,17 @@ unfolding operation_code
 and_below at true first second shallow = native_below at BitAnd first second shallow
 and_below at false first second shallow = conjunction_below at first second shallow
 
+within_below : (at : ℕ) (first second : Operand) →
+    is_shallow (within_code at first second) ≡ true → at < 3
+unfolding within_code
+within_below at first second shallow =
+    let spare : ℕ = at + taken_by second in
+    let index : ℕ = register_or_spare spare first in
+    let test : ℕ = test_register at index in
+    shallow_target (instr.Div at index (Register test)) []
+    (shallow_rest (instr.Lt test index second) (instr.Div at index (Register test) ∷ [])
+    (shallow_back (register_code spare first) (index_code at index second) shallow))
+
 pub operation_below : (op : Op) (at : ℕ) (t : Bool) (first second : Operand) →
     is_shallow (operation_code at op t first second) ≡ true → at < 3
 unfolding operation_code
@@ -100,6 +112,7 @@ operation_below Or at t first second shallow =
     native_front at BitOr first second (if t then [] else negation at ++ negation at) shallow
 operation_below Min at t first second shallow = choice_below at Min first second shallow
 operation_below Max at t first second shallow = choice_below at Max first second shallow
+operation_below Within at t first second shallow = within_below at first second shallow
 
 -- the register of an expression that takes one
 pub value_below : (layout : ProgramLayoutData) (at : ℕ) (tree : Tree) → takes tree ≡ 1 →

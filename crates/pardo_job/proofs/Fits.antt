@@ -9,6 +9,7 @@ use Rattle.pardo_text.specs.declared.operation.Op.{Op}
 use Rattle.pardo_text.specs.declared.operation.Op.TheVariants.{Add, Sub, Mul, Div, Rem, Shl, Shr}
 use Rattle.pardo_text.specs.declared.operation.Op.TheVariants.{BitAnd, BitOr, BitXor, Eq, Ne}
 use Rattle.pardo_text.specs.declared.operation.Op.TheVariants.{Lt, Le, Gt, Ge, And, Or, Min, Max}
+use Rattle.pardo_text.specs.declared.operation.Op.TheVariants.{Within}
 use Rattle.pardo_text.specs.Operations.{bit, operation_value}
 
 bit_fits : (x : Bool) → bit x < 2 ^ 32
@@ -49,3 +50,4 @@ value_fits And a b la lb = bit_fits (not (a == 0) && not (b == 0))
 value_fits Or a b la lb = bit_fits (not (a == 0) || not (b == 0))
 value_fits Min a b la lb = omega arith
 value_fits Max a b la lb = omega arith
+value_fits Within a b la lb = la

@@ -14,6 +14,7 @@ use Rattle.pardo_text.specs.declared.operation.Op.{Op}
 use Rattle.pardo_text.specs.declared.operation.Op.TheVariants.{Add, Sub, Mul, Div, Rem, Shl, Shr}
 use Rattle.pardo_text.specs.declared.operation.Op.TheVariants.{BitAnd, BitOr, BitXor, Eq, Ne}
 use Rattle.pardo_text.specs.declared.operation.Op.TheVariants.{Lt, Le, Gt, Ge, And, Or, Min, Max}
+use Rattle.pardo_text.specs.declared.operation.Op.TheVariants.{Within}
 use Rattle.pardo_text.specs.Expression.{Tree, number, own, loop, private, place, apply}
 use Rattle.pardo_job.specs.Layouts.{ProgramLayoutData, array_cells, loop_cells, mask_cells}
 use Rattle.pardo_job.specs.Layouts.{private_cells}
@@ -24,7 +25,7 @@ use Rattle.pardo_job.specs.Operations.{second_chosen}
 use Rattle.pardo_job.specs.Operations.{in_order, instruction_of, is_max, is_shallow, is_turned}
 use Rattle.pardo_job.specs.Operations.{native, negation}
 use Rattle.pardo_job.specs.Operations.{operation_code, register_code, register_or_spare, taken_by}
-use Rattle.pardo_job.specs.Operations.{tested_in, zero_test}
+use Rattle.pardo_job.specs.Operations.{index_code, test_register, tested_in, within_code, zero_test}
 use Rattle.pardo_job.specs.Values.{is_truth, value_operand, own_load, own_place, takes, value_code}
 use Rattle.pardo_job.proofs.Below.{operation_below, value_below}
 use Rattle.pardo_job.proofs.Choices.{test_shallow}
@@ -80,6 +81,8 @@ instruction_fits cells len And at first second a f s = (a, (let z : 0 < 2 ^ 32 =
 instruction_fits cells len Or at first second a f s = (a, (let z : 0 < 2 ^ 32 = omega arith in z))
 instruction_fits cells len Min at first second a f s = (a, (let z : 0 < 2 ^ 32 = omega arith in z))
 instruction_fits cells len Max at first second a f s = (a, (let z : 0 < 2 ^ 32 = omega arith in z))
+instruction_fits cells len Within at first second a f s =
+    (a, (let z : 0 < 2 ^ 32 = omega arith in z))
 
 in_order_fits : (cells len at : ℕ) (op : Op) (first second : Operand) → at < 3 → IsOperand first →
     IsOperand second → is_shallow (in_order at op first second) ≡ true →
@@ -234,6 +237,27 @@ twice_fits cells len at true lt = tt
 twice_fits cells len at false lt =
     negated cells len at (negation at) lt (negation_fits cells len at lt)
 
+within_fits : (cells len at : ℕ) (first second : Operand) → at < 3 → IsOperand first →
+    IsOperand second →
+    is_shallow (within_code at first second) ≡ true → Fit cells len (within_code at first second)
+unfolding within_code
+within_fits cells len at first second lt f s shallow =
+    let spare : ℕ = at + taken_by second in
+    let index : ℕ = register_or_spare spare first in
+    let test : ℕ = test_register at index in
+    let front : List Instr = register_code spare first in
+    let back : List Instr = index_code at index second in
+    let quiet : is_shallow front ≡ true = shallow_front front back shallow in
+    let index_low : index < 4 = register_below spare first f quiet in
+    let test_low : test < 4 = omega (
+      arith,
+      shallow_target (instr.Lt test index second) (instr.Div at index (Register test) ∷ [])
+          (shallow_back front back shallow),
+    ) in
+    let low : at < 4 = omega arith in
+    fit_both cells len front back (register_fits cells len spare first f quiet)
+    ((test_low, index_low, s), ((low, index_low, test_low), tt))
+
 each_fits : (cells len at : ℕ) (truths : Bool) (a b : Operand) → IsOperand a → IsOperand b →
     (one : Op) → at < 3 →
     is_shallow (operation_code at one truths a b) ≡ true →
@@ -259,6 +283,8 @@ each_fits cells len at truths a b f s Min lt shallow =
     choice_fits cells len at Min a b lt f s shallow
 each_fits cells len at truths a b f s Max lt shallow =
     choice_fits cells len at Max a b lt f s shallow
+each_fits cells len at truths a b f s Within lt shallow =
+    within_fits cells len at a b lt f s shallow
 each_fits cells len at truths a b f s Add lt shallow =
     native_fits cells len at Add a b lt f s shallow
 each_fits cells len at truths a b f s Sub lt shallow =

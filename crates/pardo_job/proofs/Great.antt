@@ -30,7 +30,7 @@ use Rattle.pardo_job.specs.Lines.{line_code, masked, none_code, own_store, while
 use Rattle.pardo_job.specs.Operations.{chosen_of, conjunction, choice, copy_code, first_chosen}
 use Rattle.pardo_job.specs.Operations.{in_order, instruction_of, is_shallow, is_turned, native}
 use Rattle.pardo_job.specs.Operations.{operation_code, register_code, register_or_spare}
-use Rattle.pardo_job.specs.Operations.{second_chosen, taken_by, zero_test}
+use Rattle.pardo_job.specs.Operations.{second_chosen, taken_by, within_code, zero_test}
 use Rattle.pardo_job.specs.Values.{is_truth, value_operand, own_load, own_place, takes}
 use Rattle.pardo_job.specs.Values.{value_code}
 use Rattle.pardo_job.proofs.Emitting.{fault_back, shallow_both}
@@ -78,6 +78,10 @@ and_some : (at : ℕ) (truths : Bool) (a b : Operand) →
 and_some at true a b = native_some at op.BitAnd a b
 and_some at false a b = conjunction_some at a b
 
+within_some : (at : ℕ) (a b : Operand) → 1 ≤ length (within_code at a b)
+unfolding within_code
+within_some at a b = back_some (register_code (at + taken_by b) a) _ (omega arith)
+
 operation_some : (at : ℕ) (one : Op) (truths : Bool) (a b : Operand) →
     1 ≤ length (operation_code at one truths a b)
 unfolding operation_code
@@ -89,6 +93,7 @@ operation_some at op.Or truths a b =
     front_some (native at op.BitOr a b) _ (native_some at op.BitOr a b)
 operation_some at op.Min truths a b = choice_some at op.Min a b
 operation_some at op.Max truths a b = choice_some at op.Max a b
+operation_some at op.Within truths a b = within_some at a b
 operation_some at op.Add truths a b = native_some at op.Add a b
 operation_some at op.Sub truths a b = native_some at op.Sub a b
 operation_some at op.Mul truths a b = native_some at op.Mul a b

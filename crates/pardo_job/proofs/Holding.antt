@@ -29,7 +29,7 @@ use Rattle.pardo_job.specs.Operations.{taken_by, gives_truth, chosen_of, is_shal
 use Rattle.pardo_job.specs.Operations.{in_order, negation, conjunction, choice, operation_code}
 use Rattle.pardo_job.specs.Operations.{register_code, register_or_spare, instruction_of, zero_test}
 use Rattle.pardo_job.specs.Operations.{tested_in, copy_code, first_chosen, second_chosen, is_max}
-use Rattle.pardo_job.specs.Operations.{is_turned}
+use Rattle.pardo_job.specs.Operations.{is_turned, within_code, index_code, test_register}
 use Rattle.pardo_job.specs.Values.{value_operand, takes}
 use Rattle.pardo_job.specs.Inner.Nodes.{free_after, held_of, all_held, HoldsValues}
 use Rattle.pardo_job.proofs.Loads.{taken_at}
@@ -179,7 +179,7 @@ room_choice at one a b s =
 
 room_operation : (at : ℕ) (one : Op) (truths : Bool) (a b : Operand) →
     is_shallow (operation_code at one truths a b) ≡ true → at < 3
-unfolding operation_code conjunction choice
+unfolding operation_code conjunction choice within_code
 room_operation at op.Ne truths a b s = room_negation at (native at op.Eq a b) s
 room_operation at op.Le truths a b s = room_negation at (native at op.Gt a b) s
 room_operation at op.Ge truths a b s = room_negation at (native at op.Lt a b) s
@@ -198,6 +198,12 @@ room_operation at op.Min truths a b s =
     room_choice at op.Min (first_chosen a b) (second_chosen a b) s
 room_operation at op.Max truths a b s =
     room_choice at op.Max (first_chosen a b) (second_chosen a b) s
+room_operation at op.Within truths a b s =
+    let index : ℕ = register_or_spare (at + taken_by b) a in
+    let test : ℕ = test_register at index in
+    shallow_target (instr.Div at index (Register test)) []
+    (shallow_rest (instr.Lt test index b) (instr.Div at index (Register test) ∷ [])
+    (shallow_back (register_code (at + taken_by b) a) (index_code at index b) s))
 room_operation at op.Add truths a b s = room_native at op.Add a b s
 room_operation at op.Sub truths a b s = room_native at op.Sub a b s
 room_operation at op.Mul truths a b s = room_native at op.Mul a b s

@@ -41,3 +41,4 @@ pub mod FlatWhole
 pub mod FlatFirsts
 pub mod Drafting
 pub mod FlatCompiled
+pub mod Tables

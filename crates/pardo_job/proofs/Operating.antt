@@ -14,6 +14,7 @@ use Rattle.pardo_text.specs.declared.operation.Op.{Op}
 use Rattle.pardo_text.specs.declared.operation.Op.TheVariants.{Add, Sub, Mul, Div, Rem, Shl, Shr}
 use Rattle.pardo_text.specs.declared.operation.Op.TheVariants.{BitAnd, BitOr, BitXor, Eq, Ne}
 use Rattle.pardo_text.specs.declared.operation.Op.TheVariants.{Lt, Le, Gt, Ge, And, Or, Min, Max}
+use Rattle.pardo_text.specs.declared.operation.Op.TheVariants.{Within}
 use Rattle.pardo_text.specs.Operations.{bit, operation_value}
 use Rattle.pardo_job.specs.Operations.{native, in_order, is_turned, instruction_of}
 use Rattle.pardo_job.specs.Operations.{taken_by, is_shallow}
@@ -67,6 +68,7 @@ one_value memory i at first second held And is = absurd is
 one_value memory i at first second held Or is = absurd is
 one_value memory i at first second held Min is = absurd is
 one_value memory i at first second held Max is = absurd is
+one_value memory i at first second held Within is = absurd is
 
 -- ---- where operands are
 
@@ -174,6 +176,7 @@ turned_value And first a b is e = absurd is
 turned_value Or first a b is e = absurd is
 turned_value Min first a b is e = absurd is
 turned_value Max first a b is e = absurd is
+turned_value Within first a b is e = absurd is
 
 straight_value : (op : Op) (first : Operand) → is_turned op first ≡ false → mirrored op ≡ op
 straight_value Add first e = refl
@@ -196,6 +199,7 @@ straight_value And first e = refl
 straight_value Or first e = refl
 straight_value Min first e = refl
 straight_value Max first e = refl
+straight_value Within first e = refl
 
 pub computes_native : (memory : ℕ → ℕ) (i at a b : ℕ) (first second : Operand) (held : Registers)
     (op : Op) → IsNative op → IsApart at first second → IsApart at second first →

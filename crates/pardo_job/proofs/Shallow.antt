@@ -9,6 +9,7 @@ use Rattle.pardo_text.specs.declared.operation.Op.{Op}
 use Rattle.pardo_text.specs.declared.operation.Op.TheVariants.{Add, Sub, Mul, Div, Rem, Shl, Shr}
 use Rattle.pardo_text.specs.declared.operation.Op.TheVariants.{BitAnd, BitOr, BitXor, Eq, Ne}
 use Rattle.pardo_text.specs.declared.operation.Op.TheVariants.{Lt, Le, Gt, Ge, And, Or, Min, Max}
+use Rattle.pardo_text.specs.declared.operation.Op.TheVariants.{Within}
 use Rattle.pardo_job.specs.Operations.{is_shallow, target_of, instruction_of}
 
 both_front : (a b : Bool) → (a && b) ≡ true → a ≡ true
@@ -61,3 +62,4 @@ instruction_target And at first second = refl
 instruction_target Or at first second = refl
 instruction_target Min at first second = refl
 instruction_target Max at first second = refl
+instruction_target Within at first second = refl

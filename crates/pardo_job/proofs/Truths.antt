@@ -6,6 +6,7 @@ use Rattle.pardo_text.specs.declared.operation.Op.{Op}
 use Rattle.pardo_text.specs.declared.operation.Op.TheVariants.{Add, Sub, Mul, Div, Rem, Shl, Shr}
 use Rattle.pardo_text.specs.declared.operation.Op.TheVariants.{BitAnd, BitOr, BitXor, Eq, Ne}
 use Rattle.pardo_text.specs.declared.operation.Op.TheVariants.{Lt, Le, Gt, Ge, And, Or, Min, Max}
+use Rattle.pardo_text.specs.declared.operation.Op.TheVariants.{Within}
 use Rattle.pardo_text.specs.Operations.{operation_value}
 use Rattle.pardo_job.specs.Operations.{gives_truth}
 use Rattle.pardo_job.proofs.Applying.{IsTruth, bit_truth}
@@ -48,3 +49,4 @@ truth_value And t a b e both = bit_truth (not (a == 0) && not (b == 0))
 truth_value Or t a b e both = bit_truth (not (a == 0) || not (b == 0))
 truth_value Min t a b e both = no_truth e
 truth_value Max t a b e both = no_truth e
+truth_value Within t a b e both = no_truth e

@@ -8,7 +8,7 @@ use Rattle.std.specs.Prelude.{List, [], ◌∷◌, ◌++◌, length, replicate, 
 use Rattle.std.specs.List.{flat_map}
 use Rattle.pardo_text.specs.declared.operation.Op.{Op}
 use Rattle.pardo_text.specs.declared.operation.Op.TheVariants.{Sub, Div, Rem, Shl, Shr}
-use Rattle.pardo_text.specs.declared.operation.Op.TheVariants.{Lt, Le, Gt, Ge, And, Min, Max}
+use Rattle.pardo_text.specs.declared.operation.Op.TheVariants.{Lt, Le, Gt, Ge, And, Min, Max, Within}
 use Rattle.pardo_text.specs.declared.statement.Line.{Line}
 use Rattle.pardo_text.specs.declared.statement.Statement.{Statement}
 use Rattle.pardo_text.specs.declared.statement.Statement.TheVariants.{Assign, If}
@@ -58,6 +58,7 @@ operation_need And first second =
     then 1 else 2
 operation_need Min first second = if first.is_computed && second.is_computed then 3 else 2
 operation_need Max first second = if first.is_computed && second.is_computed then 3 else 2
+operation_need Within first second = if first.is_computed || first.is_number then 2 else 1
 operation_need _ first second = 1
 
 unfoldable pub applied_shape : Op → ShapeData → ShapeData → ShapeData

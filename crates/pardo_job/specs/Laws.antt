@@ -1,10 +1,13 @@
 -- The laws of the meaning.
-use Rattle.std.specs.Prelude.{◌≡◌, ◌≢◌, ℕ, ◌⊎◌}
-use Rattle.std.specs.Prelude.{false, slice_get, Some, None}
+use Rattle.std.specs.Prelude.{◌≡◌, ◌≢◌, ℕ, ◌⊎◌, ◌+◌, ◌*◌, ◌≤◌, ◌&&◌, nat_lt}
+use Rattle.std.specs.Prelude.{if◌then◌else◌, false, slice_get, Some, None}
 use Rattle.pram_job.specs.declared.instr.Rule.{Rule}
 use Rattle.pram_job.specs.declared.instr.Rule.TheVariants.{Priority, Crew}
 use Rattle.pardo_text.specs.declared.statement.Line.{Line}
-use Rattle.pardo_text.specs.Expression.{Tree}
+use Rattle.pardo_text.specs.declared.limits.TheConstants.{MAX_CELLS}
+use Rattle.pardo_text.specs.declared.operation.Op.TheVariants.{Add, Mul}
+use Rattle.pardo_text.specs.Expression.{Tree, number}
+use Rattle.pardo_text.specs.Expressions.{applied, constant_of, tested}
 use Rattle.pardo_text.specs.Lawful.{IsCommon, IsExpression, bounds_of}
 use Rattle.pardo_text.specs.Program.{ProgramData}
 use Rattle.pram_step.specs.declared.answer.Dispute.{Dispute}
@@ -72,3 +75,17 @@ OneLineDispute = (program : ProgramData) (source : Source) (dispute other : Disp
 abbrev pub TreesAreLawful : Type 0
 TreesAreLawful = (program : ProgramData) (tree : Tree) →
     IsExpression (bounds_of program) tree → IsLawfulTree (program_layout program) tree
+
+-- the place in so many rows and columns, as it is read
+abbrev pub row_by_row : ℕ → ℕ → Tree → Tree → Tree
+row_by_row rows columns row column =
+    applied Add (applied Mul (tested rows row (constant_of row)) (number columns))
+    (tested columns column (constant_of column))
+
+-- Two indices that are both below their bounds name a place, row by row, and others none.
+abbrev pub IndicesAreTested : Type 0
+IndicesAreTested = (program : ProgramData) (source : Source) (i h w r c : ℕ)
+    (row column : Tree) → h * w ≤ MAX_CELLS → value program source i row ≡ Some r →
+    value program source i column ≡ Some c →
+    value program source i (row_by_row h w row column)
+    ≡ (if nat_lt r h && nat_lt c w then Some (r * w + c) else None)

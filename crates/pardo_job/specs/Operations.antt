@@ -15,6 +15,7 @@ use Rattle.pardo_text.specs.declared.operation.Op.{Op}
 use Rattle.pardo_text.specs.declared.operation.Op.TheVariants.{Add, Sub, Mul, Div, Rem, Shl, Shr}
 use Rattle.pardo_text.specs.declared.operation.Op.TheVariants.{BitAnd, BitOr, BitXor, Eq, Ne}
 use Rattle.pardo_text.specs.declared.operation.Op.TheVariants.{Lt, Le, Gt, Ge, And, Or, Min, Max}
+use Rattle.pardo_text.specs.declared.operation.Op.TheVariants.{Within}
 
 -- the register that holds a processor's own number throughout
 abbrev pub own_register : ℕ
@@ -148,6 +149,21 @@ unfoldable pub choice : ℕ → Op → Operand → Operand → List Instr
 choice at op first second =
     copy_code at (first_chosen first second) ++ chosen_of at op (second_chosen first second)
 
+-- the register of a test, beside that of the index
+abbrev pub test_register : ℕ → ℕ → ℕ
+test_register at index = if index == at then at + 1 else at
+
+-- an index, where it is below the bound; where it is not, its processor divides by 0
+abbrev pub index_code : ℕ → ℕ → Operand → List Instr
+index_code at index bound =
+    instr.Lt (test_register at index) index bound
+    ∷ instr.Div at index (Register (test_register at index)) ∷ []
+
+-- the same; a number comes into a register
+unfoldable pub within_code : ℕ → Operand → Operand → List Instr
+within_code at first second = register_code (at + taken_by second) first
+    ++ index_code at (register_or_spare (at + taken_by second) first) second
+
 -- The code of an operation; of `and` and `or` it is shorter where both operands are truths, which
 -- are 0 or 1.
 unfoldable pub operation_code : ℕ → Op → Bool → Operand → Operand → List Instr
@@ -160,6 +176,7 @@ operation_code at Or are_truths a b =
     native at BitOr a b ++ (if are_truths then [] else negation at ++ negation at)
 operation_code at Min are_truths a b = choice at Min a b
 operation_code at Max are_truths a b = choice at Max a b
+operation_code at Within are_truths a b = within_code at a b
 operation_code at op are_truths a b = native at op a b
 
 -- The value of the operation is 0 or 1.

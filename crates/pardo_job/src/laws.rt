@@ -1,5 +1,5 @@
 //! The laws of the meaning: each function does nothing, and says to a proof that its law holds.
-ghost use Rattle.pardo_job.specs.Laws.{GoneForGood, LoopsAreCommon, OutsideIsUnchanged};
+ghost use Rattle.pardo_job.specs.Laws.{GoneForGood, IndicesAreTested, LoopsAreCommon, OutsideIsUnchanged};
 ghost use Rattle.pardo_job.specs.Laws.{TreesAreLawful};
 ghost use Rattle.pardo_job.specs.Leaves.{ConditionsDecide, ExpressionsAreEvaluated};
 
@@ -34,4 +34,10 @@ pub fn conditions_decide()
 /// An expression of a lawful program names what there is in its cells.
 pub fn trees_are_lawful()
     ensures { TreesAreLawful }
+{}
+
+/// Two indices that are both below their bounds name a place, row by row, and others none.
+#[tactic(auto, using(crate::proofs::Tables::indices_are_tested))]
+pub fn indices_are_tested()
+    ensures { IndicesAreTested }
 {}

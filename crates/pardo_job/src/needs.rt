@@ -111,6 +111,7 @@ fn operation_need(op: Op, first: Shape, second: Shape) -> u8
         Op::Gt | Op::Le => first_need(second, first),
         Op::And => conjunction_need(first, second),
         Op::Min | Op::Max => choice_need(first, second),
+        Op::Within => index_need(first),
         _ => 1,
     }
 }
@@ -145,6 +146,17 @@ fn choice_need(first: Shape, second: Shape) -> u8
         3
     } else {
         2
+    }
+}
+
+// The test of an index takes a register beside that of the index.
+fn index_need(index: Shape) -> u8
+    ensures { result ≡ (if index.is_computed || index.is_number then 2 else 1) }
+{
+    if index.is_computed || index.is_number {
+        2
+    } else {
+        1
     }
 }
 

@@ -6,7 +6,7 @@ ghost use Rattle.pardo_job.specs.Operations.{target_of, instruction_of, is_turne
 ghost use Rattle.pardo_job.specs.Operations.{register_or_spare, native, in_order};
 ghost use Rattle.pardo_job.specs.Operations.{negation, copy_code, choice};
 ghost use Rattle.pardo_job.specs.Operations.{zero_test, tested_in, conjunction, operation_code};
-ghost use Rattle.pardo_job.specs.Operations.{gives_truth, chosen_of, is_max};
+ghost use Rattle.pardo_job.specs.Operations.{gives_truth, chosen_of, is_max, within_code};
 
 use crate::fault::JobKind;
 use crate::held::{Held, OWN, taken_by};
@@ -50,6 +50,7 @@ pub(crate) fn put_operation(
             put_negation(code, at)
         }
         Op::Min | Op::Max => put_choice(code, at, op, a, b),
+        Op::Within => put_within(code, at, a, b),
         _ => put_native(code, at, op, a, b),
     }
 }
@@ -128,6 +129,18 @@ fn put_in_order(
 {
     let register = put_register(code, at + taken_by(second), first)?;
     put(code, instruction(op, at, register, second))
+}
+
+// An index, where it is below the bound.
+#[tactic(auto, unfolding(crate::specs::Operations::within_code))]
+fn put_within(code: &mut Vec<Instr>, at: u8, index: Operand, bound: Operand) -> Result<(), JobKind>
+    requires { at < 4 }
+    ensures { PutsCode code.old.items code.new.items result (within_code at index bound) }
+{
+    let register = put_register(code, at + taken_by(bound), index)?;
+    let test = if register == at { at + 1 } else { at };
+    put(code, Instr::Lt(test, register, bound))?;
+    put(code, Instr::Div(at, register, Operand::Register(test)))
 }
 
 // Makes the register 1 where it is 0, and else 0.

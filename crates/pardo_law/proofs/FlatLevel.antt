@@ -3,7 +3,7 @@ use Rattle.std.proofs.Common.{◌≡◌, ℕ, ◌+◌, ◌<◌, ◌≤◌, ◌==
 use Rattle.std.proofs.Common.{◌&&◌, ◌||◌, not, List, [], ◌∷◌, ◌++◌, refl, sym, ap, ◌∙◌, subst}
 use Rattle.std.proofs.Common.{inl, inr, arith, if◌then◌else◌, length, nat_lt}
 use Rattle.std.specs.List.{All}
-use Rattle.std.proofs.lemmas.Bool.{eq-eqb, le-leb, leb-true, lt-ltb, ne_eqb}
+use Rattle.std.proofs.lemmas.Bool.{eq-eqb, eqb-true, le-leb, leb-true, lt-ltb, ne_eqb}
 use Rattle.std.proofs.lemmas.List.Elements.{All-append, All-cons, All-nil}
 use Rattle.pram_job.specs.declared.instr.Instr.{Instr}
 use Rattle.pram_job.specs.declared.instr.Instr.TheVariants as instr
@@ -14,6 +14,7 @@ use Rattle.pardo_text.specs.declared.operation.Op.{Op}
 use Rattle.pardo_text.specs.declared.operation.Op.TheVariants.{Add, Sub, Mul, Div, Rem, Shl, Shr}
 use Rattle.pardo_text.specs.declared.operation.Op.TheVariants.{BitAnd, BitOr, BitXor, Eq, Ne}
 use Rattle.pardo_text.specs.declared.operation.Op.TheVariants.{Lt, Le, Gt, Ge, And, Or, Min, Max}
+use Rattle.pardo_text.specs.declared.operation.Op.TheVariants.{Within}
 use Rattle.pardo_text.specs.Expression.{Tree, number, own, loop, private, place, apply}
 use Rattle.pardo_job.specs.Flat.{ShapeData, applied_shape, beside, computed_shape, first_need, has_room}
 use Rattle.pardo_job.specs.Flat.{is_beside}
@@ -25,7 +26,7 @@ use Rattle.pardo_job.specs.Operations.{choice, chosen_of, conjunction, copy_code
 use Rattle.pardo_job.specs.Operations.{gives_truth, in_order, instruction_of, is_max, is_shallow}
 use Rattle.pardo_job.specs.Operations.{is_turned, native, negation, operation_code}
 use Rattle.pardo_job.specs.Operations.{register_or_spare, second_chosen, taken_by, target_of}
-use Rattle.pardo_job.specs.Operations.{tested_in, zero_test}
+use Rattle.pardo_job.specs.Operations.{index_code, test_register, tested_in, within_code, zero_test}
 use Rattle.pardo_job.specs.Values.{is_truth, own_load, takes, value_code}
 use Rattle.pardo_job.specs.Values.{value_operand}
 use Rattle.pardo_job.proofs.Choices.{taken_none, taken_one}
@@ -262,6 +263,65 @@ choice_level at op a b x y is too few =
     chosen_second false false one other less =
         by_turn false false false one other refl (omega (arith, other, less))
 
+-- ---- the test of an index
+
+taken_small : (operand : Operand) → taken_by operand ≤ 1
+taken_small (Number k) = omega arith
+taken_small (Register register) = few (nat_lt register 3)
+  where
+    few : (b : Bool) → (if b then 1 else 0) ≤ 1
+    few true = omega arith
+    few false = omega arith
+
+index_level : (at index : ℕ) (y : Operand) → at < 3 → test_register at index < 3 →
+    is_shallow (index_code at index y) ≡ true
+index_level at index y lt test =
+    let register : ℕ = test_register at index in
+    more (instr.Lt register index y) (instr.Div at index (Register register) ∷ []) register refl test
+    (more (instr.Div at index (Register register)) [] at refl lt refl)
+
+-- the register of the test is `at`, or the one after it
+test_low : (at index : ℕ) → at + 2 ≤ 3 → test_register at index < 3
+test_low at index less = by_case (index == at)
+  where
+    by_case : (t : Bool) → (if t then at + 1 else at) < 3
+    by_case true = omega (arith, less)
+    by_case false = omega (arith, less)
+
+within_level : (at : ℕ) (a b : ShapeData) (x y : Operand) → IsOf a at x →
+    IsOf b (at + taken a) y → at + (if a.is_computed || a.is_number then 2 else 1) ≤ 3 →
+    is_shallow (within_code at x y) ≡ true
+unfolding within_code
+within_level at a b (Number k) y is too few =
+    let less : at + 2 ≤ 3 = for_number a.is_computed a.is_number is.1 is.0 few in
+    let spare : ℕ = at + taken_by y in
+    more (instr.Set spare k) (index_code at spare y) spare refl (omega (arith, less, taken_small y))
+    (index_level at spare y (omega (arith, less)) (test_low at spare less))
+  where
+    for_number : (c n : Bool) → c ≡ false → n ≡ true → at + (if c || n then 2 else 1) ≤ 3 →
+        at + 2 ≤ 3
+    for_number false true e f less = less
+    for_number true n e f less = absurd (let no : true ≡ false = e in cc)
+    for_number false false e f less = absurd (let no : false ≡ true = f in cc)
+within_level at a b (Register register) y (inl here) too few =
+    let less : at + 2 ≤ 3 = for_computed a.is_computed a.is_number here.2 few in
+    index_level at register y (omega (arith, less)) (test_low at register less)
+  where
+    for_computed : (c n : Bool) → c ≡ true → at + (if c || n then 2 else 1) ≤ 3 → at + 2 ≤ 3
+    for_computed true n e less = less
+    for_computed false n e less = absurd (let no : false ≡ true = e in cc)
+within_level at a b (Register register) y (inr own_one) too few =
+    let lt : at < 3 = for_own (a.is_computed || a.is_number) few in
+    index_level at register y lt
+    (subst (λ r. test_register at r < 3) (sym own_one.0) (by_case (3 == at) refl lt))
+  where
+    for_own : (t : Bool) → at + (if t then 2 else 1) ≤ 3 → at < 3
+    for_own true less = omega (arith, less)
+    for_own false less = omega (arith, less)
+    by_case : (t : Bool) → (3 == at) ≡ t → at < 3 → (if t then at + 1 else at) < 3
+    by_case true e lt = absurd (omega (arith, eqb-true 3 at e, lt))
+    by_case false e lt = lt
+
 -- ---- each operation
 
 truths_level : (t : Bool) (at : ℕ) (a b : ShapeData) (x y : Operand) → IsOf a at x →
@@ -309,6 +369,7 @@ some_need op a b = by_op op
     by_op Eq = omega arith
     by_op Ne = omega arith
     by_op Or = omega arith
+    by_op Within = least (a.is_computed || a.is_number) 2 1 (omega arith) (omega arith)
 
 few_need : (op : Op) (a b : ShapeData) → operation_need op a b ≤ 3
 unfolding operation_need
@@ -340,6 +401,7 @@ few_need op a b = by_op op
     by_op Eq = omega arith
     by_op Ne = omega arith
     by_op Or = omega arith
+    by_op Within = most (a.is_computed || a.is_number) 2 1 (omega arith) (omega arith)
 
 module _ (at : ℕ) (a b : ShapeData) (x y : Operand) (is : IsOf a at x)
     (too : IsOf b (at + taken a) y) where
@@ -413,6 +475,7 @@ module _ (at : ℕ) (a b : ShapeData) (x y : Operand) (is : IsOf a at x)
       (let e = some_need And a b in omega (arith, few, e)) few
   operation_level Min few = choice_level at Min a b x y is too few
   operation_level Max few = choice_level at Max a b x y is too few
+  operation_level Within few = within_level at a b x y is too few
 
 -- ---- expressions
 

@@ -9,6 +9,7 @@ use Rattle.pardo_text.specs.declared.operation.Op.{Op}
 use Rattle.pardo_text.specs.declared.operation.Op.TheVariants.{Add, Sub, Mul, Div, Rem, Shl, Shr}
 use Rattle.pardo_text.specs.declared.operation.Op.TheVariants.{BitAnd, BitOr, BitXor, Eq, Ne}
 use Rattle.pardo_text.specs.declared.operation.Op.TheVariants.{Lt, Le, Gt, Ge, And, Or, Min, Max}
+use Rattle.pardo_text.specs.declared.operation.Op.TheVariants.{Within}
 use Rattle.pardo_text.specs.Expression.{Tree, number, own, loop, private, place, apply}
 use Rattle.pardo_job.specs.Layouts.{ProgramLayoutData}
 use Rattle.pardo_job.specs.Lines.{condition_code, while_code, none_code, turn_code}
@@ -16,7 +17,7 @@ use Rattle.pardo_job.specs.Operations.{native, choice, conjunction, operation_co
 use Rattle.pardo_job.specs.Operations.{register_code, register_or_spare}
 use Rattle.pardo_job.specs.Operations.{instruction_of, in_order, is_turned, zero_test, tested_in}
 use Rattle.pardo_job.specs.Operations.{copy_code, chosen_of, is_max}
-use Rattle.pardo_job.specs.Operations.{first_chosen, second_chosen, taken_by}
+use Rattle.pardo_job.specs.Operations.{first_chosen, second_chosen, taken_by, within_code}
 use Rattle.pardo_job.specs.Values.{value_code, takes, value_operand, is_truth}
 use Rattle.pardo_law.specs.Locals.{IsStraight, AreStraight}
 use Rattle.pardo_law.specs.Locals.{ExpressionsAreStraight}
@@ -49,6 +50,7 @@ instruction_straight And at first second = tt
 instruction_straight Or at first second = tt
 instruction_straight Min at first second = tt
 instruction_straight Max at first second = tt
+instruction_straight Within at first second = tt
 
 register_straight : (spare : ℕ) (operand : Operand) → AreStraight (register_code spare operand)
 register_straight spare (Register r) = tt
@@ -112,6 +114,11 @@ negated_straight : (at : ℕ) (op : Op) (a b : Operand) →
 negated_straight at op a b = straight_append (native at op a b) (negation at)
     (native_straight at op a b) (tt, tt)
 
+within_straight : (at : ℕ) (a b : Operand) → AreStraight (within_code at a b)
+unfolding within_code
+within_straight at a b = straight_append (register_code (at + taken_by b) a) _
+    (register_straight (at + taken_by b) a) (tt, (tt, tt))
+
 pub operation_straight : (at : ℕ) (op : Op) (t : Bool) (a b : Operand) →
     AreStraight (operation_code at op t a b)
 unfolding operation_code
@@ -125,6 +132,7 @@ operation_straight at Or t a b =
     (native_straight at BitOr a b) (straight_if t [] (negation at ++ negation at) tt (tt, (tt, tt)))
 operation_straight at Min t a b = choice_straight at Min a b
 operation_straight at Max t a b = choice_straight at Max a b
+operation_straight at Within t a b = within_straight at a b
 operation_straight at op t a b = native_straight at op a b
 
 pub value_straight : (layout : ProgramLayoutData) (at : ℕ) (tree : Tree) →

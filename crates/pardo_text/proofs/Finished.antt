@@ -9,6 +9,7 @@ use Rattle.pardo_text.specs.declared.fault.PardoKind.TheVariants.{BadHeader, Ope
 use Rattle.pardo_text.specs.declared.statement.Line.{Line}
 use Rattle.pardo_text.specs.Drafts.{Draft}
 use Rattle.pardo_text.specs.Reading.{finished_draft, said_so_far}
+use Rattle.pardo_text.specs.Tests.{program_untested}
 
 pub finished-early : (s : Stage) (blocks : List Block) (lines : List Line) (draft : Draft) →
     (s ≡ stage.Code → ⊥) → finished_draft s blocks lines draft ≡ Err BadHeader
@@ -40,7 +41,7 @@ finished-empty stage.Header blocks lines draft is closed none = absurd (cc)
 
 pub finished-whole : (s : Stage) (blocks : List Block) (lines : List Line) (draft : Draft) →
     s ≡ stage.Code → (length blocks == 0) ≡ true → (length lines == 0) ≡ false →
-    finished_draft s blocks lines draft ≡ Ok (said_so_far draft)
+    finished_draft s blocks lines draft ≡ Ok (program_untested (said_so_far draft))
 finished-whole stage.Code [] (line ∷ lines) draft is closed some = refl
 finished-whole stage.Code [] [] draft is closed some = absurd (let no : true ≡ false = some in cc)
 finished-whole stage.Code (block ∷ blocks) lines draft is closed some =

@@ -1,5 +1,5 @@
 -- Lines that are joined.
-use Rattle.std.proofs.Common.{◌≡◌, ℕ, List, [], ◌∷◌, ◌++◌, refl, sym, ap, ◌∙◌, append_assoc}
+use Rattle.std.proofs.Common.{◌≡◌, ℕ, List, [], ◌∷◌, ◌++◌, refl, ap}
 use Rattle.std.proofs.Common.{append-nil}
 use Rattle.std.specs.List.{join_with_byte}
 use Rattle.pardo_text.specs.Inner.Settings.{parted_lines}

@@ -1,18 +1,20 @@
 -- What is within bounds stays within greater ones.
-use Rattle.std.proofs.Common.{◌≡◌, ℕ, ◌^◌, ◌<◌, ◌≤◌, true, false, ◌&&◌, Some}
+use Rattle.std.proofs.Common.{◌≡◌, ℕ, ◌^◌, ◌<◌, ◌≤◌, Bool, true, false, ◌&&◌}
+use Rattle.std.proofs.Common.{Option, Some, None, if◌then◌else◌, nat_lt}
 use Rattle.std.proofs.Common.{IfOk, refl, sym, subst, ◌∙◌, arith}
 use Rattle.pardo_text.specs.declared.names.Named.{Named}
 use Rattle.pardo_text.specs.declared.names.Named.TheVariants as thing
 use Rattle.pardo_text.specs.declared.names.Scope.{Scope}
 use Rattle.pardo_text.specs.declared.names.Scope.TheVariants.{Start}
 use Rattle.pardo_text.specs.declared.operation.Op.{Op}
+use Rattle.pardo_text.specs.declared.operation.Op.TheVariants.{Add, Mul, Within}
 use Rattle.pardo_text.specs.declared.statement.Line.{Line}
 use Rattle.pardo_text.specs.declared.statement.Statement.{Statement}
 use Rattle.pardo_text.specs.declared.statement.Statement.TheVariants as statement
 use Rattle.pardo_text.specs.declared.statement.Target.{Target}
 use Rattle.pardo_text.specs.declared.statement.Target.TheVariants as target
 use Rattle.pardo_text.specs.Expression.{Tree, number, own, loop, private, place, apply}
-use Rattle.pardo_text.specs.Expressions.{applied, joined, constant_of, is_zero}
+use Rattle.pardo_text.specs.Expressions.{applied, joined, constant_of, is_zero, tested}
 use Rattle.pardo_text.specs.Lawful.{Bounds, IsExpression, IsCommonTree, IsTarget, IsStatement}
 use Rattle.pardo_text.specs.Lawful.{IsLine}
 use Rattle.text_lines.specs.Lines.{Word}
@@ -35,6 +37,8 @@ IsThing b (thing.Constant value) = value < 2 ^ 32
 IsThing b thing.Own = Unit {0}
 IsThing b (thing.Scalar array) = array < b.arrays
 IsThing b (thing.Array array) = array < b.arrays
+IsThing b (thing.Table array rows columns) =
+    (array < b.arrays) × (rows < 2 ^ 32) × (columns < 2 ^ 32)
 IsThing b (thing.Private x) = x < b.privates
 IsThing b (thing.Loop nest) = nest < b.loops
 
@@ -47,6 +51,8 @@ module _ (b c : Bounds) (g : Grows b c) where
   thing_more thing.Own is = tt
   thing_more (thing.Scalar array) is = omega (arith, is, g.arrays)
   thing_more (thing.Array array) is = omega (arith, is, g.arrays)
+  thing_more (thing.Table array rows columns) is =
+      (omega (arith, is.0, g.arrays), is.1, is.2)
   thing_more (thing.Private x) is = omega (arith, is, g.privates)
   thing_more (thing.Loop nest) is = omega (arith, is, g.loops)
 
@@ -123,6 +129,7 @@ bare_tree b (thing.Constant value) bare is = is
 bare_tree b thing.Own bare is = tt
 bare_tree b (thing.Scalar array) bare is = (is, omega arith)
 bare_tree b (thing.Array array) bare is = absurd bare
+bare_tree b (thing.Table array rows columns) bare is = absurd bare
 bare_tree b (thing.Private x) bare is = is
 bare_tree b (thing.Loop nest) bare is = is
 
@@ -133,6 +140,31 @@ unfolding joined
 joined_keeps P op first second both =
     ok_if (is_division op && is_zero (constant_of second)) _ _ P (λ _. tt) (λ _. both)
 
+-- an index with its test, where it has one
+tested_tree : (b : Bounds) (n : ℕ) (tree : Tree) (value : Option ℕ) → n < 2 ^ 32 →
+    IsExpression b tree → IsExpression b (tested n tree value)
+tested_tree b n tree None few is = (is, few)
+tested_tree b n tree (Some k) few is = either (nat_lt k n)
+  where
+    either : (t : Bool) → IsExpression b (if t then tree else apply Within tree (number n))
+    either true = is
+    either false = (is, few)
+
+table_tree : (b : Bounds) (array rows columns : ℕ) (row column : Tree) →
+    IsThing b (thing.Table array rows columns) → IsExpression b row → IsExpression b column →
+    IsExpression b (place array (applied Add
+    (applied Mul (tested rows row (constant_of row)) (number columns))
+    (tested columns column (constant_of column))))
+table_tree b array rows columns row column is p q =
+    let first = tested rows row (constant_of row) in
+    let second = tested columns column (constant_of column) in (
+      is.0,
+      applied_tree b Add (applied Mul first (number columns)) second
+          (applied_tree b Mul first (number columns)
+          (tested_tree b rows row (constant_of row) is.1 p) is.2)
+          (tested_tree b columns column (constant_of column) is.2 q),
+    )
+
 -- expressions in code
 pub keeps_tree : (b : Bounds) (names : Names) (scope : Scope) → AreThings b names →
     Keeps names scope (IsExpression b)
@@ -140,6 +172,9 @@ keeps_tree b names scope are = record {
   numbers = λ value few. few;
   bare = λ word found e f is. bare_tree b found is (are word found e);
   placed = λ word array index e f p. (are word (thing.Array array) e, p);
+  tabled = λ word array rows columns row column e f p q.
+      table_tree b array rows columns row column
+      (are word (thing.Table array rows columns) e) p q;
   joins = λ op first second p q.
       joined_keeps (IsExpression b) op first second (applied_tree b op first second p q);
   pairs = λ op first second e p q. applied_tree b op first second p q;
@@ -150,8 +185,10 @@ keeps_tree b names scope are = record {
 -- what differs by processor, and an array, may not stand in the scope
 abbrev pub IsCommonScope : Scope → Type 0
 IsCommonScope scope =
-    (admits scope thing.Own ≡ false) × ((x : ℕ) → admits scope (thing.Private x) ≡ false)
+    (admits scope thing.Own ≡ false)
+    × ((x : ℕ) → admits scope (thing.Private x) ≡ false)
     × ((array : ℕ) → admits scope (thing.Array array) ≡ false)
+    × ((array rows columns : ℕ) → admits scope (thing.Table array rows columns) ≡ false)
 
 applied_common : (b : Bounds) (op : Op) (first second : Tree) → IsCommonTree b first →
     IsCommonTree b second → IsCommonTree b (applied op first second)
@@ -166,6 +203,7 @@ bare_common b scope thing.Own common bare e is =
     absurd (let no : false ≡ true = sym common.0 ∙ e in cc)
 bare_common b scope (thing.Scalar array) common bare e is = ((is, omega arith), refl)
 bare_common b scope (thing.Array array) common bare e is = absurd bare
+bare_common b scope (thing.Table array rows columns) common bare e is = absurd bare
 bare_common b scope (thing.Private x) common bare e is =
     absurd (let no : false ≡ true = sym (common.1 x) ∙ e in cc)
 bare_common b scope (thing.Loop nest) common bare e is = (is, tt)
@@ -177,6 +215,8 @@ keeps_common b names scope common are = record {
   bare = λ word found e f is. bare_common b scope found common is f (are word found e);
   placed = λ word array index e f p. absurd
       (let no : false ≡ true = sym (common.2 array) ∙ f in cc);
+  tabled = λ word array rows columns row column e f p q. absurd
+      (let no : false ≡ true = sym (common.3 array rows columns) ∙ f in cc);
   joins = λ op first second p q.
       joined_keeps (IsCommonTree b) op first second (applied_common b op first second p q);
   pairs = λ op first second e p q. applied_common b op first second p q;
@@ -204,6 +244,8 @@ bare_start b (thing.Constant value) e is = is
 bare_start b thing.Own e is = tt
 bare_start b (thing.Scalar array) e is = absurd (let no : false ≡ true = e in cc)
 bare_start b (thing.Array array) e is = absurd (let no : false ≡ true = e in cc)
+bare_start b (thing.Table array rows columns) e is =
+    absurd (let no : false ≡ true = e in cc)
 bare_start b (thing.Private x) e is = absurd (let no : false ≡ true = e in cc)
 bare_start b (thing.Loop nest) e is = absurd (let no : false ≡ true = e in cc)
 
@@ -212,6 +254,8 @@ keeps_start b names are = record {
   numbers = λ value few. few;
   bare = λ word found e f is. bare_start b found f (are word found e);
   placed = λ word array index e f p. absurd (let no : false ≡ true = f in cc);
+  tabled = λ word array rows columns row column e f p q.
+      absurd (let no : false ≡ true = f in cc);
   joins = λ op first second p q.
       joined_keeps IsStart op first second (applied_start op first second p q);
   pairs = λ op first second e p q. applied_start op first second p q;

@@ -19,7 +19,8 @@ use Rattle.pardo_text.specs.declared.statement.Statement.TheVariants as statemen
 use Rattle.pardo_text.specs.declared.statement.Target.{Target}
 use Rattle.pardo_text.specs.declared.symbol.Symbol.TheVariants as the
 use Rattle.pardo_text.specs.Blocks.{choice_depth, is_choice}
-use Rattle.pardo_text.specs.Code.{whole_at, array_place, bare_target, assignment_target}
+use Rattle.pardo_text.specs.Code.{whole_at, array_place, table_place, bare_target}
+use Rattle.pardo_text.specs.Code.{assignment_target}
 use Rattle.pardo_text.specs.Code.{assignment_at}
 use Rattle.pardo_text.specs.Code.{if_line}
 use Rattle.pardo_text.specs.Code.{while_line, way_at, for_line, else_of, elsif_line, elsifs_ended}
@@ -27,9 +28,9 @@ use Rattle.pardo_text.specs.Code.{end_block, quotient_at, asserted, assert_line,
 use Rattle.pardo_text.specs.Code.{assignment_line, named_line, statement_line}
 use Rattle.pardo_text.specs.Drafts.{Draft, cells_needed, fitting, with_line, with_block, with_loop}
 use Rattle.pardo_text.specs.Drafts.{without, with_end}
-use Rattle.pardo_text.specs.Expression.{Tree, number}
+use Rattle.pardo_text.specs.Expression.{Tree, number, place}
 use Rattle.pardo_text.specs.Expressions.{new_name, rest_after_mark, ended}
-use Rattle.pardo_text.specs.Expressions.{indexed, joined, expression_at}
+use Rattle.pardo_text.specs.Expressions.{indexed, joined, expression_at, indices_at, within_at}
 use Rattle.pardo_text.specs.Lawful.{Bounds, IsExpression, IsCommonTree, IsTarget, IsStatement}
 use Rattle.pardo_text.specs.Lawful.{masks_of}
 use Rattle.text_lines.specs.Lines.{Word}
@@ -43,7 +44,7 @@ use Rattle.pardo_text.proofs.LawDrafts.{IsDraft, IsLawful, IsBlock, bounds_in, f
 use Rattle.pardo_text.proofs.LawDrafts.{more_kept, line_kept, block_kept, loop_kept, popped_kept}
 use Rattle.pardo_text.proofs.LawDrafts.{without_kept, end_kept, ended_at_length}
 use Rattle.pardo_text.proofs.LawHeader.{ended_kept, one_longer}
-use Rattle.pardo_text.proofs.LawTrees.{expression_kept}
+use Rattle.pardo_text.proofs.LawTrees.{expression_kept, places_kept}
 use Rattle.pardo_text.specs.declared.part.Mark.TheVariants as mark
 
 -- ---- expressions
@@ -78,10 +79,10 @@ common_whole_kept b names scope tokens common are =
     (λ tree p. ended_kept (IsCommonTree b) tree.0 tree.1 p)
 
 bound_is_common : IsCommonScope Bound
-bound_is_common = (refl, λ x. refl, λ array. refl)
+bound_is_common = (refl, λ x. refl, λ array. refl, λ array rows columns. refl)
 
 uniform_is_common : IsCommonScope Uniform
-uniform_is_common = (refl, λ x. refl, λ array. refl)
+uniform_is_common = (refl, λ x. refl, λ array. refl, λ array rows columns. refl)
 
 -- ---- assignments
 
@@ -95,6 +96,17 @@ place_kept b names array (Some inside) few are =
     (λ index p. ok_after (rest_after_mark mark.CloseIndex index.1) _ (λ read. IsTarget b read.0)
     (λ rest. (few, p)))
 
+table_kept : (b : Bounds) (names : Names) (word : Word) (array rows columns : ℕ)
+    (inside : Option (List Token)) → names word ≡ Some (thing.Table array rows columns) →
+    AreThings b names →
+    IfOk (table_place names array rows columns inside) (λ read. IsTarget b read.0)
+table_kept b names word array rows columns None e are = tt
+table_kept b names word array rows columns (Some inside) e are =
+    ok_bind (indices_at (within_at names 33) Any rows columns inside) _
+    (λ read. IsExpression b (place array read.0)) (λ read. IsTarget b read.0)
+    (places_kept names Any (IsExpression b) (keeps_tree b names Any are) 33 word array rows
+    columns inside e refl) (λ index p. p)
+
 bare_kept : (b : Bounds) (to : Target) (tokens : List Token) → IsTarget b to →
     IfOk (bare_target to tokens) (λ read. IsTarget b read.0)
 bare_kept b to tokens is =
@@ -106,6 +118,8 @@ target_kept : (b : Bounds) (names : Names) (word : Word) (found : Option Named)
 target_kept b names word None tokens e are = tt
 target_kept b names word (Some (thing.Array array)) tokens e are =
     place_kept b names array (indexed tokens) (are word (thing.Array array) e) are
+target_kept b names word (Some (thing.Table array rows columns)) tokens e are =
+    table_kept b names word array rows columns (indexed tokens) e are
 target_kept b names word (Some (thing.Scalar array)) tokens e are =
     bare_kept b _ tokens (are word (thing.Scalar array) e, omega arith)
 target_kept b names word (Some (thing.Private x)) tokens e are =

@@ -37,6 +37,7 @@ bare_number (thing.Constant value) e = (value, refl)
 bare_number thing.Own e = absurd (let none : false ≡ true = e in cc)
 bare_number (thing.Scalar array) e = absurd (let none : false ≡ true = e in cc)
 bare_number (thing.Array array) e = absurd (let none : false ≡ true = e in cc)
+bare_number (thing.Table array rows columns) e = absurd (let none : false ≡ true = e in cc)
 bare_number (thing.Private x) e = absurd (let none : false ≡ true = e in cc)
 bare_number (thing.Loop nest) e = absurd (let none : false ≡ true = e in cc)
 
@@ -45,6 +46,8 @@ keeps_number names = record {
   numbers = λ value few. (value, refl);
   bare = λ word found e f is. bare_number found f;
   placed = λ word array index e f p. absurd (let none : false ≡ true = f in cc);
+  tabled = λ word array rows columns row column e f p q.
+      absurd (let none : false ≡ true = f in cc);
   joins = joined_number;
   pairs = λ op first second e p q. applied_number op first second p q;
 }

@@ -1,5 +1,5 @@
 -- What holds of drafts, and stays so.
-use Rattle.std.proofs.Common.{◌≡◌, ℕ, ◌+◌, ◌<◌, ◌≤◌, Bool, true, false}
+use Rattle.std.proofs.Common.{◌≡◌, ℕ, ◌+◌, ◌*◌, ◌^◌, ◌<◌, ◌≤◌, Bool, true, false}
 use Rattle.std.proofs.Common.{List, [], ◌∷◌, ◌++◌, length, nat_le, Option, Some, None}
 use Rattle.std.proofs.Common.{IfOk, refl, sym, ap, subst, arith, if◌then◌else◌}
 use Rattle.std.proofs.Common.{slice_set, slice_get}
@@ -10,6 +10,8 @@ use Rattle.std.proofs.lemmas.List.{length-append, length-set}
 use Rattle.std.proofs.lemmas.List.Elements.{All-push, All-set, All-tail, All-weaker, All-cons}
 use Rattle.std.proofs.lemmas.List.Sums.{sum_by-append}
 use Rattle.std.proofs.lemmas.Option.{slice_get_within, get_or_from_slice_get}
+use Rattle.pardo_text.specs.declared.arrays.Shape.{Shape}
+use Rattle.pardo_text.specs.declared.arrays.Shape.TheVariants as shape
 use Rattle.pardo_text.specs.declared.block.Block.{Block}
 use Rattle.pardo_text.specs.declared.block.Block.TheVariants as block
 use Rattle.pardo_text.specs.declared.limits.TheConstants.{MAX_CELLS, MAX_PROCS}
@@ -173,19 +175,27 @@ array_pushed (first ∷ arrays) base array e some are is =
           (omega (arith, e, sum)) some are is.3,
     )
 
-array_thing : (b : Bounds) (is_scalar : Bool) (array : ℕ) → array < b.arrays →
-    IsThing b (thing_of is_scalar array)
-array_thing b true array few = few
-array_thing b false array few = few
+-- what an array may be like
+abbrev pub IsShape : Shape → Type 0
+IsShape shape.Scalar = Unit {0}
+IsShape (shape.Line places) = 0 < places
+IsShape (shape.Table rows columns) =
+    (0 < rows * columns) × (rows < 2 ^ 32) × (columns < 2 ^ 32)
 
-pub array_kept : (b : Bounds) (word : Word) (is_scalar : Bool) (start : List ℕ) (d : Draft) →
-    length d.arrays < b.arrays → 0 < length start → AreNumbers start → IsDraft b d →
-    IsDraft b (with_array word is_scalar start d)
-array_kept b word is_scalar start d few some are is = record {
-  names = named_things b word (thing_of is_scalar (length d.arrays)) d.names
-      (array_thing b is_scalar (length d.arrays) few) is.names;
+array_thing : (b : Bounds) (form : Shape) (array : ℕ) → array < b.arrays → IsShape form →
+    IsThing b (thing_of form array)
+array_thing b shape.Scalar array few is = few
+array_thing b (shape.Line places) array few is = few
+array_thing b (shape.Table rows columns) array few is = (few, is.1, is.2)
+
+pub array_kept : (b : Bounds) (word : Word) (form : Shape) (start : List ℕ) (d : Draft) →
+    length d.arrays < b.arrays → IsShape form → 0 < length start → AreNumbers start →
+    IsDraft b d → IsDraft b (with_array word form start d)
+array_kept b word form start d few is_form some are is = record {
+  names = named_things b word (thing_of form (length d.arrays)) d.names
+      (array_thing b form (length d.arrays) few is_form) is.names;
   procs = is.procs;
-  arrays = array_pushed d.arrays 0 (array_after d.arrays word is_scalar start) (omega arith) some
+  arrays = array_pushed d.arrays 0 (array_after d.arrays word form start) (omega arith) some
       are is.arrays;
   privates = is.privates;
   before = is.before;
@@ -256,8 +266,8 @@ block_kept b opened d some is_opened is = record {
   loops = is.loops;
 }
 
-pub loop_kept : (b : Bounds) (word : Word) (d : Draft) → 0 < d.procs → length d.loops < b.loops →
-    IsDraft b d → IsDraft b (with_loop word d)
+pub loop_kept : (b : Bounds) (word : Word) (d : Draft) → 0 < d.procs →
+    length d.loops < b.loops → IsDraft b d → IsDraft b (with_loop word d)
 loop_kept b word d some few is = record {
   names = named_things b word (thing.Loop (length d.loops)) d.names few is.names;
   procs = is.procs;

@@ -1,7 +1,7 @@
 -- Header lines make lawful drafts of lawful ones.
-use Rattle.std.proofs.Common.{◌≡◌, ℕ, ◌+◌, ◌*◌, ◌<◌, ◌≤◌, ◌==◌, Bool, true, false, List, [], ◌∷◌}
-use Rattle.std.proofs.Common.{◌++◌, length, Option, Some, None, IfOk}
-use Rattle.std.proofs.Common.{arith, unwrap_or, is_none}
+use Rattle.std.proofs.Common.{◌≡◌, ℕ, ◌+◌, ◌*◌, ◌<◌, ◌≤◌, ◌==◌, true, false, List, [], ◌∷◌}
+use Rattle.std.proofs.Common.{◌++◌, length, Option, Some, None, IfOk, ◌^◌, nat_lt, arith}
+use Rattle.std.proofs.Math.Nat.{mul-pos}
 use Rattle.std.proofs.lemmas.Bool.Decides.{nat_tests}
 use Rattle.std.proofs.lemmas.List.{length-append}
 use Rattle.pardo_text.specs.declared.draft.Stage.{Stage}
@@ -14,18 +14,21 @@ use Rattle.pardo_text.specs.Drafts.{Draft, fitting, with_name, with_array, with_
 use Rattle.pardo_text.specs.Expressions.{ended, new_name, rest_after_mark}
 use Rattle.pardo_text.specs.Expressions.{indexed, fixed_at, expression_at}
 use Rattle.pardo_text.specs.Header.{version_line, rule_line, rule_named, const_line, procs_line}
-use Rattle.pardo_text.specs.Header.{length_at, shared_line, private_start, private_line, code_line}
+use Rattle.pardo_text.specs.Header.{shape_at, columns_at, after_comma, shared_line, private_start}
+use Rattle.pardo_text.specs.Header.{private_line, code_line}
 use Rattle.pardo_text.specs.Header.{header_line}
 use Rattle.pram_job.specs.declared.instr.Rule.{Rule}
 use Rattle.pardo_text.specs.Lawful.{AreNumbers}
 use Rattle.text_lines.specs.Lines.{Word}
 use Rattle.pardo_text.specs.Names.{Names}
-use Rattle.pardo_text.specs.Program.{shared_cells}
+use Rattle.pardo_text.specs.declared.arrays.Shape.{Shape}
+use Rattle.pardo_text.specs.declared.arrays.Shape.TheVariants as shape
+use Rattle.pardo_text.specs.Program.{places_in, shared_cells}
 use Rattle.pardo_text.specs.Tokens.{Token, name, number as literal, symbol}
 use Rattle.pardo_text.specs.Values.{greatest_value, values_for, start_at}
 use Rattle.pardo_text.proofs.Ifs.{ok_bind, ok_after, ok_if}
 use Rattle.pardo_text.proofs.LawBounds.{IsStart, keeps_start}
-use Rattle.pardo_text.proofs.LawDrafts.{IsLawful, bounds_in, fitting_kept, more_kept}
+use Rattle.pardo_text.proofs.LawDrafts.{IsLawful, IsShape, bounds_in, fitting_kept, more_kept}
 use Rattle.pardo_text.proofs.LawDrafts.{name_kept, stage_kept, procs_kept, array_kept, private_kept}
 use Rattle.pardo_text.proofs.LawStarts.{Between, AreSoMany, fixed_kept, starts_kept, values_kept}
 use Rattle.pardo_text.proofs.LawTrees.{expression_kept}
@@ -121,25 +124,43 @@ procs_line_kept d tokens is =
           (is.0.before none) (omega (arith, is.1)),
     ))))) (λ _. tt)
 
+abbrev IsShaped : Shape × List Token → Type 0
+IsShaped read = IsShape read.0
+
 -- a scalar has a place, and so has an array
-abbrev HasPlaces : Option ℕ × List Token → Type 0
-HasPlaces read = 0 < unwrap_or read.0 1
+some_places : (form : Shape) → IsShape form → 0 < places_in form
+some_places shape.Scalar is = omega arith
+some_places (shape.Line places) is = is
+some_places (shape.Table rows columns) is = is.0
 
-length_kept : (names : Names) (tokens : List Token) (found : Option (List Token)) →
-    IfOk (length_at names tokens found) HasPlaces
-length_kept names tokens None = omega arith
-length_kept names tokens (Some inside) =
-    ok_bind (fixed_at names 1 MAX_CELLS inside) _ (Between 1 MAX_CELLS) HasPlaces
-    (fixed_kept names 1 MAX_CELLS inside)
-    (λ places p. ok_after (rest_after_mark mark.CloseIndex places.1) _ HasPlaces
-    (λ rest. omega (arith, p.0)))
+columns_kept : (names : Names) (rows : ℕ) (tokens : List Token) (found : Option (List Token)) →
+    0 < rows → rows < 2 ^ 32 → IfOk (columns_at names rows tokens found) IsShaped
+columns_kept names rows tokens None some few = some
+columns_kept names rows tokens (Some inside) some few =
+    ok_bind (fixed_at names 1 MAX_CELLS inside) _ (Between 1 MAX_CELLS) IsShaped
+    (fixed_kept names 1 MAX_CELLS inside) (λ columns p.
+    let one : 0 < columns.0 = omega (arith, p.0) in
+    ok_if (nat_lt MAX_CELLS (rows * columns.0)) _ _ IsShaped (λ _. tt)
+    (λ _. (mul-pos some one, few, omega (arith, p.1))))
 
-array_line : (d : Draft) (word : Word) (is_scalar : Bool) (start : List ℕ) → 0 < length start →
-    AreNumbers start → IsLawful d → IfOk (fitting (with_array word is_scalar start d)) IsLawful
-array_line d word is_scalar start some are is =
-    let next = with_array word is_scalar start d in
+shape_kept : (names : Names) (tokens : List Token) (found : Option (List Token)) →
+    IfOk (shape_at names tokens found) IsShaped
+shape_kept names tokens None = tt
+shape_kept names tokens (Some inside) =
+    ok_bind (fixed_at names 1 MAX_CELLS inside) _ (Between 1 MAX_CELLS) IsShaped
+    (fixed_kept names 1 MAX_CELLS inside) (λ rows p.
+    ok_bind (columns_at names rows.0 rows.1 (after_comma rows.1)) _ IsShaped IsShaped
+    (columns_kept names rows.0 rows.1 (after_comma rows.1) (omega (arith, p.0))
+    (omega (arith, p.1)))
+    (λ form q. ok_after (rest_after_mark mark.CloseIndex form.1) _ IsShaped (λ rest. q)))
+
+array_line : (d : Draft) (word : Word) (form : Shape) (start : List ℕ) → IsShape form →
+    0 < length start →
+    AreNumbers start → IsLawful d → IfOk (fitting (with_array word form start d)) IsLawful
+array_line d word form start is_form some are is =
+    let next = with_array word form start d in
     let longer : length d.arrays < length next.arrays = one_longer d.arrays _ in
-    fitting_kept next (array_kept (bounds_in next) word is_scalar start d longer some are
+    fitting_kept next (array_kept (bounds_in next) word form start d longer is_form some are
     (more_kept (bounds_in d) (bounds_in next) d (record {
       arrays = omega arith;
       privates = omega arith;
@@ -152,12 +173,13 @@ shared_kept : (d : Draft) (tokens : List Token) → IsLawful d → IfOk (shared_
 unfolding shared_line
 shared_kept d tokens is =
     ok_after (new_name d.names tokens) _ IsLawful (λ word.
-    ok_bind (length_at d.names word.1 (indexed word.1)) _ HasPlaces IsLawful
-    (length_kept d.names word.1 (indexed word.1)) (λ places some.
-    ok_bind (start_at d.names (unwrap_or places.0 1) places.1) _
-    (AreSoMany (unwrap_or places.0 1)) IsLawful
-    (starts_kept d.names (unwrap_or places.0 1) places.1) (λ start p.
-    array_line d word.0 (is_none places.0) start (omega (arith, some, p.0)) p.1 is)))
+    ok_bind (shape_at d.names word.1 (indexed word.1)) _ IsShaped IsLawful
+    (shape_kept d.names word.1 (indexed word.1)) (λ form is_form.
+    ok_bind (start_at d.names (places_in form.0) form.1) _
+    (AreSoMany (places_in form.0)) IsLawful
+    (starts_kept d.names (places_in form.0) form.1) (λ start p.
+    let some = some_places form.0 is_form in
+    array_line d word.0 form.0 start is_form (omega (arith, some, p.0)) p.1 is)))
 
 start_kept : (d : Draft) (tokens : List Token) → IsLawful d →
     IfOk (private_start d.names tokens) IsStart

@@ -1,7 +1,7 @@
 -- Programs are lawful.
 use Rattle.std.proofs.Common.{◌≡◌, ℕ, ◌+◌, not, List, [], ◌∷◌, Result, Ok, Err}
-use Rattle.std.proofs.Common.{IfOk, Some, None, refl, ap, arith, length}
-use Rattle.std.specs.List.{list_all}
+use Rattle.std.proofs.Common.{IfOk, Some, None, refl, sym, subst, ap, arith, length}
+use Rattle.std.specs.List.{All, list_all}
 use Rattle.std.proofs.lemmas.List.Elements.{All-nil}
 use Rattle.pardo_text.specs.declared.block.Block.{Block}
 use Rattle.pardo_text.specs.declared.draft.Stage.{Stage}
@@ -14,12 +14,14 @@ use Rattle.pardo_text.specs.Laws.{ProgramsAreLawful}
 use Rattle.pardo_text.specs.Lawful.{IsProgram, IsPrivate, IsLine}
 use Rattle.text_lines.specs.Lines.{lines_of, is_allowed, said_in}
 use Rattle.pardo_text.specs.Reading.{line_in_stage, with_tokens, with_text_line, finished_draft}
-use Rattle.pardo_text.specs.Reading.{program_in}
+use Rattle.pardo_text.specs.Reading.{program_in, said_so_far}
 use Rattle.pardo_text.specs.Reading.{on_line, and_then, program_after, program_of}
 use Rattle.pardo_text.specs.Tokens.{Token, tokens_of}
 use Rattle.pardo_text.proofs.Ifs.{ok_after, ok_if}
 use Rattle.pardo_text.proofs.LawCode.{statement_kept}
 use Rattle.pardo_text.proofs.LawDrafts.{IsLawful, IsBlock, bounds_in}
+use Rattle.pardo_text.specs.Tests.{known_of, lines_untested}
+use Rattle.pardo_text.proofs.LawTests.{lines_kept, same_length}
 use Rattle.pardo_text.proofs.LawHeader.{version_kept, rule_kept, header_kept}
 
 at_kept : (next : Stage) (n : ℕ) (d : Draft) (tokens : List Token) → d.stage ≡ next → IsLawful d →
@@ -51,14 +53,18 @@ finished_kept stage.Rule blocks lines d e f is = tt
 finished_kept stage.Header blocks lines d e f is = tt
 finished_kept stage.Code (block ∷ blocks) lines d e f is = tt
 finished_kept stage.Code [] [] d e f is = tt
-finished_kept stage.Code [] (first ∷ lines) d e f is = record {
-  procs = (is.0.code e, is.0.procs);
-  arrays = is.0.arrays;
-  privates = is.0.privates;
-  has_line = omega (arith, ap length f);
-  lines = is.0.lines;
-  cells = is.1;
-}
+finished_kept stage.Code [] (first ∷ lines) d e f is =
+    let known = known_of (said_so_far d) in
+    let same : length (lines_untested known d.lines) ≡ length d.lines = same_length d.lines known in
+    record {
+      procs = (is.0.code e, is.0.procs);
+      arrays = is.0.arrays;
+      privates = is.0.privates;
+      has_line = omega (arith, same, ap length f);
+      lines = subst (λ n. All (IsLine (record (bounds_in d) { lines = n }))
+          (lines_untested known d.lines)) (sym same) (lines_kept (bounds_in d) d.lines known is.0.lines);
+      cells = is.1;
+    }
 
 program_kept : (d : Draft) → IsLawful d → IfOk (program_in d) IsProgram
 unfolding program_in

@@ -1,7 +1,7 @@
 -- The blocks of programs are nested.
 use Rattle.std.proofs.Common.{◌≡◌, ℕ, ◌+◌, ◌<◌, ◌==◌, true, not, nat_le, List, [], ◌∷◌, ◌++◌}
 use Rattle.std.proofs.Common.{inl, inr, length, Some, None, IfOk, refl, sym, ap}
-use Rattle.std.proofs.Common.{subst, ◌∙◌, arith, is_none, unwrap_or}
+use Rattle.std.proofs.Common.{subst, ◌∙◌, arith}
 use Rattle.std.specs.List.{list_all}
 use Rattle.std.specs.Prelude.{codes}
 use Rattle.std.proofs.lemmas.List.{length-append}
@@ -29,7 +29,8 @@ use Rattle.pardo_text.specs.Expression.{Tree}
 use Rattle.pardo_text.specs.Expressions.{new_name, rest_after_mark, indexed, ended}
 use Rattle.pardo_text.specs.Expressions.{expression_at, fixed_at}
 use Rattle.pardo_text.specs.Header.{version_line, rule_named, rule_line, const_line, procs_line}
-use Rattle.pardo_text.specs.Header.{length_at, shared_line, private_start, private_line, code_line}
+use Rattle.pardo_text.specs.Header.{shape_at, shared_line, private_start, private_line, code_line}
+use Rattle.pardo_text.specs.Program.{places_in}
 use Rattle.pardo_text.specs.Header.{header_line}
 use Rattle.pardo_text.specs.Laws.{ProgramsAreNested}
 use Rattle.text_lines.specs.Lines.{Word, lines_of, is_allowed, said_in}
@@ -39,11 +40,13 @@ use Rattle.pardo_text.specs.Nested.{loop_end_told}
 use Rattle.pardo_text.specs.Nested.{loops_of, EndsAreTied, LinesLead}
 use Rattle.pardo_text.specs.Program.{ProgramData}
 use Rattle.pardo_text.specs.Reading.{line_in_stage, with_tokens, with_text_line, finished_draft}
-use Rattle.pardo_text.specs.Reading.{program_in}
+use Rattle.pardo_text.specs.Reading.{program_in, said_so_far}
+use Rattle.pardo_text.specs.Tests.{known_of}
 use Rattle.pardo_text.specs.Reading.{on_line, program_after, program_of}
 use Rattle.pardo_text.specs.Tokens.{Token, name, number as literal, symbol, tokens_of}
 use Rattle.pardo_text.specs.Values.{greatest_value, values_for, start_at}
 use Rattle.pardo_text.proofs.Ifs.{ok_bind, ok_after, ok_if}
+use Rattle.pardo_text.proofs.LawTests.{nested_kept}
 use Rattle.pardo_text.proofs.LawHeader.{ended_kept}
 use Rattle.pardo_text.proofs.LawLawful.{on_line_kept, and_then_kept}
 use Rattle.pardo_text.proofs.LawOpen.{IsCode, IsLeft, AreOpen, no_code, open_push, open_more}
@@ -111,9 +114,9 @@ shared_code : (d : Draft) (tokens : List Token) → Code d → IfOk (shared_line
 unfolding shared_line
 shared_code d tokens is =
     ok_after (new_name d.names tokens) _ Code (λ word.
-    ok_after (length_at d.names word.1 (indexed word.1)) _ Code (λ places.
-    ok_after (start_at d.names (unwrap_or places.0 1) places.1) _ Code (λ start.
-    fitting_code (with_array word.0 (is_none places.0) start d) is)))
+    ok_after (shape_at d.names word.1 (indexed word.1)) _ Code (λ form.
+    ok_after (start_at d.names (places_in form.0) form.1) _ Code (λ start.
+    fitting_code (with_array word.0 form.0 start d) is)))
 
 private_code : (d : Draft) (tokens : List Token) → Code d → IfOk (private_line d tokens) Code
 unfolding private_line
@@ -496,14 +499,15 @@ finished_code stage.Rule blocks lines d e is = tt
 finished_code stage.Header blocks lines d e is = tt
 finished_code stage.Code (block ∷ blocks) lines d e is = tt
 finished_code stage.Code [] [] d e is = tt
-finished_code stage.Code [] (first ∷ lines) d e is = (
-  subst (LinesLead 0 [] d.lines) (ap spelled_out e) is.leads,
-  is.tied,
-  λ begin end said. elim (is.begun begin end said) [
-    | inl among ↦ absurd (subst (Among begin) (ap spelled_out e) among)
-    | inr there ↦ there
-  ],
-)
+finished_code stage.Code [] (first ∷ lines) d e is =
+    nested_kept d.lines (known_of (said_so_far d)) (
+      subst (LinesLead 0 [] d.lines) (ap spelled_out e) is.leads,
+      is.tied,
+      λ begin end said. elim (is.begun begin end said) [
+        | inl among ↦ absurd (subst (Among begin) (ap spelled_out e) among)
+        | inr there ↦ there
+      ],
+    )
 
 program_code : (d : Draft) → Code d → IfOk (program_in d) Nested
 unfolding program_in

@@ -1,6 +1,6 @@
 -- What holds of each expression that is read.
 use Rattle.std.proofs.Common.{◌≡◌, ℕ, zero, suc, ◌^◌, ◌<◌, ◌==◌, true, List, [], ◌∷◌}
-use Rattle.std.proofs.Common.{Option, Some, None, Ok, Err, IfOk, refl, is_some}
+use Rattle.std.proofs.Common.{Option, Some, None, Ok, Err, IfOk, refl, sym, subst, is_some}
 use Rattle.std.proofs.Common.{nat_lt, arith, if◌then◌else◌}
 use Rattle.std.proofs.lemmas.Bool.Decides.{nat_tests}
 use Rattle.pardo_text.specs.declared.fault.PardoKind.TheVariants.{WrongKind}
@@ -9,11 +9,13 @@ use Rattle.pardo_text.specs.declared.names.Named.TheVariants as thing
 use Rattle.pardo_text.specs.declared.names.Scope.{Scope}
 use Rattle.pardo_text.specs.declared.names.Scope.TheVariants.{Fixed}
 use Rattle.pardo_text.specs.declared.operation.Op.{Op}
+use Rattle.pardo_text.specs.declared.operation.Op.TheVariants.{Add, Mul}
 use Rattle.pardo_text.specs.declared.symbol.Symbol.TheVariants as the
 use Rattle.pardo_text.specs.Expression.{Tree, number, place}
 use Rattle.pardo_text.specs.Expressions.{Read, Inner, rest_after_mark}
 use Rattle.pardo_text.specs.Expressions.{indexed, applied, joined}
-use Rattle.pardo_text.specs.Expressions.{pair_at, used_at, place_at}
+use Rattle.pardo_text.specs.Expressions.{pair_at, used_at, place_at, table_at, indices_at, index_at}
+use Rattle.pardo_text.specs.Expressions.{after_row, tested, constant_of}
 use Rattle.pardo_text.specs.Expressions.{named_at, operand_at, operator_at, chained, turns_at}
 use Rattle.pardo_text.specs.Expressions.{level_at, within_at, expression_at, log_of, fixed_value}
 use Rattle.text_lines.specs.Lines.{Word}
@@ -31,6 +33,7 @@ log_small value = omega arith
 -- not an array
 abbrev pub IsBare : Named → Type 0
 IsBare (thing.Array array) = ⊥
+IsBare (thing.Table array rows columns) = ⊥
 IsBare _ = Unit {0}
 
 -- what makes P hold of each expression that stands in this scope
@@ -40,6 +43,12 @@ pub record Keeps (names : Names) (scope : Scope) (P : Tree → Type 0) : Type 0 
       IsBare found → P (tree_from found)
   pub placed : (word : Word) (array : ℕ) (index : Tree) → names word ≡ Some (thing.Array array) →
       admits scope (thing.Array array) ≡ true → P index → P (place array index)
+  pub tabled : (word : Word) (array rows columns : ℕ) (row column : Tree) →
+      names word ≡ Some (thing.Table array rows columns) →
+      admits scope (thing.Table array rows columns) ≡ true → P row → P column →
+      P (place array (applied Add
+      (applied Mul (tested rows row (constant_of row)) (number columns))
+      (tested columns column (constant_of column))))
   pub joins : (op : Op) (first second : Tree) → P first → P second →
       IfOk (joined op first second) P
   pub pairs : (op : Op) (first second : Tree) → level_of op ≡ 0 → P first → P second →
@@ -61,6 +70,43 @@ module _ (names : Names) (scope : Scope) (P : Tree → Type 0) (keeps : Keeps na
       ok_after (rest_after_mark mark.CloseIndex index.1) _ Kept
       (λ rest. keeps.placed word array index.0 e f p))
 
+  -- an index that was read, with its test where it has one
+  abbrev Tested : ℕ → Tree × List Token → Type 0
+  Tested n read = (tree : Tree) × P tree × (read.0 ≡ tested n tree (constant_of tree))
+
+  index_kept : (inner : Inner) (n : ℕ) (tokens : List Token) → KeptIn (inner scope) →
+      IfOk (index_at inner scope n tokens) (Tested n)
+  index_kept inner n tokens kept = ok_bind (inner scope tokens) _ Kept (Tested n) (kept tokens)
+      (λ tree p. (tree.0, p, refl))
+
+  indices_kept : (inner : Inner) (word : Word) (array rows columns : ℕ) (tokens : List Token) →
+      KeptIn (inner scope) → names word ≡ Some (thing.Table array rows columns) →
+      admits scope (thing.Table array rows columns) ≡ true →
+      IfOk (indices_at inner scope rows columns tokens) (λ read. P (place array read.0))
+  indices_kept inner word array rows columns tokens kept e f =
+      ok_bind (index_at inner scope rows tokens) _ (Tested rows)
+      (λ read. P (place array read.0)) (index_kept inner rows tokens kept) (λ row p.
+      ok_after (after_row row.1) _ (λ read. P (place array read.0)) (λ between.
+      ok_bind (index_at inner scope columns between) _ (Tested columns)
+      (λ read. P (place array read.0)) (index_kept inner columns between kept) (λ column q.
+      ok_after (rest_after_mark mark.CloseIndex column.1) _ (λ read. P (place array read.0))
+      (λ rest. subst
+      (λ r. P (place array (applied Add (applied Mul r (number columns)) column.0))) (sym p.2)
+      (subst (λ c. P (place array (applied Add
+      (applied Mul (tested rows p.0 (constant_of p.0)) (number columns)) c))) (sym q.2)
+      (keeps.tabled word array rows columns p.0 q.0 e f p.1 q.1))))))
+
+  tabled_at : (inner : Inner) (word : Word) (array rows columns : ℕ)
+      (inside : Option (List Token)) → KeptIn (inner scope) →
+      names word ≡ Some (thing.Table array rows columns) →
+      admits scope (thing.Table array rows columns) ≡ true →
+      IfOk (table_at inner scope array rows columns inside) Kept
+  tabled_at inner word array rows columns None kept e f = tt
+  tabled_at inner word array rows columns (Some tokens) kept e f =
+      ok_bind (indices_at inner scope rows columns tokens) _
+      (λ read. P (place array read.0)) Kept
+      (indices_kept inner word array rows columns tokens kept e f) (λ index p. p)
+
   bare_at : (word : Word) (found : Named) (tokens : List Token) → names word ≡ Some found →
       admits scope found ≡ true → IsBare found →
       IfOk (if is_some (indexed tokens) then Err WrongKind else Ok (tree_from found, tokens)) Kept
@@ -72,6 +118,8 @@ module _ (names : Names) (scope : Scope) (P : Tree → Type 0) (keeps : Keeps na
       IfOk (used_at inner scope found tokens) Kept
   used inner word (thing.Array array) tokens kept e f =
       placed_at inner word array (indexed tokens) kept e f
+  used inner word (thing.Table array rows columns) tokens kept e f =
+      tabled_at inner word array rows columns (indexed tokens) kept e f
   used inner word (thing.Constant value) tokens kept e f =
       bare_at word (thing.Constant value) tokens e f tt
   used inner word thing.Own tokens kept e f = bare_at word thing.Own tokens e f tt
@@ -157,6 +205,14 @@ module _ (names : Names) (scope : Scope) (P : Tree → Type 0) (keeps : Keeps na
   within (suc left) tokens =
       leveled (operand_at names (within_at names left)) loosest
       (operand (within_at names left) (within left)) tokens
+
+  pub places_kept : (left : ℕ) (word : Word) (array rows columns : ℕ) (tokens : List Token) →
+      names word ≡ Some (thing.Table array rows columns) →
+      admits scope (thing.Table array rows columns) ≡ true →
+      IfOk (indices_at (within_at names left) scope rows columns tokens)
+      (λ read. P (place array read.0))
+  places_kept left word array rows columns tokens e f =
+      indices_kept (within_at names left) word array rows columns tokens (within left) e f
 
   pub within_kept : (left : ℕ) → KeptIn (within_at names left scope)
   within_kept left = within left

@@ -8,6 +8,7 @@ use Rattle.pardo_text.specs.declared.operation.Op.{Op}
 use Rattle.pardo_text.specs.declared.operation.Op.TheVariants.{Add, Sub, Mul, Div, Rem, Shl, Shr}
 use Rattle.pardo_text.specs.declared.operation.Op.TheVariants.{BitAnd, BitOr, BitXor, Eq, Ne}
 use Rattle.pardo_text.specs.declared.operation.Op.TheVariants.{Lt, Le, Gt, Ge, And, Or, Min, Max}
+use Rattle.pardo_text.specs.declared.operation.Op.TheVariants.{Within}
 use Rattle.pardo_text.specs.Operations.{operation_value, bit}
 
 bit_small : (test : Bool) → bit test < 2 ^ 32
@@ -52,3 +53,4 @@ value_small And a b p q = bit_small (not (a == 0) && not (b == 0))
 value_small Or a b p q = bit_small (not (a == 0) || not (b == 0))
 value_small Min a b p q = omega arith
 value_small Max a b p q = omega arith
+value_small Within a b p q = p

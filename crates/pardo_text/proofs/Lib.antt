@@ -1,4 +1,7 @@
 pub mod Postfix
+pub mod Nodes
+pub mod Tests
+pub mod LawTests
 pub mod Runs
 pub mod Turns
 pub mod Marks

@@ -22,6 +22,7 @@ use Rattle.pardo_text.specs.Drafts.{with_end}
 use Rattle.pardo_text.specs.Expression.{Tree, number as constant}
 use Rattle.pardo_text.specs.Expressions.{Read, rest_after_mark}
 use Rattle.pardo_text.specs.Expressions.{indexed, ended, new_name, joined, expression_at}
+use Rattle.pardo_text.specs.Expressions.{within_at, indices_at}
 use Rattle.text_lines.specs.Lines.{Word}
 use Rattle.pardo_text.specs.Names.{Names}
 use Rattle.text_lines.specs.Reads.{◌>>=◌}
@@ -43,6 +44,12 @@ array_place names array (Some inside) = do
   rest ← rest_after_mark mark.CloseIndex index.1
   Ok (target.Array array index.0, rest)
 
+abbrev pub table_place : Names → ℕ → ℕ → ℕ → Option (List Token) → Read Target
+table_place names array rows columns None = Err WrongKind
+table_place names array rows columns (Some inside) = do
+  index ← indices_at (within_at names 33) Any rows columns inside
+  Ok (target.Array array index.0, index.1)
+
 -- a target without an index
 abbrev pub bare_target : Target → List Token → Read Target
 bare_target place tokens = if is_some (indexed tokens) then Err WrongKind else Ok (place, tokens)
@@ -51,6 +58,8 @@ bare_target place tokens = if is_some (indexed tokens) then Err WrongKind else O
 abbrev pub assignment_target : Names → Option Named → List Token → Read Target
 assignment_target names None tokens = Err UnknownName
 assignment_target names (Some (thing.Array array)) tokens = array_place names array (indexed tokens)
+assignment_target names (Some (thing.Table array rows columns)) tokens =
+    table_place names array rows columns (indexed tokens)
 assignment_target names (Some (thing.Scalar array)) tokens =
     bare_target (target.Array array (constant 0)) tokens
 assignment_target names (Some (thing.Private x)) tokens = bare_target (target.Private x) tokens

@@ -1,5 +1,5 @@
 -- What the lines of a text so far say.
-use Rattle.std.specs.Prelude.{ℕ, ◌+◌, ◌*◌, Bool, true, false, nat_le, max, if◌then◌else◌}
+use Rattle.std.specs.Prelude.{ℕ, ◌+◌, ◌*◌, nat_le, max, if◌then◌else◌}
 use Rattle.std.specs.Prelude.{List, [], ◌∷◌, ◌++◌, length}
 use Rattle.std.specs.Prelude.{slice_set, slice_get, Some, None, Result, Ok, Err}
 use Rattle.pardo_text.specs.declared.fault.PardoKind.{PardoKind}
@@ -7,6 +7,8 @@ use Rattle.pardo_text.specs.declared.fault.PardoKind.TheVariants.{TooManyCells}
 use Rattle.pardo_text.specs.declared.limits.TheConstants.{MAX_CELLS}
 use Rattle.pardo_text.specs.declared.names.Named.{Named}
 use Rattle.pardo_text.specs.declared.names.Named.TheVariants as thing
+use Rattle.pardo_text.specs.declared.arrays.Shape.{Shape}
+use Rattle.pardo_text.specs.declared.arrays.Shape.TheVariants as shape
 use Rattle.pram_job.specs.declared.instr.Rule.{Rule}
 use Rattle.pram_job.specs.declared.instr.Rule.TheVariants.{Common}
 use Rattle.pardo_text.specs.declared.block.Block.{Block}
@@ -65,15 +67,16 @@ cells_needed draft = shared_cells draft.arrays
 abbrev pub fitting : Draft → Result Draft PardoKind
 fitting draft = if nat_le (cells_needed draft) MAX_CELLS then Ok draft else Err TooManyCells
 
-abbrev pub thing_of : Bool → ℕ → Named
-thing_of true array = thing.Scalar array
-thing_of false array = thing.Array array
+abbrev pub thing_of : Shape → ℕ → Named
+thing_of shape.Scalar array = thing.Scalar array
+thing_of (shape.Line places) array = thing.Array array
+thing_of (shape.Table rows columns) array = thing.Table array rows columns
 
 -- one array more
-abbrev pub with_array : Word → Bool → List ℕ → Draft → Draft
-with_array word is_scalar start draft = record draft {
-  names = named word (thing_of is_scalar (length draft.arrays)) draft.names;
-  arrays = draft.arrays ++ array_after draft.arrays word is_scalar start ∷ [];
+abbrev pub with_array : Word → Shape → List ℕ → Draft → Draft
+with_array word form start draft = record draft {
+  names = named word (thing_of form (length draft.arrays)) draft.names;
+  arrays = draft.arrays ++ array_after draft.arrays word form start ∷ [];
 }
 
 -- one private variable more

@@ -8,7 +8,7 @@ use Rattle.pardo_text.specs.declared.fault.PardoKind.TheVariants.{BadLine, Unkno
 use Rattle.pardo_text.specs.declared.fault.PardoKind.TheVariants.{DuplicateName, WrongKind}
 use Rattle.pardo_text.specs.declared.fault.PardoKind.TheVariants.{OutOfLimits, TooDeep}
 use Rattle.pardo_text.specs.declared.names.Named.{Named}
-use Rattle.pardo_text.specs.declared.names.Named.TheVariants.{Array}
+use Rattle.pardo_text.specs.declared.names.Named.TheVariants.{Array, Table}
 use Rattle.pardo_text.specs.declared.names.Scope.{Scope}
 use Rattle.pardo_text.specs.declared.names.Scope.TheVariants.{Fixed}
 use Rattle.pardo_text.specs.declared.operation.Op.{Op}
@@ -130,9 +130,48 @@ place_at inner scope array (Some tokens) = do
   rest ← rest_after_mark mark.CloseIndex index.1
   Ok (place array index.0, rest)
 
--- An array has an index, and nothing else has one.
+-- ---- two indices
+
+-- An index is tested, unless it is a number within its bound.
+abbrev pub tested : ℕ → Tree → Option ℕ → Tree
+tested n tree None = apply op.Within tree (number n)
+tested n tree (Some k) = if nat_lt k n then tree else apply op.Within tree (number n)
+
+-- an index below n
+abbrev pub index_at : Inner → Scope → ℕ → List Token → Read Tree
+index_at inner scope n tokens = do
+  tree ← inner scope tokens
+  Ok (tested n tree.0 (constant_of tree.0), tree.1)
+
+-- the comma after the first of two indices
+abbrev pub after_row : List Token → Result (List Token) PardoKind
+after_row (symbol the.Comma ∷ rest) = Ok rest
+after_row (symbol the.CloseIndex ∷ rest) = Err WrongKind
+after_row _ = Err BadLine
+
+-- what follows the `[`, up to its `]`: the place in so many rows and columns, row by row
+abbrev pub indices_at : Inner → Scope → ℕ → ℕ → List Token → Read Tree
+indices_at inner scope rows columns tokens = do
+  row ← index_at inner scope rows tokens
+  between ← after_row row.1
+  column ← index_at inner scope columns between
+  rest ← rest_after_mark mark.CloseIndex column.1
+  Ok (applied op.Add (applied op.Mul row.0 (number columns)) column.0, rest)
+
+-- what follows the name of an array of two indices
+abbrev pub table_at : Inner → Scope → ℕ → ℕ → ℕ → Option (List Token) → Read Tree
+table_at inner scope array rows columns None = Err WrongKind
+table_at inner scope array rows columns (Some tokens) = do
+  index ← indices_at inner scope rows columns tokens
+  Ok (place array index.0, index.1)
+
+-- ---- names
+
+-- An array has an index, or two, and nothing else has one.
 abbrev pub used_at : Inner → Scope → Named → List Token → Read Tree
 used_at inner scope (Array array) tokens = place_at inner scope array (indexed tokens)
+used_at inner scope (Table array rows columns) tokens =
+    table_at inner scope array rows columns (indexed tokens)
 used_at inner scope thing tokens =
     if is_some (indexed tokens) then Err WrongKind else Ok (tree_from thing, tokens)
 

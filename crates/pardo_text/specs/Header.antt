@@ -1,9 +1,11 @@
 -- Header lines.
-use Rattle.std.specs.Prelude.{ℕ, ◌==◌, if◌then◌else◌, List, [], ◌∷◌}
-use Rattle.std.specs.Prelude.{codes, is_none, unwrap_or, Option, Some, None, Result, Ok, Err}
+use Rattle.std.specs.Prelude.{ℕ, ◌*◌, ◌==◌, nat_lt, if◌then◌else◌, List, [], ◌∷◌}
+use Rattle.std.specs.Prelude.{codes, Option, Some, None, Result, Ok, Err}
 use Rattle.std.specs.Str.{bytes_eq}
 use Rattle.pardo_text.specs.declared.fault.PardoKind.{PardoKind}
-use Rattle.pardo_text.specs.declared.fault.PardoKind.TheVariants.{BadHeader}
+use Rattle.pardo_text.specs.declared.fault.PardoKind.TheVariants.{BadHeader, OutOfLimits}
+use Rattle.pardo_text.specs.declared.arrays.Shape.{Shape}
+use Rattle.pardo_text.specs.declared.arrays.Shape.TheVariants as shape
 use Rattle.pardo_text.specs.declared.limits.TheConstants.{MAX_CELLS, MAX_PROCS}
 use Rattle.pardo_text.specs.declared.names.Named.TheVariants as thing
 use Rattle.pardo_text.specs.declared.names.Scope.TheVariants.{Start}
@@ -17,6 +19,7 @@ use Rattle.pardo_text.specs.Expressions.{Read, rest_after_mark}
 use Rattle.pardo_text.specs.Expressions.{indexed, ended, new_name, expression_at, fixed_at}
 use Rattle.text_lines.specs.Lines.{Word}
 use Rattle.pardo_text.specs.Names.{Names}
+use Rattle.pardo_text.specs.Program.{places_in}
 use Rattle.text_lines.specs.Reads.{◌>>=◌}
 use Rattle.pardo_text.specs.Tokens.{Token, name, number as literal, symbol}
 use Rattle.pardo_text.specs.Values.{greatest_value, values_for, start_at}
@@ -60,21 +63,40 @@ procs_line draft tokens =
       ended (with_name word.0 thing.Own (record draft { procs = procs.0 })) procs.1)
     else Err BadHeader
 
--- how many places an array has; a scalar has no brackets
-abbrev pub length_at : Names → List Token → Option (List Token) → Read (Option ℕ)
-length_at names tokens None = Ok (None, tokens)
-length_at names tokens (Some inside) = do
-  places ← fixed_at names 1 MAX_CELLS inside
-  rest ← rest_after_mark mark.CloseIndex places.1
-  Ok (Some places.0, rest)
+-- what follows a comma, if one follows
+abbrev pub after_comma : List Token → Option (List Token)
+after_comma (symbol the.Comma ∷ rest) = Some rest
+after_comma _ = None
+
+-- so many rows and columns, if their places are not too many
+abbrev pub table_of : ℕ → ℕ → List Token → Read Shape
+table_of rows columns rest =
+    if nat_lt MAX_CELLS (rows * columns) then Err OutOfLimits
+    else Ok (shape.Table rows columns, rest)
+
+-- after how many places or rows there are: how many columns, after a comma
+abbrev pub columns_at : Names → ℕ → List Token → Option (List Token) → Read Shape
+columns_at names rows tokens None = Ok (shape.Line rows, tokens)
+columns_at names rows tokens (Some inside) = do
+  columns ← fixed_at names 1 MAX_CELLS inside
+  table_of rows columns.0 columns.1
+
+-- the shape of an array; a scalar has no brackets
+abbrev pub shape_at : Names → List Token → Option (List Token) → Read Shape
+shape_at names tokens None = Ok (shape.Scalar, tokens)
+shape_at names tokens (Some inside) = do
+  rows ← fixed_at names 1 MAX_CELLS inside
+  form ← columns_at names rows.0 rows.1 (after_comma rows.1)
+  rest ← rest_after_mark mark.CloseIndex form.1
+  Ok (form.0, rest)
 
 -- what follows `shared`
 unfoldable pub shared_line : Draft → List Token → Result Draft PardoKind
 shared_line draft tokens = do
   word ← new_name draft.names tokens
-  places ← length_at draft.names word.1 (indexed word.1)
-  start ← start_at draft.names (unwrap_or places.0 1) places.1
-  fitting (with_array word.0 (is_none places.0) start draft)
+  form ← shape_at draft.names word.1 (indexed word.1)
+  start ← start_at draft.names (places_in form.0) form.1
+  fitting (with_array word.0 form.0 start draft)
 
 -- the start value of a private variable, to the end of the line
 unfoldable pub private_start : Names → List Token → Result Tree PardoKind

@@ -8,4 +8,5 @@ pub mod Columns
 pub mod Drafts
 pub mod Postfixes
 pub mod Exprs
+pub mod Untested
 pub mod Settings

@@ -6,6 +6,7 @@ pub mod Expressions
 pub mod Values
 pub mod Program
 pub mod Blocks
+pub mod Tests
 pub mod Drafts
 pub mod Header
 pub mod Code

@@ -2,7 +2,7 @@
 use Rattle.std.specs.Prelude.{Bool, true, false, if◌then◌else◌, Option, Some, None}
 use Rattle.std.specs.Str.{bytes_eq}
 use Rattle.pardo_text.specs.declared.names.Named.{Named}
-use Rattle.pardo_text.specs.declared.names.Named.TheVariants.{Constant, Own, Scalar, Array}
+use Rattle.pardo_text.specs.declared.names.Named.TheVariants.{Constant, Own, Scalar, Array, Table}
 use Rattle.pardo_text.specs.declared.names.Named.TheVariants.{Private, Loop}
 use Rattle.pardo_text.specs.declared.names.Scope.{Scope}
 use Rattle.pardo_text.specs.declared.names.Scope.TheVariants.{Start, Bound, Uniform, Any}
@@ -39,5 +39,6 @@ tree_from (Constant value) = number value
 tree_from Own = own
 tree_from (Scalar array) = place array (number 0)
 tree_from (Array array) = place array (number 0)
+tree_from (Table array rows columns) = place array (number 0)
 tree_from (Private x) = private x
 tree_from (Loop nest) = loop nest

@@ -6,9 +6,10 @@ use Rattle.pardo_text.specs.declared.operation.Op.{Op}
 use Rattle.pardo_text.specs.declared.operation.Op.TheVariants.{Add, Sub, Mul, Div, Rem, Shl, Shr}
 use Rattle.pardo_text.specs.declared.operation.Op.TheVariants.{BitAnd, BitOr, BitXor, Eq, Ne}
 use Rattle.pardo_text.specs.declared.operation.Op.TheVariants.{Lt, Le, Gt, Ge, And, Or, Min, Max}
+use Rattle.pardo_text.specs.declared.operation.Op.TheVariants.{Within}
 
 -- The level at which an operation stands between its operands: those of level 1 bind most
--- tightly. `min` and `max` stand before theirs.
+-- tightly. `min` and `max` stand before theirs, and `Within` stands nowhere.
 unfoldable pub level_of : Op → ℕ
 level_of Mul = 1
 level_of Div = 1
@@ -30,6 +31,7 @@ level_of And = 4
 level_of Or = 5
 level_of Min = 0
 level_of Max = 0
+level_of Within = 6
 
 -- the level of comparisons, which take two operands alone
 abbrev pub comparisons : ℕ
@@ -70,7 +72,13 @@ operation_value And a b = bit (not (a == 0) && not (b == 0))
 operation_value Or a b = bit (not (a == 0) || not (b == 0))
 operation_value Min a b = min a b
 operation_value Max a b = max a b
+operation_value Within a b = a
 
--- what is worked out by an operation: a division by 0 has no value
+-- where an operation has no value: a division by 0, and an index that is not within its bound
+unfoldable pub lacks : Op → ℕ → ℕ → Bool
+lacks Within a b = not (nat_lt a b)
+lacks op a b = is_division op && (b == 0)
+
+-- what is worked out by an operation
 abbrev pub worked_out : Op → ℕ → ℕ → Option ℕ
-worked_out op a b = if is_division op && (b == 0) then None else Some (operation_value op a b)
+worked_out op a b = if lacks op a b then None else Some (operation_value op a b)

@@ -15,6 +15,7 @@ use Rattle.pardo_text.specs.Drafts.{Draft, empty}
 use Rattle.pardo_text.specs.Header.{version_line, rule_line, header_line}
 use Rattle.text_lines.specs.Lines.{lines_of, said_in, is_allowed}
 use Rattle.pardo_text.specs.Program.{ProgramData}
+use Rattle.pardo_text.specs.Tests.{program_untested}
 use Rattle.text_lines.specs.Reads.{◌>>=◌}
 use Rattle.pardo_text.specs.Tokens.{Token, tokens_of}
 
@@ -52,7 +53,7 @@ said_so_far draft = record {
 
 -- the program of a draft whose lines were all read, or what it lacks
 abbrev pub finished_draft : Stage → List Block → List Line → Draft → Result ProgramData PardoKind
-finished_draft stage.Code [] (first ∷ lines) draft = Ok (said_so_far draft)
+finished_draft stage.Code [] (first ∷ lines) draft = Ok (program_untested (said_so_far draft))
 finished_draft stage.Code [] [] draft = Err NoCode
 finished_draft stage.Code (block ∷ blocks) lines draft = Err OpenBlock
 finished_draft _ blocks lines draft = Err BadHeader

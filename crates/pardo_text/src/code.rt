@@ -1,7 +1,7 @@
 //! Lines of code.
 ghost use Rattle.std.specs.Prelude.{◌≡◌, ◌∷◌, length, Some};
 ghost use Rattle.pardo_text.specs.Code.{whole_at, way_at, array_place, assignment_target};
-ghost use Rattle.pardo_text.specs.Code.{assignment_at, has_form};
+ghost use Rattle.pardo_text.specs.Code.{assignment_at, has_form, table_place};
 ghost use Rattle.pardo_text.specs.Inner.Names.{names_in};
 ghost use Rattle.pardo_text.specs.Inner.Tokens.{GivesAsRead};
 
@@ -11,7 +11,7 @@ use crate::draft::Draft;
 use crate::expression::Expr;
 use crate::fault::PardoKind;
 use crate::names::{Named, Names, Scope};
-use crate::parse::{expression, quotient};
+use crate::parse::{expression, place_in, quotient};
 use crate::part::{Mark, ended, expect, indexed, new_name};
 use crate::statement::{Statement, Target};
 use crate::symbol::Symbol;
@@ -301,6 +301,10 @@ fn target(
     };
     match (thing, indexed(tokens)) {
         (Named::Array(array), true) => place(alloc, names, array, tokens),
+        (Named::Table(array, rows, columns), true) => {
+            let index = place_in(alloc, names, rows, columns, tokens)?;
+            Ok(Target::Array(array, index))
+        }
         (Named::Scalar(array), false) => Ok(Target::Array(array, Expr::number(alloc, 0)?)),
         (Named::Private(x), false) => Ok(Target::Private(x)),
         _ => Err(PardoKind::WrongKind),

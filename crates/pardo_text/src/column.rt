@@ -95,6 +95,7 @@ fn apply(op: Op, values: &mut [u32], others: &[u32]) -> Result<(), PardoKind>
         Op::Or => apply_each(Op::Or, values, others),
         Op::Min => apply_each(Op::Min, values, others),
         Op::Max => apply_each(Op::Max, values, others),
+        Op::Within => apply_each(Op::Within, values, others),
     }
 }
 

@@ -1,13 +1,14 @@
 //! What the lines of a text so far say.
 ghost use Rattle.std.specs.Prelude.{◌≡◌, IfOk, Ok};
 
-use crate::arrays::Arrays;
+use crate::arrays::{Arrays, Shape};
 use crate::block::{Block, Blocks};
 use crate::fault::PardoKind;
 use crate::limits::MAX_CELLS;
 use crate::names::{Named, Names};
 use crate::program::{Private, Program};
 use crate::statement::{Line, Statement};
+use crate::untested::leave_tests_out;
 use pram_job::Rule;
 use std::alloc::{AllocError, Global};
 use std::collections::BTreeMap;
@@ -86,21 +87,21 @@ impl<'t> Draft<'t> {
     pub(crate) fn add_array(
         &mut self,
         name: &'t [u8],
-        is_scalar: bool,
+        shape: Shape,
         start: Vec<u32>,
     ) -> Result<(), PardoKind>
         ensures { GivesAsRead (λ _. draft_of self.new) result
-            (fitting (with_array name.now is_scalar start.items (draft_of self.old))) }
+            (fitting (with_array name.now shape start.items (draft_of self.old))) }
     {
         let index = self.arrays.len();
-        let thing = if is_scalar {
-            Named::Scalar(index)
-        } else {
-            Named::Array(index)
+        let thing = match shape {
+            Shape::Scalar => Named::Scalar(index),
+            Shape::Line(_) => Named::Array(index),
+            Shape::Table(rows, columns) => Named::Table(index, rows, columns),
         };
         self.add_name(name, thing)?;
         let name = Vec::from_slice(self.alloc, name)?;
-        self.arrays.push(name, is_scalar, start)?;
+        self.arrays.push(name, shape, start)?;
         self.fit()
     }
 
@@ -189,7 +190,7 @@ impl<'t> Draft<'t> {
 
     /// The program, where all lines were read.
     pub(crate) fn finish(self) -> Result<Program, PardoKind>
-        ensures { result ≡ program_in (draft_of self.entry) }
+        ensures { GivesAsRead (λ program. program) result (program_in (draft_of self.entry)) }
     {
         let Stage::Code = self.stage else {
             return Err(PardoKind::BadHeader);
@@ -200,7 +201,7 @@ impl<'t> Draft<'t> {
         if self.lines.is_empty() {
             return Err(PardoKind::NoCode);
         }
-        Ok(Program {
+        let mut program = Program {
             rule: self.rule,
             procs: self.procs,
             arrays: self.arrays.into_items(),
@@ -208,6 +209,8 @@ impl<'t> Draft<'t> {
             loops: self.most_loops,
             choices: self.most_choices,
             lines: self.lines,
-        })
+        };
+        leave_tests_out(self.alloc, &mut program)?;
+        Ok(program)
     }
 }

@@ -3,12 +3,19 @@ ghost use Rattle.std.specs.Prelude.{◌≡◌, ◌≢◌, ◌<◌, [], ◌∷◌
 ghost use Rattle.pardo_text.specs.Expression.{number, own, loop, private, place, apply};
 ghost use Rattle.pardo_text.specs.Expression.{first_of, tree_of};
 ghost use Rattle.pardo_text.specs.Expressions.{applied, constant_of};
+ghost use Rattle.std.specs.Prelude.{List};
+ghost use Rattle.pardo_text.specs.Expression.{Tree};
 ghost use Rattle.pardo_text.specs.Inner.Nodes.{IsLeaf, IsLastNumber};
+ghost use Rattle.pardo_text.specs.Inner.Postfixes.{postfixes};
+ghost use Rattle.pardo_text.specs.Inner.Untested.{CanTake, TakesUntested, is_test};
+ghost use Rattle.std.specs.List.{list_any};
+ghost use Rattle.pardo_text.specs.Tests.{is_below, is_rest_below, untested, without_tests};
 ghost use Rattle.pardo_text.specs.Names.{tree_from};
 ghost use Rattle.pardo_text.specs.Operations.{is_division};
 
 use crate::names::Named;
 use crate::operation::Op;
+use crate::untested::Known;
 use std::alloc::{AllocError, Global};
 use std::marker::Model;
 
@@ -124,6 +131,21 @@ impl Expr {
         }
     }
 
+    /// Leaves out the tests of indices that cannot fail.
+    pub(crate) fn leave_tests_out(&mut self, known: &Known) -> Result<(), AllocError>
+        ensures { IfOk result (λ _. self.new ≡ without_tests known.now self.old) }
+    {
+        if !has_test(self.nodes()) {
+            return Ok(());
+        }
+        let mut exprs = Exprs::new(*self.nodes.allocator());
+        for node in self.nodes() {
+            exprs.take_untested(known, *node)?;
+        }
+        *self = exprs.into_expr();
+        Ok(())
+    }
+
     /// The nodes in postfix order.
     pub fn nodes(&self) -> &[Node]
         ensures { result.now ≡ postfix self.now }
@@ -188,7 +210,7 @@ impl Exprs {
             Named::Own => self.leaf(Node::Own),
             Named::Private(x) => self.leaf(Node::Private(x)),
             Named::Loop(nest) => self.leaf(Node::Loop(nest)),
-            Named::Scalar(array) | Named::Array(array) => {
+            Named::Scalar(array) | Named::Array(array) | Named::Table(array, _, _) => {
                 self.number(0)?;
                 self.place_of(array)
             }
@@ -223,14 +245,69 @@ impl Exprs {
         self.number(op.value(a, b))
     }
 
-    // The last two, which are not both numbers, become an operation of them.
-    fn join(&mut self, op: Op) -> Result<(), AllocError>
+    /// The last two become an operation of them, even where both are numbers.
+    pub(crate) fn join(&mut self, op: Op) -> Result<(), AllocError>
         requires { 1 < length self.old }
         ensures { IfOk result (λ _. self.new
             ≡ apply op (first_of (drop 1 self.old)) (first_of self.old) ∷ drop 2 self.old) }
     {
         self.nodes.push(Node::Apply(op))?;
         Ok(())
+    }
+
+    // One node more of an expression, which becomes one without tests that cannot fail.
+    fn take_untested(&mut self, known: &Known, node: Node) -> Result<(), AllocError>
+        requires { CanTake known.now node self.old }
+        ensures { IfOk result (λ _. TakesUntested known.now node self.old self.new) }
+    {
+        match node {
+            Node::Number(value) => self.number(value),
+            Node::Own => self.leaf(Node::Own),
+            Node::Loop(nest) => self.leaf(Node::Loop(nest)),
+            Node::Private(x) => self.leaf(Node::Private(x)),
+            Node::Place(array) => self.place_of(array),
+            Node::Apply(op) => self.join_untested(known, op),
+        }
+    }
+
+    // The last two become an operation of them, or the first alone, where that is a test which
+    // cannot fail.
+    fn join_untested(&mut self, known: &Known, op: Op) -> Result<(), AllocError>
+        requires { 1 < length self.old }
+        ensures { IfOk result (λ _. self.new
+            ≡ untested known.now op (first_of (drop 1 self.old)) (first_of self.old)
+            (constant_of (first_of self.old)) ∷ drop 2 self.old) }
+    {
+        let Op::Within = op else {
+            return self.join(op);
+        };
+        let Some(bound) = self.take_number() else {
+            return self.join(Op::Within);
+        };
+        if self.is_below(known, bound) {
+            return Ok(());
+        }
+        self.number(bound)?;
+        self.join(Op::Within)
+    }
+
+    // Whether the value of the last one is always below a bound.
+    #[tactic(auto, unfolding(crate::specs::Tests::is_below))]
+    fn is_below(&self, known: &Known, bound: u32) -> bool
+        requires { 0 < length self.now }
+        ensures { result ≡ is_below known.now bound (first_of self.now) }
+    {
+        let Some((last, before)) = self.nodes.as_slice().split_last() else {
+            return false;
+        };
+        match *last {
+            Node::Number(_) => false,
+            Node::Own => known.is_own_below(bound),
+            Node::Loop(nest) => known.is_loop_below(nest, bound),
+            Node::Private(x) => known.is_private_below(x, bound),
+            Node::Place(_) => false,
+            Node::Apply(op) => is_rest_below(bound, op, before),
+        }
     }
 
     /// The number that the last one is, if it is one.
@@ -265,6 +342,19 @@ impl Exprs {
     }
 }
 
+// Whether an index is tested.
+fn has_test(nodes: &[Node]) -> bool
+    ensures { result ≡ list_any is_test nodes.now }
+{
+    nodes.iter().any(|node| is_test(*node))
+}
+
+fn is_test(node: Node) -> bool
+    ensures { result ≡ is_test node }
+{
+    matches!(node, Node::Apply(Op::Within))
+}
+
 // The number that the last node is, if it is one.
 fn last_number(nodes: &[Node]) -> Option<u32>
     ensures { IsLastNumber nodes.now result }
@@ -272,5 +362,16 @@ fn last_number(nodes: &[Node]) -> Option<u32>
     match nodes.split_last() {
         Some((Node::Number(value), _)) => Some(*value),
         _ => None,
+    }
+}
+
+// Whether a remainder by the last of these expressions is below a bound.
+fn is_rest_below(bound: u32, op: Op, nodes: &[Node]) -> bool
+    ensures { (by : Tree) (trees : List Tree) → nodes.now ≡ postfixes (by ∷ trees)
+        → result ≡ is_rest_below bound op (constant_of by) }
+{
+    match (op, last_number(nodes)) {
+        (Op::Rem, Some(by)) => by <= bound,
+        _ => false,
     }
 }

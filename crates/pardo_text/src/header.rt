@@ -1,10 +1,13 @@
 //! Header lines.
-ghost use Rattle.std.specs.Prelude.{◌≡◌};
+ghost use Rattle.std.specs.Prelude.{◌≡◌, ◌<◌, ◌^◌, IfOk};
 ghost use Rattle.pardo_text.specs.Expressions.{indexed};
-ghost use Rattle.pardo_text.specs.Header.{rule_named, length_at, private_start};
+ghost use Rattle.pardo_text.specs.Header.{after_comma, columns_at, rule_named, shape_at};
+ghost use Rattle.pardo_text.specs.Header.{private_start};
+ghost use Rattle.pardo_text.specs.Program.{places_in};
 ghost use Rattle.pardo_text.specs.Inner.Names.{names_in};
 ghost use Rattle.pardo_text.specs.Inner.Tokens.{GivesAsRead};
 
+use crate::arrays::Shape;
 use crate::column::values_for;
 use crate::cursor::Cursor;
 use crate::draft::{Draft, Stage};
@@ -13,7 +16,7 @@ use crate::fault::PardoKind;
 use crate::limits::{MAX_CELLS, MAX_PROCS};
 use crate::names::{Named, Names, Scope};
 use crate::parse::{expression, fixed};
-use crate::part::{Mark, ended, expect, indexed, new_name};
+use crate::part::{Mark, comma, ended, expect, indexed, new_name};
 use crate::symbol::Symbol;
 use crate::token::Token;
 use crate::value::start_values;
@@ -112,9 +115,9 @@ impl<'t> Draft<'t> {
             (shared_line (draft_of self.old) tokens.old) }
     {
         let name = new_name(&self.names, tokens)?;
-        let places = places_of(self.alloc, &self.names, tokens)?;
-        let start = start_values(self.alloc, places.unwrap_or(1), &self.names, tokens)?;
-        self.add_array(name, places.is_none(), start)
+        let shape = shape(self.alloc, &self.names, tokens)?;
+        let start = start_values(self.alloc, shape.places(), &self.names, tokens)?;
+        self.add_array(name, shape, start)
     }
 
     // Reads what follows `private`, after the line `procs`.
@@ -157,21 +160,40 @@ fn rule_named(name: &[u8]) -> Result<Rule, PardoKind>
     }
 }
 
-// How many places an array has; a scalar has no brackets.
-fn places_of(
-    alloc: Global,
-    names: &Names<'_>,
-    tokens: &mut Cursor<'_>,
-) -> Result<Option<u32>, PardoKind>
-    ensures { GivesAsRead (λ places. (places, tokens.new)) result
-        (length_at (names_in names.now) tokens.old (indexed tokens.old)) }
+// The shape of an array; a scalar has no brackets.
+fn shape(alloc: Global, names: &Names<'_>, tokens: &mut Cursor<'_>) -> Result<Shape, PardoKind>
+    ensures read { GivesAsRead (λ form. (form, tokens.new)) result
+        (shape_at (names_in names.now) tokens.old (indexed tokens.old)) }
+    ensures few { IfOk result (λ form. places_in form < 2 ^ 32) }
 {
     if !indexed(tokens) {
-        return Ok(None);
+        return Ok(Shape::Scalar);
     }
-    let places = fixed(alloc, names, 1, MAX_CELLS, tokens)?;
+    let rows = fixed(alloc, names, 1, MAX_CELLS, tokens)?;
+    let shape = columns(alloc, names, rows, tokens)?;
     expect(Mark::CloseIndex, tokens)?;
-    Ok(Some(places))
+    Ok(shape)
+}
+
+// The shape of an array with so many places or rows: a comma stands before its columns.
+fn columns(
+    alloc: Global,
+    names: &Names<'_>,
+    rows: u32,
+    tokens: &mut Cursor<'_>,
+) -> Result<Shape, PardoKind>
+    ensures read { GivesAsRead (λ form. (form, tokens.new)) result
+        (columns_at (names_in names.now) rows tokens.old (after_comma tokens.old)) }
+    ensures few { IfOk result (λ form. places_in form < 2 ^ 32) }
+{
+    if !comma(tokens) {
+        return Ok(Shape::Line(rows));
+    }
+    let columns = fixed(alloc, names, 1, MAX_CELLS, tokens)?;
+    match rows.checked_mul(columns) {
+        Some(places) if places <= MAX_CELLS => Ok(Shape::Table(rows, columns)),
+        _ => Err(PardoKind::OutOfLimits),
+    }
 }
 
 // The start value of a private variable, to the end of the line.

@@ -23,6 +23,7 @@ mod settings;
 mod statement;
 mod symbol;
 mod token;
+mod untested;
 mod value;
 
 pub use arrays::Array;

@@ -12,6 +12,8 @@ pub(crate) enum Named {
     Own,
     Scalar(usize),
     Array(usize),
+    /// An array of two indices, with so many rows and columns.
+    Table(usize, u32, u32),
     Private(usize),
     /// The variable of the loop in so many others.
     Loop(usize),

@@ -45,11 +45,14 @@ pub enum Op {
     Min,
     /// `max`
     Max,
+    /// The test of an index, which no token spells: the first one, where it is below the second.
+    Within,
 }
 
 impl Op {
     /// The level at which the operation stands between its operands: those of level 1 bind most
-    /// tightly. It is 0 for `min` and `max`, which stand before theirs.
+    /// tightly. It is 0 for `min` and `max`, which stand before theirs, and 6, where nothing stands,
+    /// for the test of an index.
     #[tactic(auto, unfolding(crate::specs::Operations::level_of))]
     pub(crate) fn level(self) -> u8
         ensures { result ≡ level_of self }
@@ -61,6 +64,7 @@ impl Op {
             Op::Eq | Op::Ne | Op::Lt | Op::Le | Op::Gt | Op::Ge => 3,
             Op::And => 4,
             Op::Or => 5,
+            Op::Within => 6,
         }
     }
 
@@ -72,8 +76,8 @@ impl Op {
         matches!(self, Op::Div | Op::Rem)
     }
 
-    /// The value of the operation. Arithmetic is modulo 2^32, and what is true is 1, what is not
-    /// true 0.
+    /// The value of the operation, where there is one. Arithmetic is modulo 2^32, and what is true
+    /// is 1, what is not true 0.
     #[tactic(auto, unfolding(crate::specs::Operations::operation_value, crate::specs::Operations::is_division))]
     pub fn value(self, a: u32, b: u32) -> u32
         requires { IsTrue (is_division self) → b ≢ 0 }
@@ -100,6 +104,7 @@ impl Op {
             Op::Or => u32::from(a != 0 || b != 0),
             Op::Min => a.min(b),
             Op::Max => a.max(b),
+            Op::Within => a,
         }
     }
 }

@@ -1,8 +1,10 @@
 //! Expressions, read from tokens.
 ghost use Rattle.std.specs.Prelude.{◌≡◌, ◌<◌, ◌-◌, List, Some, None, drop, length};
+ghost use Rattle.pardo_text.specs.declared.names.Scope.TheVariants.{Any};
 ghost use Rattle.pardo_text.specs.Expression.{first_of};
 ghost use Rattle.pardo_text.specs.Expressions.{literal_at, bracketed_at, pair_at, log_at};
 ghost use Rattle.pardo_text.specs.Expressions.{place_at, used_at, named_at, operand_at, joined};
+ghost use Rattle.pardo_text.specs.Expressions.{after_row, index_at, indices_at};
 ghost use Rattle.pardo_text.specs.Expressions.{operator_at, chained, turns_at, level_at};
 ghost use Rattle.pardo_text.specs.Expressions.{within_at, expression_at, fixed_at, log_of};
 ghost use Rattle.pardo_text.specs.Operations.{level_of};
@@ -84,6 +86,28 @@ fn add(names: &Names<'_>, scope: Scope, exprs: &mut Exprs, tokens: &mut Cursor<'
         brackets: MAX_OPEN + 1,
     };
     within(&around, exprs, tokens)
+}
+
+/// Reads the two indices of a place, to their `]`: the place in so many rows and columns.
+#[tactic(auto, unfolding(crate::specs::Expressions::expression_at))]
+pub(crate) fn place_in(
+    alloc: Global,
+    names: &Names<'_>,
+    rows: u32,
+    columns: u32,
+    tokens: &mut Cursor<'_>,
+) -> Result<Expr, PardoKind>
+    ensures { GivesAsRead (λ expr. (expr, tokens.new)) result (indices_at
+        (within_at (names_in names.now) 33) Any rows columns tokens.old) }
+{
+    let around = Around {
+        names,
+        scope: Scope::Any,
+        brackets: MAX_OPEN + 1,
+    };
+    let mut exprs = Exprs::new(alloc);
+    indices(&around, rows, columns, &mut exprs, tokens)?;
+    Ok(exprs.into_expr())
 }
 
 /// Reads a number that is known at once, within limits.
@@ -324,10 +348,66 @@ fn used(around: &Around<'_, '_>, thing: Named, exprs: &mut Exprs, tokens: &mut C
             exprs.place_of(array)?;
             Ok(())
         }
-        (Named::Array(_), false) | (_, true) => Err(PardoKind::WrongKind),
+        (Named::Table(array, rows, columns), true) => {
+            indices(around, rows, columns, exprs, tokens)?;
+            exprs.place_of(array)?;
+            Ok(())
+        }
+        (Named::Array(_) | Named::Table(_, _, _), false) | (_, true) => Err(PardoKind::WrongKind),
         (_, false) => {
             exprs.named(thing)?;
             Ok(())
         }
     }
+}
+
+// Reads two indices, to their `]`: the place in so many rows and columns.
+#[cycle(operand)]
+#[tactic(auto, unfolding(crate::specs::Operations::is_division))]
+fn indices(
+    around: &Around<'_, '_>,
+    rows: u32,
+    columns: u32,
+    exprs: &mut Exprs,
+    tokens: &mut Cursor<'_>,
+) -> Parsed
+    ensures { Adds exprs.old exprs.new tokens.new result
+        (indices_at (within_at (names_in around.now.names.now) around.now.brackets)
+        around.now.scope rows columns tokens.old) }
+{
+    index(around, rows, exprs, tokens)?;
+    after_row(tokens)?;
+    exprs.number(columns)?;
+    exprs.apply(Op::Mul)?;
+    index(around, columns, exprs, tokens)?;
+    expect(Mark::CloseIndex, tokens)?;
+    exprs.apply(Op::Add)?;
+    Ok(())
+}
+
+// Reads the comma after the first of two indices.
+fn after_row(tokens: &mut Cursor<'_>) -> Result<(), PardoKind>
+    ensures { GivesAsRead (λ _. tokens.new) result (after_row tokens.old) }
+{
+    match tokens.next() {
+        Some(Token::Symbol(Symbol::Comma)) => Ok(()),
+        Some(Token::Symbol(Symbol::CloseIndex)) => Err(PardoKind::WrongKind),
+        _ => Err(PardoKind::BadLine),
+    }
+}
+
+// Reads an index, which is tested unless it is a number within its bound.
+#[cycle(operand)]
+fn index(around: &Around<'_, '_>, bound: u32, exprs: &mut Exprs, tokens: &mut Cursor<'_>) -> Parsed
+    ensures { Adds exprs.old exprs.new tokens.new result
+        (index_at (within_at (names_in around.now.names.now) around.now.brackets)
+        around.now.scope bound tokens.old) }
+{
+    within(around, exprs, tokens)?;
+    let within = matches!(exprs.constant(), Some(value) if value < bound);
+    if !within {
+        exprs.number(bound)?;
+        exprs.join(Op::Within)?;
+    }
+    Ok(())
 }

@@ -1,6 +1,7 @@
 //! Single tokens of a line.
 ghost use Rattle.std.specs.Prelude.{◌≡◌, if◌then◌else◌, Ok, drop, is_some, unwrap_or};
 ghost use Rattle.pardo_text.specs.Expressions.{rest_after_mark, indexed, ended, new_name};
+ghost use Rattle.pardo_text.specs.Header.{after_comma};
 ghost use Rattle.pardo_text.specs.Values.{after_dots};
 ghost use Rattle.pardo_text.specs.Inner.Tokens.{GivesAsRead};
 ghost use Rattle.pardo_text.specs.Inner.Names.{names_in};
@@ -55,6 +56,15 @@ pub(crate) fn dots(tokens: &mut Cursor<'_>) -> bool
     ensures rest { tokens.new ≡ unwrap_or (after_dots tokens.old) tokens.old }
 {
     let found = matches!(tokens.peek(), Some(Token::Symbol(Symbol::Dots)));
+    pass_if(found, tokens)
+}
+
+/// Reads a comma, if one follows.
+pub(crate) fn comma(tokens: &mut Cursor<'_>) -> bool
+    ensures found { result ≡ is_some (after_comma tokens.old) }
+    ensures rest { tokens.new ≡ unwrap_or (after_comma tokens.old) tokens.old }
+{
+    let found = matches!(tokens.peek(), Some(Token::Symbol(Symbol::Comma)));
     pass_if(found, tokens)
 }
 

@@ -6,7 +6,7 @@ use Rattle.std.proofs.lemmas.Bool.Decides.{nat_tests}
 use Rattle.std.proofs.lemmas.Fmt.{decimal_by_steps}
 use Rattle.std.proofs.lemmas.List.Sums.{fold-append, fold_push}
 use Rattle.pardo_text.specs.Program.{ArrayData}
-use Rattle.pardo_job.specs.Printed.{place_text}
+use Rattle.pardo_job.specs.Printed.{index_text, place_text}
 use Rattle.pram_commands.specs.Inner.Places.{read_on}
 
 digit_read : (number digit : ℕ) → number < 2 ^ 32 → digit < 10 →
@@ -53,7 +53,8 @@ scalar_told : (array : ArrayData) (cell : ℕ) → array.is_scalar ≡ true →
 scalar_told array cell is = rw is
 
 pub indexed_told : (array : ArrayData) (cell : ℕ) → array.is_scalar ≡ false →
-    place_text array cell ≡ array.name ++ codes "[" ++ decimal (cell - array.base) ++ codes "]"
+    place_text array cell
+    ≡ array.name ++ codes "[" ++ index_text array.width (cell - array.base) ++ codes "]"
 indexed_told array cell is = rw is
 
 named_by : (array : ArrayData) (cell : ℕ) (place : List ℕ) (scalar : Bool) →
@@ -62,7 +63,7 @@ named_by : (array : ArrayData) (cell : ℕ) (place : List ℕ) (scalar : Bool) �
 named_by array cell place true is told =
     ([], sym told ∙ scalar_told array cell is ∙ sym (append-nil array.name))
 named_by array cell place false is told =
-    let digits = decimal (cell - array.base) in
+    let digits = index_text array.width (cell - array.base) in
     let parts : ((array.name ++ codes "[") ++ digits) ++ codes "]"
     ≡ array.name ++ (codes "[" ++ (digits ++ codes "]")) = simp append_assoc in
     (codes "[" ++ (digits ++ codes "]"), sym told ∙ indexed_told array cell is ∙ parts)

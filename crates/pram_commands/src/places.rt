@@ -167,7 +167,7 @@ fn cells_named(array: &Array, place: &[u8]) -> (usize, usize)
         return (0, 0);
     }
     let base = array.base();
-    if array.is_scalar() {
+    if array.is_scalar() || array.width().is_some() {
         return (base, base.saturating_add(array.start().len()));
     }
     let cell = base.saturating_add(last_number(place));

@@ -20,13 +20,29 @@ use crate::fields::number;
 #[derive(Clone, Debug, Default, PartialEq, Eq)]
 pub struct Values {
     names: Vec<(String, Vec<u32>)>,
+    // How many columns the arrays of two indices have.
+    widths: Vec<(String, usize)>,
 }
 
 impl Values {
-    /// The values of an array; of a scalar its one value.
+    /// The values of an array, those of two indices row by row; of a scalar its one value.
     pub fn array(&self, name: &str) -> Option<&[u32]> {
         let found = self.names.iter().find(|it| it.0 == name)?;
         Some(&found.1)
+    }
+
+    /// The rows of an array of two indices.
+    ///
+    /// ```
+    /// let text = "pardo 1\nrule crew\nprocs i < 4\nshared A[2, 2]\ncode\nA[i / 2, i % 2] := i\n";
+    /// let values = kaolinsilk::Job::parse(text)?.values()?.expect("no conflict");
+    /// let rows: Vec<&[u32]> = values.rows("A").expect("two indices").collect();
+    /// assert_eq!(rows, [&[0, 1][..], &[2, 3]]);
+    /// # Ok::<(), kaolinsilk::Error>(())
+    /// ```
+    pub fn rows(&self, name: &str) -> Option<impl Iterator<Item = &[u32]>> {
+        let (_, width) = self.widths.iter().find(|it| it.0 == name)?;
+        Some(self.array(name)?.chunks(*width))
     }
 
     /// The value of a scalar, or of an array of one place.
@@ -48,6 +64,7 @@ impl Values {
     pub(crate) fn of_cells(cells: &[u32]) -> Values {
         Values {
             names: vec![("cells".to_owned(), cells.to_owned())],
+            widths: Vec::new(),
         }
     }
 
@@ -60,14 +77,23 @@ impl Values {
         self
     }
 
-    // What the lines of an answer tell: `NAME = V V ..`, or `CELL: V`.
+    // What the lines of an answer tell: `NAME = V V ..`, `NAME[ROW] = V V ..`, or `CELL: V`.
     pub(crate) fn of_text(text: &str) -> Option<Values> {
-        let mut names = Vec::new();
+        let mut names: Vec<(String, Vec<u32>)> = Vec::new();
+        let mut widths = Vec::new();
         let mut cells = Vec::new();
         for line in text.lines().skip(1) {
-            if let Some((name, values)) = line.split_once(" = ") {
+            if let Some((told, values)) = line.split_once(" = ") {
                 let values: Option<Vec<u32>> = values.split(' ').map(number).collect();
-                names.push((name.to_owned(), values?));
+                let values = values?;
+                match (told.split_once('['), names.last_mut()) {
+                    (Some((name, _)), Some(last)) if last.0 == name => last.1.extend(values),
+                    (Some((name, _)), _) => {
+                        widths.push((name.to_owned(), values.len()));
+                        names.push((name.to_owned(), values));
+                    }
+                    (None, _) => names.push((told.to_owned(), values)),
+                }
             } else if let Some((_, value)) = line.split_once(": ") {
                 cells.push(number(value)?);
             }
@@ -75,7 +101,7 @@ impl Values {
         if !cells.is_empty() {
             names.push(("cells".to_owned(), cells));
         }
-        Some(Values { names })
+        Some(Values { names, widths })
     }
 }
 

@@ -6,6 +6,7 @@ use Rattle.pardo_text.specs.declared.expression.Node.{Node}
 use Rattle.pardo_text.specs.declared.expression.Node.TheVariants.{Number, Own, Loop}
 use Rattle.pardo_text.specs.declared.expression.Node.TheVariants.{Private, Place, Apply}
 use Rattle.pardo_text.specs.Expression.{Tree, apply, private, with_node}
+use Rattle.pardo_text.specs.Inner.Postfixes.{HasOperands}
 use Rattle.pardo_job.specs.declared.splitter.Part.{Part}
 use Rattle.pardo_job.specs.Flat.{ShapeData, applied_shape, computed_shape, is_beside}
 use Rattle.pardo_job.specs.Flat.{shape_of, split}
@@ -29,18 +30,6 @@ parts_after t before [] = []
 parts_after t before (tree ∷ trees) = parts_after t before trees
     ++ split_part (t + length (pieces_after t before trees)) tree ∷ []
 
--- the operands of a node are there
-abbrev pub HasOperands : List Tree → Node → Type 0
-HasOperands trees (Number k) = Unit {0}
-HasOperands trees Own = Unit {0}
-HasOperands trees (Loop nest) = Unit {0}
-HasOperands trees (Private x) = Unit {0}
-HasOperands (index ∷ trees) (Place array) = Unit {0}
-HasOperands [] (Place array) = ⊥
-HasOperands (second ∷ first ∷ trees) (Apply op) = Unit {0}
-HasOperands (second ∷ []) (Apply op) = ⊥
-HasOperands [] (Apply op) = ⊥
-
 -- these pieces and parts are those of these expressions
 pub record AreSplit (t : ℕ) (before trees pieces : List Tree) (parts : List Part) : Type 0 where
   pub pieces_are : pieces ≡ pieces_after t before trees
@@ -58,12 +47,6 @@ pub record CanSplit (t : ℕ) (node : Node) (pieces : List Tree) (parts : List P
   pub trees : List Tree
   pub are : AreSplit t before trees pieces parts
   pub ready : HasOperands trees node
-
--- each of these nodes finds its operands, and they make one expression
-abbrev pub AreTaken : List Tree → List Node → Type 0
-AreTaken trees [] = length trees ≡ 1
-AreTaken trees (node ∷ nodes) =
-    HasOperands trees node × AreTaken (with_node trees node) nodes
 
 -- an operation of two parts: the second one is the last piece where it has no room beside the first
 abbrev pub joined : ℕ → Op → Bool → Part → Part → List Tree → List Tree × Part

@@ -17,20 +17,26 @@ decreases-pair l = 20 * l.around.now.brackets + 1
 abbrev pub decreases-logarithm : goal.decreases-logarithm
 decreases-logarithm l = 20 * l.around.now.brackets + 1
 
+abbrev pub decreases-index : goal.decreases-index
+decreases-index l = 20 * l.around.now.brackets + 1
+
+abbrev pub decreases-indices : goal.decreases-indices
+decreases-indices l = 20 * l.around.now.brackets + 2
+
 abbrev pub decreases-used : goal.decreases-used
-decreases-used l = 20 * l.around.now.brackets + 1
+decreases-used l = 20 * l.around.now.brackets + 3
 
 abbrev pub decreases-named : goal.decreases-named
-decreases-named l = 20 * l.around.now.brackets + 2
+decreases-named l = 20 * l.around.now.brackets + 4
 
 abbrev pub decreases-operand : goal.decreases-operand
-decreases-operand l = 20 * l.around.now.brackets + 3
+decreases-operand l = 20 * l.around.now.brackets + 5
 
 abbrev pub decreases-leveled : goal.decreases-leveled
-decreases-leveled l = 20 * l.around.now.brackets + 4 + 2 * l.level
+decreases-leveled l = 20 * l.around.now.brackets + 6 + 2 * l.level
 
 abbrev pub decreases-chain : goal.decreases-chain
-decreases-chain l = 20 * l.around.now.brackets + 3 + 2 * l.level
+decreases-chain l = 20 * l.around.now.brackets + 5 + 2 * l.level
 
 abbrev pub invariant-chain-loop-turn : goal.invariant-chain-loop-turn
 invariant-chain-loop-turn l =

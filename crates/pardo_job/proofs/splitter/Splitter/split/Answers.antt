@@ -1,6 +1,7 @@
 use Rattle.std.proofs.Common.{arith, refl, ◌∙◌}
 use Rattle.pardo_job.specs.Inner.Splits.{AreSplit}
-use Rattle.pardo_job.proofs.Splitters.{all_so_far, none_so_far, only_part, some_part}
+use Rattle.pardo_text.proofs.Nodes.{all_so_far, none_so_far}
+use Rattle.pardo_job.proofs.Splitters.{only_part, some_part}
 use Rattle.pardo_job.proofs.splitter.Splitter.split.Goals as goal
 
 pub loop-node-init : goal.loop-node-init

@@ -1,6 +1,6 @@
-use Rattle.std.proofs.Common.{◌≡◌, ◌∙◌, List, ap}
+use Rattle.std.proofs.Common.{◌∙◌, List, ap}
 use Rattle.pardo_text.specs.declared.expression.Node.{Node}
-use Rattle.pardo_text.specs.Expression.{postfix, tree_of, tree_of-postfix}
+use Rattle.pardo_text.specs.Expression.{tree_of, tree_of-postfix}
 use Rattle.pardo_text.proofs.expression.Expr.copied.Goals as goal
 
 pub invariant_of-result : goal.invariant_of-result

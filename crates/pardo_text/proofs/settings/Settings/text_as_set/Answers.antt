@@ -1,4 +1,4 @@
-use Rattle.std.proofs.Common.{◌≡◌, ◌∙◌, ◌++◌, ℕ, List, sym, ap, append-nil, map}
+use Rattle.std.proofs.Common.{◌∙◌, ◌++◌, ℕ, List, sym, ap, append-nil, map}
 use Rattle.text_lines.specs.Lines.{lines_of}
 use Rattle.pardo_text.specs.Inner.Settings.{parted_lines}
 use Rattle.pardo_text.specs.Settings.{line_as_set, text_as_set}
