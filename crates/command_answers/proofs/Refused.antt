@@ -1,0 +1,135 @@
+-- What is refused of words that set names.
+use Rattle.std.proofs.Common.{◌≡◌, ◌⊎◌, ◌+◌, ◌<◌, ◌∷◌, ◌∙◌, ℕ, suc, List, Option, None, Some, Err, inl, inr}
+use Rattle.std.proofs.Common.{arith, refl, sym, subst, ap, drop, drop-cons, get_or, length, map, add-one}
+use Rattle.std.specs.Prelude.{IfSome}
+use Rattle.std.specs.Borrow.{Bor}
+use Rattle.clap.specs.Words.{Text}
+use Rattle.pardo_text.specs.Reading.{program_of}
+use Rattle.pardo_text.specs.Settings.{SettingData, blamed, unmet, with_setting}
+use Rattle.pardo_text.specs.declared.fault.PardoFault.{PardoFault}
+use Rattle.pardo_text.specs.declared.settings.SetFault.{SetFault}
+use Rattle.pardo_text.specs.declared.settings.SetKind.{SetKind}
+use Rattle.refusals.specs.Refusals.{refusal_status}
+use Rattle.refusals.specs.declared.refusal.Refusal.{Refusal}
+use Rattle.refusals.specs.declared.refusal.Refusal.TheVariants as refusal
+use Rattle.refusals.specs.declared.refusal.TheConstants.{FAILED, MEMORY, REFUSED}
+use Rattle.command_answers.specs.Setting.{BySetting, IsUnfit, RefuseNames, RefusesName, SetsName}
+use Rattle.command_answers.specs.Setting.{SpellsValues, is_equals}
+use Rattle.std.specs.List.{after_first, before_first}
+use Rattle.command_answers.proofs.Texts.{texts_of}
+
+-- what is said of a setting that is refused, and what follows from it
+pub by_weaker : {P Q : SetKind → Type 0} → ((kind : SetKind) → P kind → Q kind) →
+    (refused : Refusal) → BySetting P refused → BySetting Q refused
+by_weaker f (refusal.Text line kind) says = says
+by_weaker f (refusal.Program found) says = says
+by_weaker f (refusal.Plan row kind) says = says
+by_weaker f (refusal.Cell cell) says = says
+by_weaker f (refusal.Place place) says = says
+by_weaker f (refusal.Step step) says = says
+by_weaker f (refusal.Setting name kind) says = f kind says
+by_weaker f refusal.Memory says = says
+by_weaker f (refusal.File name) says = says
+by_weaker f refusal.Output says = says
+by_weaker f (refusal.Size name) says = says
+by_weaker f refusal.Word says = says
+
+failed_not_refused : FAILED ≡ REFUSED → ⊥
+failed_not_refused is = absurd (omega (arith, is))
+
+memory_not_refused : MEMORY ≡ REFUSED → ⊥
+memory_not_refused is = absurd (omega (arith, is))
+
+-- only a setting is refused with the status of a refused text
+kind_refused : (Says : SetKind → Type 0) (refused : Refusal) → BySetting Says refused →
+    refusal_status refused ≡ REFUSED → (kind : SetKind) × Says kind
+kind_refused Says (refusal.Text line kind) says is = absurd says
+kind_refused Says (refusal.Program found) says is = absurd says
+kind_refused Says (refusal.Plan row kind) says is = absurd says
+kind_refused Says (refusal.Cell cell) says is = absurd says
+kind_refused Says (refusal.Place place) says is = absurd says
+kind_refused Says (refusal.Step step) says is = absurd says
+kind_refused Says (refusal.Setting name kind) says is = (kind, says)
+kind_refused Says refusal.Memory says is = absurd (memory_not_refused is)
+kind_refused Says (refusal.File name) says is = absurd (failed_not_refused is)
+kind_refused Says refusal.Output says is = absurd says
+kind_refused Says (refusal.Size name) says is = absurd (failed_not_refused is)
+kind_refused Says refusal.Word says is = absurd says
+
+pub told_refused : (Says : SetKind → Type 0) (refused : Refusal) (status : ℕ) →
+    BySetting Says refused → (status ≡ MEMORY) ⊎ (status ≡ refusal_status refused) →
+    status ≡ REFUSED → (kind : SetKind) × Says kind
+told_refused Says refused status says (inl memory) is =
+    absurd (memory_not_refused (sym memory ∙ is))
+told_refused Says refused status says (inr told) is =
+    kind_refused Says refused says (sym told ∙ is)
+
+status_is : (Says : SetKind → Type 0) (refused : Refusal) → BySetting Says refused →
+    (refusal_status refused ≡ REFUSED)
+    ⊎ ((refusal_status refused ≡ FAILED) ⊎ (refusal_status refused ≡ MEMORY))
+status_is Says (refusal.Text line kind) says = absurd says
+status_is Says (refusal.Program found) says = absurd says
+status_is Says (refusal.Plan row kind) says = absurd says
+status_is Says (refusal.Cell cell) says = absurd says
+status_is Says (refusal.Place place) says = absurd says
+status_is Says (refusal.Step step) says = absurd says
+status_is Says (refusal.Setting name kind) says = inl refl
+status_is Says refusal.Memory says = inr (inr refl)
+status_is Says (refusal.File name) says = inr (inl refl)
+status_is Says refusal.Output says = absurd says
+status_is Says (refusal.Size name) says = inr (inl refl)
+status_is Says refusal.Word says = absurd says
+
+pub told_status : (Says : SetKind → Type 0) (refused : Refusal) (status : ℕ) →
+    BySetting Says refused → (status ≡ MEMORY) ⊎ (status ≡ refusal_status refused) →
+    (status ≡ REFUSED) ⊎ ((status ≡ FAILED) ⊎ (status ≡ MEMORY))
+told_status Says refused status says (inl memory) = inr (inr memory)
+told_status Says refused status says (inr told) =
+    subst (λ (s : ℕ). (s ≡ REFUSED) ⊎ ((s ≡ FAILED) ⊎ (s ≡ MEMORY))) (sym told)
+    (status_is Says refused says)
+
+-- a word is refused, or it sets a name and one after it is refused
+pub refuse_here : (Holds : List ℕ → Option (List ℕ) → Type 0) (words : List (Bor Text)) (at : ℕ)
+    (d : Bor Text) (settings : List SettingData) (kind : SetKind) → at < length words →
+    RefusesName Holds settings (get_or words at d).now kind →
+    RefuseNames Holds settings (texts_of (drop at words)) kind
+refuse_here Holds words at d settings kind within refuses =
+    subst (λ (left : List (Bor Text)). RefuseNames Holds settings (texts_of left) kind)
+    (sym (drop-cons words at d within)) (inl refuses)
+
+pub refuse_next : (Holds : List ℕ → Option (List ℕ) → Type 0) (words : List (Bor Text)) (at : ℕ)
+    (d : Bor Text) (settings next : List SettingData) (kind : SetKind) → at < length words →
+    SetsName Holds settings (get_or words at d).now next →
+    RefuseNames Holds next (texts_of (drop (at + 1) words)) kind →
+    RefuseNames Holds settings (texts_of (drop at words)) kind
+refuse_next Holds words at d settings next kind within sets rest =
+    let more : drop at words ≡ get_or words at d ∷ drop (at + 1) words =
+    drop-cons words at d within
+    ∙ ap (λ (n : ℕ). get_or words at d ∷ drop n words) (sym (add-one at)) in
+    subst (λ (left : List (Bor Text)). RefuseNames Holds settings (texts_of left) kind) (sym more)
+    (inr (next, sets, rest))
+
+-- a word that is split at its first `=` is refused as its name and its values are
+pub refuses_name : (Holds : List ℕ → Option (List ℕ) → Type 0) (old : List SettingData)
+    (word name values text written : List ℕ) (kind : SetKind) → written ≡ text →
+    name ≡ before_first is_equals word → values ≡ after_first is_equals word →
+    SpellsValues Holds values text → with_setting old name written ≡ Err kind →
+    RefusesName Holds old word kind
+refuses_name Holds old word name values text written kind same is_name is_values spells is = inr (
+  text,
+  subst (λ (after : List ℕ). SpellsValues Holds after text) is_values spells,
+  subst (λ (before : List ℕ). with_setting old before text ≡ Err kind) is_name
+      (subst (λ (t : List ℕ). with_setting old name t ≡ Err kind) same is),
+)
+
+-- what does not fit the text
+pub unfit_unmet : (settings : List SettingData) (text set : List ℕ) (found : Option SetFault) →
+    found ≡ unmet settings text → IfSome found (IsUnfit settings text set)
+unfit_unmet settings text set None is = tt
+unfit_unmet settings text set (Some fault) is = inl (sym is)
+
+pub unfit_blamed : (settings : List SettingData) (text set : List ℕ) (bad : PardoFault)
+    (found : Option SetFault) → program_of set ≡ Err bad → found ≡ blamed settings text bad →
+    IfSome found (IsUnfit settings text set)
+unfit_blamed settings text set bad None reads is = tt
+unfit_blamed settings text set bad (Some fault) reads is = inr (bad, reads, sym is)
