@@ -1,6 +1,6 @@
 -- What is refused of words that set names.
 use Rattle.std.proofs.Common.{◌≡◌, ◌⊎◌, ◌+◌, ◌<◌, ◌∷◌, ◌∙◌, ℕ, suc, List, Option, None, Some, Err, inl, inr}
-use Rattle.std.proofs.Common.{arith, refl, sym, subst, ap, drop, drop-cons, get_or, length, map, add-one}
+use Rattle.std.proofs.Common.{[], arith, refl, sym, subst, ap, drop, drop-cons, get_or, length, map, add-one}
 use Rattle.std.specs.Prelude.{IfSome}
 use Rattle.std.specs.Borrow.{Bor}
 use Rattle.clap.specs.Words.{Text}
@@ -9,13 +9,14 @@ use Rattle.pardo_text.specs.Settings.{SettingData, blamed, unmet, with_setting}
 use Rattle.pardo_text.specs.declared.fault.PardoFault.{PardoFault}
 use Rattle.pardo_text.specs.declared.settings.SetFault.{SetFault}
 use Rattle.pardo_text.specs.declared.settings.SetKind.{SetKind}
+use Rattle.pardo_text.specs.declared.settings.SetKind.TheVariants.{BadSetting}
 use Rattle.refusals.specs.Refusals.{refusal_status}
 use Rattle.refusals.specs.declared.refusal.Refusal.{Refusal}
 use Rattle.refusals.specs.declared.refusal.Refusal.TheVariants as refusal
 use Rattle.refusals.specs.declared.refusal.TheConstants.{FAILED, MEMORY, REFUSED}
 use Rattle.command_answers.specs.Setting.{BySetting, IsUnfit, RefuseNames, RefusesName, SetsName}
 use Rattle.command_answers.specs.Setting.{SpellsValues, is_equals}
-use Rattle.std.specs.List.{after_first, before_first}
+use Rattle.std.specs.List.{after_first, before_first, position_or_len}
 use Rattle.command_answers.proofs.Texts.{texts_of}
 
 -- what is said of a setting that is refused, and what follows from it
@@ -33,6 +34,11 @@ by_weaker f (refusal.File name) says = says
 by_weaker f refusal.Output says = says
 by_weaker f (refusal.Size name) says = says
 by_weaker f refusal.Word says = says
+
+-- where no setting is refused, anything may be said of one
+pub says_of_none : (Q : SetKind → Type 0) (refused : Refusal) → BySetting (λ kind. ⊥) refused →
+    BySetting Q refused
+says_of_none Q refused says = by_weaker {P = λ kind. ⊥} {Q = Q} (λ kind none. absurd none) refused says
 
 failed_not_refused : FAILED ≡ REFUSED → ⊥
 failed_not_refused is = absurd (omega (arith, is))
@@ -108,6 +114,24 @@ refuse_next Holds words at d settings next kind within sets rest =
     ∙ ap (λ (n : ℕ). get_or words at d ∷ drop n words) (sym (add-one at)) in
     subst (λ (left : List (Bor Text)). RefuseNames Holds settings (texts_of left) kind) (sym more)
     (inr (next, sets, rest))
+
+pub refused_here : (Holds : List ℕ → Option (List ℕ) → Type 0) (words : List (Bor Text)) (at : ℕ)
+    (d : Bor Text) (settings : List SettingData) (refused : Refusal) → at < length words →
+    ((kind : SetKind) → RefuseNames Holds settings (texts_of (drop at words)) kind →
+    RefuseNames Holds [] (texts_of words) kind) →
+    BySetting (RefusesName Holds settings (get_or words at d).now) refused →
+    BySetting (RefuseNames Holds [] (texts_of words)) refused
+refused_here Holds words at d settings refused within so_far says =
+    by_weaker {P = RefusesName Holds settings (get_or words at d).now}
+    {Q = RefuseNames Holds [] (texts_of words)} (λ kind refuses. so_far kind
+    (refuse_here Holds words at d settings kind within refuses)) refused says
+
+-- a word without `=` is refused
+pub refuses_word : (Holds : List ℕ → Option (List ℕ) → Type 0) (old : List SettingData)
+    (word : List ℕ) (name : Bor Text) (refused : Refusal) → refused ≡ refusal.Setting name BadSetting →
+    position_or_len is_equals word ≡ length word → BySetting (RefusesName Holds old word) refused
+refuses_word Holds old word name refused is none =
+    subst (BySetting (RefusesName Holds old word)) (sym is) (inl (none, refl))
 
 -- a word that is split at its first `=` is refused as its name and its values are
 pub refuses_name : (Holds : List ℕ → Option (List ℕ) → Type 0) (old : List SettingData)

@@ -1,9 +1,9 @@
-use Rattle.std.proofs.Common.{ℕ, List, None, Option, Some, arith, refl, subst}
+use Rattle.std.proofs.Common.{◌≡◌, ℕ, List, None, Option, Some, Err, arith, refl, rules, subst}
 use Rattle.std.proofs.lemmas.Result.{IfErr-weaker, on_ok_weaker}
 use Rattle.std.proofs.lemmas.Str.Pattern.{split_once_first, strip_prefix_char}
 use Rattle.clap.proofs.LexerLemmas.{strip_byte-from}
-use Rattle.command_answers.specs.Setting.{SpellsBy}
-use Rattle.command_answers.proofs.Refused.{by_weaker, refuses_name}
+use Rattle.command_answers.specs.Setting.{RefusesName, SpellsBy}
+use Rattle.command_answers.proofs.Refused.{by_weaker, refuses_name, refuses_word, says_of_none}
 use Rattle.command_answers.proofs.Texts.{sets_name}
 use Rattle.command_answers.proofs.setting.add.Goals as goal
 
@@ -36,9 +36,18 @@ returns-in-None-clause-name g c =
     c.as_bytes.result.now c.as_bytes.ensures.value parts.1 parts.2 (subst (λ (named : Option (List ℕ)). SpellsBy holds named values values) stripped
     refl)) c.set_name-in-None.ensures.set
 
-pub returns-in_err-taken-clause-refused : goal.returns-in_err-taken-clause-refused
-returns-in_err-taken-clause-refused g c =
-    by_weaker (λ kind none. absurd none) _ c.in_err-taken.ensures.failed
+pub returns-in_err-text-in-Some-strip_prefix-clause-refused : goal.returns-in_err-text-in-Some-strip_prefix-clause-refused
+returns-in_err-text-in-Some-strip_prefix-clause-refused g c =
+    let failed = c.in_err-text-in-Some-strip_prefix.field-0.0 in
+    let e : c.from_residual.result ≡ Err failed = search rules in
+    rw e (says_of_none (RefusesName (g.F.Folder.holds c.args.folder.now) c.args.settings.now
+    c.args.word.now) failed.refusal c.in_err-text-in-Some-strip_prefix.ensures.failed)
+
+pub returns-in_default-clause-refused : goal.returns-in_default-clause-refused
+returns-in_default-clause-refused g c =
+    let none = split_once_first 61 c.args.word.now None c.in_default.ensures.cases (omega arith) in
+    refuses_word (g.F.Folder.holds c.args.folder.now) c.args.settings.now c.args.word.now
+    c.args.word c.unset.result.refusal c.unset.ensures none
 
 pub returns-in_ok-text-in-Some-strip_prefix-clause-refused : goal.returns-in_ok-text-in-Some-strip_prefix-clause-refused
 returns-in_ok-text-in-Some-strip_prefix-clause-refused g c =

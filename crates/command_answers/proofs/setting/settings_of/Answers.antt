@@ -1,9 +1,9 @@
-use Rattle.std.proofs.Common.{List, refl, subst, sym}
+use Rattle.std.proofs.Common.{◌≡◌, List, Err, refl, rules, subst, sym}
 use Rattle.std.proofs.lemmas.List.{drop_all}
 use Rattle.std.specs.Borrow.{Bor}
 use Rattle.clap.specs.Words.{Text}
 use Rattle.command_answers.specs.Setting.{SetNames}
-use Rattle.command_answers.proofs.Refused.{by_weaker, refuse_here, refuse_next}
+use Rattle.command_answers.proofs.Refused.{refused_here, refuse_next}
 use Rattle.command_answers.proofs.Texts.{set_next, texts_of}
 use Rattle.command_answers.proofs.setting.settings_of.Goals as goal
 
@@ -26,6 +26,8 @@ returns-clause-names g c =
 
 pub returns-in_err-add-clause-refused : goal.returns-in_err-add-clause-refused
 returns-in_err-add-clause-refused g c =
-    by_weaker (λ kind refuses. c.loop-word.invariant.refused kind
-    (refuse_here (g.F.Folder.holds c.args.folder.now) c.args.words.now c.loop-word.word-index _
-    c.loop-word.settings kind c.loop-word-test.true refuses)) _ c.in_err-add.ensures.refused
+    let failed = c.in_err-add.field-0.0 in
+    let e : c.from_residual.result ≡ Err failed = search rules in
+    rw e (refused_here (g.F.Folder.holds c.args.folder.now) c.args.words.now c.loop-word.word-index _
+    c.loop-word.settings failed.refusal c.loop-word-test.true c.loop-word.invariant.refused
+    c.in_err-add.ensures.refused)
