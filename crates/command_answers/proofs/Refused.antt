@@ -1,20 +1,19 @@
 -- What is refused of words that set names.
-use Rattle.std.proofs.Common.{◌≡◌, ◌⊎◌, ◌+◌, ◌<◌, ◌∷◌, ◌∙◌, ℕ, suc, List, Option, None, Some, Err, inl, inr}
-use Rattle.std.proofs.Common.{[], arith, refl, sym, subst, ap, drop, drop-cons, get_or, length, map, add-one}
-use Rattle.std.specs.Prelude.{IfSome}
+use Rattle.std.proofs.Common.{◌≡◌, ◌⊎◌, ◌+◌, ◌<◌, ◌∷◌, ◌∙◌, ℕ, List, Option, Err, inl, inr}
+use Rattle.std.proofs.Common.{[], arith, refl, sym, subst, ap, drop, drop-cons, get_or, length, add-one}
 use Rattle.std.specs.Borrow.{Bor}
 use Rattle.clap.specs.Words.{Text}
-use Rattle.pardo_text.specs.Reading.{program_of}
-use Rattle.pardo_text.specs.Settings.{SettingData, blamed, unmet, with_setting}
-use Rattle.pardo_text.specs.declared.fault.PardoFault.{PardoFault}
-use Rattle.pardo_text.specs.declared.settings.SetFault.{SetFault}
+use Rattle.pardo_text.specs.Settings.{SettingData, with_setting}
 use Rattle.pardo_text.specs.declared.settings.SetKind.{SetKind}
 use Rattle.pardo_text.specs.declared.settings.SetKind.TheVariants.{BadSetting}
 use Rattle.refusals.specs.Refusals.{refusal_status}
 use Rattle.refusals.specs.declared.refusal.Refusal.{Refusal}
 use Rattle.refusals.specs.declared.refusal.Refusal.TheVariants as refusal
 use Rattle.refusals.specs.declared.refusal.TheConstants.{FAILED, MEMORY, REFUSED}
-use Rattle.command_answers.specs.Setting.{BySetting, IsUnfit, RefuseNames, RefusesName, SetsName}
+use Rattle.pram_commands.specs.Did.{Writing}
+use Rattle.command_answers.specs.Answering.{RefusesSet}
+use Rattle.command_answers.specs.Setting.{BySetting, IsRefusedSet, RefuseNames}
+use Rattle.command_answers.specs.Setting.{RefusesName, SetsName}
 use Rattle.command_answers.specs.Setting.{SpellsValues, is_equals}
 use Rattle.std.specs.List.{after_first, before_first, position_or_len}
 use Rattle.command_answers.proofs.Texts.{texts_of}
@@ -62,7 +61,7 @@ kind_refused Says refusal.Output says is = absurd says
 kind_refused Says (refusal.Size name) says is = absurd (failed_not_refused is)
 kind_refused Says refusal.Word says is = absurd says
 
-pub told_refused : (Says : SetKind → Type 0) (refused : Refusal) (status : ℕ) →
+told_refused : (Says : SetKind → Type 0) (refused : Refusal) (status : ℕ) →
     BySetting Says refused → (status ≡ MEMORY) ⊎ (status ≡ refusal_status refused) →
     status ≡ REFUSED → (kind : SetKind) × Says kind
 told_refused Says refused status says (inl memory) is =
@@ -86,7 +85,7 @@ status_is Says refusal.Output says = absurd says
 status_is Says (refusal.Size name) says = inr (inl refl)
 status_is Says refusal.Word says = absurd says
 
-pub told_status : (Says : SetKind → Type 0) (refused : Refusal) (status : ℕ) →
+told_status : (Says : SetKind → Type 0) (refused : Refusal) (status : ℕ) →
     BySetting Says refused → (status ≡ MEMORY) ⊎ (status ≡ refusal_status refused) →
     (status ≡ REFUSED) ⊎ ((status ≡ FAILED) ⊎ (status ≡ MEMORY))
 told_status Says refused status says (inl memory) = inr (inr memory)
@@ -95,7 +94,7 @@ told_status Says refused status says (inr told) =
     (status_is Says refused says)
 
 -- a word is refused, or it sets a name and one after it is refused
-pub refuse_here : (Holds : List ℕ → Option (List ℕ) → Type 0) (words : List (Bor Text)) (at : ℕ)
+refuse_here : (Holds : List ℕ → Option (List ℕ) → Type 0) (words : List (Bor Text)) (at : ℕ)
     (d : Bor Text) (settings : List SettingData) (kind : SetKind) → at < length words →
     RefusesName Holds settings (get_or words at d).now kind →
     RefuseNames Holds settings (texts_of (drop at words)) kind
@@ -146,14 +145,14 @@ refuses_name Holds old word name values text written kind same is_name is_values
       (subst (λ (t : List ℕ). with_setting old name t ≡ Err kind) same is),
 )
 
--- what does not fit the text
-pub unfit_unmet : (settings : List SettingData) (text set : List ℕ) (found : Option SetFault) →
-    found ≡ unmet settings text → IfSome found (IsUnfit settings text set)
-unfit_unmet settings text set None is = tt
-unfit_unmet settings text set (Some fault) is = inl (sym is)
-
-pub unfit_blamed : (settings : List SettingData) (text set : List ℕ) (bad : PardoFault)
-    (found : Option SetFault) → program_of set ≡ Err bad → found ≡ blamed settings text bad →
-    IfSome found (IsUnfit settings text set)
-unfit_blamed settings text set bad None reads is = tt
-unfit_blamed settings text set bad (Some fault) reads is = inr (bad, reads, sym is)
+-- settings that are refused, as they were told
+pub refuses_set : (Holds : List ℕ → Option (List ℕ) → Type 0) (file : List ℕ) (given : List Text)
+    (writes : Writing) (refused : Refusal) (status : ℕ) →
+    BySetting (IsRefusedSet Holds file given) refused →
+    (status ≡ MEMORY) ⊎ (status ≡ refusal_status refused) → writes.Unwritten →
+    RefusesSet Holds file given writes status
+refuses_set Holds file given writes refused status says told none = record {
+  refused = told_refused (IsRefusedSet Holds file given) refused status says told;
+  told = told_status (IsRefusedSet Holds file given) refused status says told;
+  unwritten = none;
+}
