@@ -1,18 +1,14 @@
 -- What is refused of words that set names.
-use Rattle.std.proofs.Common.{◌≡◌, ◌⊎◌, ◌+◌, ◌<◌, ◌∷◌, ◌∙◌, ℕ, List, Option, Err, inl, inr}
-use Rattle.std.proofs.Common.{[], arith, refl, sym, subst, ap, drop, drop-cons, get_or, length, add-one}
+use Rattle.std.proofs.Common.{◌≡◌, ◌+◌, ◌<◌, ◌∷◌, ◌∙◌, ℕ, List, Option, Err, inl, inr}
+use Rattle.std.proofs.Common.{[], refl, sym, subst, ap, drop, drop-cons, get_or, length, add-one}
 use Rattle.std.specs.Borrow.{Bor}
 use Rattle.clap.specs.Words.{Text}
 use Rattle.pardo_text.specs.Settings.{SettingData, with_setting}
 use Rattle.pardo_text.specs.declared.settings.SetKind.{SetKind}
 use Rattle.pardo_text.specs.declared.settings.SetKind.TheVariants.{BadSetting}
-use Rattle.refusals.specs.Refusals.{refusal_status}
 use Rattle.refusals.specs.declared.refusal.Refusal.{Refusal}
 use Rattle.refusals.specs.declared.refusal.Refusal.TheVariants as refusal
-use Rattle.refusals.specs.declared.refusal.TheConstants.{FAILED, MEMORY, REFUSED}
-use Rattle.pram_commands.specs.Did.{Writing}
-use Rattle.command_answers.specs.Answering.{RefusesSet}
-use Rattle.command_answers.specs.Setting.{BySetting, IsRefusedSet, RefuseNames}
+use Rattle.command_answers.specs.Setting.{BySetting, RefuseNames}
 use Rattle.command_answers.specs.Setting.{RefusesName, SetsName}
 use Rattle.command_answers.specs.Setting.{SpellsValues, is_equals}
 use Rattle.std.specs.List.{after_first, before_first, position_or_len}
@@ -38,60 +34,6 @@ by_weaker f refusal.Word says = says
 pub says_of_none : (Q : SetKind → Type 0) (refused : Refusal) → BySetting (λ kind. ⊥) refused →
     BySetting Q refused
 says_of_none Q refused says = by_weaker {P = λ kind. ⊥} {Q = Q} (λ kind none. absurd none) refused says
-
-failed_not_refused : FAILED ≡ REFUSED → ⊥
-failed_not_refused is = absurd (omega (arith, is))
-
-memory_not_refused : MEMORY ≡ REFUSED → ⊥
-memory_not_refused is = absurd (omega (arith, is))
-
--- only a setting is refused with the status of a refused text
-kind_refused : (Says : SetKind → Type 0) (refused : Refusal) → BySetting Says refused →
-    refusal_status refused ≡ REFUSED → (kind : SetKind) × Says kind
-kind_refused Says (refusal.Text line kind) says is = absurd says
-kind_refused Says (refusal.Program found) says is = absurd says
-kind_refused Says (refusal.Plan row kind) says is = absurd says
-kind_refused Says (refusal.Cell cell) says is = absurd says
-kind_refused Says (refusal.Place place) says is = absurd says
-kind_refused Says (refusal.Step step) says is = absurd says
-kind_refused Says (refusal.Setting name kind) says is = (kind, says)
-kind_refused Says refusal.Memory says is = absurd (memory_not_refused is)
-kind_refused Says (refusal.File name) says is = absurd (failed_not_refused is)
-kind_refused Says refusal.Output says is = absurd says
-kind_refused Says (refusal.Size name) says is = absurd (failed_not_refused is)
-kind_refused Says refusal.Word says is = absurd says
-
-told_refused : (Says : SetKind → Type 0) (refused : Refusal) (status : ℕ) →
-    BySetting Says refused → (status ≡ MEMORY) ⊎ (status ≡ refusal_status refused) →
-    status ≡ REFUSED → (kind : SetKind) × Says kind
-told_refused Says refused status says (inl memory) is =
-    absurd (memory_not_refused (sym memory ∙ is))
-told_refused Says refused status says (inr told) is =
-    kind_refused Says refused says (sym told ∙ is)
-
-status_is : (Says : SetKind → Type 0) (refused : Refusal) → BySetting Says refused →
-    (refusal_status refused ≡ REFUSED)
-    ⊎ ((refusal_status refused ≡ FAILED) ⊎ (refusal_status refused ≡ MEMORY))
-status_is Says (refusal.Text line kind) says = absurd says
-status_is Says (refusal.Program found) says = absurd says
-status_is Says (refusal.Plan row kind) says = absurd says
-status_is Says (refusal.Cell cell) says = absurd says
-status_is Says (refusal.Place place) says = absurd says
-status_is Says (refusal.Step step) says = absurd says
-status_is Says (refusal.Setting name kind) says = inl refl
-status_is Says refusal.Memory says = inr (inr refl)
-status_is Says (refusal.File name) says = inr (inl refl)
-status_is Says refusal.Output says = absurd says
-status_is Says (refusal.Size name) says = inr (inl refl)
-status_is Says refusal.Word says = absurd says
-
-told_status : (Says : SetKind → Type 0) (refused : Refusal) (status : ℕ) →
-    BySetting Says refused → (status ≡ MEMORY) ⊎ (status ≡ refusal_status refused) →
-    (status ≡ REFUSED) ⊎ ((status ≡ FAILED) ⊎ (status ≡ MEMORY))
-told_status Says refused status says (inl memory) = inr (inr memory)
-told_status Says refused status says (inr told) =
-    subst (λ (s : ℕ). (s ≡ REFUSED) ⊎ ((s ≡ FAILED) ⊎ (s ≡ MEMORY))) (sym told)
-    (status_is Says refused says)
 
 -- a word is refused, or it sets a name and one after it is refused
 refuse_here : (Holds : List ℕ → Option (List ℕ) → Type 0) (words : List (Bor Text)) (at : ℕ)
@@ -144,15 +86,3 @@ refuses_name Holds old word name values text written kind same is_name is_values
   subst (λ (before : List ℕ). with_setting old before text ≡ Err kind) is_name
       (subst (λ (t : List ℕ). with_setting old name t ≡ Err kind) same is),
 )
-
--- settings that are refused, as they were told
-pub refuses_set : (Holds : List ℕ → Option (List ℕ) → Type 0) (file : List ℕ) (given : List Text)
-    (writes : Writing) (refused : Refusal) (status : ℕ) →
-    BySetting (IsRefusedSet Holds file given) refused →
-    (status ≡ MEMORY) ⊎ (status ≡ refusal_status refused) → writes.Unwritten →
-    RefusesSet Holds file given writes status
-refuses_set Holds file given writes refused status says told none = record {
-  refused = told_refused (IsRefusedSet Holds file given) refused status says told;
-  told = told_status (IsRefusedSet Holds file given) refused status says told;
-  unwritten = none;
-}
