@@ -2,7 +2,7 @@
 function! s:Colour() abort
   setlocal commentstring=;\ %s
   syntax clear
-  syntax keyword Statement pardo rule const procs shared private code
+  syntax keyword Statement pardo rule const procs shared private code assert
   syntax keyword Conditional if elsif else
   syntax keyword Repeat for to downto while end
   syntax keyword Operator and or xor

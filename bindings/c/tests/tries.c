@@ -102,7 +102,8 @@ static struct ks_request request(uint32_t flags) {
                              .rows_alone = flags,
                              .from = 1,
                              .to = 9,
-                             .workers = 3};
+                             .workers = 3,
+                             .lines = flags};
 }
 
 static void ask(command *call, uint32_t flags, const struct text *text, struct told *told) {
@@ -124,6 +125,9 @@ static void why(const struct text *text, struct told *told) {
 }
 static void cost(const struct text *text, struct told *told) {
   ask(ks_cost, 0, text, told);
+}
+static void cost_lines(const struct text *text, struct told *told) {
+  ask(ks_cost, 1, text, told);
 }
 static void steps(const struct text *text, struct told *told) {
   ask(ks_steps, 0, text, told);
@@ -200,9 +204,13 @@ typedef void call(const struct text *, struct told *);
 static const struct {
   const char *name;
   call *make;
-} calls[] = {{"check", check}, {"compile", compile}, {"plain", plain},     {"plain --why", why},
-             {"cost", cost},   {"steps", steps},     {"steps --csv", csv}, {"replay", replay},
-             {"cells", cells}, {"plan", plan},       {"set", set},         {"board", board}};
+} calls[] = {{"check", check},       {"compile", compile},
+             {"plain", plain},       {"plain --why", why},
+             {"cost", cost},         {"cost --lines", cost_lines},
+             {"steps", steps},       {"steps --csv", csv},
+             {"replay", replay},     {"cells", cells},
+             {"plan", plan},         {"set", set},
+             {"board", board}};
 enum { CALLS = sizeof calls / sizeof *calls };
 
 static void make(int which, const struct text *text, struct told *told) {
@@ -342,6 +350,7 @@ static void try_requests(const struct text *text) {
   struct ks_request flags = request(2), window = request(0), none = request(0), many = request(0);
   window.from = 10, none.workers = 0, many.workers = 65;
   expect_failed("why 2", ks_plain, &flags, text);
+  expect_failed("lines 2", ks_cost, &flags, text);
   expect_failed("rows_alone 2 of steps", ks_steps, &flags, text);
   expect_failed("rows_alone 2 of a replay", replay_call, &flags, text);
   expect_failed("steps from 10 to 9", ks_steps, &window, text);
@@ -451,7 +460,7 @@ static int tell_times(const struct text *texts, int count) {
 /* Calls that are asked for by standard input, as a caller with other buffers would make them. */
 
 struct asked {
-  uint32_t command, why, rows_alone, from, to, workers;
+  uint32_t command, why, rows_alone, from, to, workers, lines, unused;
   uint64_t room, text_length, plan_length; /* then the text, then the plan or the settings */
 };
 
@@ -473,7 +482,8 @@ static uint32_t serve(const struct asked *asked, const uint8_t *text, const uint
                            .rows_alone = asked->rows_alone,
                            .from = asked->from,
                            .to = asked->to,
-                           .workers = asked->workers};
+                           .workers = asked->workers,
+                           .lines = asked->lines};
   if (asked->command < sizeof commands / sizeof *commands)
     return commands[asked->command](text, asked->text_length, &how, out, asked->room, answer);
   if (asked->command > sizeof commands / sizeof *commands)

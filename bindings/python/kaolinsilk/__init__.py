@@ -26,7 +26,7 @@
 from ._library import version
 from .answers import Answer, Gone
 from .boards import Board, Progress, Reading, Seat, Worker
-from .calls import Cost, cells, check, compile, cost, plain, replay, steps
+from .calls import Cost, cells, check, compile, cost, cost_by_lines, plain, replay, steps
 from .canvas import Picture
 from .errors import BadRequest, Conflict, KaolinsilkError, OutOfMemory, Refused, Unfinished
 from .moments import Moment, moment
@@ -60,6 +60,7 @@ __all__ = [
     "check",
     "compile",
     "cost",
+    "cost_by_lines",
     "draw_memory",
     "draw_moment",
     "draw_tree",

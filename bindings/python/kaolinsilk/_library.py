@@ -34,7 +34,8 @@ class Request(ctypes.Structure):
         ("first", c_uint32),  # from
         ("last", c_uint32),  # to
         ("workers", c_uint32),
-        ("reserved", c_uint64 * 8),
+        ("lines", c_uint32),
+        ("reserved", c_uint32 * 15),
     ]
 
 

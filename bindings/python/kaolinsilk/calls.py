@@ -5,7 +5,9 @@ With `settings`, constants, shared scalars and shared arrays of a program are wh
 """
 from __future__ import annotations
 
+import csv
 import ctypes
+import io
 from typing import Any, Dict, List, Optional
 
 from . import _library, plans
@@ -80,6 +82,19 @@ def _field(name: str, said: str) -> Any:
     if name in ("same_read", "same_write", "other_value"):
         return meeting_of(said)
     return int(said) if said.isdigit() else said
+
+
+def cost_by_lines(text: Source, *, settings: Optional[Settings] = None) -> Rows:
+    """What each counted line of a program costs: how often it comes up, its time, its operations,
+    the most processors at a time, and its text. A text of the machine has none.
+
+    >>> text = "pardo 1\\nrule crew\\nprocs i < 4\\nshared A[4]\\ncode\\nif i < 3\\nA[i] := i\\nend\\n"
+    >>> cost_by_lines(text)[0]
+    {'line': 7, 'times': 1, 'time': 1, 'operations': 3, 'most': 3, 'text': 'A[i] := i'}
+    """
+    told = _library.told("ks_cost", bytes_of(text, settings), lines=1)
+    names, *records = csv.reader(io.StringIO(told.output.decode("ascii"), newline=""))
+    return Rows(names, ([*map(int, numbers), line] for *numbers, line in records))
 
 
 def cost(text: Source, *, settings: Optional[Settings] = None) -> Cost:

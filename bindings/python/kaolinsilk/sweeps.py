@@ -8,21 +8,22 @@ from .errors import BadRequest
 from .rows import Rows
 from .texts import Source, bytes_of
 
-NAMES = ("steps", "work", "product", "processors", "most", "needs", "time", "operations")
+NAMES = ("steps", "time", "operations", "processors", "needs", "end")
 # The values that an array starts with, by the constant.
 Starts = Dict[str, Callable[[int], Iterable[int]]]
 
 
 class Sweep(Rows):
-    """The rows of a sweep: the constant, and what the run costs."""
+    """The rows of a sweep: the constant, what the run costs, and how it ends: "done", "conflict", or
+    "gone" where it is done and a processor is gone."""
 
     def plot(self, axes: Any = None) -> Any:
-        """Steps and work against the constant, by matplotlib; returns the axes."""
+        """Time and operations against the constant, by matplotlib; returns the axes."""
         from matplotlib import pyplot
 
         axes = pyplot.subplots(figsize=(7, 4))[1] if axes is None else axes
         constant = self.names[0]
-        for name in ("steps", "work"):
+        for name in ("time", "operations"):
             axes.plot(self[constant], self[name], marker="o", label=name)
         axes.set_xscale("log", base=2)
         axes.set_yscale("log", base=2)
@@ -49,8 +50,9 @@ def sweep(text: Source, starts: Optional[Starts] = None, **constant: Iterable[in
     ...    A[i] := A[i] + 1
     ... end
     ... '''
-    >>> sweep(text, n=[2, 4, 8])["steps"]
-    [12, 21, 30]
+    >>> rows = sweep(text, n=[2, 4, 8])
+    >>> rows["time"], rows["operations"], rows[0]["end"]
+    ([1, 2, 3], [2, 8, 24], 'done')
     """
     if len(constant) != 1:
         raise BadRequest("a sweep goes over one constant: sweep(text, n=[8, 16])")
@@ -58,6 +60,10 @@ def sweep(text: Source, starts: Optional[Starts] = None, **constant: Iterable[in
     given, records = bytes_of(text), []
     for number in numbers:
         values = {array: start(number) for array, start in (starts or {}).items()}
-        cost = calls.cost(given, settings={name: number, **values})
+        as_set = bytes_of(given, {name: number, **values})
+        cost = calls.cost(as_set)
+        cost["end"] = cost.status
+        if cost.status == "done" and calls.plain(as_set).gone:
+            cost["end"] = "gone"
         records.append([number, *(cost[it] for it in NAMES)])
     return Sweep((name, *NAMES), records)

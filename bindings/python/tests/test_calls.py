@@ -66,6 +66,18 @@ class Calls(unittest.TestCase):
         self.assertEqual(cost["same_read"], {"step": 4, "cell": 0, "processors": (0, 1)})
         self.assertIsNone(cost["other_value"])
 
+    def test_cost_by_lines(self):
+        rows, cost = kaolinsilk.cost_by_lines(PREFIX), kaolinsilk.cost(PREFIX)
+        self.assertEqual((sum(rows["time"]), sum(rows["operations"])), (3, 17))
+        self.assertEqual((cost["time"], cost["operations"]), (3, 17))
+        row = {"line": 12, "times": 3, "time": 3, "operations": 17, "most": 7}
+        self.assertEqual(rows[-1], {**row, "text": "      A[i] := A[i] + A[i - 1 << h]"})
+        quoted = PREFIX.replace("1 << h]", '1 << h] ; a "comment", and more\r')
+        self.assertIn('"comment", and more\r', kaolinsilk.cost_by_lines(quoted)[-1]["text"])
+        self.assertEqual(len(kaolinsilk.cost_by_lines(TINY)), 0)
+        smaller = kaolinsilk.cost_by_lines(PREFIX, settings={"n": 2, "A": [5, 6]})
+        self.assertEqual(smaller["operations"], [1])
+
     def test_steps(self):
         rows = kaolinsilk.steps(PREFIX, 3, 5)
         self.assertEqual((len(rows), rows[0]["line"], rows.answer["A"]), (24, 10, SUMS))

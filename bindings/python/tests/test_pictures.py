@@ -99,8 +99,16 @@ class Sweeps(unittest.TestCase):
     def test_a_sweep(self):
         rows = kaolinsilk.sweep(EXAMPLES / "broadcast.pardo", n=[2, 4, 8])
         self.assertEqual(rows[2]["steps"], kaolinsilk.cost(EXAMPLES / "broadcast.pardo")["steps"])
-        self.assertEqual((rows["n"], rows.names[:3]), ([2, 4, 8], ("n", "steps", "work")))
-        self.assertEqual(rows["time"], [1, 2, 3])  # a round each
+        self.assertEqual((rows["n"], rows["end"]), ([2, 4, 8], ["done"] * 3))
+        names = "n,steps,time,operations,processors,needs,end"
+        self.assertEqual((rows["time"], ",".join(rows.names)), ([1, 2, 3], names))  # a round each
+
+    def test_ends(self):
+        header = "pardo 1\nrule common\nconst n = 1\nprocs i < n\nshared A[2]\ncode\n"
+        ends = kaolinsilk.sweep(header + "A[i] := n\n", n=[2, 3])["end"]
+        self.assertEqual(ends, ["done", "gone"])
+        rows = kaolinsilk.sweep(header + "A[0] := i\n", n=[1, 2])
+        self.assertEqual(rows["end"], ["done", "conflict"])
 
     def test_start_values(self):
         text = EXAMPLES / "sum.pardo"
@@ -126,7 +134,7 @@ class Sweeps(unittest.TestCase):
             self.skipTest("matplotlib is not there")
         matplotlib.use("Agg")
         axes = kaolinsilk.sweep(EXAMPLES / "broadcast.pardo", n=[2, 4, 8]).plot()
-        self.assertEqual([line.get_label() for line in axes.get_lines()], ["steps", "work"])
+        self.assertEqual([line.get_label() for line in axes.get_lines()], ["time", "operations"])
 
 
 if __name__ == "__main__":

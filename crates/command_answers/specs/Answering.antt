@@ -6,12 +6,13 @@ use Rattle.clap.specs.declared.error.kind.ErrorKind.TheVariants.{DisplayHelp, Di
 use Rattle.command_data.specs.declared.line.Ask.TheVariants.{OnThreads}
 use Rattle.command_data.specs.declared.line.AskOnThreads.{AskOnThreads}
 use Rattle.command_data.specs.declared.line.Line.{Line}
+use Rattle.pardo_text.specs.declared.settings.SetKind.{SetKind}
 use Rattle.pram_commands.specs.Did.{Writing}
 use Rattle.pram_commands.specs.Files.{ServesFiles, ServesText}
 use Rattle.refusals.specs.declared.refusal.TheConstants.{DONE, FAILED, MEMORY, REFUSED}
 use Rattle.command_line.specs.CommandLine.{HasSettings, IsAskedLine, MeanNoLine, pramx}
 use Rattle.command_line.specs.declared.line.Asked.{Asked}
-use Rattle.command_answers.specs.Setting.{IsSetText}
+use Rattle.command_answers.specs.Setting.{IsRefusedSet, IsSetText}
 use Rattle.command_answers.specs.declared.answer.Waiting.{Waiting}
 
 -- The words mean a line, on such a device, and set no name, and it was served from the files that it
@@ -31,14 +32,17 @@ pub record ServesLineSet (Holds : List ℕ → Option (List ℕ) → Type 0) (Fa
   pub serves : ServesText text Holds Fails line writes status
 
 -- A setting is refused, or a file failed, or memory ran out, and nothing was written.
-abbrev pub RefusesSet : Writing → ℕ → Type 0
-RefusesSet writes status =
-    ((status ≡ REFUSED) ⊎ ((status ≡ FAILED) ⊎ (status ≡ MEMORY))) × writes.Unwritten
+pub record RefusesSet (Holds : List ℕ → Option (List ℕ) → Type 0) (file : List ℕ)
+    (given : List Text) (writes : Writing) (status : ℕ) : Type 0 where
+  pub refused : status ≡ REFUSED → (kind : SetKind) × IsRefusedSet Holds file given kind
+  pub told : (status ≡ REFUSED) ⊎ ((status ≡ FAILED) ⊎ (status ≡ MEMORY))
+  pub unwritten : writes.Unwritten
 
 abbrev pub ServesOrRefusesSet : (List ℕ → Option (List ℕ) → Type 0) → Type 0 → Line → List Text →
     Writing → ℕ → Type 0
 ServesOrRefusesSet Holds Fails line given writes status =
-    ServesLineSet Holds Fails line given writes status ⊎ RefusesSet writes status
+    ServesLineSet Holds Fails line given writes status
+    ⊎ RefusesSet Holds line.file.now given writes status
 
 -- The words mean a line, on such a device, and set names: the line was served so, or the settings
 -- are refused.

@@ -1,7 +1,9 @@
 //! The text of a line's file as names are set.
-ghost use Rattle.std.specs.Prelude.{◌≡◌, [], None, Ok, map, IfOk, OnOk};
+ghost use Rattle.std.specs.Prelude.{◌≡◌, [], None, Ok, Err, map, IfErr, IfOk, IfSome, OnOk};
 ghost use Rattle.pardo_text.specs.Settings.{with_setting};
-ghost use Rattle.command_answers.specs.Setting.{AllMet, FileGives, IsSetText, SetNames, SetsName};
+ghost use Rattle.command_answers.specs.Setting.{AllMet, BySetting, FileGives, IsRefusedSet};
+ghost use Rattle.command_answers.specs.Setting.{IsSetText, IsUnfit, RefuseNames, RefusesName};
+ghost use Rattle.command_answers.specs.Setting.{SetNames, SetsName};
 
 use pardo_answers::is_program;
 use pardo_text::{PardoKind, SetFault, SetKind, Settings, read_program};
@@ -18,8 +20,10 @@ pub(crate) fn set_text<'a, F: Folder>(
     file: &'a str,
     words: &[&'a str],
 ) -> Result<Vec<u8>, Unset<'a>>
-    ensures { IfOk result (λ set. IsSetText (F.holds folder.now) file.now
+    ensures set { IfOk result (λ set. IsSetText (F.holds folder.now) file.now
         (map (λ word. word.now) words.now) set.items) }
+    ensures refused { IfErr result (λ unset. BySetting (IsRefusedSet (F.holds folder.now) file.now
+        (map (λ word. word.now) words.now)) unset.refusal) }
 {
     let settings = settings_of(alloc, folder, words)?;
     let text = taken(alloc, folder, file)?;
@@ -43,7 +47,8 @@ fn unfit(
     text: &[u8],
     set: &[u8],
 ) -> Result<Option<SetFault>, AllocError>
-    ensures { IfOk result (λ found. found ≡ None → AllMet settings.now text.now set.now) }
+    ensures met { IfOk result (λ found. found ≡ None → AllMet settings.now text.now set.now) }
+    ensures unfit { IfOk result (λ found. IfSome found (IsUnfit settings.now text.now set.now)) }
 {
     if !is_program(set) {
         return Ok(settings.unmet(text));
@@ -61,7 +66,10 @@ fn settings_of<'a, F: Folder>(
     folder: &F,
     words: &[&'a str],
 ) -> Result<Settings, Unset<'a>>
-    ensures { IfOk result (SetNames (F.holds folder.now) [] (map (λ word. word.now) words.now)) }
+    ensures names { IfOk result (SetNames (F.holds folder.now) []
+        (map (λ word. word.now) words.now)) }
+    ensures refused { IfErr result (λ unset. BySetting (RefuseNames (F.holds folder.now) []
+        (map (λ word. word.now) words.now)) unset.refusal) }
 {
     let mut settings = Settings::new(alloc);
     for &word in words {
@@ -77,7 +85,9 @@ fn add<'a, F: Folder>(
     word: &'a str,
     settings: &mut Settings,
 ) -> Result<(), Unset<'a>>
-    ensures { OnOk result (SetsName (F.holds folder.now) settings.old word.now settings.new) }
+    ensures name { OnOk result (SetsName (F.holds folder.now) settings.old word.now settings.new) }
+    ensures refused { IfErr result (λ unset.
+        BySetting (RefusesName (F.holds folder.now) settings.old word.now) unset.refusal) }
 {
     let Some((name, values)) = word.split_once('=') else {
         let kind = SetKind::BadSetting;
@@ -94,7 +104,9 @@ fn add<'a, F: Folder>(
 
 // Sets a name to the values that a text spells.
 fn set_name<'a>(name: &'a str, text: &[u8], settings: &mut Settings) -> Result<(), Unset<'a>>
-    ensures { OnOk result (with_setting settings.old name.now text.now ≡ Ok settings.new) }
+    ensures set { OnOk result (with_setting settings.old name.now text.now ≡ Ok settings.new) }
+    ensures refused { IfErr result (λ unset. BySetting (λ kind.
+        with_setting settings.old name.now text.now ≡ Err kind) unset.refusal) }
 {
     match settings.add(name.as_bytes(), text) {
         Ok(()) => Ok(()),
@@ -113,7 +125,8 @@ fn name_in(word: &str) -> &str {
 
 // All bytes of a file.
 fn taken<'a, F: Folder>(alloc: Global, folder: &F, file: &'a str) -> Result<Vec<u8>, Unset<'a>>
-    ensures { IfOk result (λ bytes. FileGives (F.holds folder.now) file.now bytes.items) }
+    ensures gives { IfOk result (λ bytes. FileGives (F.holds folder.now) file.now bytes.items) }
+    ensures failed { IfErr result (λ unset. BySetting (λ kind. ⊥) unset.refusal) }
 {
     let mut source = folder.open(file);
     match take(alloc, &mut source) {
@@ -128,7 +141,9 @@ fn taken<'a, F: Folder>(alloc: Global, folder: &F, file: &'a str) -> Result<Vec<
 }
 
 // What is refused without the reason of a file.
-fn unset(refusal: Refusal<'_>) -> Unset<'_> {
+fn unset(refusal: Refusal<'_>) -> Unset<'_>
+    ensures { result.refusal ≡ refusal.entry }
+{
     Unset {
         refusal,
         reason: Reason::Unknown,

@@ -80,7 +80,7 @@ const LINE: &str = "text line=1 kind=BadHeader\n";
 
 const EXPLAINED: &str = "\
 text line=1 kind=BadHeader
-job:1:1: a line of the header is wrong, missing or repeated
+job:1:1: a program begins with the line `pardo 1`, and a text of the machine with `pram 3`
     no job
     ^
 ";
@@ -179,18 +179,22 @@ fn a_shift_is_explained_where_it_stands_beside_a_sum(rt: HostRuntime) -> Result<
 }
 
 // Lines of the machine, and where each is told to be wrong.
-const WORDS: [(&str, &str); 4] = [
-    ("frob r1", "7:1"),
-    ("add r0 5 r9", "7:10"),
-    ("jmp none", "7:5"),
-    ("set r0 4294967296", "7:8"),
+const WORDS: [(&str, &str); 8] = [
+    ("frob r1", "8:1"),
+    ("add r0 5 r9", "8:10"),
+    ("add r0 A r1", "8:8"),
+    ("ld r0 A r9", "8:9"),
+    ("ld r9 A r0", "8:4"),
+    ("ld r0 B r0", "8:7"),
+    ("jmp none", "8:5"),
+    ("set r0 4294967296", "8:8"),
 ];
 
 #[test]
 fn a_line_of_the_machine_is_explained_at_a_word(rt: HostRuntime) -> Result<(), Fail> {
     for (line, place) in WORDS {
         let job = format!(in rt.alloc();
-            "pram 3\ncells 4\nprocs 2\nsteps 9\nrule crew\ncode\n{line}\n"
+            "pram 3\ncells 4\nprocs 2\nsteps 9\nrule crew\narray A 0 4\ncode\n{line}\n"
         )?;
         let mut room = [0u8; 256];
         let (_, left) = checked(&rt, job.as_bytes(), &mut room);

@@ -2,8 +2,8 @@
 ghost use Rattle.std.specs.Prelude.{◌≡◌, ◌+◌, ◌*◌, []};
 ghost use Rattle.library_core.specs.Calls.{IsCall};
 ghost use Rattle.library_core.specs.Cells.{AreCells, MeansNoJob};
-ghost use Rattle.library_core.specs.Commands.{checking, compiling, costing, in_lines, plainly};
-ghost use Rattle.library_core.specs.Commands.{replaying, stepping};
+ghost use Rattle.library_core.specs.Commands.{checking, compiling, costing_by, in_lines};
+ghost use Rattle.library_core.specs.Commands.{plainly, replaying, stepping};
 ghost use Rattle.library_core.specs.Plans.{AreRows, IsNoPlan};
 ghost use Rattle.library_core.specs.Requests.{is_set, window_of, wrong_in};
 ghost use Rattle.library_core.specs.Serving.{ServesRequest};
@@ -103,7 +103,8 @@ pub extern "C" fn ks_plain(
     serve_call(alloc, &asked, out, answer)
 }
 
-/// Says what the run of a text's job costs, and which model of the PRAM it needs.
+/// Says what the run of a text's job costs, and which model of the PRAM it needs; or what each
+/// counted line of its program costs.
 #[unsafe(no_mangle)]
 pub extern "C" fn ks_cost(
     alloc: Global,
@@ -112,9 +113,8 @@ pub extern "C" fn ks_cost(
     out: &mut [u8],
     answer: &mut Answer,
 ) -> u32
-    ensures { ServesRequest costing (wrong_in Cost request.now) text.now [] out.old out.new
-        answer.old
-        answer.new result }
+    ensures { ServesRequest (costing_by (is_set request.now.lines)) (wrong_in Cost request.now)
+        text.now [] out.old out.new answer.old answer.new result }
 {
     let asked = Asked {
         call: Call::Cost,

@@ -1,5 +1,5 @@
 -- The commands, for the clauses of calls.
-pub use Rattle.pram_commands.specs.Costs.{costing}
+pub use Rattle.pram_commands.specs.LineRecords.{costing_by}
 pub use Rattle.pram_commands.specs.Plain.{checking, plainly}
 pub use Rattle.pram_commands.specs.Replayed.{replaying}
 pub use Rattle.pram_commands.specs.Steps.{stepping}

@@ -49,7 +49,8 @@ line_told (Request fault) = 0
 line_told (Command fault) = command_line fault
 line_told (Setting fault) = fault.number
 
--- A column is known of programs alone; 0 stands for none.
+-- A column is known of texts alone; 0 stands for none.
 abbrev pub IsColumn : CallFault → ℕ → Type 0
+IsColumn (Command (Text line kind)) column = ⊤
 IsColumn (Command (Program refusal)) column = ⊤
 IsColumn _ column = column ≡ 0

@@ -1,11 +1,11 @@
 -- What a request asks of a call, and what is wrong with it.
 use Rattle.std.specs.Prelude.{◌≡◌, ◌==◌, ◌||◌, ℕ, Bool, List, Option, Some, None, if◌then◌else◌}
-use Rattle.std.specs.Prelude.{false, nat_lt, ⊤}
+use Rattle.std.specs.Prelude.{nat_lt, ⊤}
 use Rattle.std.specs.List.{list_all}
 use Rattle.command_data.specs.declared.line.AskAlone.{AskAlone}
 use Rattle.command_data.specs.declared.line.AskAlone.TheVariants as ask
-use Rattle.pram_commands.specs.Costs.{costing}
 use Rattle.pram_commands.specs.Did.{Command}
+use Rattle.pram_commands.specs.LineRecords.{costing_by}
 use Rattle.pram_commands.specs.Plain.{checking, plainly}
 use Rattle.pram_commands.specs.Replayed.{replaying}
 use Rattle.pram_commands.specs.Steps.{stepping}
@@ -38,7 +38,7 @@ abbrev pub command_asked : Call → Request → Command
 command_asked Check request = checking
 command_asked Compile request = compiling
 command_asked Plain request = plainly (in_lines (is_set request.why))
-command_asked Cost request = costing
+command_asked Cost request = costing_by (is_set request.lines)
 command_asked Steps request = stepping (is_set request.rows_alone) (window_of request)
 command_asked Replay request = replaying (is_set request.rows_alone) request.workers
 
@@ -47,7 +47,7 @@ abbrev pub IsAskOf : Call → Request → AskAlone → Type 0
 IsAskOf Check request ask.Check = ⊤
 IsAskOf Compile request ask.Compile = ⊤
 IsAskOf Plain request (ask.Plain style) = style ≡ in_lines (is_set request.why)
-IsAskOf Cost request (ask.Cost lines) = lines ≡ false
+IsAskOf Cost request (ask.Cost lines) = lines ≡ is_set request.lines
 IsAskOf Steps request (ask.Steps from to alone) =
     (from ≡ from_of request) × (to ≡ to_of request) × (alone ≡ is_set request.rows_alone)
 IsAskOf Replay request (ask.Replay workers alone) =
@@ -76,7 +76,7 @@ abbrev pub wrong_field : Call → Request → Option RequestFault
 wrong_field Check request = None
 wrong_field Compile request = None
 wrong_field Plain request = wrong_flag request.why
-wrong_field Cost request = None
+wrong_field Cost request = wrong_flag request.lines
 wrong_field Steps request = wrong_steps request
 wrong_field Replay request = wrong_replay request
 

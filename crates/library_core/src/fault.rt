@@ -7,10 +7,10 @@ ghost use Rattle.refusals.specs.Faults.{fault_status};
 
 use crate::answer::{OUT_OF_MEMORY, PLAN, PROGRAM, REQUEST, SETTING, SIZE, STEP, TEXT};
 use crate::request::RequestFault;
-use pardo_explain::{Diagnosis, diagnose};
+use pardo_explain::Diagnosis;
 use pardo_job::Refusal;
 use pardo_text::SetKind;
-use refusals::{CommandFault, FAILED, MEMORY, REFUSED, sentences};
+use refusals::{CommandFault, FAILED, MEMORY, REFUSED, locate, sentences};
 use std::alloc::{AllocError, Global};
 
 /// A setting that is wrong, or does not fit the text: which one, counted from 1, and why.
@@ -89,17 +89,14 @@ pub(crate) fn kind_of(alloc: Global, fault: CallFault) -> Result<String, AllocEr
     }
 }
 
-/// Where a program's text is wrong, if that is the fault.
+/// Where a text is wrong, if that is the fault.
 pub(crate) fn diagnosis_of(
     alloc: Global,
     fault: CallFault,
     text: &[u8],
 ) -> Result<Option<Diagnosis>, AllocError> {
-    let CallFault::Command(CommandFault::Program(Refusal::Text(fault))) = fault else {
-        return Ok(None);
-    };
-    match diagnose(alloc, text)? {
-        Some((found, diagnosis)) if found == fault => Ok(Some(diagnosis)),
+    match fault {
+        CallFault::Command(fault) if !text.is_empty() => locate(alloc, fault, text),
         _ => Ok(None),
     }
 }

@@ -8,8 +8,9 @@ use command_data::{AskAlone, Style, Workers};
 
 /// What a call is asked beside its text, as C sees it. The size is `REQUEST_SIZE`, and what is
 /// reserved is 0. What a call does not use is not looked at. A flag is 0 or 1: with `why` what
-/// became of the processors follows the answer, with `rows_alone` no answer follows the rows. The
-/// steps from `from` to `to` are shown, where 0 stands for the first and for the last one.
+/// became of the processors follows the answer, with `rows_alone` no answer follows the rows, with
+/// `lines` each counted line's cost is told in place of that of the run. The steps from `from` to
+/// `to` are shown, where 0 stands for the first and for the last one.
 #[repr(C)]
 #[derive(Clone, Copy)]
 pub struct Request {
@@ -19,7 +20,8 @@ pub struct Request {
     pub from: u32,
     pub to: u32,
     pub workers: u32,
-    pub reserved: [u64; 8],
+    pub lines: u32,
+    pub reserved: [u32; 15],
 }
 
 /// The bytes of a request.
@@ -69,7 +71,7 @@ pub(crate) fn wrong_in(call: Call, request: &Request) -> Option<RequestFault>
     wrong_field(call, request)
 }
 
-fn are_zero(numbers: &[u64]) -> bool
+fn are_zero(numbers: &[u32]) -> bool
     ensures { result ≡ are_zero numbers.now }
 {
     numbers.iter().all(|&number| number == 0)
@@ -79,8 +81,9 @@ fn wrong_field(call: Call, request: &Request) -> Option<RequestFault>
     ensures { result ≡ wrong_field call request.now }
 {
     match call {
-        Call::Check | Call::Compile | Call::Cost => None,
+        Call::Check | Call::Compile => None,
         Call::Plain => wrong_flag(request.why),
+        Call::Cost => wrong_flag(request.lines),
         Call::Steps => wrong_steps(request),
         Call::Replay => wrong_replay(request),
     }
@@ -146,7 +149,9 @@ pub(crate) fn ask_of(call: Call, request: &Request) -> AskAlone
             csv: false,
             why: request.why == 1,
         }),
-        Call::Cost => AskAlone::Cost { lines: false },
+        Call::Cost => AskAlone::Cost {
+            lines: request.lines == 1,
+        },
         Call::Steps => AskAlone::Steps {
             from: first_step(request),
             to: last_step(request),

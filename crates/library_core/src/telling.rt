@@ -47,7 +47,7 @@ pub fn refuse_request(fault: RequestFault, answer: &mut Answer) -> u32
 }
 
 /// Ends a call of what was not done, and gives its status. Where there is no memory to tell why,
-/// that is told. Of a program that is refused, the text is read again.
+/// that is told. A text that is refused is read again.
 pub fn refuse(alloc: Global, fault: CommandFault, text: &[u8], answer: &mut Answer) -> u32
     ensures ending { ¬ IsEndingStatus result }
     ensures refused { RefusesOrNot (IsThisOrMemory (Command fault)) answer.old answer.new result }
@@ -69,7 +69,7 @@ pub(crate) fn refuse_fault(alloc: Global, fault: CallFault, text: &[u8], answer:
     }
 }
 
-// The kind, and where a program is wrong.
+// The kind, and where a text is wrong.
 fn explained(
     alloc: Global,
     fault: CallFault,
@@ -99,14 +99,15 @@ fn tell(fault: CallFault, kind: &[u8], found: Option<&Diagnosis>, answer: &mut A
     u32::from(fault.status())
 }
 
-// The column of a program that was found.
+// The column of a text that was found.
 fn column_told(fault: CallFault, found: Option<&Diagnosis>) -> u32
     ensures { IsColumn fault result }
 {
     match (fault, found) {
-        (CallFault::Command(CommandFault::Program(_)), Some(diagnosis)) => {
-            u32::try_from(diagnosis.column).unwrap_or(0)
-        }
+        (
+            CallFault::Command(CommandFault::Program(_) | CommandFault::Text { .. }),
+            Some(diagnosis),
+        ) => u32::try_from(diagnosis.column).unwrap_or(0),
         _ => 0,
     }
 }

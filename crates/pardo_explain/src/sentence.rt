@@ -104,8 +104,11 @@ fn bad_symbol(part: Part, point: &Point<'_>) -> Sentence {
     if is_foreign(part, point) {
         return FOREIGN;
     }
-    let sentence = first_fit(BAD_SYMBOL, point);
-    Sentence(sentence.unwrap_or("no token begins with {found}"), "")
+    match first_fit(BAD_SYMBOL, point) {
+        Some(sentence) => Sentence(sentence, ""),
+        None if part == Part::Version => fitting(BAD_HEADER, point),
+        None => Sentence("no token begins with {found}", ""),
+    }
 }
 
 fn bad_header(part: Part, point: &Point<'_>) -> Sentence {

@@ -83,7 +83,7 @@ if while elsif for else; ; :; ; no `:` stands here: the line ends with its condi
 pub(crate) const BAD_HEADER: &str = "\
 pram; VERSION; ; ; this is a text of the machine: its first line says `pram`
 pardo; VERSION; ; ; the language is `pardo 1`
-; VERSION; ; ; a program begins with the line `pardo 1`
+; VERSION; ; ; a program begins with the line `pardo 1`, and a text of the machine with `pram 3`
 ; DECLARATION; private; ; the line `procs` comes before private variables: it says how many \
     there are of each
 ; DECLARATION; procs; ; the processors stand already: one line `procs` is enough

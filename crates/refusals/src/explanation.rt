@@ -6,7 +6,7 @@ ghost use Rattle.refusals.specs.declared.fault.CommandFault.TheVariants.{Memory}
 
 use crate::fault::CommandFault;
 use crate::sentences;
-use crate::words::start_of;
+use crate::words::{begins_as_machine, start_of};
 use command_data::Line;
 use pardo_explain::{Diagnosis, Look, diagnose, line_at, point_at, push_diagnosis};
 use pardo_job::Refusal;
@@ -180,11 +180,20 @@ fn diagnosis_of(
     alloc: Global,
     explanation: &Explanation<'_>,
 ) -> Result<Option<Diagnosis>, AllocError> {
-    let text = explanation.text;
-    if text.is_empty() {
+    if explanation.text.is_empty() {
         return Ok(None);
     }
-    match explanation.fault {
+    locate(alloc, explanation.fault, explanation.text)
+}
+
+/// Where a text is wrong, if that is the fault. A text that begins neither as one of the machine nor
+/// as a program is looked at as a program.
+pub fn locate(
+    alloc: Global,
+    fault: CommandFault,
+    text: &[u8],
+) -> Result<Option<Diagnosis>, AllocError> {
+    match fault {
         CommandFault::Program(Refusal::Text(fault)) => match diagnose(alloc, text)? {
             Some((found, diagnosis)) if found == fault => Ok(Some(diagnosis)),
             _ => Ok(None),
@@ -192,12 +201,18 @@ fn diagnosis_of(
         CommandFault::Program(refusal) => {
             let (number, sentence) = sentences::of_program(refusal);
             let line = line_at(text, number);
-            let start = start_of(TextKind::BadHeader, line);
+            let start = start_of(TextKind::BadHeader, line, text);
             Ok(Some(point_at(alloc, number, line, start, sentence)?))
         }
         CommandFault::Text { line: number, kind } => {
+            if !begins_as_machine(text)
+                && let Some((found, diagnosis)) = diagnose(alloc, text)?
+                && found.line == number
+            {
+                return Ok(Some(diagnosis));
+            }
             let line = line_at(text, number);
-            let start = start_of(kind, line);
+            let start = start_of(kind, line, text);
             let sentence = sentences::of_text(kind);
             Ok(Some(point_at(alloc, number, line, start, sentence)?))
         }

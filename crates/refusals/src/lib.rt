@@ -10,7 +10,7 @@ mod telling;
 mod unset;
 mod words;
 
-pub use explanation::{Explanation, Reasons};
+pub use explanation::{Explanation, Reasons, locate};
 pub use fault::CommandFault;
 pub use notes::tell_notes;
 pub use pardo_explain::Look;

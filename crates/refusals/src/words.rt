@@ -1,6 +1,6 @@
 //! Which word of a line of the machine a fault is about, as near as its kind tells.
 use pram_text::TextKind;
-use text_lines::{is_word, next_word};
+use text_lines::{TextLines, is_word, next_word, two_first_words};
 
 /// What a word is, and where it stands.
 #[derive(Clone, Copy, Debug)]
@@ -14,6 +14,8 @@ enum Sought {
     Number,
     /// After the name the first one that is neither a register nor a number.
     NoRegister,
+    /// After the name the first one that is no array's either.
+    NoOperand,
     Last,
 }
 
@@ -28,11 +30,24 @@ fn word_of(kind: TextKind) -> Sought {
     }
 }
 
-/// How many bytes of the line stand before what a fault of this kind is about.
-pub(crate) fn start_of(kind: TextKind, line: &[u8]) -> usize {
+/// How many bytes of the line stand before what a fault of this kind is about, in this text.
+pub(crate) fn start_of(kind: TextKind, line: &[u8], text: &[u8]) -> usize {
     if kind == TextKind::NotAscii {
         return first_unlawful(line);
     }
+    if kind == TextKind::BadRegister
+        && let Ok(start) = sought_in(line, Sought::NoOperand, text)
+    {
+        return start;
+    }
+    match sought_in(line, word_of(kind), text) {
+        Ok(start) => start,
+        Err(last) => last,
+    }
+}
+
+// How many bytes of the line stand before the sought word; where there is none, before the last one.
+fn sought_in(line: &[u8], sought: Sought, text: &[u8]) -> Result<usize, usize> {
     let mut left = line;
     let mut last = 0;
     let mut is_named = false;
@@ -42,22 +57,50 @@ pub(crate) fn start_of(kind: TextKind, line: &[u8]) -> usize {
         };
         let after = rest.len().saturating_add(word.len());
         last = line.len().saturating_sub(after);
-        if is_sought(word_of(kind), word, is_named) {
-            return last;
+        if is_sought(sought, word, is_named, text) {
+            return Ok(last);
         }
         is_named |= !is_label(word) && !is_word(word, "array");
         left = rest;
     }
-    last
+    Err(last)
 }
 
-fn is_sought(sought: Sought, word: &[u8], is_named: bool) -> bool {
+// Whether a line of the text declares an array of this name.
+fn is_array(text: &[u8], name: &[u8]) -> bool {
+    let mut lines = TextLines::new(text);
+    while let Some(line) = lines.take_line() {
+        if let Some((first, second, _)) = two_first_words(line)
+            && is_word(first, "array")
+            && second == name
+        {
+            return true;
+        }
+    }
+    false
+}
+
+/// Whether the first word of a text is that of a text of the machine.
+pub(crate) fn begins_as_machine(text: &[u8]) -> bool {
+    let mut lines = TextLines::new(text);
+    while let Some(line) = lines.take_line() {
+        if let Some((word, _)) = next_word(line) {
+            return is_word(word, "pram");
+        }
+    }
+    false
+}
+
+fn is_sought(sought: Sought, word: &[u8], is_named: bool, text: &[u8]) -> bool {
     match sought {
         Sought::First => true,
         Sought::Name => !is_label(word),
         Sought::NoNumber => is_named && !is_number(word),
         Sought::Number => is_named && is_number(word),
         Sought::NoRegister => is_named && !is_number(word) && !is_register(word),
+        Sought::NoOperand => {
+            is_named && !is_number(word) && !is_register(word) && !is_array(text, word)
+        }
         Sought::Last => false,
     }
 }

@@ -72,8 +72,10 @@ pub struct ks_request {
     pub to: u32,
     /// 1 to 64 (`ks_replay`).
     pub workers: u32,
+    /// 1: what each counted line costs, in place of what the run does (`ks_cost`).
+    pub lines: u32,
     /// All 0.
-    pub reserved: [u64; 8],
+    pub reserved: [u32; 15],
 }
 
 impl ks_request {
@@ -86,7 +88,8 @@ impl ks_request {
             from: 0,
             to: 0,
             workers: 0,
-            reserved: [0; 8],
+            lines: 0,
+            reserved: [0; 15],
         }
     }
 }
@@ -361,7 +364,7 @@ unsafe extern "C" {
 
 // The layouts of the header, on 64 bits.
 const _: () = {
-    assert!(size_of::<ks_request>() == 88 && align_of::<ks_request>() == 8);
+    assert!(size_of::<ks_request>() == 88 && align_of::<ks_request>() == 4);
     assert!(size_of::<ks_answer>() == 224 && align_of::<ks_answer>() == 8);
     assert!(size_of::<ks_plan_row>() == 12 && size_of::<ks_progress>() == 16);
     assert!(size_of::<ks_reading>() == 8 && size_of::<ks_fault>() == 16);

@@ -131,7 +131,7 @@ impl Error {
         (self.line > 0).then_some(self.line)
     }
 
-    /// The column in the line of a program, from 1, where it is known.
+    /// The column in the line of a text, from 1, where it is known.
     pub fn column(&self) -> Option<u32> {
         (self.column > 0).then_some(self.column)
     }

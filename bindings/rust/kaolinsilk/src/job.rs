@@ -7,6 +7,7 @@ use crate::call::{Command, serve};
 use crate::cost::Cost;
 use crate::error::{Error, Result};
 use crate::fields::number;
+use crate::line_costs::LineCosts;
 use crate::outcome::{Fault, Outcome};
 use crate::plan::Plan;
 use crate::replay::Replay;
@@ -263,6 +264,20 @@ impl Job {
     pub fn cost(&self) -> Result<Cost> {
         let (_, text) = serve(Command::Cost, &self.text, &sys::ks_request::new(), 4096)?;
         Ok(Cost::of_text(text).expect(FORM))
+    }
+
+    /// What each counted line of a program costs; a text of the machine has none.
+    ///
+    /// # Errors
+    ///
+    /// [`Subject::Memory`](crate::Subject::Memory).
+    pub fn cost_by_lines(&self) -> Result<LineCosts> {
+        let request = sys::ks_request {
+            lines: 1,
+            ..sys::ks_request::new()
+        };
+        let (_, text) = serve(Command::Cost, &self.text, &request, 4096)?;
+        Ok(LineCosts::new(text))
     }
 
     /// What each processor asks for in each step of the window, then the answer, as `pramx steps`

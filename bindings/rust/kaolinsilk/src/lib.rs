@@ -35,6 +35,7 @@
 //! |---|---|
 //! | [`Job`] | a text that was judged, and what the commands of `pramx` tell of it |
 //! | [`Settings`] | what constants and shared arrays of a program are set to |
+//! | [`sweep`] | what a program costs with each value of a constant |
 //! | [`run`] | a job on threads, by a [`Plan`] |
 //! | [`Board`] | for threads of your own: each has a [`Worker`], or reads by a [`Seat`] |
 //! | [`Error`] | what was refused, where and why |
@@ -42,7 +43,7 @@
 //! # Memory, threads and processes
 //!
 //! What the library asks for, and all buffers of this crate, may be refused: that is an [`Error`].
-//! Rows of a [`Plan`], [`Settings`], [`Values`], and what the standard library needs for the threads
+//! Rows of a [`Plan`] and of a [`Sweep`], [`Settings`], [`Values`], and what the standard library needs for the threads
 //! of [`run`], are asked for as Rust asks for memory everywhere.
 //!
 //! No call is to be made from a signal handler, or from the forked child of a process with threads.
@@ -53,12 +54,14 @@ mod cost;
 mod error;
 mod fields;
 mod job;
+mod line_costs;
 mod outcome;
 mod plan;
 mod replay;
 mod run;
 mod settings;
 mod steps;
+mod sweep;
 mod told;
 mod values;
 
@@ -66,12 +69,14 @@ pub use board::{Board, Progress, Reading, Seat, Stay, Worker};
 pub use cost::{Cost, Meeting, Place, Pram};
 pub use error::{Error, Result, Subject};
 pub use job::{Check, Job, Rule};
+pub use line_costs::{LineCost, LineCosts};
 pub use outcome::{Ended, Fault, Outcome};
 pub use plan::{Act, Plan, Row};
 pub use replay::{Replay, StepKind, TraceRow};
 pub use run::{RunAnswer, run};
 pub use settings::Settings;
 pub use steps::{StepRow, Steps, Target};
+pub use sweep::{Sweep, SweepEnd, SweepRow, sweep};
 pub use values::Values;
 
 /// The version of the library that is linked: major, minor, patch.

@@ -53,6 +53,12 @@ impl Settings {
         self
     }
 
+    // These, and the others after them.
+    pub(crate) fn and(mut self, others: &Settings) -> Settings {
+        self.text.push_str(&others.text);
+        self
+    }
+
     /// The lines `NAME=V,V,..` that the library reads.
     pub fn text(&self) -> &str {
         &self.text
