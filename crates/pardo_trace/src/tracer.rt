@@ -154,9 +154,7 @@ fn count_active(program: &Program, moment: &Moment<'_>, depth: usize) -> u64
 {
     let mut count = 0;
     for processor in 0..moment.job.procs() {
-        if takes_part(program, moment, depth, processor) {
-            count += 1;
-        }
+        count += u64::from(takes_part(program, moment, depth, processor));
     }
     count
 }
