@@ -116,22 +116,21 @@ bare =
     let app = new_app (codes "pramx") in
     record app { top = record app.top { has_version = true; subcommand_required = true } }
 
--- with those of the plain machine alone
+-- with most of those of the plain machine
 abbrev pub on_machine : App
 on_machine =
-    with_subcommand (with_subcommand (with_subcommand (with_subcommand (with_subcommand
-    (with_subcommand bare
+    with_subcommand (with_subcommand (with_subcommand (with_subcommand (with_subcommand bare
     (on_file (codes "check")).top)
     (on_file (codes "compile")).top)
     on_plain.top)
     on_cost.top)
-    on_steps.top)
-    on_trace.top
+    on_steps.top
 
 -- the program's command
 abbrev pub pramx : App
 pramx =
-    with_subcommand (with_subcommand (with_subcommand on_machine
+    with_subcommand (with_subcommand (with_subcommand (with_subcommand on_machine
+    on_trace.top)
     on_run.top)
     on_watch.top)
     on_replay.top

@@ -271,12 +271,13 @@ fn refused(mut command: Command<'_>, message: &str) -> Result<Error, AllocError>
 fn command<'a>(alloc: Global) -> Result<Command<'a>, AllocError>
     ensures { IfOk result (λ command. app_of command ≡ pramx) }
 {
-    let command = with(machine_command(alloc)?, run_command(alloc))?;
+    let command = with(machine_command(alloc)?, trace_command(alloc))?;
+    let command = with(command, run_command(alloc))?;
     let command = with(command, watch_command(alloc))?;
     with(command, replay_command(alloc))
 }
 
-// The program with the subcommands of the plain machine alone.
+// The program with most subcommands of the plain machine.
 fn machine_command<'a>(alloc: Global) -> Result<Command<'a>, AllocError>
     ensures { IfOk result (λ command. app_of command ≡ on_machine) }
 {
@@ -286,8 +287,7 @@ fn machine_command<'a>(alloc: Global) -> Result<Command<'a>, AllocError>
     let command = with(command, file_command(alloc, "compile", compile))?;
     let command = with(command, plain_command(alloc))?;
     let command = with(command, cost_command(alloc))?;
-    let command = with(command, steps_command(alloc))?;
-    with(command, trace_command(alloc))
+    with(command, steps_command(alloc))
 }
 
 // The program without subcommands.

@@ -1,8 +1,10 @@
 -- How many of the numbers of a range pass a test.
-use Rattle.std.proofs.Common.{◌≡◌, ◌∙◌, ◌+◌, ◌-◌, ◌<◌, ℕ, zero, suc, Bool, cond, ap, sym, arith}
+use Rattle.std.proofs.Common.{◌≡◌, ◌∙◌, ◌+◌, ◌-◌, ◌<◌, ◌≤◌, ℕ, zero, suc, Bool, true, false, cond}
+use Rattle.std.proofs.Common.{ap, sym, arith, refl}
 use Rattle.std.specs.Prelude.{count_by}
 use Rattle.std.specs.List.{range_with_len}
 use Rattle.std.proofs.lemmas.List.Sums.{sum_by-cons}
+use Rattle.core.specs.Int.{from_bool}
 
 count_first : (p : ℕ → Bool) (a n : ℕ) → 0 < n → count_by p (range_with_len a n)
     ≡ cond (p a) 1 0 + count_by p (range_with_len (a + 1) (n - 1))
@@ -26,3 +28,11 @@ count_more p so_far one now whole a n next less after fewer is is_now all =
     ∙ ap (λ (m : ℕ). cond (p a) 1 0 + count_by p (range_with_len next m)) less_is
     ∙ ap (λ (m : ℕ). m + count_by p (range_with_len next less)) (sym is) in
     omega (arith, first, is_now, all)
+
+pub as_one : (b : Bool) → from_bool b ≡ cond b 1 0
+as_one true = refl
+as_one false = refl
+
+pub one_at_most : (b : Bool) → cond b 1 0 ≤ 1
+one_at_most true = omega arith
+one_at_most false = omega arith

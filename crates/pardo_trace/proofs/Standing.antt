@@ -1,7 +1,12 @@
 -- The first processor that runs.
-use Rattle.std.proofs.Common.{◌≡◌, ◌∙◌, ◌+◌, ◌<◌, ◌-◌, ℕ, zero, suc, Option, Some, None, ap, subst, sym, arith}
+use Rattle.std.proofs.Common.{◌≡◌, ◌∙◌, ◌+◌, ◌<◌, ◌-◌, ℕ, zero, suc, Bool, Option, Some, None, ap}
+use Rattle.std.proofs.Common.{subst, sym, arith, if◌then◌else◌}
+use Rattle.std.proofs.lemmas.Bool.{lt-ltb}
 use Rattle.std.specs.Option.{option_or}
-use Rattle.pardo_job.specs.Meaning.{first_below}
+use Rattle.pram_job.specs.Job.{JobData}
+use Rattle.pram_machine.specs.Machine.{State, counter, halted}
+use Rattle.pardo_trace.specs.Temp.{first_below}
+use Rattle.pardo_trace.specs.Traces.{standing_of}
 
 later : (f : ℕ → Option ℕ) (n k m v : ℕ) → m ≡ k + n → first_below n f ≡ Some v →
     first_below m f ≡ Some v
@@ -25,3 +30,11 @@ pub found_here : (f : ℕ → Option ℕ) (n m v : ℕ) → n < m → first_belo
 found_here f n m v within none here =
     later f (suc n) (m - suc n) m v (omega arith)
     (ap (λ (o : Option ℕ). option_or o (f n)) none ∙ here)
+
+-- it runs
+pub standing_here : (job : JobData) (state : State) (i at : ℕ) → at ≡ counter job state i →
+    at < halted job → standing_of job state i ≡ Some at
+standing_here job state i at is low =
+    let here : counter job state i < halted job = subst (λ (x : ℕ). x < halted job) is low in
+    ap (λ (b : Bool). if b then Some (counter job state i) else None)
+    (lt-ltb (counter job state i) (halted job) here) ∙ ap Some (sym is)

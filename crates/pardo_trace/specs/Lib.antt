@@ -1,1 +1,2 @@
+pub mod Temp
 pub mod Traces

@@ -13,9 +13,9 @@ use Rattle.pardo_text.specs.declared.statement.Line.{Line}
 use Rattle.pardo_text.specs.declared.statement.Statement.{Statement}
 use Rattle.pardo_text.specs.declared.statement.Statement.TheVariants.{EndIf, While, EndWhile}
 use Rattle.pardo_text.specs.declared.statement.Statement.TheVariants.{For, EndFor}
-use Rattle.pardo_job.specs.Meaning.{first_below}
-use Rattle.pardo_job.specs.Printed.{has_cell}
-use Rattle.pardo_answers.specs.Records.{place_record}
+use Rattle.pardo_trace.specs.Temp.{first_below}
+use Rattle.pardo_trace.specs.Temp.{has_cell}
+use Rattle.pardo_trace.specs.Temp.{place_record}
 
 -- ---- where a line begins
 
@@ -69,13 +69,15 @@ abbrev pub count_active : ProgramData → JobData → State → ℕ → ℕ
 count_active program job state depth =
     count_by (takes_part program job state depth) (range_with_len 0 job.procs)
 
--- `5,12,8,,,`: in this step the line begins, and so many take part
+-- `5,12,8,,,`: in this step a line begins, and so many take part
+abbrev pub line_row : ℕ → ℕ → ℕ → List ℕ
+line_row step number active = decimal step ++ codes "," ++ decimal number ++ codes ","
+    ++ decimal active ++ codes ",,,\n"
+
 abbrev pub heading_of : ProgramData → JobData → State → ℕ → Option Line → List ℕ
 heading_of program job state step None = []
-heading_of program job state step (Some line) = decimal step ++ codes "," ++ decimal line.number
-    ++ codes ","
-    ++ decimal (count_active program job state (mask_depth line.statement line.depth))
-    ++ codes ",,,\n"
+heading_of program job state step (Some line) = line_row step line.number
+    (count_active program job state (mask_depth line.statement line.depth))
 
 abbrev pub line_standing : ProgramData → List ℕ → Option ℕ → Option Line
 line_standing program places None = None

@@ -1,16 +1,17 @@
 //! The run of a program line by line.
-ghost use Rattle.std.specs.Prelude.{◌≡◌, ◌+◌, ◌++◌, ◌<◌, ◌≤◌, ℕ, OnOk, slice_index, slice_get};
+ghost use Rattle.std.specs.Prelude.{◌≡◌, ◌+◌, ◌++◌, ◌<◌, true, OnOk, slice_index, slice_get};
 ghost use Rattle.std.specs.List.{flat_map, range_with_len};
 ghost use Rattle.std.specs.Option.{option_copied};
+ghost use Rattle.pram_machine.specs.Machine.{counter as counter_of};
 ghost use Rattle.pardo_trace.specs.Traces.{array_with, behind, count_active, first_standing};
 ghost use Rattle.pardo_trace.specs.Traces.{goes_in, gone_row, has_code, heading, heading_of};
-ghost use Rattle.pardo_trace.specs.Traces.{line_begun, line_rows, line_standing, mask_cell};
+ghost use Rattle.pardo_trace.specs.Traces.{line_begun, line_row, line_standing, mask_cell};
 ghost use Rattle.pardo_trace.specs.Traces.{mask_depth, private_row, private_with, processor_rows};
 ghost use Rattle.pardo_trace.specs.Traces.{put_row, row_head, takes_part, trace_rows};
 ghost use Rattle.pardo_trace.specs.Traces.{lines_before, with_code};
-ghost use Rattle.pardo_job.specs.Printed.{has_cell};
+ghost use Rattle.pardo_trace.specs.Temp.{has_cell};
 
-use pardo_answers::push_place;
+use crate::temp::push_place;
 use pardo_text::{Array, Line, Private, Program, Statement};
 use pram_rows::Rows;
 use pram_step::{Moment, counter, laws, request_after};
@@ -58,32 +59,81 @@ fn push_heading(
         ++ heading tracer.now.program.now tracer.now.places.now moment.now.job.now
         moment.now.state.now (moment.now.made + 1)) }
 {
-    let Some(at) = first_standing(moment) else {
-        return Ok(());
-    };
-    let Some(line) = line_begun(tracer, at) else {
+    push_line(text, tracer.program, moment, line_now(tracer, moment))
+}
+
+// The line that begins, if one does.
+fn line_now<'a>(tracer: &Tracer<'a>, moment: &Moment<'_>) -> Option<&'a Line>
+    ensures { option_copied result ≡ line_standing tracer.now.program.now tracer.now.places.now
+        (first_standing moment.now.job.now moment.now.state.now) }
+{
+    match first_standing(moment) {
+        None => None,
+        Some(at) => line_begun(tracer, at),
+    }
+}
+
+fn push_line(
+    text: &mut Vec<u8>,
+    program: &Program,
+    moment: &Moment<'_>,
+    line: Option<&Line>,
+) -> Result<(), AllocError>
+    ensures { OnOk result (text.new.items ≡ text.old.items ++ heading_of program.now
+        moment.now.job.now moment.now.state.now (moment.now.made + 1)
+        (option_copied line.entry)) }
+{
+    let Some(line) = line else {
         return Ok(());
     };
     let depth = mask_depth(&line.statement, line.depth);
-    let active = count_active(tracer.program, moment, depth);
-    push_labelled(text, b"", u64::from(moment.made) + 1)?;
-    push_labelled(text, b",", line.number)?;
+    let active = count_active(program, moment, depth);
+    push_line_row(text, step_of(moment), line.number, active)
+}
+
+// The number of the step that comes next.
+fn step_of(moment: &Moment<'_>) -> u64
+    ensures { result ≡ moment.now.made + 1 }
+{
+    u64::from(moment.made) + 1
+}
+
+fn push_line_row(
+    text: &mut Vec<u8>,
+    step: u64,
+    number: u64,
+    active: u64,
+) -> Result<(), AllocError>
+    ensures { OnOk result (text.new.items ≡ text.old.items ++ line_row step number active) }
+{
+    push_labelled(text, b"", step)?;
+    push_labelled(text, b",", number)?;
     push_labelled(text, b",", active)?;
-    text.extend_from_slice(b",,,\n")
+    text.extend_from_slice(b",,,\n")?;
+    Ok(())
 }
 
 // Where the first processor stands that runs.
 fn first_standing(moment: &Moment<'_>) -> Option<u32>
     ensures { result ≡ first_standing moment.now.job.now moment.now.state.now }
 {
-    laws::states_have_all_places();
     for processor in 0..moment.job.procs() {
-        let at = counter(moment.job, moment.state, processor);
+        let at = counter_in(moment, processor);
         if (at as usize) < moment.job.code().len() {
             return Some(at);
         }
     }
     None
+}
+
+// Where a processor stands.
+fn counter_in(moment: &Moment<'_>, processor: u32) -> u32
+    requires { processor < moment.now.job.now.procs }
+    ensures { result ≡ counter_of moment.now.job.now moment.now.state.now processor }
+{
+    laws::states_have_all_places();
+    moment.job.limits_hold();
+    counter(moment.job, moment.state, processor)
 }
 
 // The line whose code begins at an instruction.
@@ -164,8 +214,7 @@ fn takes_part(program: &Program, moment: &Moment<'_>, depth: usize, processor: u
     ensures { result
         ≡ takes_part program.now moment.now.job.now moment.now.state.now depth processor }
 {
-    laws::states_have_all_places();
-    let at = counter(moment.job, moment.state, processor);
+    let at = counter_in(moment, processor);
     let runs = (at as usize) < moment.job.code().len();
     runs && (depth == 0 || mask_at(program, moment, depth, processor) != 0)
 }
@@ -217,11 +266,10 @@ fn push_processor(
         ++ processor_rows tracer.now.program.now tracer.now.numbers.now
         moment.now.job.now moment.now.state.now (moment.now.made + 1) processor) }
 {
-    laws::states_have_all_places();
-    let at = counter(moment.job, moment.state, processor);
+    let at = counter_in(moment, processor);
     let request = request_after(moment.job, moment.state, processor);
     let head = Head {
-        step: u64::from(moment.made) + 1,
+        step: step_of(moment),
         line: number_at(tracer.numbers, at),
         processor,
     };
@@ -252,12 +300,21 @@ fn push_gone(text: &mut Vec<u8>, head: Head, goes: bool) -> Result<(), AllocErro
     ensures { OnOk result (text.new.items ≡ text.old.items
         ++ gone_row (row_head head.step head.line) head.processor goes) }
 {
-    if !goes {
-        return Ok(());
+    if goes {
+        push_leaving(text, head)
+    } else {
+        Ok(())
     }
+}
+
+fn push_leaving(text: &mut Vec<u8>, head: Head) -> Result<(), AllocError>
+    ensures { OnOk result (text.new.items ≡ text.old.items
+        ++ gone_row (row_head head.step head.line) head.processor true) }
+{
     push_head(text, head)?;
     push_labelled(text, b"gone processor,", u64::from(head.processor))?;
-    text.extend_from_slice(b",\n")
+    text.extend_from_slice(b",\n")?;
+    Ok(())
 }
 
 // What is put to a place of the program.

@@ -1,7 +1,7 @@
 use Rattle.std.proofs.Common.{◌∙◌, ap, codes, refl}
 use Rattle.std.proofs.lemmas.Result.{IfOk-weaker}
 use Rattle.clap.specs.Words.{with_subcommand}
-use Rattle.command_line.specs.CommandLine.{on_cost, on_file, on_plain, on_steps, on_trace}
+use Rattle.command_line.specs.CommandLine.{on_cost, on_file, on_plain, on_steps}
 use Rattle.command_line.proofs.line.machine_command.Goals as goal
 
 pub returns : goal.returns
@@ -16,8 +16,6 @@ returns c =
     ∙ ap (λ a. with_subcommand a on_plain.top) two in
     let four = c.in_ok-command-4.ensures on_cost refl c.cost_command.ensures
     ∙ ap (λ a. with_subcommand a on_cost.top) three in
-    let five = c.in_ok-command-5.ensures on_steps refl c.steps_command.ensures
-    ∙ ap (λ a. with_subcommand a on_steps.top) four in
-    IfOk-weaker c.with-6.result _ _ (λ r last. last
-    ∙ ap (λ a. with_subcommand a on_trace.top) five)
-    (c.with-6.ensures on_trace refl c.trace_command.ensures)
+    IfOk-weaker c.with-5.result _ _ (λ r last. last
+    ∙ ap (λ a. with_subcommand a on_steps.top) four)
+    (c.with-5.ensures on_steps refl c.steps_command.ensures)

@@ -1,7 +1,19 @@
-use Rattle.std.proofs.Common.{arith, refl}
+use Rattle.std.proofs.Common.{◌≡◌, ◌∙◌, Bool, cond, ap, arith, refl}
+use Rattle.core.specs.Int.{from_bool}
 use Rattle.pardo_trace.specs.Traces.{takes_part}
-use Rattle.pardo_trace.proofs.Counting.{count_more}
+use Rattle.pardo_trace.proofs.Counting.{as_one, count_more, one_at_most}
 use Rattle.pardo_trace.proofs.tracer.count_active.Goals as goal
 
 pub loop-processor-preserved : goal.loop-processor-preserved
-loop-processor-preserved c = ?
+loop-processor-preserved c =
+    let job = c.args.moment.now.job.now in
+    let p = takes_part c.args.program.now job c.args.moment.now.state.now c.args.depth in
+    let i = c.loop-processor.processor in
+    let one : c.from-count.result ≡ cond (p i) 1 0 = c.from-count.ensures
+    ∙ ap (λ (b : Bool). from_bool b) c.takes_part.ensures ∙ as_one (p i) in
+    let small = one_at_most (p i) in
+    record {
+      so_far = count_more p c.loop-processor.count c.from-count.result _ _ i _ _ _ refl
+          (omega arith) one refl c.loop-processor.invariant.so_far;
+      few = omega (arith, one, small, c.loop-processor.invariant.few);
+    }
