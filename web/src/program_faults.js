@@ -47,6 +47,9 @@ const HELP = {
   [PROGRAM_FAULT.TOO_MANY_CELLS]: () => 'A private variable, a depth of loops and a depth of ifs ' +
     'each take one for each processor.',
   [PROGRAM_FAULT.OPEN_BLOCK]: () => 'Each if, while and for needs an end.',
+  [JOB_FAULT.TOO_MANY_CELLS]: () => 'Lines for which three registers are too few have hidden ' +
+    'lines before them. These need private variables without a name: as many as the line with ' +
+    'most hidden lines has.',
   [JOB_FAULT.ENDLESS]: () => 'Does what its loop goes by ever change? A processor that is not in ' +
     'an if changes nothing there.',
 };

@@ -35,6 +35,7 @@ use Rattle.pardo_job.specs.Meaning.{after}
 use Rattle.pardo_job.specs.Printed.{IsConflictText, cell_text}
 use Rattle.pardo_job.specs.Runs.{IsProgramConflict, IsProgramEnd, line_number}
 use Rattle.pardo_job.specs.declared.times.CountedLine.{CountedLine}
+use Rattle.pardo_job.specs.Flat.{first_flat_of, flat}
 use Rattle.pardo_job.specs.Lines.{place_of}
 use Rattle.pardo_job.specs.Times.{AreAllLines, counted_from, counted_line, counted_place}
 use Rattle.pardo_job.specs.Times.{is_counted}
@@ -213,8 +214,8 @@ module _ (text : List ℕ) (job : JobData) (naming : NamingData) (names : IsNami
     line : Line
     found : slice_get program.lines counted.at ≡ Some line
     counts : is_counted line.statement ≡ true
-    first : counted.first ≡ place_of program counted.at
-    own : counted.own ≡ counted_place program counted.at line.depth
+    first : counted.first ≡ place_of (flat program) (first_flat_of program counted.at)
+    own : counted.own ≡ counted_place (flat program) (first_flat_of program counted.at) line.depth
 
   one_by_meaning : (counted : CountedLine) → IsLineOf counted →
       line_cost job counted ≡ line_cost_by program n counted
@@ -236,13 +237,13 @@ module _ (text : List ℕ) (job : JobData) (naming : NamingData) (names : IsNami
       then record {
         at = j;
         number = line.number;
-        first = place_of program j;
-        own = counted_place program j line.depth;
+        first = place_of (flat program) (first_flat_of program j);
+        own = counted_place (flat program) (first_flat_of program j) line.depth;
       } ∷ []
       else []
 
   one_of_it : (j : ℕ) (line : Line) → slice_get program.lines j ≡ Some line →
-      All IsLineOf (counted_line (place_of program j) j line)
+      All IsLineOf (counted_line (place_of (flat program) (first_flat_of program j)) j line)
   one_of_it j line found = by_counted (is_counted line.statement) refl
     where
       by_counted : (b : Bool) → is_counted line.statement ≡ b →
@@ -252,8 +253,8 @@ module _ (text : List ℕ) (job : JobData) (naming : NamingData) (names : IsNami
           let it : IsLineOf (record {
             at = j;
             number = line.number;
-            first = place_of program j;
-            own = counted_place program j line.depth;
+            first = place_of (flat program) (first_flat_of program j);
+            own = counted_place (flat program) (first_flat_of program j) line.depth;
           }) = record { line = line; found = found; counts = e; first = refl; own = refl } in
           subst (λ b. All IsLineOf (listed j line b)) (sym e)
           (All-cons IsLineOf _ [] it (All-nil IsLineOf))
@@ -264,7 +265,7 @@ module _ (text : List ℕ) (job : JobData) (naming : NamingData) (names : IsNami
   all_of_it j [] there = All-nil IsLineOf
   all_of_it j (line ∷ lines) there =
       let here : j + 0 ≡ j = omega arith in
-      All-append IsLineOf (counted_line (place_of program j) j line)
+      All-append IsLineOf (counted_line (place_of (flat program) (first_flat_of program j)) j line)
       (counted_from program (j + 1) lines)
       (one_of_it j line (subst (λ k. slice_get program.lines k ≡ Some line) here
       (there 0 line refl)))

@@ -17,6 +17,7 @@ use Rattle.pardo_text.specs.Nested.{IsNested}
 use Rattle.pardo_text.specs.Program.{ProgramData}
 use Rattle.pardo_text.proofs.LawLawful.{programs_are_lawful}
 use Rattle.pardo_text.proofs.LawNesting.{programs_are_nested}
+use Rattle.pardo_job.specs.Flat.{flat}
 use Rattle.pardo_job.specs.Lines.{job_of}
 use Rattle.pardo_law.proofs.Between.{jobs_go_through}
 use Rattle.pardo_answers.specs.Language.{is_program}
@@ -62,7 +63,7 @@ check_tells text job bytes answer one means comes =
     let its = its_job text job means.0 one means.1 in
     record { naming = its.0; is = its.1; prints = comes.0 ∙ ap summary its.1.made }
 
-pub procs_are : (program : ProgramData) (job : JobData) → job ≡ job_of program job.steps →
+pub procs_are : (program : ProgramData) (job : JobData) → job ≡ job_of (flat program) job.steps →
     job.procs ≡ program.procs
 unfolding job_of
 procs_are program job made = ap (λ (j : JobData). j.procs) made

@@ -38,6 +38,7 @@ use Rattle.pardo_text.specs.Reading.{program_of}
 use Rattle.pardo_job.specs.Conflicts.{Assigns}
 use Rattle.pardo_job.specs.Drafts.{ArePlacesOf}
 use Rattle.pardo_job.specs.Layouts.{program_layout, private_cells}
+use Rattle.pardo_job.specs.Flat.{flat}
 use Rattle.pardo_job.specs.Lines.{job_of}
 use Rattle.pardo_job.specs.Meaning.{after}
 use Rattle.pardo_job.specs.Printed.{IsConflictText, cell_text}
@@ -66,7 +67,7 @@ use Rattle.command_law.specs.Laws.{IsCutOff, IsProgramsAnswer}
 -- The text is a program, and this is its job, which goes through its lines.
 pub record IsProgramsJob (text : List ℕ) (job : JobData) (naming : NamingData) : Type 0 where
   pub reads : program_of text ≡ Ok naming.program
-  pub made : job ≡ job_of naming.program job.steps
+  pub made : job ≡ job_of (flat naming.program) job.steps
   pub goes : GoesThrough naming.program job (slice_index naming.numbers)
 
 -- how many lines of the program are made after a number of steps of its job
@@ -80,7 +81,7 @@ Made text job naming is = AreLinesMade naming.program is.goes.carries.time
 pub record IsProgramsSummary (text : List ℕ) (job : JobData) (bytes : List ℕ) : Type 0 where
   pub naming : NamingData
   pub is : IsProgramsJob text job naming
-  pub prints : bytes ≡ summary (job_of naming.program job.steps)
+  pub prints : bytes ≡ summary (job_of (flat naming.program) job.steps)
 
 abbrev pub CheckTellsTheProgramsJob : Type 0
 CheckTellsTheProgramsJob = (text : List ℕ) (job : JobData) (bytes : List ℕ)

@@ -167,10 +167,10 @@ $ pramx check job --explain
 @end~ \
     | 2 text line=8 kind=BadBlock~\
     job:8:1: no block is open here: one `end` is too many~    end~    ^~
-@x := A[x] + A[x] * (A[x] + A[x] * A[x])~ \
+@while s + (s + (s + (s + s)))~end~ \
     | 2 text line=8 kind=TooDeep~\
-    job:8:1: three registers are too few for an expression: use a private variable~    x := \
-    A[x] + A[x] * (A[x] + A[x] * A[x])~    ^~
+    job:8:1: three registers are too few for an expression of a loop: use a scalar~    while s + \
+    (s + (s + (s + s)))~    ^~
 @if i~x := 1~ \
     | 2 text line=10 kind=OpenBlock~\
     job:10:1: the `if` of line 8 has no `end`~    ~    ^~
@@ -191,6 +191,10 @@ pardo 1~rule crew~shared A[65000]~shared B[600]~ \
     | 2 text line=4 kind=TooManyCells~\
     job:4:1: more than 65,536 cells: an array takes one for each place; a private variable, a \
     depth of loops and one of `if`s take one for each processor~    shared B[600]~    ^~
+pardo 1~rule crew~procs i < 4~shared A[65533]~code~A[i] := A[i] * (A[i] * (A[i] * A[i]))~ \
+    | 2 text line=6 kind=TooManyCells~\
+    job:6:1: with its hidden lines a program has at most 65,536 cells~    A[i] := \
+    A[i] * (A[i] * (A[i] * A[i]))~    ^~
 @MANY \
     | 2 text line=380 kind=TooLong~\
     job:380:1: a program has at most 4,096 instructions~    x := x + s + A[x] + A[x + 1]~    ^~

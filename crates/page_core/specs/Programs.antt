@@ -68,6 +68,7 @@ job_kind_code job_kind.Memory = 0
 job_kind_code job_kind.TooDeep = 16
 job_kind_code TooLong = 17
 job_kind_code Endless = 18
+job_kind_code job_kind.TooManyCells = 19
 
 abbrev pub why_told : ℕ → ℕ → ℕ → ProgramTold
 why_told code fault line =

@@ -256,5 +256,6 @@ fn number_of_job_kind(kind: JobKind) -> u32
         JobKind::TooDeep => 16,
         JobKind::TooLong => 17,
         JobKind::Endless => 18,
+        JobKind::TooManyCells => 19,
     }
 }

@@ -13,7 +13,9 @@ use Rattle.pram_job.specs.Job.{JobData}
 use Rattle.pardo_text.specs.declared.statement.Line.{Line}
 use Rattle.pardo_text.specs.Lawful.{IsLine, IsProgram, bounds_of}
 use Rattle.pardo_text.specs.Program.{ProgramData}
-use Rattle.pardo_job.specs.Compiled.{IsCompiled}
+use Rattle.pardo_job.specs.Compiled.{IsCompiled, IsLinesJob}
+use Rattle.pardo_job.specs.Flat.{flat}
+use Rattle.pardo_job.proofs.FlatCompiled.{compiled_lawful}
 use Rattle.pardo_job.specs.Layouts.{cell_count, program_layout}
 use Rattle.pardo_job.specs.Lines.{code_from, code_of, job_of, length_of_line, line_code, place_of}
 use Rattle.pardo_job.specs.Operations.{is_shallow}
@@ -113,9 +115,9 @@ code_same : (program : ProgramData) (steps : ℕ) → (job_of program steps).cod
 unfolding job_of
 code_same program steps = refl
 
-pub jumps_land : (program : ProgramData) (job : JobData) (line_of : ℕ → ℕ) → IsProgram program →
-    IsCompiled program job line_of → JumpsLand job
-jumps_land program job line_of is compiled =
+lines_land : (program : ProgramData) (job : JobData) (line_of : ℕ → ℕ) → IsProgram program →
+    IsLinesJob program job line_of → JumpsLand job
+lines_land program job line_of is compiled =
     let len : ℕ = place_of program (length program.lines) in
     let code : job.code ≡ code_of program =
     ap (λ (j : JobData). j.code) compiled.made ∙ code_same program job.steps in
@@ -129,3 +131,8 @@ jumps_land program job line_of is compiled =
     All (λ (instr : Instr). LandsWithin (length c) (row_of instr).1) c) (sym code)
     (subst (λ (n : ℕ).
     All (λ (instr : Instr). LandsWithin n (row_of instr).1) (code_of program)) (sym count) lands)
+
+pub jumps_land : (program : ProgramData) (job : JobData) (line_of : ℕ → ℕ) → IsProgram program →
+    IsCompiled program job line_of → JumpsLand job
+jumps_land program job line_of is compiled =
+    lines_land (flat program) job line_of (compiled_lawful program job line_of is compiled) compiled

@@ -19,6 +19,7 @@ use Rattle.pardo_text.specs.Program.{ArrayData, ProgramData, shared_cells}
 use Rattle.pram_step.specs.declared.answer.Dispute.{Dispute}
 use Rattle.pardo_job.specs.Layouts.{cell_count, program_layout}
 use Rattle.pardo_job.specs.Leaving.{GoneIn, Leaves}
+use Rattle.pardo_job.specs.Flat.{flat}
 use Rattle.pardo_job.specs.Lines.{job_of}
 use Rattle.pardo_job.specs.Meaning.{after}
 use Rattle.pardo_job.specs.Printed.{array_values_line, conflict_text, end_text, gone_line}
@@ -119,15 +120,16 @@ unfolding program_layout
 shared_is program = refl
 
 -- the job has the shared cells
-shared_fits : (program : ProgramData) (job : JobData) → job ≡ job_of program job.steps →
+shared_fits : (program : ProgramData) (job : JobData) → job ≡ job_of (flat program) job.steps →
     (program_layout program).shared ≤ job.cells
 unfolding job_of
 shared_fits program job made =
-    let cells : job.cells ≡ cell_count (program_layout program) =
+    let cells : job.cells ≡ cell_count (program_layout (flat program)) =
     ap (λ (j : JobData). j.cells) made in
-    omega (arith, cells)
+    let here = shared_is program in
+    let flat_here = shared_is (flat program) in omega (arith, cells, here, flat_here)
 
-procs_are : (program : ProgramData) (job : JobData) → job ≡ job_of program job.steps →
+procs_are : (program : ProgramData) (job : JobData) → job ≡ job_of (flat program) job.steps →
     job.procs ≡ program.procs
 unfolding job_of
 procs_are program job made = ap (λ (j : JobData). j.procs) made

@@ -6,6 +6,7 @@ use Rattle.pram_step.specs.Runs.{IsAnswer}
 use Rattle.pardo_text.specs.Lawful.{IsProgram}
 use Rattle.pardo_text.specs.Program.{ProgramData}
 use Rattle.pardo_job.specs.Carries.{Carries}
+use Rattle.pardo_job.specs.Flat.{flat}
 use Rattle.pardo_job.specs.Lines.{job_of}
 use Rattle.pardo_job.specs.Meaning.{after}
 use Rattle.pardo_job.specs.Printed.{IsConflictText, IsEndText}
@@ -22,7 +23,7 @@ IsAnswerText program steps text = IsEndText program steps text ⊎ IsConflictTex
 -- The job is the program's, and carries its run.
 pub record IsCarrying (program : ProgramData) (job : JobData) (line_of : ℕ → ℕ) : Type 0 where
   pub lawful : IsProgram program
-  pub made : job ≡ job_of program job.steps
+  pub made : job ≡ job_of (flat program) job.steps
   pub carries : Carries program job line_of
 
 -- the text has the end of the program as records

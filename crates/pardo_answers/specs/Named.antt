@@ -1,6 +1,5 @@
 -- The answer of a program's job by the names and lines of the program's text.
 use Rattle.std.specs.Prelude.{ℕ, List, slice_index}
-use Rattle.pram_step.specs.declared.answer.Fault.{Fault}
 use Rattle.pram_step.specs.declared.answer.RunAnswer.{RunAnswer}
 use Rattle.pram_step.specs.declared.answer.RunAnswer.TheVariants.{Final, Conflict, Unfinished}
 use Rattle.pram_streams.specs.Printed.{printed}

@@ -1,13 +1,12 @@
 -- Where the counted lines stand in the code of a program.
 use Rattle.std.proofs.Common.{◌≡◌, ℕ, zero, suc, ◌+◌, ◌*◌, ◌<◌, ◌≤◌, ◌==◌, Bool, true, false, ◌||◌}
-use Rattle.std.proofs.Common.{List, [], ◌∷◌, ◌++◌, Some, length, get_or, take, drop}
-use Rattle.std.proofs.Common.{refl, sym, ap, ◌∙◌, arith, if◌then◌else◌, length-append, append_assoc}
-use Rattle.std.specs.Prelude.{slice_get, sum_by}
+use Rattle.std.proofs.Common.{List, [], ◌∷◌, ◌++◌, Some, length, get_or, drop}
+use Rattle.std.proofs.Common.{refl, sym, ap, ◌∙◌, subst, arith, if◌then◌else◌, length-append, append_assoc}
+use Rattle.std.specs.Prelude.{slice_get}
 use Rattle.std.specs.List.{list_any}
-use Rattle.std.proofs.lemmas.List.{append-nil, at_drop_all, drop_more, take_all, take_more}
+use Rattle.std.proofs.lemmas.List.{append-nil, at_drop_all, drop_more}
 use Rattle.std.proofs.lemmas.List.Folds.{list_any-append}
 use Rattle.std.proofs.lemmas.Option.{get_or_from_slice_get, slice_get_within}
-use Rattle.std.proofs.lemmas.List.Sums.{sum_by-cons}
 use Rattle.pram_job.specs.declared.instr.Instr.{Instr}
 use Rattle.pram_job.specs.declared.instr.Instr.TheVariants.{Jmp, Jz, St}
 use Rattle.pram_job.specs.declared.instr.Place.TheVariants.{Named}
@@ -22,6 +21,7 @@ use Rattle.pardo_text.specs.declared.expression.Node.TheVariants.{Apply, Place}
 use Rattle.pardo_text.specs.Expression.{Tree, number, own, loop, private, place, apply, postfix}
 use Rattle.pardo_text.specs.Program.{ProgramData}
 use Rattle.pardo_job.specs.declared.times.CountedLine.{CountedLine}
+use Rattle.pardo_job.specs.Flat.{first_flat_of, flat, flat_size}
 use Rattle.pardo_job.specs.Layouts.{ProgramLayoutData, array_cells, mask_cells, program_layout}
 use Rattle.pardo_job.specs.Lines.{assignment_code, choosing, code_of, condition_code, idle}
 use Rattle.pardo_job.specs.Lines.{length_of_line, line_code, masked, own_store, place_of}
@@ -29,6 +29,8 @@ use Rattle.pardo_job.specs.Times.{behind_mask, counted_from, counted_line, count
 use Rattle.pardo_job.specs.Times.{is_counted, is_place, reads_shared}
 use Rattle.pardo_job.specs.Values.{own_load, takes, value_code, value_operand}
 use Rattle.pardo_job.proofs.JobFits.{code_length}
+use Rattle.pardo_job.proofs.FlatFirsts.{first_line, place_some, places_rise}
+use Rattle.pardo_job.proofs.FlatLines.{first_next, some_at}
 use Rattle.pardo_job.proofs.Placed.{place_below, place_more}
 
 -- ---- how long the code of counted lines is
@@ -110,15 +112,25 @@ counted_long program place_of at depth (EndFor begin) counted =
 
 -- ---- in the code of the program
 
-pub counted_within : (program : ProgramData) (j : ℕ) (line : Line) →
+line_within : (program : ProgramData) (j : ℕ) (line : Line) →
     slice_get program.lines j ≡ Some line → is_counted line.statement ≡ true →
     counted_place program j line.depth < length (code_of program)
 unfolding length_of_line
-counted_within program j line is counted =
+line_within program j line is counted =
     let more = place_more program j line is in
     let long = counted_long program (λ k. 0) 0 line.depth line.statement counted in
     let low = place_below program (j + 1) in
     let whole = code_length program in omega arith
+
+pub counted_within : (program : ProgramData) (j : ℕ) (line : Line) →
+    slice_get program.lines j ≡ Some line → is_counted line.statement ≡ true →
+    counted_place (flat program) (first_flat_of program j) line.depth
+    < length (code_of (flat program))
+counted_within program j line is counted =
+    let its = first_line program j line is counted in
+    subst (λ d. counted_place (flat program) (first_flat_of program j) d
+    < length (code_of (flat program))) its.depth
+    (line_within (flat program) (first_flat_of program j) its.line_is its.found its.counts)
 
 some_code : (program : ProgramData) (line : Line) → is_counted line.statement ≡ true →
     1 ≤ length_of_line program line
@@ -126,49 +138,73 @@ unfolding length_of_line
 some_code program line counted =
     let long = counted_long program (λ k. 0) 0 line.depth line.statement counted in omega arith
 
-one_counted : (program : ProgramData) (j : ℕ) (line : Line) →
-    length (counted_line (place_of program j) j line) ≤ length_of_line program line
-one_counted program j line = by_counted (is_counted line.statement) refl
+abbrev first_place : ProgramData → ℕ → ℕ
+first_place program j = place_of (flat program) (first_flat_of program j)
+
+one_counted : (program : ProgramData) (j : ℕ) (line : Line) → slice_get program.lines j ≡ Some line →
+    first_place program j + length (counted_line (first_place program j) j line)
+    ≤ first_place program (j + 1)
+one_counted program j line is = by_counted (is_counted line.statement) refl
   where
     listed : Bool → List CountedLine
     listed b = if b
         then record {
           at = j;
           number = line.number;
-          first = place_of program j;
-          own = counted_place program j line.depth;
+          first = first_place program j;
+          own = first_place program j + behind_mask line.depth;
         } ∷ []
         else []
 
+    next : first_flat_of program (j + 1) ≡ first_flat_of program j + flat_size program line
+    next = first_next program j line is
+
     by_counted : (b : Bool) → is_counted line.statement ≡ b →
-        length (listed (is_counted line.statement)) ≤ length_of_line program line
+        first_place program j + length (listed (is_counted line.statement))
+        ≤ first_place program (j + 1)
     by_counted true e =
-        let some = some_code program line e in
+        let its = first_line program j line is e in
+        let some = some_code (flat program) its.line_is its.counts in
+        let more = place_more (flat program) (first_flat_of program j) its.line_is its.found in
+        let rise = places_rise (flat program) (first_flat_of program j + 1)
+        (first_flat_of program (j + 1)) (let n = next in omega (arith, n)) in
         let long : length (listed (is_counted line.statement)) ≡ 1 = ap (λ b. length (listed b)) e in
-        omega arith
+        omega (arith, some, more, rise, long)
     by_counted false e =
+        let rise = places_rise (flat program) (first_flat_of program j)
+        (first_flat_of program (j + 1)) (let n = next in omega (arith, n)) in
         let long : length (listed (is_counted line.statement)) ≡ 0 = ap (λ b. length (listed b)) e in
-        omega arith
+        omega (arith, rise, long)
 
 -- each has an instruction of its own
-counted_few : (program : ProgramData) (j : ℕ) (lines : List Line) →
-    length (counted_from program j lines) ≤ sum_by (length_of_line program) lines
-counted_few program j [] = omega arith
-counted_few program j (line ∷ lines) =
-    let one = one_counted program j line in
-    let rest = counted_few program (j + 1) lines in
-    let cons = sum_by-cons (length_of_line program) line lines in
-    let both = length-append (counted_line (place_of program j) j line)
-    (counted_from program (j + 1) lines) in omega arith
+counted_few : (program : ProgramData) (k j : ℕ) → j + k ≡ length program.lines →
+    first_place program j + length (counted_from program j (drop j program.lines))
+    ≤ place_of (flat program) (length (flat program).lines)
+counted_few program zero j all =
+    let none = at_drop_all (λ (l : List Line). length (counted_from program j l)) program.lines j
+    (omega (arith, all)) in
+    let low = place_below (flat program) (first_flat_of program j) in omega (arith, none, low)
+counted_few program (suc k) j all =
+    let found = some_at program.lines j (omega (arith, all)) in
+    let line : Line = found.0 in
+    let there : get_or program.lines j line ≡ line =
+    get_or_from_slice_get program.lines j line line found.1 in
+    let left : drop j program.lines ≡ line ∷ drop (j + 1) program.lines =
+    drop_more program.lines j line (omega (arith, all))
+    ∙ ap (λ (x : Line). x ∷ drop (j + 1) program.lines) there in
+    let count = ap (λ (l : List Line). length (counted_from program j l)) left in
+    let one = one_counted program j line found.1 in
+    let rest = counted_few program k (j + 1) (omega (arith, all)) in
+    let both = length-append (counted_line (first_place program j) j line)
+    (counted_from program (j + 1) (drop (j + 1) program.lines)) in
+    omega (arith, count, one, rest, both)
 
 pub all_few : (program : ProgramData) →
-    length (counted_from program 0 program.lines) < place_of program (length program.lines)
-unfolding place_of
+    length (counted_from program 0 program.lines)
+    < place_of (flat program) (length (flat program).lines)
 all_few program =
-    let few = counted_few program 0 program.lines in
-    let all : take (length program.lines) program.lines ≡ program.lines =
-    take_all (length program.lines) program.lines (omega arith) in
-    let same = ap (λ (l : List Line). sum_by (length_of_line program) l) all in omega arith
+    let few = counted_few program (length program.lines) 0 (omega arith) in
+    let some = place_some (flat program) (first_flat_of program 0) in omega (arith, few, some)
 
 -- ---- one line after another
 
@@ -185,7 +221,7 @@ none_counted program counted e = record {
 
 pub one_more_counted : (program : ProgramData) (j : ℕ) (line : Line)
     (counted new : List CountedLine) → slice_get program.lines j ≡ Some line →
-    new ≡ counted ++ counted_line (place_of program j) j line →
+    new ≡ counted ++ counted_line (place_of (flat program) (first_flat_of program j)) j line →
     AreCountedSoFar program j counted → AreCountedSoFar program (j + 1) new
 one_more_counted program j line counted new is more so_far =
     let lt : j < length program.lines = slice_get_within program.lines j line is in
@@ -193,7 +229,7 @@ one_more_counted program j line counted new is more so_far =
     get_or_from_slice_get program.lines j line line is in
     let left : drop j program.lines ≡ line ∷ drop (j + 1) program.lines =
     drop_more program.lines j line lt ∙ ap (λ (x : Line). x ∷ drop (j + 1) program.lines) there in
-    let one : List CountedLine = counted_line (place_of program j) j line in
+    let one : List CountedLine = counted_line (place_of (flat program) (first_flat_of program j)) j line in
     let rest : List CountedLine = counted_from program (j + 1) (drop (j + 1) program.lines) in
     record {
       whole = ap (λ (l : List CountedLine). l ++ rest) more ∙ append_assoc counted one rest

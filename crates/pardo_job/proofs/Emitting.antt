@@ -5,6 +5,7 @@ use Rattle.std.proofs.lemmas.List.Folds.{list_all-append}
 use Rattle.pram_job.specs.declared.instr.Instr.{Instr}
 use Rattle.pardo_job.specs.declared.fault.JobKind.{JobKind}
 use Rattle.pardo_job.specs.declared.fault.JobKind.TheVariants.{TooDeep, TooLong, Endless, Memory}
+use Rattle.pardo_job.specs.declared.fault.JobKind.TheVariants.{TooManyCells}
 use Rattle.pardo_job.specs.Inner.Emitting.{PutsCode, IsCodeFault}
 use Rattle.pardo_job.specs.Operations.{is_shallow, target_of}
 use Rattle.std.proofs.Common.{nat_lt}
@@ -18,6 +19,7 @@ pub fault_front : (front back : List Instr) (kind : JobKind) → IsCodeFault fro
 fault_front front back TooDeep e = shallow_both front back ∙ ap (λ t. t && is_shallow back) e
 fault_front front back TooLong e = e
 fault_front front back Endless e = e
+fault_front front back TooManyCells e = e
 fault_front front back Memory e = e
 
 and_false : (b c : Bool) → b ≡ true → c ≡ false → (b && c) ≡ false
@@ -29,6 +31,7 @@ fault_back front back TooDeep s e = shallow_both front back ∙
     and_false (is_shallow front) (is_shallow back) s e
 fault_back front back TooLong s e = e
 fault_back front back Endless s e = e
+fault_back front back TooManyCells s e = e
 fault_back front back Memory s e = e
 
 pub puts_then : {A B : Type 0} (old mid new front back : List Instr) (x : A)

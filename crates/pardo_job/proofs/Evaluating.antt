@@ -22,7 +22,6 @@ use Rattle.pardo_job.specs.Meaning.{Source, value, array_cell}
 use Rattle.pardo_job.specs.Operations.{operation_code, is_shallow, taken_by}
 use Rattle.pardo_job.specs.Sees.{Sees}
 use Rattle.pardo_job.specs.Straight.{Registers, put, operand_in, after_one, after_all, IsKept}
-use Rattle.pardo_job.specs.Straight.{Computes}
 use Rattle.pardo_job.specs.Values.{value_code, takes, value_operand, is_truth, own_load}
 use Rattle.pardo_job.proofs.Straight.{put_same, put_other, after_append, after_front}
 use Rattle.pardo_job.proofs.Shallow.{shallow_front, shallow_back}

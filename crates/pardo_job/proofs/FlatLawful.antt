@@ -134,7 +134,7 @@ module _ (program : ProgramData) (lawful : IsProgram program) where
       (ap (slice_get (flat program).lines) (last_is program j line.0 line.1)
       ∙ last_stands program j line.0 line.1)
 
-  first_within : (j : ℕ) → j < length program.lines → first_flat_of program j < c.lines
+  pub first_within : (j : ℕ) → j < length program.lines → first_flat_of program j < c.lines
   first_within j lt =
       let line = some_at program.lines j lt in
       let e = last_is program j line.0 line.1 in

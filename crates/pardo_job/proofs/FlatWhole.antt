@@ -50,7 +50,7 @@ module _ (program : ProgramData) where
       let rest = none_most lines (λ k other is. fit (suc k) other is) in omega (arith, one, rest)
 
 module _ (program : ProgramData) (lawful : IsProgram program) (fit : AllFit program.lines) where
-  first_same : (j : ℕ) → j ≤ length program.lines → first_flat_of program j ≡ j
+  pub first_same : (j : ℕ) → j ≤ length program.lines → first_flat_of program j ≡ j
   unfolding first_flat_of
   first_same j le = sums program program.lines fit j le
 

@@ -27,7 +27,7 @@ use Rattle.pardo_job.specs.Flat.{lines_for, most_pieces, moved_statement, namele
 use Rattle.pardo_job.specs.Flat.{split_statement}
 use Rattle.pardo_job.specs.declared.flat.Flat.{Flat}
 use Rattle.pardo_job.specs.declared.flat.FlatLines.{FlatLines}
-use Rattle.pardo_job.specs.Inner.Flats.{AreFirsts, AreFlat, AreFlatSoFar, moved_by, moved_line, parted}
+use Rattle.pardo_job.specs.Inner.Flats.{AreFirsts, AreFlat, AreFlatSoFar, moved_by, moved_line, unmoved_lines}
 use Rattle.pardo_job.specs.Inner.Flats.{IsFlatProgram, parted_line, parts_from}
 use Rattle.pardo_job.specs.Flat.{IsFirstSplit, IsTooWide}
 use Rattle.pardo_job.specs.Layouts.{ProgramLayoutData, program_layout}
@@ -122,16 +122,16 @@ module _ (program : ProgramData) where
   abbrev base : ℕ
   base = length program.privates
 
-  parted_size : (line : Line) → length (parted program line) ≡ flat_size program line
+  parted_size : (line : Line) → length (unmoved_lines program line) ≡ flat_size program line
   parted_size line = length-append (hidden line base (pieces_of program line))
       (record line { statement = (line_parts program line).1 } ∷ [])
       ∙ ap (λ n. n + 1) (length-hidden line base (pieces_of program line))
 
-  next_first : (n : ℕ) (lines : List Line) → lines ≡ flat_map (parted program) (take n program.lines) →
+  next_first : (n : ℕ) (lines : List Line) → lines ≡ flat_map (unmoved_lines program) (take n program.lines) →
       length lines ≡ first_flat_of program n
   unfolding first_flat_of
   next_first n lines are = ap (λ (l : List Line). length l) are
-      ∙ length-flat_map (parted program) (take n program.lines)
+      ∙ length-flat_map (unmoved_lines program) (take n program.lines)
       ∙ ap (λ (f : Line → ℕ). sum_by f (take n program.lines)) (fun_ext parted_size)
 
   most_next : (lines : List Line) (line : Line) →
@@ -207,16 +207,16 @@ module _ (program : ProgramData) where
         record {
           lines_are = e ∙ ap (λ (l : List Line). l ++ parted_line b line pieces rest)
               so_far.lines_are
-              ∙ ap (λ k. flat_map (parted program) (take n program.lines)
+              ∙ ap (λ k. flat_map (unmoved_lines program) (take n program.lines)
               ++ parted_line k line pieces rest) from
-              ∙ ap (λ (l : List Tree). flat_map (parted program) (take n program.lines)
+              ∙ ap (λ (l : List Tree). flat_map (unmoved_lines program) (take n program.lines)
               ++ parted_line base line l rest) pieces_are
-              ∙ ap (λ (s : Statement). flat_map (parted program) (take n program.lines)
+              ∙ ap (λ (s : Statement). flat_map (unmoved_lines program) (take n program.lines)
               ++ parted_line base line (pieces_of program line) s) rest_is
-              ∙ ap (λ (l : List Line). flat_map (parted program) (take n program.lines) ++ l)
-              (sym (append-nil (parted program line)))
-              ∙ sym (flat_map-append (parted program) (take n program.lines) (line ∷ []))
-              ∙ sym (ap (λ (l : List Line). flat_map (parted program) l) taken);
+              ∙ ap (λ (l : List Line). flat_map (unmoved_lines program) (take n program.lines) ++ l)
+              (sym (append-nil (unmoved_lines program line)))
+              ∙ sym (flat_map-append (unmoved_lines program) (take n program.lines) (line ∷ []))
+              ∙ sym (ap (λ (l : List Line). flat_map (unmoved_lines program) l) taken);
           count = let i = ap (λ (l : List ℕ). length l) f in
               let j = length-append firsts (length lines ∷ []) in
               let k = so_far.count in omega (arith, i, j, k);
@@ -278,7 +278,7 @@ module _ (program : ProgramData) (firsts : List ℕ) (are : AreFirsts program fi
       (hidden_same line (t + 1) pieces)
 
   line_same : (line : Line) → IsStatement (bounds_of program) line.statement →
-      map (moved_line first) (parted program line) ≡ lines_for program line
+      map (moved_line first) (unmoved_lines program line) ≡ lines_for program line
   unfolding lines_for
   line_same line is =
       map-append (moved_line first)
@@ -292,17 +292,17 @@ module _ (program : ProgramData) (firsts : List ℕ) (are : AreFirsts program fi
 
   lines_same : (lines : List Line) → ((j : ℕ) (line : Line) → slice_get lines j ≡ Some line →
       IsStatement (bounds_of program) line.statement) →
-      map (moved_line first) (flat_map (parted program) lines) ≡ flat_map (lines_for program) lines
+      map (moved_line first) (flat_map (unmoved_lines program) lines) ≡ flat_map (lines_for program) lines
   lines_same [] is = refl
   lines_same (line ∷ lines) is =
-      map-append (moved_line first) (parted program line) (flat_map (parted program) lines)
-      ∙ ap (λ (l : List Line). l ++ map (moved_line first) (flat_map (parted program) lines))
+      map-append (moved_line first) (unmoved_lines program line) (flat_map (unmoved_lines program) lines)
+      ∙ ap (λ (l : List Line). l ++ map (moved_line first) (flat_map (unmoved_lines program) lines))
       (line_same line (is 0 line refl))
       ∙ ap (λ (l : List Line). lines_for program line ++ l)
       (lines_same lines (λ j other e. is (suc j) other e))
 
   pub moved_all : (lawful : IsProgram program) →
-      map (moved_line first) (flat_map (parted program) program.lines)
+      map (moved_line first) (flat_map (unmoved_lines program) program.lines)
       ≡ flat_map (lines_for program) program.lines
   moved_all lawful = lines_same program.lines (λ j line e.
       (all_at (IsLine (bounds_of program)) program.lines j line lawful.lines e).0)
@@ -345,7 +345,7 @@ all_flat program n flat lines firsts most split le ge so_far e f g h =
     let all : n ≡ length program.lines = omega (arith, le, ge) in
     let whole : take n program.lines ≡ program.lines =
     ap (λ k. take k program.lines) all ∙ take-length program.lines in record {
-      lines_are = e ∙ so_far.lines_are ∙ ap (λ (l : List Line). flat_map (parted program) l) whole;
+      lines_are = e ∙ so_far.lines_are ∙ ap (λ (l : List Line). flat_map (unmoved_lines program) l) whole;
       count = let a = ap (λ (l : List ℕ). length l) f in
           let b = length-append firsts (length lines ∷ []) in
           let c = so_far.count in omega (arith, a, b, c, all);

@@ -19,6 +19,7 @@ use Rattle.pardo_text.specs.Expression.{Tree, number, own, loop, private, place,
 use Rattle.pardo_text.specs.Program.{ProgramData}
 use Rattle.pardo_job.specs.declared.fault.JobKind.{JobKind}
 use Rattle.pardo_job.specs.declared.fault.JobKind.TheVariants.{TooDeep, TooLong, Endless, Memory}
+use Rattle.pardo_job.specs.declared.fault.JobKind.TheVariants.{TooManyCells}
 use Rattle.pardo_job.specs.Inner.Emitting.{IsCodeFault}
 use Rattle.pardo_job.specs.Inner.Pieces.{IsLineFault, PutsLine, bounds_code, choice_code, under}
 use Rattle.pardo_job.specs.Layouts.{ProgramLayoutData, program_layout, array_cells, loop_cells}
@@ -373,6 +374,7 @@ fault_same : (line part : List Instr) (k : JobKind) → IsPart line part → IsL
 fault_same line part TooDeep p e = p.same ∙ e
 fault_same line part TooLong p e = (p.same ∙ e.0, omega (arith, e.1, p.few))
 fault_same line part Endless p e = e
+fault_same line part TooManyCells p e = e
 fault_same line part Memory p e = e
 
 judged_same : (r : Result (Unit {0}) JobKind) (line part : List Instr) → IsPart line part →

@@ -38,3 +38,6 @@ pub mod FlatLines
 pub mod FlatLawful
 pub mod Flats
 pub mod FlatWhole
+pub mod FlatFirsts
+pub mod Drafting
+pub mod FlatCompiled

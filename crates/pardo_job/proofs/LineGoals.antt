@@ -12,6 +12,7 @@ use Rattle.pardo_text.specs.Expression.{Tree}
 use Rattle.pardo_text.specs.Program.{ProgramData}
 use Rattle.pardo_job.specs.declared.fault.JobKind.{JobKind}
 use Rattle.pardo_job.specs.declared.fault.JobKind.TheVariants.{TooDeep, TooLong, Endless, Memory}
+use Rattle.pardo_job.specs.declared.fault.JobKind.TheVariants.{TooManyCells}
 use Rattle.pardo_job.specs.Inner.Emitting.{PutsCode, IsCodeFault}
 use Rattle.pardo_job.specs.Inner.Pieces.{IsLineFault, PutsLine}
 use Rattle.pardo_job.specs.Layouts.{ProgramLayoutData, program_layout}
@@ -38,6 +39,7 @@ fault_through : (line body : List Instr) (k : JobKind) →
 fault_through line body TooDeep f e = not_shallow (is_shallow line) (is_shallow body) f e
 fault_through line body TooLong f e = absurd e
 fault_through line body Endless f e = e
+fault_through line body TooManyCells f e = e
 fault_through line body Memory f e = e
 
 pub line_fails : {A : Type 0} (old new line body : List Instr) (r : Result A JobKind)

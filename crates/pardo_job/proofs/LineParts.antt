@@ -12,6 +12,7 @@ use Rattle.pram_job.specs.declared.limits.TheConstants.{MAX_CODE}
 use Rattle.pardo_text.specs.Expression.{Tree}
 use Rattle.pardo_job.specs.declared.fault.JobKind.{JobKind}
 use Rattle.pardo_job.specs.declared.fault.JobKind.TheVariants.{TooDeep, TooLong, Endless, Memory}
+use Rattle.pardo_job.specs.declared.fault.JobKind.TheVariants.{TooManyCells}
 use Rattle.pardo_job.specs.Inner.Emitting.{PutsCode, IsCodeFault}
 use Rattle.pram_job.specs.declared.instr.Array.{Array}
 use Rattle.pram_job.specs.declared.instr.Operand.{Operand}
@@ -32,6 +33,7 @@ pub fault_of_line : (code : List Instr) (kind : JobKind) → IsCodeFault code ki
 fault_of_line code TooDeep e = e
 fault_of_line code TooLong e = absurd e
 fault_of_line code Endless e = e
+fault_of_line code TooManyCells e = e
 fault_of_line code Memory e = e
 
 -- code that is put as any

@@ -25,6 +25,7 @@ use Rattle.pardo_text.specs.Program.{ProgramData}
 use Rattle.pardo_job.specs.declared.fault.JobFault.{JobFault}
 use Rattle.pardo_job.specs.declared.fault.JobKind.{JobKind}
 use Rattle.pardo_job.specs.declared.fault.JobKind.TheVariants.{TooDeep, TooLong, Endless, Memory}
+use Rattle.pardo_job.specs.declared.fault.JobKind.TheVariants.{TooManyCells}
 use Rattle.pardo_job.specs.Compiled.{AreLevel, AreLineNumbers}
 use Rattle.pardo_job.specs.Inner.Listings.{AreAllPlaces, ArePlaces, IsFaultAt, IsPlaceAfter}
 use Rattle.pardo_job.specs.Inner.Pieces.{IsLineFault}
@@ -36,7 +37,7 @@ use Rattle.pardo_job.specs.Lines.{turn_code, while_code}
 use Rattle.pardo_job.specs.Meaning.{statement_at}
 use Rattle.pardo_job.specs.Operations.{is_shallow, register_or_spare}
 use Rattle.pardo_job.specs.Values.{value_operand}
-use Rattle.pardo_job.specs.Refusals.{IsProgramFault, is_level, is_short, line_numbers, numbers_from}
+use Rattle.pardo_job.specs.Refusals.{IsLinesFault, is_level, is_short, line_numbers, numbers_from}
 use Rattle.pardo_job.proofs.LineFits.{statement_is}
 use Rattle.pardo_job.proofs.Shapes.{line_length, line_shallow}
 
@@ -80,6 +81,7 @@ fault_at program line place f at kind fault e named memory is =
       omega (arith, fails.1, line_length program f (λ j. 0) at 0 line.depth line.statement),
     )
     cases Endless n m fails = fails
+    cases TooManyCells n m fails = fails
     cases Memory n m fails = m refl
 
 pub long_at : (program : ProgramData) (line : Line) (place : ℕ) (f : ℕ → ℕ) (at : ℕ)
@@ -178,7 +180,7 @@ pub fault_is : (program : ProgramData) (j : ℕ) (line : Line) (places : List �
     (kind : JobKind) →
     slice_get program.lines j ≡ Some line → ArePlaces program j places →
     IsFaultAt program line (place_of program j) number kind →
-    IsProgramFault program number kind
+    IsLinesFault program number kind
 fault_is program j line places number TooDeep e are f = record {
   j = j;
   line = line;
@@ -201,6 +203,7 @@ fault_is program j line places number TooLong e are f =
       unfit = ap (λ b. b && is_short program j) f.1 ∙ long;
     }
 fault_is program j line places number Endless e are f = absurd f
+fault_is program j line places number TooManyCells e are f = absurd f
 fault_is program j line places number Memory e are f = f
 
 -- one line more
@@ -272,6 +275,7 @@ only_memory program places f at j line TooLong are e fault =
       are.short,
     ))
 only_memory program places f at j line Endless are e fault = absurd fault
+only_memory program places f at j line TooManyCells are e fault = absurd fault
 only_memory program places f at j line Memory are e fault = refl
 
 -- ---- places that agree

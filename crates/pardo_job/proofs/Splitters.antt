@@ -15,7 +15,7 @@ use Rattle.pardo_job.specs.declared.splitter.Part.{Part}
 use Rattle.pardo_job.specs.Flat.{ShapeData, applied_shape, beside, computed_shape, is_beside, shape_of, split}
 use Rattle.pardo_job.specs.Inner.Splits.{AreSplit, AreTaken, CanSplit, HasOperands, JoinsTo}
 use Rattle.pardo_job.specs.Inner.Splits.{CanShape, ShapesNode, TakesNode, joined, shapes_of}
-use Rattle.pardo_job.specs.Inner.Splits.{part_of, parts_after, pieces_after}
+use Rattle.pardo_job.specs.Inner.Splits.{split_part, parts_after, pieces_after}
 
 -- ---- how many parts there are
 
@@ -24,7 +24,7 @@ pub parts_count : (t : ℕ) (before trees : List Tree) →
 parts_count t before [] = refl
 parts_count t before (tree ∷ trees) =
     let more = length-append (parts_after t before trees)
-    (part_of (t + length (pieces_after t before trees)) tree ∷ []) in
+    (split_part (t + length (pieces_after t before trees)) tree ∷ []) in
     let rest = parts_count t before trees in omega (arith, more, rest)
 
 -- ---- a node without operands
@@ -65,7 +65,7 @@ pub place_taken : (t array : ℕ) (before : List Tree) (index : Tree) (trees pie
 place_taken t array before index trees pieces new_pieces parts rest new_parts part popped same more
     are =
     let u : ℕ = t + length (pieces_after t before trees) in
-    let both = same_from_push rest (parts_after t before trees) part (part_of u index)
+    let both = same_from_push rest (parts_after t before trees) part (split_part u index)
     (sym popped ∙ are.parts_are) in record {
       pieces_are = same ∙ are.pieces_are;
       parts_are = more ∙ ap (λ all. all ++ place_part array part ∷ []) both.0
@@ -102,21 +102,21 @@ module _ (t : ℕ) (op : Op) (before : List Tree) (second first : Tree) (trees p
   w_is : t + length (so_far ++ (split u first).0) ≡ w
   w_is = let e = length-append so_far (split u first).0 in omega (arith, e)
 
-  top : (off.between ≡ parts_after t before trees ++ part_of u first ∷ [])
-      × (right ≡ part_of (t + length (so_far ++ (split u first).0)) second)
+  top : (off.between ≡ parts_after t before trees ++ split_part u first ∷ [])
+      × (right ≡ split_part (t + length (so_far ++ (split u first).0)) second)
   top = let both = same_from_push off.between
-      (parts_after t before trees ++ part_of u first ∷ []) right
-      (part_of (t + length (so_far ++ (split u first).0)) second)
+      (parts_after t before trees ++ split_part u first ∷ []) right
+      (split_part (t + length (so_far ++ (split u first).0)) second)
       (sym off.last ∙ are.parts_are) in (both.0, both.1)
 
-  pub right_is : right ≡ part_of w second
-  right_is = top.1 ∙ ap (λ n. part_of n second) w_is
+  pub right_is : right ≡ split_part w second
+  right_is = top.1 ∙ ap (λ n. split_part n second) w_is
 
-  below : (rest ≡ parts_after t before trees) × (left ≡ part_of u first)
-  below = let both = same_from_push rest (parts_after t before trees) left (part_of u first)
+  below : (rest ≡ parts_after t before trees) × (left ≡ split_part u first)
+  below = let both = same_from_push rest (parts_after t before trees) left (split_part u first)
       (sym off.last_but_one ∙ top.0) in (both.0, both.1)
 
-  pub left_is : left ≡ part_of u first
+  pub left_is : left ≡ split_part u first
   left_is = below.1
 
   pieces_so_far : pieces ≡ (so_far ++ (split u first).0) ++ (split w second).0
@@ -163,7 +163,7 @@ module _ (t : ℕ) (op : Op) (before : List Tree) (second first : Tree) (trees p
       by_room new_pieces new_parts true (sym on ∙ room_is)
       (e ∙ pieces_so_far ∙ append_assoc so_far (split u first).0 (split w second).0)
       (f ∙ ap (λ p. rest ++ joined_part op p right.rest right.shape right ∷ []) left_is
-      ∙ ap (λ p. rest ++ joined_part op (part_of u first) p.rest p.shape p ∷ []) right_is)
+      ∙ ap (λ p. rest ++ joined_part op (split_part u first) p.rest p.shape p ∷ []) right_is)
 
   -- it becomes a piece
   pub becomes_piece : (new_pieces : List Tree) (new_parts : List Part) →
@@ -184,7 +184,7 @@ module _ (t : ℕ) (op : Op) (before : List Tree) (second first : Tree) (trees p
       ∙ append_assoc so_far (split u first).0 ((split w second).0 ++ (split w second).1 ∷ []))
       (f ∙ ap (λ n. rest ++ joined_part op left (private n) (computed_shape false 1) right ∷ []) count
       ∙ ap (λ p. rest ++ joined_part op p (private k) (computed_shape false 1) right ∷ []) left_is
-      ∙ ap (λ p. rest ++ joined_part op (part_of u first) (private k) (computed_shape false 1) p ∷ [])
+      ∙ ap (λ p. rest ++ joined_part op (split_part u first) (private k) (computed_shape false 1) p ∷ [])
       right_is)
 
   pub joined_taken : (new_pieces : List Tree) (new_parts : List Part) →
@@ -353,14 +353,14 @@ all_so_far P tree nodes k is_postfix le s =
 pub record IsOnlyPart (t : ℕ) (before : List Tree) (tree : Tree) (pieces : List Tree)
     (rest : List Part) (part : Part) : Type 0 where
   pub none : rest ≡ []
-  pub part_is : part ≡ part_of (t + length before) tree
+  pub part_is : part ≡ split_part (t + length before) tree
   pub pieces_are : pieces ≡ before ++ (split (t + length before) tree).0
 
 pub only_part : (t : ℕ) (before : List Tree) (tree : Tree) (pieces : List Tree)
     (parts rest : List Part) (part : Part) → AreSplit t before (tree ∷ []) pieces parts →
     parts ≡ rest ++ part ∷ [] → IsOnlyPart t before tree pieces rest part
 only_part t before tree pieces parts rest part are popped =
-    let both = same_from_push rest [] part (part_of (t + length before) tree)
+    let both = same_from_push rest [] part (split_part (t + length before) tree)
     (sym popped ∙ are.parts_are) in
     record { none = both.0; part_is = both.1; pieces_are = are.pieces_are }
 

@@ -10,6 +10,7 @@ use Rattle.pardo_text.specs.Lawful.{IsProgram}
 use Rattle.pardo_text.specs.Program.{ProgramData}
 use Rattle.pardo_job.specs.declared.fault.JobKind.{JobKind}
 use Rattle.pardo_job.specs.declared.fault.JobKind.TheVariants.{TooDeep, TooLong, Endless, Memory}
+use Rattle.pardo_job.specs.declared.fault.JobKind.TheVariants.{TooManyCells}
 use Rattle.pardo_job.specs.declared.limits.TheConstants.{MAX_STEPS}
 use Rattle.pardo_job.specs.Compiled.{CompiledData}
 use Rattle.pardo_job.specs.Drafts.{IsDraft, IsComplete}
@@ -17,8 +18,9 @@ use Rattle.pardo_job.specs.Ends.{HasEnded}
 use Rattle.pardo_job.specs.Inner.Endings.{IsFinished, EndsTooLate}
 use Rattle.pardo_job.specs.Inner.Listings.{AreAllPlaces}
 use Rattle.pardo_job.specs.Layouts.{cell_count, program_layout, start_values}
+use Rattle.pardo_job.specs.Flat.{flat}
 use Rattle.pardo_job.specs.Lines.{code_of, job_of}
-use Rattle.pardo_job.specs.Refusals.{IsProgramFault, FirstRunningStandsAt, line_numbers}
+use Rattle.pardo_job.specs.Refusals.{IsProgramFault, FirstRunningStandsAt}
 use Rattle.pardo_job.proofs.JobFits.{job_is, start_length}
 use Rattle.pardo_job.proofs.Placed.{level_all}
 
@@ -63,7 +65,7 @@ module _ (program : ProgramData) (job : JobData) (numbers : List ℕ)
     job = record {
       job_is = is_job;
       made = done.job_is ∙ ap (λ (j : JobData). record j { steps = compiled.job.steps }) draft.made
-          ∙ with_more program compiled.job.steps;
+          ∙ with_more (flat program) compiled.job.steps;
       level = draft.level;
       numbers = λ index.
           ap (λ (l : List ℕ). slice_index l index) (done.numbers_are ∙ draft.numbers_are);
@@ -77,7 +79,7 @@ module _ (program : ProgramData) (job : JobData) (numbers : List ℕ)
   pub draft_is : (compiled : CompiledData) → IsFinished job numbers compiled →
       job ≡ record compiled.job { steps = 0 }
   draft_is compiled done =
-      draft.made ∙ sym (with_more program 0)
+      draft.made ∙ sym (with_more (flat program) 0)
       ∙ ap (λ (j : JobData). record j { steps = 0 }) (sym draft.made)
       ∙ ap (λ (j : JobData). record j { steps = 0 }) (sym done.job_is)
 
@@ -85,6 +87,7 @@ module _ (program : ProgramData) (job : JobData) (numbers : List ℕ)
       IsProgramFault program number kind
   late_is number TooDeep late = absurd late
   late_is number TooLong late = absurd late
+  late_is number TooManyCells late = absurd late
   late_is number Memory late = late
   late_is number Endless late = record {
     reached = subst (λ (j : JobData). IsReached j MAX_STEPS) draft.made late.0;

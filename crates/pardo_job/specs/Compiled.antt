@@ -7,6 +7,7 @@ use Rattle.pram_step.specs.Runs.{state_after, IsReached, IsFirstConflict}
 use Rattle.pardo_text.specs.declared.statement.Line.{Line}
 use Rattle.pardo_text.specs.Program.{ProgramData}
 use Rattle.pardo_job.specs.declared.ended.Ended.{Ended}
+use Rattle.pardo_job.specs.Flat.{flat}
 use Rattle.pardo_job.specs.Lines.{job_of}
 use Rattle.pardo_job.specs.Refusals.{is_level, line_numbers}
 
@@ -37,9 +38,14 @@ abbrev pub AreLevel : ProgramData → Type 0
 AreLevel program = (j : ℕ) (line : Line) → slice_get program.lines j ≡ Some line →
     is_level program line ≡ true
 
-pub record IsCompiled (program : ProgramData) (job : JobData) (line_of : ℕ → ℕ) : Type 0 where
+-- what the compiler makes of lines as they stand
+pub record IsLinesJob (program : ProgramData) (job : JobData) (line_of : ℕ → ℕ) : Type 0 where
   pub job_is : IsJob job
   pub made : job ≡ job_of program job.steps
   pub level : AreLevel program
   pub numbers : AreLineNumbers program line_of
   pub whole : IsWhole job
+
+-- it compiles the flat program
+abbrev pub IsCompiled : ProgramData → JobData → (ℕ → ℕ) → Type 0
+IsCompiled program job line_of = IsLinesJob (flat program) job line_of

@@ -10,9 +10,11 @@ use Rattle.pardo_text.specs.Program.{ProgramData}
 use Rattle.pardo_text.specs.Reading.{program_of, IsReaderRefusal as IsTextRefusal}
 use Rattle.pardo_job.specs.declared.fault.JobKind.{JobKind}
 use Rattle.pardo_job.specs.declared.fault.JobKind.TheVariants.{TooDeep, TooLong, Endless, Memory}
+use Rattle.pardo_job.specs.declared.fault.JobKind.TheVariants.{TooManyCells}
 use Rattle.pardo_job.specs.declared.fault.Refusal.{Refusal}
 use Rattle.pardo_job.specs.declared.fault.Refusal.TheVariants.{Text, Job}
 use Rattle.pardo_job.specs.declared.limits.TheConstants.{MAX_STEPS}
+use Rattle.pardo_job.specs.Flat.{IsTooWide, flat}
 use Rattle.pardo_job.specs.Lines.{job_of, length_of_line, line_code, place_of}
 use Rattle.pardo_job.specs.Operations.{is_shallow}
 
@@ -72,12 +74,18 @@ pub record IsEndless (program : ProgramData) (number : ℕ) : Type 0 where
       index
   pub number_is : number ≡ slice_index (line_numbers program) index
 
--- what is wrong with a program; memory that ran out is no line's
+-- what is wrong with these lines as they stand; memory that ran out is no line's
+abbrev pub IsLinesFault : ProgramData → ℕ → JobKind → Type 0
+IsLinesFault program number TooDeep = IsTooGreat program number false
+IsLinesFault program number TooLong = IsTooGreat program number true
+IsLinesFault program number Endless = IsEndless program number
+IsLinesFault program number Memory = number ≡ 0
+IsLinesFault program number TooManyCells = ⊥
+
+-- what is wrong with a program, whose flat program is compiled
 abbrev pub IsProgramFault : ProgramData → ℕ → JobKind → Type 0
-IsProgramFault program number TooDeep = IsTooGreat program number false
-IsProgramFault program number TooLong = IsTooGreat program number true
-IsProgramFault program number Endless = IsEndless program number
-IsProgramFault program number Memory = number ≡ 0
+IsProgramFault program number TooManyCells = IsTooWide program number
+IsProgramFault program number kind = IsLinesFault (flat program) number kind
 
 -- the text spells no program, or one that is no job
 abbrev pub IsProgramRefusal : List ℕ → Refusal → Type 0

@@ -14,6 +14,7 @@ use Rattle.pardo_text.specs.Expression.{Tree, place, apply}
 use Rattle.pardo_text.specs.Operations.{bit}
 use Rattle.pardo_text.specs.Program.{ProgramData}
 use Rattle.pardo_job.specs.declared.times.CountedLine.{CountedLine}
+use Rattle.pardo_job.specs.Flat.{first_flat_of, flat}
 use Rattle.pardo_job.specs.Lines.{place_of}
 use Rattle.pardo_job.specs.Meaning.{Source, after, is_active}
 use Rattle.pardo_job.specs.Runs.{IsProgramConflict, IsProgramEnd}
@@ -114,4 +115,4 @@ counted_line first j line =
 abbrev pub counted_from : ProgramData → ℕ → List Line → List CountedLine
 counted_from program j [] = []
 counted_from program j (line ∷ lines) =
-    counted_line (place_of program j) j line ++ counted_from program (j + 1) lines
+    counted_line (place_of (flat program) (first_flat_of program j)) j line ++ counted_from program (j + 1) lines

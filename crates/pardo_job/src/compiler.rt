@@ -1,19 +1,22 @@
 //! The compiler.
-ghost use Rattle.std.specs.Prelude.{◌≡◌, Ok, IfOk, IfErr, slice_index};
+ghost use Rattle.std.specs.Prelude.{◌≡◌, Ok, IfOk, IfErr, map, slice_index};
 ghost use Rattle.pram_job.specs.Job.{IsJob};
 ghost use Rattle.pram_step.specs.Last.{AreLast};
 ghost use Rattle.pram_step.specs.Runs.{IsFirstConflict};
 ghost use Rattle.pardo_text.specs.Lawful.{IsProgram};
 ghost use Rattle.pardo_text.specs.Reading.{program_of};
 ghost use Rattle.pardo_job.specs.Compiled.{IsCompiled};
-ghost use Rattle.pardo_job.specs.Drafts.{ArePlacesOf, IsComplete, IsDraft};
+ghost use Rattle.pardo_job.specs.Drafts.{AreLinePlaces, ArePlacesOf, IsComplete, IsDraft};
+ghost use Rattle.pardo_job.specs.Drafts.{IsLinesDraft};
 ghost use Rattle.pardo_job.specs.Ends.{HasEnded};
+ghost use Rattle.pardo_job.specs.Inner.Flats.{AreFirstPlaces};
 ghost use Rattle.pardo_job.specs.Inner.Endings.{IsFinished, EndsTooLate, IsRest};
 ghost use Rattle.pardo_job.specs.Layouts.{program_layout, start_values};
-ghost use Rattle.pardo_job.specs.Refusals.{IsProgramFault, IsProgramRefusal};
+ghost use Rattle.pardo_job.specs.Refusals.{IsLinesFault, IsProgramFault, IsProgramRefusal};
 
 use crate::ended::{Ended, Lines};
 use crate::fault::{JobFault, JobKind, Refusal};
+use crate::flat::{Flat, Flattened, flatten};
 use crate::layout::Layout;
 use crate::lines::Listing;
 use crate::run::{Rest, Run, disputed_line, gone_lines, line_at, run_of};
@@ -163,6 +166,49 @@ fn draft_of(alloc: Global, program: &Program) -> Result<(Job, Vec<u64>, Vec<u32>
     ensures draft { IfOk result (λ given. IsDraft program.now given.0 given.1.items) }
     ensures places { IfOk result (λ given. ArePlacesOf program.now given.2.items) }
     ensures refused { IfErr result (λ fault. IsProgramFault program.now fault.line fault.kind) }
+{
+    match flatten(alloc, program)? {
+        Flattened::Same => draft_of_lines(alloc, program),
+        Flattened::Flat(flat) => draft_of_flat(alloc, &flat),
+        Flattened::TooWide(line) => Err(JobFault {
+            line,
+            kind: JobKind::TooManyCells,
+        }),
+    }
+}
+
+// That of the flat program of one; and where the first of the lines for each of its lines stands.
+fn draft_of_flat(alloc: Global, flat: &Flat) -> Result<(Job, Vec<u64>, Vec<u32>), JobFault>
+    requires { IsProgram flat.now.program }
+    ensures draft { IfOk result (λ given.
+        IsLinesDraft flat.now.program given.0 given.1.items) }
+    ensures places { IfOk result (λ given.
+        AreFirstPlaces flat.now.program flat.now.firsts.items given.2.items) }
+    ensures refused { IfErr result (λ fault.
+        IsLinesFault flat.now.program fault.line fault.kind) }
+{
+    let (job, numbers, places) = draft_of_lines(alloc, &flat.program)?;
+    let places = first_places(alloc, &places, &flat.firsts)?;
+    Ok((job, numbers, places))
+}
+
+// The places of these lines.
+fn first_places(alloc: Global, places: &[u32], firsts: &[usize]) -> Result<Vec<u32>, AllocError>
+    ensures { IfOk result (λ given. given.items ≡ map (slice_index places.now) firsts.now) }
+{
+    let mut given = Vec::with_capacity(alloc, firsts.len())?;
+    for first in firsts {
+        given.push(places.get(*first).copied().unwrap_or(0))?;
+    }
+    Ok(given)
+}
+
+// The job of these lines as they stand, which is not run, or why there is none.
+fn draft_of_lines(alloc: Global, program: &Program) -> Result<(Job, Vec<u64>, Vec<u32>), JobFault>
+    requires { IsProgram program.now }
+    ensures draft { IfOk result (λ given. IsLinesDraft program.now given.0 given.1.items) }
+    ensures places { IfOk result (λ given. AreLinePlaces program.now given.2.items) }
+    ensures refused { IfErr result (λ fault. IsLinesFault program.now fault.line fault.kind) }
 {
     let listing = Listing::of(alloc, program)?;
     let code = listing.code(alloc)?;

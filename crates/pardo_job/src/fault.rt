@@ -17,6 +17,9 @@ pub enum JobKind {
     Endless,
     /// Out of memory; the line is 0.
     Memory,
+    /// The first line that hidden lines come before: with a variable for each of the most the
+    /// program has too many cells.
+    TooManyCells,
 }
 
 /// The first line of a program that is wrong, as its text counts lines, and what is wrong with it.

@@ -147,11 +147,12 @@ fn push_hidden(
     requires { base ≤ 65536 }
     ensures { OnOk result (lines.new.items ≡ lines.old.items ++ hidden line.now base pieces.now) }
 {
+    let depth = line.depth;
     for (index, piece) in pieces.iter().enumerate() {
         let value = piece.copied(alloc)?;
         lines.push(Line {
             statement: Statement::Assign(Target::Private(base + index), value),
-            depth: line.depth,
+            depth,
             number: line.number,
         })?;
     }

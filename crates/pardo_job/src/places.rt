@@ -6,7 +6,7 @@ ghost use Rattle.pardo_text.specs.Lawful.{IsLine, IsProgram, bounds_of};
 ghost use Rattle.pardo_job.specs.Inner.Listings.{AreAllPlaces, IsFaultAt, IsPlaceAfter};
 ghost use Rattle.pardo_job.specs.Inner.Pieces.{PutsLine};
 ghost use Rattle.pardo_job.specs.Lines.{code_of, line_code};
-ghost use Rattle.pardo_job.specs.Refusals.{IsProgramFault, line_numbers};
+ghost use Rattle.pardo_job.specs.Refusals.{IsLinesFault, line_numbers};
 
 use crate::fault::{JobFault, JobKind};
 use crate::held::OWN;
@@ -23,7 +23,7 @@ impl<'p> Listing<'p> {
         requires { IsProgram program.now }
         ensures program { IfOk result (λ listing. listing.program.now ≡ program.now) }
         ensures places { IfOk result (λ listing. AreAllPlaces program.now listing.places.items) }
-        ensures refused { IfErr result (λ fault. IsProgramFault program.now fault.line fault.kind) }
+        ensures refused { IfErr result (λ fault. IsLinesFault program.now fault.line fault.kind) }
     {
         let layout = Layout::of(alloc, program)?;
         let mut listing = Listing {
@@ -43,7 +43,7 @@ impl<'p> Listing<'p> {
         ensures given { IfOk result (λ places.
             AreAllPlaces self.now.program.now places.items) }
         ensures refused { IfErr result (λ fault.
-            IsProgramFault self.now.program.now fault.line fault.kind) }
+            IsLinesFault self.now.program.now fault.line fault.kind) }
     {
         let lines = self.program.lines();
         let mut code = Vec::new(alloc);
@@ -103,7 +103,7 @@ impl<'p> Listing<'p> {
         requires places { AreAllPlaces self.now.program.now self.now.places.items }
         ensures given { IfOk result (λ code. code.items ≡ code_of self.now.program.now) }
         ensures refused { IfErr result (λ fault.
-            IsProgramFault self.now.program.now fault.line fault.kind) }
+            IsLinesFault self.now.program.now fault.line fault.kind) }
     {
         let mut code = Vec::new(alloc);
         code.push(Instr::Pid(OWN))?;

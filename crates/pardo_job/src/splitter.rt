@@ -3,7 +3,7 @@ ghost use Rattle.std.specs.Prelude.{◌≡◌, ◌+◌, ◌≤◌, ◌<◌, ◌+
 ghost use Rattle.std.specs.Prelude.{IfOk, OnOk};
 ghost use Rattle.pardo_text.specs.Expression.{private};
 ghost use Rattle.pardo_job.specs.Flat.{split, split_store};
-ghost use Rattle.pardo_job.specs.Inner.Splits.{CanSplit, JoinsTo, TakesNode, part_of};
+ghost use Rattle.pardo_job.specs.Inner.Splits.{CanSplit, JoinsTo, TakesNode, split_part};
 
 use crate::needs::{Shape, is_beside, place_shape};
 use pardo_text::{Expr, Node, Op};
@@ -140,7 +140,7 @@ impl Splitter {
         ensures base { self.new.base ≡ self.old.base }
         ensures none { OnOk result (self.new.parts.items ≡ []) }
         ensures part { IfOk result (λ part. part
-            ≡ part_of (self.old.base + length self.old.pieces.items) expr.now) }
+            ≡ split_part (self.old.base + length self.old.pieces.items) expr.now) }
         ensures pieces { OnOk result (self.new.pieces.items ≡ self.old.pieces.items
             ++ (split (self.old.base + length self.old.pieces.items) expr.now).0) }
     {

@@ -1,6 +1,6 @@
 -- A run ends in one way, and the answer of the job is the program's.
 use Rattle.std.proofs.Common.{◌≡◌, ℕ, ◌+◌, ◌<◌, Option, Some, None, List}
-use Rattle.std.proofs.Common.{refl, ap, ◌∙◌, subst, inl, inr, ⊎_elim, take}
+use Rattle.std.proofs.Common.{refl, ap, ◌∙◌, subst, inl, inr, ⊎_elim, take, arith}
 use Rattle.std.specs.Prelude.{slice_index}
 use Rattle.std.proofs.lemmas.Bool.{cases_order}
 use Rattle.std.proofs.lemmas.List.{get_or-take}
@@ -14,13 +14,14 @@ use Rattle.pram_step.proofs.LawAnswer.{one_answer}
 use Rattle.pardo_text.specs.Program.{ProgramData}
 use Rattle.pardo_job.specs.Carries.{Carries, EndsAs}
 use Rattle.pram_step.specs.declared.answer.Dispute.{Dispute}
+use Rattle.pardo_job.specs.Flat.{flat}
 use Rattle.pardo_job.specs.Layouts.{program_layout}
 use Rattle.pardo_job.specs.Meaning.{after}
 use Rattle.pardo_job.specs.Runs.{IsLineReached, IsProgramEnd, IsProgramConflict}
 use Rattle.pardo_law.specs.Theorem.{ProgramEndsIn, RunsEndOnce, IsAnswerOf, AnswersAreThePrograms}
 use Rattle.pardo_law.proofs.Picturing.{shared_low}
 use Rattle.pardo_law.proofs.Ruling.{one_dispute}
-use Rattle.pardo_law.proofs.Theorem.{of, carries}
+use Rattle.pardo_law.proofs.FlatCarrying.{jobs_carry_programs, of_flat}
 
 -- ---- once
 
@@ -123,8 +124,14 @@ module _ (program : ProgramData) (job : JobData) (line_of : ℕ → ℕ)
       is.1 answer x)
       c.over.1
 
+shared_same : (program : ProgramData) →
+    (program_layout (flat program)).shared ≡ (program_layout program).shared
+unfolding program_layout
+shared_same program = refl
+
 pub answers_are_the_programs : AnswersAreThePrograms
 answers_are_the_programs program job line_of lawful nested compiled answer x =
-    answer_is program job line_of (λ cell lt. shared_low program job
-    (of program job line_of lawful nested compiled) cell lt)
-    (carries program job line_of lawful nested compiled) answer x
+    let same = shared_same program in
+    answer_is program job line_of (λ cell lt. shared_low (flat program) job
+    (of_flat program job line_of lawful nested compiled) cell (omega (arith, same, lt)))
+    (jobs_carry_programs program job line_of lawful nested compiled) answer x

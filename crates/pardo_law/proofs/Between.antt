@@ -30,7 +30,7 @@ use Rattle.pardo_job.specs.Runs.{line_number}
 use Rattle.pardo_job.proofs.Assigning.{both_code}
 use Rattle.pardo_job.proofs.Meanings.{asked_at, next_at}
 use Rattle.pardo_law.specs.Between.{AreLinesMade, Executes, HoldsVariables, IsInLine}
-use Rattle.pardo_law.specs.Between.{JobsGoThrough, LeavesIn, LinesNeverFall, PutsTo}
+use Rattle.pardo_law.specs.Between.{LeavesIn, LinesNeverFall, PutsTo}
 use Rattle.pardo_law.specs.Locals.{memory_of}
 use Rattle.pardo_law.proofs.Carried.{Carried, StillBelow, cost, place_low, still_all}
 use Rattle.pardo_law.proofs.Carrying.{carried_after, line_carried, line_next, time_next}
@@ -49,7 +49,6 @@ use Rattle.pardo_law.proofs.Showing.{all_stopped, here_shows, last_cells, last_p
 use Rattle.pardo_law.proofs.Showing.{later_same, out_shows, reached_last, shows, stopped_at}
 use Rattle.pardo_law.proofs.Starting.{first_standing, held_private, held_shared}
 use Rattle.pardo_law.proofs.Stepping.{same_cell}
-use Rattle.pardo_law.proofs.Theorem.{carries, of}
 
 -- ---- lines never fall
 
@@ -620,21 +619,3 @@ module _ (program : ProgramData) (job : JobData) (of : IsOf program job) (line_o
   leaves_at zero n i is reached lt leaves = absurd (none_first i lt leaves.is_gone)
   leaves_at (suc t) n i is reached lt leaves =
       leaves_from (suc t) n i (omega arith) is reached lt leaves
-
-pub jobs_go_through : JobsGoThrough
-unfolding carries
-jobs_go_through program job line_of lawful nested compiled =
-    let is : IsOf program job = of program job line_of lawful nested compiled in record {
-      carries = carries program job line_of lawful nested compiled;
-      made = λ t reached. made_at program job is line_of compiled.numbers compiled.whole t reached;
-      holds = λ t n reached made.
-          holds_at program job is line_of compiled.numbers compiled.whole t n made;
-      lines = λ t n i reached made lt runs.
-          lines_at program job is line_of compiled.numbers compiled.whole t n i made lt runs;
-      writes = λ t n cell i value reached made lt below put.
-          puts_at program job is line_of compiled.numbers compiled.whole t n cell i value made lt
-          below put;
-      leaves = λ t n i reached made lt leaves.
-          leaves_at program job is line_of compiled.numbers compiled.whole t n i made reached lt
-          leaves;
-    }

@@ -23,7 +23,9 @@ use Rattle.pardo_job.specs.Shows.{own_cell}
 use Rattle.pardo_law.specs.Between.{AreLinesMade, Executes, HoldsVariables, IsInLine, LeavesIn}
 use Rattle.pardo_law.specs.Between.{PutsTo}
 use Rattle.pardo_job.specs.Flat.{flat, most_pieces, nameless, pieces_of}
-use Rattle.pardo_law.specs.Flattening.{FlatJobsGoThrough, Shares, flat_count}
+use Rattle.pardo_law.specs.Between.{JobsGoThrough}
+use Rattle.pardo_job.specs.Carries.{Shares}
+use Rattle.pardo_law.specs.Flattening.{flat_count}
 use Rattle.pardo_law.proofs.Between.{holds_at, holds_over, leaves_at, lines_at, lines_never_fall}
 use Rattle.pardo_law.proofs.Between.{made_at, out_later, puts_at, stopped_puts, there_before}
 use Rattle.pardo_law.proofs.FlatCarrying.{Within, all_back, at_end, at_line, carried}
@@ -416,9 +418,9 @@ module _ (program : ProgramData) (lawful : IsProgram program) (job : JobData) (l
       (λ (l : IsLater t n). absurd (leaves.was_there (later_out t n i l lt)))
       (stands_by t n (λ earlier less. reached earlier (omega (arith, less))) made)
 
-pub flat_jobs_go_through : FlatJobsGoThrough
+pub jobs_go_through : JobsGoThrough
 unfolding carries_flat
-flat_jobs_go_through program job line_of lawful nested compiled =
+jobs_go_through program job line_of lawful nested compiled =
     let of = of_flat program job line_of lawful nested compiled in record {
       carries = carries_flat program lawful job line_of of compiled.whole compiled.numbers;
       made = λ t reached.

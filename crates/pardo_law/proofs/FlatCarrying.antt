@@ -32,8 +32,11 @@ use Rattle.pardo_job.specs.Runs.{AllGone, IsLineReached, IsProgramConflict, IsPr
 use Rattle.pardo_job.specs.Runs.{IsProgramOver, line_number}
 use Rattle.pardo_job.proofs.Meanings.{next_at, outside_is_unchanged}
 use Rattle.pardo_job.specs.Flat.{first_flat_of, flat, last_line, pieces_of}
-use Rattle.pardo_law.specs.Flattening.{CarriesFlat, FlatJobsCarryPrograms, KeepsLine, KeepsRun}
-use Rattle.pardo_law.specs.Flattening.{StandsFor, flat_count, size_next}
+use Rattle.pardo_job.specs.Carries.{Carries}
+use Rattle.pardo_law.specs.Theorem.{JobsCarryPrograms}
+use Rattle.pardo_law.specs.Flattening.{KeepsLine, KeepsRun}
+use Rattle.pardo_job.specs.Carries.{StandsFor}
+use Rattle.pardo_law.specs.Flattening.{flat_count, size_next}
 use Rattle.pardo_law.proofs.Between.{rises_to}
 use Rattle.pardo_law.proofs.Carried.{Carried}
 use Rattle.pardo_law.proofs.Carrying.{AreMade, all_at, carried_made, line_next}
@@ -41,7 +44,7 @@ use Rattle.pardo_law.proofs.Carrying.{time_of}
 use Rattle.pardo_law.proofs.Disputing.{line_number_is}
 use Rattle.pardo_law.proofs.Ending.{done, ends_as}
 use Rattle.pardo_law.proofs.Finishing.{finishes, reached_next}
-use Rattle.pardo_job.proofs.FlatLawful.{flat_lawful}
+use Rattle.pardo_job.proofs.FlatCompiled.{compiled_lawful}
 use Rattle.pardo_law.proofs.FlatLawful.{flat_tied}
 use Rattle.pardo_job.proofs.FlatLines.{flat_at, flat_end, last_stands}
 use Rattle.pardo_law.proofs.FlatStates.{some_at}
@@ -623,7 +626,7 @@ module _ (program : ProgramData) (lawful : IsProgram program) (job : JobData) (l
 
   -- ---- the theorem
 
-  unfoldable pub carries_flat : CarriesFlat program job line_of
+  unfoldable pub carries_flat : Carries program job line_of
   carries_flat = record {
     job_is = of.job_is;
     time = time;
@@ -659,33 +662,18 @@ module _ (program : ProgramData) (lawful : IsProgram program) (job : JobData) (l
 
 -- ---- of a lawful program
 
-cells_within : (a b c d e : ℕ) → max 1 (a + (b + c + d) * e) ≤ 65536 →
-    a + e * (b + c + d) ≤ 65536
-cells_within a b c d e le = let same = mul_comm (b + c + d) e in omega (arith, le, same)
-
 module _ (program : ProgramData) (job : JobData) (line_of : ℕ → ℕ) (lawful : IsProgram program)
-    (nested : IsNested program.lines) (compiled : IsCompiled (flat program) job line_of) where
-  cells_few : shared_cells program.arrays
-      + program.procs * (length (flat program).privates + program.loops + program.choices)
-      ≤ 65536
-  unfolding job_of program_layout
-  cells_few =
-      let few : job.cells ≤ 65536 = compiled.job_is.cells.1 in
-      let are : job.cells ≡ cell_count (program_layout (flat program)) =
-      ap (λ (j : JobData). j.cells) compiled.made in
-      cells_within (shared_cells program.arrays) (length (flat program).privates) program.loops
-      program.choices program.procs (omega (arith, few, are))
-
+    (nested : IsNested program.lines) (compiled : IsCompiled program job line_of) where
   pub of_flat : IsOf (flat program) job
   of_flat = record {
-    program_is = flat_lawful program lawful cells_few;
+    program_is = compiled_lawful program job line_of lawful compiled;
     job_is = compiled.job_is;
     made = compiled.made;
     level = compiled.level;
     tied = flat_tied program (tied program nested);
   }
 
-pub flat_jobs_carry_programs : FlatJobsCarryPrograms
-flat_jobs_carry_programs program job line_of lawful nested compiled =
+pub jobs_carry_programs : JobsCarryPrograms
+jobs_carry_programs program job line_of lawful nested compiled =
     carries_flat program lawful job line_of
     (of_flat program job line_of lawful nested compiled) compiled.whole compiled.numbers

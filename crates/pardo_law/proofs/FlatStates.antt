@@ -23,7 +23,7 @@ use Rattle.pardo_job.specs.Meaning.{private_assigned, shared_assigned, statement
 use Rattle.pardo_job.specs.Meaning.{value_written, write_of}
 use Rattle.pardo_job.specs.Flat.{flat, first_flat_of, has_room, last_line, last_of, moved_statement, line_parts}
 use Rattle.pardo_job.specs.Flat.{shape_of, split, split_statement, split_store, taken}
-use Rattle.pardo_law.specs.Flattening.{Shares, StandsFor}
+use Rattle.pardo_job.specs.Carries.{Shares, StandsFor}
 use Rattle.pardo_law.proofs.Carrying.{all_at}
 use Rattle.pardo_job.proofs.FlatLines.{flat_end, last_next, last_stands, last_is}
 pub use Rattle.pardo_job.proofs.FlatLines.{some_at}

@@ -32,7 +32,7 @@ use Rattle.pardo_job.specs.Runs.{IsLineReached, IsProgramConflict, IsProgramOver
 use Rattle.pardo_job.specs.Times.{AreAllLines, behind_mask, is_counted, line_most}
 use Rattle.pardo_job.specs.Times.{line_operations, line_time, line_times, reads_shared}
 use Rattle.pardo_job.specs.Times.{taking_part}
-use Rattle.pardo_law.specs.Counted.{FlatJobsTellLines, TellsFlatLine}
+use Rattle.pardo_law.specs.Counted.{JobsTellLines, TellsLine}
 use Rattle.pardo_law.specs.Flattening.{flat_count}
 use Rattle.pardo_law.proofs.Carrying.{carried_made, time_of}
 use Rattle.pardo_law.proofs.Counting.{taking_by}
@@ -40,117 +40,12 @@ use Rattle.pardo_law.proofs.FlatCarrying.{all_back, count_next, ends_flat, in_li
 use Rattle.pardo_law.proofs.FlatCarrying.{line_next_in}
 use Rattle.pardo_law.proofs.FlatCarrying.{made_flat, made_on, of_flat, over_to, stands}
 use Rattle.pardo_job.proofs.FlatLines.{first_next, flat_at, hidden_is, hidden_stands, last_stands}
+use Rattle.pardo_job.proofs.FlatFirsts.{FirstLine, first_line, first_only}
 use Rattle.pardo_law.proofs.Picturing.{IsOf}
 use Rattle.pardo_law.proofs.Telling.{CarriedAt, add_zero, all_told, at_end, at_start, begun, first}
 use Rattle.pardo_law.proofs.Telling.{first_inside, first_is_turn, in_it, in_other, max_zero, own}
 use Rattle.pardo_law.proofs.Telling.{own_from, own_inside, own_is_turn, own_share, share}
-use Rattle.pardo_law.proofs.Telling.{share_none, share_some, some_bit, sum_rises}
-
--- ---- what is split off
-
-two_none : (t : ℕ) (op : Op) (first second : Tree) (left right : List Tree × Tree) (b : Bool) →
-    (length left.0 ≡ 0 → left.1 ≡ first) → (length right.0 ≡ 0 → right.1 ≡ second) →
-    length (beside t b left right).0 ≡ 0 →
-    apply op (beside t b left right).1 (beside t b left right).2 ≡ apply op first second
-two_none t op first second left right true one other few =
-    let long = length-append left.0 right.0 in
-    ap (λ (x : Tree). apply op x right.1) (one (omega (arith, few, long)))
-    ∙ ap (apply op first) (other (omega (arith, few, long)))
-two_none t op first second left right false one other few =
-    let long = length-append left.0 (right.0 ++ right.1 ∷ []) in
-    let more = length-append right.0 (right.1 ∷ []) in absurd (omega (arith, few, long, more))
-
-split_none : (t : ℕ) (tree : Tree) → length (split t tree).0 ≡ 0 → (split t tree).1 ≡ tree
-split_none t (number k) none = refl
-split_none t own_number none = refl
-split_none t (loop nest) none = refl
-split_none t (private x) none = refl
-split_none t (place array index) none = ap (place array) (split_none t index none)
-split_none t (apply op first second) none =
-    two_none t op first second (split t first) (split (t + length (split t first).0) second)
-    (is_beside op (shape_of (split t first).1) (shape_of second))
-    (λ few. split_none t first few)
-    (λ few. split_none (t + length (split t first).0) second few) none
-
--- ---- where the lines for a line stand
-
-module _ (program : ProgramData) where
-  first_rises : (a b : ℕ) → a ≤ b → first_flat_of program a ≤ first_flat_of program b
-  unfolding first_flat_of
-  first_rises a b le = sum_rises (flat_size program) program.lines a b le
-
-  -- of the lines for the line a, only the first may be the first for the line j
-  first_only : (a j k : ℕ) (line other : Line) → slice_get program.lines a ≡ Some line →
-      slice_get program.lines j ≡ Some other → k ≤ length (pieces_of program line) →
-      first_flat_of program a + k ≡ first_flat_of program j → (a ≡ j) × (k ≡ 0)
-  first_only a j k line other is found le same = ⊎_elim
-      (λ (low : a < j).
-      let e = first_next program a line is in
-      let f = first_rises (a + 1) j (omega arith) in absurd (omega (arith, e, f, le, same)))
-      (λ (high : j ≤ a). ⊎_elim
-      (λ (more : j < a).
-      let e = first_next program j other found in
-      let f = first_rises (j + 1) a (omega arith) in absurd (omega (arith, e, f, same)))
-      (λ (less : a ≤ j).
-      let one : a ≡ j = omega arith in
-      let e = ap (first_flat_of program) one in (one, omega (arith, e, same)))
-      (cases_lt j a))
-      (cases_lt a j)
-
-  -- ---- the first line for a counted line is counted
-
-  module _ (j : ℕ) (line : Line) (is : slice_get program.lines j ≡ Some line)
-      (counted : is_counted line.statement ≡ true) where
-    rest_counts : (t : ℕ) (statement : Statement) → is_counted statement ≡ true → (b : Bool) →
-        length (if b then ([], statement) else split_statement t statement).0 ≡ 0 →
-        is_counted (moved_statement program (if b then ([], statement)
-        else split_statement t statement).1) ≡ true
-    rest_counts t (Assign (Private x) tree) counts true none = refl
-    rest_counts t (Assign (Private x) tree) counts false none = refl
-    rest_counts t (Assign (Shared array index) tree) counts true none = refl
-    rest_counts t (Assign (Shared array index) tree) counts false none = refl
-    rest_counts t (If tree) counts true none = counts
-    rest_counts t (If tree) counts false none = ap reads_shared (split_none t tree none) ∙ counts
-    rest_counts t Else counts b none = absurd (let e : false ≡ true = counts in cc)
-    rest_counts t EndIf counts b none = absurd (let e : false ≡ true = counts in cc)
-    rest_counts t (While tree end) counts b none = absurd (let e : false ≡ true = counts in cc)
-    rest_counts t (EndWhile begin) counts b none = absurd (let e : false ≡ true = counts in cc)
-    rest_counts t (For nest first last up end) counts b none =
-        absurd (let e : false ≡ true = counts in cc)
-    rest_counts t (EndFor begin) counts b none = absurd (let e : false ≡ true = counts in cc)
-
-    pub record FirstLine : Type 0 where
-      pub line_is : Line
-      pub found : slice_get (flat program).lines (first_flat_of program j) ≡ Some line_is
-      pub depth : line_is.depth ≡ line.depth
-      pub counts : is_counted line_is.statement ≡ true
-
-    last_counts : length (pieces_of program line) ≡ 0 →
-        is_counted (last_line program line).statement ≡ true
-    last_counts none =
-        rest_counts (length program.privates) line.statement counted (fits line.statement) none
-
-    pub first_line : FirstLine
-    first_line = ⊎_elim
-        (λ (some : 0 < length (pieces_of program line)).
-        let there = hidden_is line (length program.privates) (pieces_of program line) 0 some in
-        let e : first_flat_of program j + 0 ≡ first_flat_of program j = omega arith in record {
-          line_is = record line { statement = Assign (Private there.0) there.1 };
-          found = ap (slice_get (flat program).lines) (sym e)
-              ∙ hidden_stands program j line is 0 some ∙ there.2;
-          depth = refl;
-          counts = refl;
-        })
-        (λ (none : length (pieces_of program line) ≤ 0).
-        let zero_is : length (pieces_of program line) ≡ 0 = omega arith in
-        let e : first_flat_of program j ≡ first_flat_of program j + length (pieces_of program line) =
-        omega (arith, none) in record {
-          line_is = last_line program line;
-          found = ap (slice_get (flat program).lines) e ∙ last_stands program j line is;
-          depth = refl;
-          counts = last_counts zero_is;
-        })
-        (cases_lt 0 (length (pieces_of program line)))
+use Rattle.pardo_law.proofs.Telling.{share_none, share_some, some_bit}
 
 -- ---- the run
 
@@ -377,7 +272,7 @@ module _ (program : ProgramData) (lawful : IsProgram program) (job : JobData) (l
         (not_over n goes_on here) there
         ∙ sym (ap bit (eq-eqb (after program n).at j here))))
 
-    pub tells_flat : (n : ℕ) → AreAllLines program n → TellsFlatLine program job n j its_line.depth
+    pub tells_flat : (n : ℕ) → AreAllLines program n → TellsLine program job n j its_line.depth
     tells_flat n lines = record {
       times = times_told n lines;
       time = time_told n lines;
@@ -385,8 +280,8 @@ module _ (program : ProgramData) (lawful : IsProgram program) (job : JobData) (l
       most = most_told n lines;
     }
 
-pub flat_jobs_tell_lines : FlatJobsTellLines
-flat_jobs_tell_lines program job line_of n j line lawful nested compiled lines is counted =
-    subst (TellsFlatLine program job n j) (first_line program j line is counted).depth
+pub jobs_tell_lines : JobsTellLines
+jobs_tell_lines program job line_of n j line lawful nested compiled lines is counted =
+    subst (TellsLine program job n j) (first_line program j line is counted).depth
     (tells_flat program lawful job line_of (of_flat program job line_of lawful nested compiled)
     compiled.whole compiled.numbers j line is counted n lines)

@@ -14,7 +14,8 @@ use Rattle.pardo_job.specs.Meaning.{Source, after, after_statement, asked_in, ne
 use Rattle.pardo_job.proofs.Meanings.{asked_at, gone_for_good, next_at}
 use Rattle.pardo_job.specs.Flat.{first_flat_of, fits, flat, hidden, last_line, moved_statement, most_pieces, nameless}
 use Rattle.pardo_job.specs.Flat.{line_parts, pieces_of}
-use Rattle.pardo_law.specs.Flattening.{FlatteningKeepsRuns, KeepsLine, Shares, StandsFor}
+use Rattle.pardo_law.specs.Flattening.{FlatteningKeepsRuns, KeepsLine}
+use Rattle.pardo_job.specs.Carries.{Shares, StandsFor}
 use Rattle.pardo_law.specs.Flattening.{flat_count, size_next}
 use Rattle.pardo_law.proofs.Carrying.{all_at}
 use Rattle.pardo_job.proofs.FlatLines.{first_next, get_front, hidden_is, hidden_stands, last_stands}

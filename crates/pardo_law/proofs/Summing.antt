@@ -10,6 +10,7 @@ use Rattle.pardo_text.specs.declared.statement.Line.{Line}
 use Rattle.pardo_text.specs.Operations.{bit}
 use Rattle.pardo_text.specs.Program.{ProgramData}
 use Rattle.pardo_job.specs.declared.times.CountedLine.{CountedLine}
+use Rattle.pardo_job.specs.Flat.{first_flat_of, flat}
 use Rattle.pardo_job.specs.Lines.{place_of}
 use Rattle.pardo_job.specs.Meaning.{Source, after, is_active}
 use Rattle.pardo_job.specs.Times.{counted_from, counted_place, is_counted}
@@ -44,8 +45,8 @@ module _ (program : ProgramData) (at amount : ℕ) where
   line_in j line = record {
     at = j;
     number = line.number;
-    first = place_of program j;
-    own = counted_place program j line.depth;
+    first = place_of (flat program) (first_flat_of program j);
+    own = counted_place (flat program) (first_flat_of program j) line.depth;
   }
 
   abbrev one_line : ℕ → Line → Bool → List CountedLine

@@ -14,7 +14,6 @@ use Rattle.pardo_job.specs.Conflicts.{IsLineDispute}
 use Rattle.pram_step.specs.declared.answer.Dispute.{Dispute}
 use Rattle.pardo_job.specs.Meaning.{after}
 use Rattle.pardo_job.specs.Runs.{IsProgramConflict, line_number}
-use Rattle.pardo_law.specs.Theorem.{JobsCarryPrograms}
 use Rattle.pardo_law.proofs.Carried.{Carried}
 use Rattle.pardo_law.proofs.Carrying.{carried_after, line_next, made_so_far, time_next, time_of}
 use Rattle.pardo_law.proofs.Disputing.{InConflict, in_conflict, line_number_is}
@@ -64,48 +63,3 @@ module _ (program : ProgramData) (job : JobData) (line_of : ℕ → ℕ) (of : I
         comes = found.comes ∙ sym named;
         comes_too = found.comes_too ∙ sym named;
       }
-
-module _ (program : ProgramData) (job : JobData) (line_of : ℕ → ℕ) (lawful : IsProgram program)
-    (nested : IsNested program.lines)
-    (compiled : IsCompiled program job line_of) where
-  pub of : IsOf program job
-  of = record {
-    program_is = lawful;
-    job_is = compiled.job_is;
-    made = compiled.made;
-    level = compiled.level;
-    tied = tied program nested;
-  }
-
-  pub step_of : (n : ℕ) (dispute : Dispute) → IsProgramConflict program n dispute →
-      IsStep program job line_of n dispute
-  step_of n dispute is =
-      let c = carried_after program job of n is.reached in
-      let line = line_next program (after program n) c.pictured.within is.goes_on in
-      step_in program job line_of of compiled.whole compiled.numbers n c line.0 line.1 dispute
-      is.disputed
-
-  unfoldable pub carries : Carries program job line_of
-  carries = record {
-    job_is = compiled.job_is;
-    time = time_of program;
-    starts = refl;
-    rises = λ n. (let e : n + 1 ≡ suc n = omega arith in
-        let f : time_of program (n + 1) ≡ time_of program (suc n) = ap (time_of program) e in
-        omega arith);
-    shows = λ n reached. let c = carried_after program job of n reached in
-        (c.standing.reached, shows program job of (after program n) (time_of program n) c);
-    ends = λ n is. (
-      ends_as program job of compiled.whole line_of compiled.numbers n
-          (made_so_far program job of n is.reached) is.over,
-      (done program job of compiled.whole line_of compiled.numbers n
-          (made_so_far program job of n is.reached) is.over).within,
-    );
-    disputes = λ n dispute is. let s = step_of n dispute is in
-        (s.before, s.time_is, s.steps_are, s.fault, s.comes, s.comes_too);
-    over = finishes program job of compiled.whole;
-  }
-
-pub jobs_carry_programs : JobsCarryPrograms
-jobs_carry_programs program job line_of lawful nested compiled =
-    carries program job line_of lawful nested compiled

@@ -13,25 +13,10 @@ use Rattle.pardo_job.specs.Times.{AreAllLines, counted_from, counted_place, is_c
 use Rattle.pardo_job.specs.Times.{line_most, line_operations, line_time, line_times}
 use Rattle.pardo_job.specs.Times.{operations_to, time_to}
 
--- The job tells of the line j what is so of it in the n lines of the run: its first instruction is
--- executed as often as the line, and the one at its counted place by those that take part in it.
+-- The job tells of the line j what is so of it in the n lines of the run: the first instruction of
+-- the lines made for it is executed as often as the line, and the one at their counted place by
+-- those that take part in it.
 pub record TellsLine (program : ProgramData) (job : JobData) (n j depth : ℕ) : Type 0 where
-  pub times : steps_at job (place_of program j) job.steps ≡ line_times program j n
-  pub time : steps_at job (counted_place program j depth) job.steps ≡ line_time program j n
-  pub operations : executed_at job (counted_place program j depth) job.steps
-      ≡ line_operations program j n
-  pub most : most_at job (counted_place program j depth) job.steps ≡ line_most program j n
-
--- What the compiler makes of a program tells the costs of each counted line.
-abbrev pub JobsTellLines : Type 0
-JobsTellLines = (program : ProgramData) (job : JobData) (line_of : ℕ → ℕ) (n j : ℕ)
-    (line : Line) → IsProgram program → IsNested program.lines → IsCompiled program job line_of →
-    AreAllLines program n → slice_get program.lines j ≡ Some line →
-    is_counted line.statement ≡ true → TellsLine program job n j line.depth
-
--- The job of the flat program tells it of the line j of the program by the first of the lines that
--- are made for it.
-pub record TellsFlatLine (program : ProgramData) (job : JobData) (n j depth : ℕ) : Type 0 where
   pub times : steps_at job (place_of (flat program) (first_flat_of program j)) job.steps
       ≡ line_times program j n
   pub time : steps_at job (counted_place (flat program) (first_flat_of program j) depth) job.steps
@@ -41,12 +26,12 @@ pub record TellsFlatLine (program : ProgramData) (job : JobData) (n j depth : �
   pub most : most_at job (counted_place (flat program) (first_flat_of program j) depth) job.steps
       ≡ line_most program j n
 
-abbrev pub FlatJobsTellLines : Type 0
-FlatJobsTellLines = (program : ProgramData) (job : JobData) (line_of : ℕ → ℕ) (n j : ℕ)
-    (line : Line) → IsProgram program → IsNested program.lines →
-    IsCompiled (flat program) job line_of → AreAllLines program n →
-    slice_get program.lines j ≡ Some line → is_counted line.statement ≡ true →
-    TellsFlatLine program job n j line.depth
+-- What the compiler makes of a program tells the costs of each counted line.
+abbrev pub JobsTellLines : Type 0
+JobsTellLines = (program : ProgramData) (job : JobData) (line_of : ℕ → ℕ) (n j : ℕ)
+    (line : Line) → IsProgram program → IsNested program.lines → IsCompiled program job line_of →
+    AreAllLines program n → slice_get program.lines j ≡ Some line →
+    is_counted line.statement ≡ true → TellsLine program job n j line.depth
 
 -- The counted lines together have all operations, and all the time.
 abbrev pub LinesAddUp : Type 0

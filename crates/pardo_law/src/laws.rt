@@ -3,10 +3,9 @@
 ghost use Rattle.pardo_job.specs.Laws.{AnyWriterCounts, CrewIsAccepted, OneLineDispute};
 ghost use Rattle.pardo_job.specs.Laws.{RuleChangesNoState, UnwrittenIsKept};
 ghost use Rattle.pardo_law.specs.Between.{JobsGoThrough, LinesNeverFall};
-ghost use Rattle.pardo_law.specs.Counted.{FlatJobsTellLines, JobsTellLines, LinesAddUp};
+ghost use Rattle.pardo_law.specs.Counted.{JobsTellLines, LinesAddUp};
 ghost use Rattle.pardo_law.specs.FlatLevels.{FittingIsFlat, FlatLinesAreLevel, PiecesAreSmall};
 ghost use Rattle.pardo_law.specs.FlatLevels.{RoomIsEnough, SmallIsWhole};
-ghost use Rattle.pardo_law.specs.Flattening.{FlatJobsCarryPrograms, FlatJobsGoThrough};
 ghost use Rattle.pardo_law.specs.Flattening.{FlatteningKeepsRuns};
 ghost use Rattle.pardo_law.specs.Locals.{EachByItself, ExpressionsAreStraight, IdlingStays};
 ghost use Rattle.pardo_law.specs.Locals.{StoresAreMade, StraightCodeRuns};
@@ -113,24 +112,6 @@ pub fn rule_changes_no_run()
 /// show those of the program.
 pub fn flattening_keeps_runs()
     ensures { FlatteningKeepsRuns }
-{}
-
-/// What the compiler makes of a flat program carries the run of the program: the job's states show
-/// flat states that stand for those of the program, and it ends as the program does, or in its
-/// first conflict.
-pub fn flat_jobs_carry_programs()
-    ensures { FlatJobsCarryPrograms }
-{}
-
-/// What the compiler makes of a flat program goes through the lines of the program.
-pub fn flat_jobs_go_through()
-    ensures { FlatJobsGoThrough }
-{}
-
-/// The run of the job that the compiler makes of a flat program tells of each counted line of the
-/// program what the run of the job of the program would.
-pub fn flat_jobs_tell_lines()
-    ensures { FlatJobsTellLines }
 {}
 
 /// Three registers are enough for an expression that is said to need no more.

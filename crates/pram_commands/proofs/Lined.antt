@@ -17,6 +17,7 @@ use Rattle.pardo_text.specs.Program.{ProgramData}
 use Rattle.pardo_job.specs.declared.times.CountedLine.{CountedLine}
 use Rattle.pardo_job.specs.Compiled.{CompiledData}
 use Rattle.pardo_job.specs.Drafts.{IsComplete}
+use Rattle.pardo_job.specs.Flat.{first_flat_of, flat}
 use Rattle.pardo_job.specs.Lines.{code_of, job_of, place_of}
 use Rattle.pardo_job.specs.Times.{counted_from, counted_line, counted_place, is_counted}
 use Rattle.pardo_job.proofs.Counted.{counted_within}
@@ -29,8 +30,8 @@ record IsInCode (job : JobData) (counted : CountedLine) : Type 0 where
   first : counted.first < length job.code
   own : counted.own < length job.code
 
-module _ (program : ProgramData) (job : JobData) (made : job ≡ job_of program job.steps) where
-  code_is : job.code ≡ code_of program
+module _ (program : ProgramData) (job : JobData) (made : job ≡ job_of (flat program) job.steps) where
+  code_is : job.code ≡ code_of (flat program)
   unfolding job_of
   code_is = ap (λ (j : JobData). j.code) made
 
@@ -39,13 +40,13 @@ module _ (program : ProgramData) (job : JobData) (made : job ≡ job_of program 
       then record {
         at = j;
         number = line.number;
-        first = place_of program j;
-        own = counted_place program j line.depth;
+        first = place_of (flat program) (first_flat_of program j);
+        own = counted_place (flat program) (first_flat_of program j) line.depth;
       } ∷ []
       else []
 
   one_in_code : (j : ℕ) (line : Line) → slice_get program.lines j ≡ Some line →
-      All (IsInCode job) (counted_line (place_of program j) j line)
+      All (IsInCode job) (counted_line (place_of (flat program) (first_flat_of program j)) j line)
   one_in_code j line is = by_counted (is_counted line.statement) refl
     where
       by_counted : (b : Bool) → is_counted line.statement ≡ b →
@@ -55,13 +56,13 @@ module _ (program : ProgramData) (job : JobData) (made : job ≡ job_of program 
       by_counted true e =
           let low = counted_within program j line is e in
           let same = ap (λ (code : List _). length code) code_is in
-          let own : counted_place program j line.depth < length job.code = omega arith in
-          let first : place_of program j < length job.code = omega arith in
+          let own : counted_place (flat program) (first_flat_of program j) line.depth < length job.code = omega arith in
+          let first : place_of (flat program) (first_flat_of program j) < length job.code = omega arith in
           let in_code : IsInCode job (record {
             at = j;
             number = line.number;
-            first = place_of program j;
-            own = counted_place program j line.depth;
+            first = place_of (flat program) (first_flat_of program j);
+            own = counted_place (flat program) (first_flat_of program j) line.depth;
           }) = record { first = first; own = own } in
           subst (λ b. All (IsInCode job) (listed j line b)) (sym e)
           (All-cons (IsInCode job) _ [] in_code (All-nil (IsInCode job)))
@@ -72,7 +73,7 @@ module _ (program : ProgramData) (job : JobData) (made : job ≡ job_of program 
   all_in_code j [] there = All-nil (IsInCode job)
   all_in_code j (line ∷ lines) there =
       let here : j + 0 ≡ j = omega arith in
-      All-append (IsInCode job) (counted_line (place_of program j) j line)
+      All-append (IsInCode job) (counted_line (place_of (flat program) (first_flat_of program j)) j line)
       (counted_from program (j + 1) lines)
       (one_in_code j line (subst (λ k. slice_get program.lines k ≡ Some line) here
       (there 0 line refl)))
@@ -137,7 +138,7 @@ module _ (job : JobData) (rows : List Tallied)
       (all_told counted (λ k d lt. are (suc k) d (omega arith)))
 
 pub lines_told : (program : ProgramData) (job : JobData) (rows : List Tallied) →
-    job ≡ job_of program job.steps →
+    job ≡ job_of (flat program) job.steps →
     HasProfiled (record job { steps = 0 }) job.steps rows →
     map (line_by rows) (counted_from program 0 program.lines)
     ≡ map (line_cost job) (counted_from program 0 program.lines)

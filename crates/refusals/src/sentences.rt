@@ -59,9 +59,10 @@ fn of_program_text(kind: PardoKind) -> &'static str {
 // Why a line of a program is not compiled.
 fn of_program_job(kind: JobKind) -> &'static str {
     match kind {
-        JobKind::TooDeep => "three registers are too few for an expression: use a private variable",
+        JobKind::TooDeep => "three registers are too few for an expression of a loop: use a scalar",
         JobKind::TooLong => "a program has at most 4,096 instructions",
         JobKind::Endless => "the program is still here after 1,048,576 steps",
+        JobKind::TooManyCells => "with its hidden lines a program has at most 65,536 cells",
         JobKind::Memory => "there is no memory to read it",
     }
 }

@@ -8,6 +8,8 @@ use Rattle.pardo_text.specs.declared.statement.Statement.TheVariants.{While, End
 use Rattle.pardo_text.specs.Expression.{Tree}
 use Rattle.pardo_text.specs.Lawful.{IsProgram}
 use Rattle.pardo_text.specs.Program.{ProgramData}
+use Rattle.pram_job.specs.declared.limits.TheConstants.{MAX_CODE}
+use Rattle.pardo_job.specs.Lines.{place_of}
 use Rattle.pardo_job.specs.declared.flat.Flat.{Flat}
 use Rattle.pardo_job.specs.declared.flat.FlatLines.{FlatLines}
 use Rattle.pardo_job.specs.declared.flat.Flattened.{Flattened}
@@ -26,8 +28,8 @@ abbrev pub parted_line : ℕ → Line → List Tree → Statement → List Line
 parted_line base line pieces rest =
     hidden line base pieces ++ record line { statement = rest } ∷ []
 
-abbrev pub parted : ProgramData → Line → List Line
-parted program line = parted_line (length program.privates) line (line_parts program line).0
+abbrev pub unmoved_lines : ProgramData → Line → List Line
+unmoved_lines program line = parted_line (length program.privates) line (line_parts program line).0
     (line_parts program line).1
 
 -- the lines that loops name, where these are the first of the lines for each
@@ -44,7 +46,7 @@ moved_line first line = record line { statement = moved_by first line.statement 
 -- the lines for the first n lines of the program
 pub record AreFlatSoFar (program : ProgramData) (n : ℕ) (lines : List Line) (firsts : List ℕ)
     (most split : ℕ) : Type 0 where
-  pub lines_are : lines ≡ flat_map (parted program) (take n program.lines)
+  pub lines_are : lines ≡ flat_map (unmoved_lines program) (take n program.lines)
   pub count : length firsts ≡ n
   pub firsts_are : (j : ℕ) → j < n → slice_index firsts j ≡ first_flat_of program j
   pub most_is : most ≡ most_pieces program (take n program.lines)
@@ -57,7 +59,7 @@ AreFirsts program firsts = (j : ℕ) → j ≤ length program.lines →
 
 -- the lines for all lines
 pub record AreFlat (program : ProgramData) (flat : FlatLines) : Type 0 where
-  pub lines_are : flat.lines.items ≡ flat_map (parted program) program.lines
+  pub lines_are : flat.lines.items ≡ flat_map (unmoved_lines program) program.lines
   pub count : length flat.firsts.items ≡ length program.lines + 1
   pub firsts_are : AreFirsts program flat.firsts.items
   pub most_is : flat.most ≡ most_pieces program program.lines
@@ -76,6 +78,12 @@ DoAllFit lines = (j : ℕ) (line : Line) → slice_get lines j ≡ Some line →
     fits line.statement ≡ true
 
 abbrev pub IsFlattened : ProgramData → Flattened → Type 0
-IsFlattened program flattened.Same = flat program ≡ program
+IsFlattened program flattened.Same = DoAllFit program.lines
 IsFlattened program (flattened.Flat given) = IsFlatProgram program given
 IsFlattened program (flattened.TooWide number) = IsTooWide program number
+
+-- where the code of these lines begins, by the places of all
+pub record AreFirstPlaces (lines : ProgramData) (firsts places : List ℕ) : Type 0 where
+  pub each : (j : ℕ) → j < length firsts → slice_index firsts j < length lines.lines →
+      slice_index places j ≡ place_of lines (slice_index firsts j)
+  pub short : place_of lines (length lines.lines) < MAX_CODE

@@ -5,6 +5,7 @@ use Rattle.pardo_text.specs.declared.statement.Line.{Line}
 use Rattle.pardo_text.specs.Program.{ProgramData}
 use Rattle.pardo_job.specs.declared.fault.JobKind.{JobKind}
 use Rattle.pardo_job.specs.declared.fault.JobKind.TheVariants.{TooDeep, TooLong, Endless, Memory}
+use Rattle.pardo_job.specs.declared.fault.JobKind.TheVariants.{TooManyCells}
 use Rattle.pardo_job.specs.Lines.{length_of_line, place_of}
 use Rattle.pardo_job.specs.Refusals.{AreFine, is_level}
 
@@ -33,4 +34,5 @@ IsFaultAt program line place number TooLong =
     (number ≡ line.number) × (is_level program line ≡ true)
     × (MAX_CODE ≤ place + length_of_line program line)
 IsFaultAt program line place number Endless = ⊥
+IsFaultAt program line place number TooManyCells = ⊥
 IsFaultAt program line place number Memory = number ≡ 0

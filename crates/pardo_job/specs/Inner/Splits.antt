@@ -11,8 +11,8 @@ use Rattle.pardo_job.specs.Flat.{ShapeData, applied_shape, computed_shape, is_be
 use Rattle.pardo_job.specs.Flat.{shape_of, split}
 
 -- what is left of an expression, with its shape and that of the whole expression
-abbrev pub part_of : ℕ → Tree → Part
-part_of t tree = record {
+abbrev pub split_part : ℕ → Tree → Part
+split_part t tree = record {
   rest = (split t tree).1;
   shape = shape_of (split t tree).1;
   whole = shape_of tree;
@@ -27,7 +27,7 @@ pieces_after t before (tree ∷ trees) = pieces_after t before trees
 abbrev pub parts_after : ℕ → List Tree → List Tree → List Part
 parts_after t before [] = []
 parts_after t before (tree ∷ trees) = parts_after t before trees
-    ++ part_of (t + length (pieces_after t before trees)) tree ∷ []
+    ++ split_part (t + length (pieces_after t before trees)) tree ∷ []
 
 -- the operands of a node are there
 abbrev pub HasOperands : List Tree → Node → Type 0

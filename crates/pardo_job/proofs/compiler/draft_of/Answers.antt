@@ -1,36 +1,54 @@
-use Rattle.std.proofs.Common.{◌∙◌, ap, arith}
-use Rattle.pardo_text.specs.Program.{ProgramData}
-use Rattle.pardo_job.specs.Lines.{code_of}
-use Rattle.pardo_job.specs.Refusals.{line_numbers}
-use Rattle.pardo_job.proofs.Placed.{level_all}
-use Rattle.pardo_job.proofs.Starts.{parts_are, parts_fit}
+use Rattle.std.proofs.Common.{subst}
+use Rattle.std.proofs.lemmas.Result.{IfOk-weaker}
+use Rattle.pardo_job.specs.Inner.Flats.{DoAllFit, IsFlatProgram, IsFlattened}
+use Rattle.pardo_job.proofs.Drafting.{err_weaker, flat_draft, flat_fault, flat_places}
+use Rattle.pardo_job.proofs.Drafting.{same_draft, same_fault, same_places}
 use Rattle.pardo_job.proofs.compiler.draft_of.Goals as goal
 
-pub of_parts-job-requires : goal.of_parts-job-requires
-of_parts-job-requires c =
-    let code = c.in_ok-code.ensures.given ∙
-    ap (λ (p : ProgramData). code_of p) c.in_ok-listing.ensures.program in
-    let parts = parts_are c.args.program.now _ _ _ _ _ c.requires c.rule.ensures c.procs.ensures
-    c.in_ok-init.init.ok.0 c.in_ok-init.ensures code in
-    parts_fit c.args.program.now c.in_ok-listing.listing.places.items _ c.requires
-    c.in_ok-listing.ensures.places parts
+pub returns-in-Same-clause-draft : goal.returns-in-Same-clause-draft
+returns-in-Same-clause-draft c =
+    let fit : DoAllFit c.args.program.now.lines =
+    subst (IsFlattened c.args.program.now) c.in-Same.is c.in_ok-flatten.ensures in
+    IfOk-weaker c.draft_of_lines.result _ _
+    (λ given draft. same_draft c.args.program.now c.requires fit given.0 given.1.items draft)
+    c.draft_of_lines.ensures.draft
 
-pub returns-clause-draft : goal.returns-clause-draft
-returns-clause-draft c =
-    let code = c.in_ok-code.ensures.given ∙
-    ap (λ (p : ProgramData). code_of p) c.in_ok-listing.ensures.program in
-    record {
-      lawful = c.requires;
-      made = c.of_parts-job.ensures ∙ parts_are c.args.program.now _ _ _ _ _ c.requires c.rule.ensures
-          c.procs.ensures c.in_ok-init.init.ok.0 c.in_ok-init.ensures code;
-      level = level_all c.args.program.now c.in_ok-listing.listing.places.items
-          c.in_ok-listing.ensures.places;
-      numbers_are = c.in_ok-numbers.ensures ∙
-          ap (λ (p : ProgramData). line_numbers p) c.in_ok-listing.ensures.program;
-    }
+pub returns-in-Same-clause-places : goal.returns-in-Same-clause-places
+returns-in-Same-clause-places c =
+    let fit : DoAllFit c.args.program.now.lines =
+    subst (IsFlattened c.args.program.now) c.in-Same.is c.in_ok-flatten.ensures in
+    IfOk-weaker c.draft_of_lines.result _ _
+    (λ given are. same_places c.args.program.now c.requires fit given.2.items are)
+    c.draft_of_lines.ensures.places
 
-pub returns-clause-places : goal.returns-clause-places
-returns-clause-places c = record {
-  each = λ j lt. c.in_ok-listing.ensures.places.each j (omega arith);
-  short = c.in_ok-listing.ensures.places.short;
-}
+pub returns-in-Same-clause-refused : goal.returns-in-Same-clause-refused
+returns-in-Same-clause-refused c =
+    let fit : DoAllFit c.args.program.now.lines =
+    subst (IsFlattened c.args.program.now) c.in-Same.is c.in_ok-flatten.ensures in
+    err_weaker c.draft_of_lines.result _ _
+    (λ fault is. same_fault c.args.program.now c.requires fit fault.line fault.kind is)
+    c.draft_of_lines.ensures.refused
+
+pub returns-in-Flat-clause-draft : goal.returns-in-Flat-clause-draft
+returns-in-Flat-clause-draft c =
+    let is : IsFlatProgram c.args.program.now c.in-Flat.flat =
+    subst (IsFlattened c.args.program.now) c.in-Flat.is c.in_ok-flatten.ensures in
+    IfOk-weaker c.draft_of_flat.result _ _
+    (λ given draft. flat_draft c.args.program.now c.requires c.in-Flat.flat is given.0
+    given.1.items draft) c.draft_of_flat.ensures.draft
+
+pub returns-in-Flat-clause-places : goal.returns-in-Flat-clause-places
+returns-in-Flat-clause-places c =
+    let is : IsFlatProgram c.args.program.now c.in-Flat.flat =
+    subst (IsFlattened c.args.program.now) c.in-Flat.is c.in_ok-flatten.ensures in
+    IfOk-weaker c.draft_of_flat.result _ _
+    (λ given are. flat_places c.args.program.now c.requires c.in-Flat.flat is given.2.items are)
+    c.draft_of_flat.ensures.places
+
+pub returns-in-Flat-clause-refused : goal.returns-in-Flat-clause-refused
+returns-in-Flat-clause-refused c =
+    let is : IsFlatProgram c.args.program.now c.in-Flat.flat =
+    subst (IsFlattened c.args.program.now) c.in-Flat.is c.in_ok-flatten.ensures in
+    err_weaker c.draft_of_flat.result _ _
+    (λ fault wrong. flat_fault c.args.program.now c.requires c.in-Flat.flat is fault.line
+    fault.kind wrong) c.draft_of_flat.ensures.refused

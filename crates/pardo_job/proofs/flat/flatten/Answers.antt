@@ -1,7 +1,6 @@
 use Rattle.std.proofs.Common.{◌∙◌, ap, List, map, refl, ℕ}
 use Rattle.std.specs.Prelude.{slice_index}
 use Rattle.pardo_job.specs.Inner.Flats.{moved_line}
-use Rattle.pardo_job.proofs.FlatWhole.{whole}
 use Rattle.pardo_job.proofs.Flats.{flat_whole, too_wide}
 use Rattle.pardo_job.proofs.flat.flatten.Goals as goal
 
@@ -22,5 +21,4 @@ returns c =
     c.in_ok-program.ensures refl
 
 pub returns-then-enough : goal.returns-then-enough
-returns-then-enough c =
-    whole c.args.program.now c.requires (c.in_ok-enough.ensures c.if-enough.true)
+returns-then-enough c = c.in_ok-enough.ensures c.if-enough.true

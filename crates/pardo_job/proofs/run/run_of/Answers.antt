@@ -1,4 +1,4 @@
-use Rattle.std.proofs.Common.{ℕ, arith}
+use Rattle.std.proofs.Common.{arith}
 use Rattle.pram_step.specs.Last.{AreLast}
 use Rattle.pardo_job.proofs.Ends.{both_seen, disputed_run, run_seen, through_run}
 use Rattle.pardo_job.proofs.run.run_of.Goals as goal

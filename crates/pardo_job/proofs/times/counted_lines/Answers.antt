@@ -1,6 +1,7 @@
 use Rattle.std.proofs.Common.{◌≡◌, ◌<◌, ◌∙◌, ◌++◌, ℕ, List, ap, arith, length}
 use Rattle.pardo_text.specs.declared.statement.Line.{Line}
 use Rattle.pardo_job.specs.declared.times.CountedLine.{CountedLine}
+use Rattle.pardo_job.specs.Flat.{first_flat_of, flat}
 use Rattle.pardo_job.specs.Lines.{place_of}
 use Rattle.pardo_job.specs.Times.{counted_line}
 use Rattle.pardo_job.proofs.Counted.{all_counted, all_few, none_counted, one_more_counted}
@@ -18,7 +19,8 @@ loop-at-preserved c =
     c.line-item.result c.lines-line-items.ensures c.loop-at-test.true c.line-item.is in
     let lt : c.loop-at.at < length program.lines =
     omega (arith, ap (λ (l : List Line). length l) c.lines-line-items.ensures) in
-    let first : c.place_at-first.result ≡ place_of program c.loop-at.at =
+    let first : c.place_at-first.result
+    ≡ place_of (flat program) (first_flat_of program c.loop-at.at) =
     c.place_at-first.ensures ∙ c.requires.each c.loop-at.at lt in
     one_more_counted program c.loop-at.at c.line-item.result c.loop-at.counted.items _ there
     (c.in_ok-push_counted.ensures
@@ -31,7 +33,7 @@ push_counted-requires c =
     let lt : c.loop-at.at < length program.lines =
     omega (arith, ap (λ (l : List Line). length l) c.lines-line-items.ensures) in
     let first = c.place_at-first.ensures ∙ c.requires.each c.loop-at.at lt in
-    let low = place_below program c.loop-at.at in
+    let low = place_below (flat program) (first_flat_of program c.loop-at.at) in
     let short = c.requires.short in omega (arith, first, low, short)
 
 pub returns-clause-counted : goal.returns-clause-counted

@@ -1,4 +1,4 @@
-use Rattle.pardo_law.proofs.Theorem.{jobs_carry_programs}
+use Rattle.pardo_law.proofs.FlatCarrying.{jobs_carry_programs}
 use Rattle.pardo_law.proofs.laws.jobs_carry_programs.Goals as goal
 
 pub returns : goal.returns

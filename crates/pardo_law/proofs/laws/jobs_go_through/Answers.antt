@@ -1,4 +1,4 @@
-use Rattle.pardo_law.proofs.Between.{jobs_go_through}
+use Rattle.pardo_law.proofs.FlatBetween.{jobs_go_through}
 use Rattle.pardo_law.proofs.laws.jobs_go_through.Goals as goal
 
 pub returns : goal.returns

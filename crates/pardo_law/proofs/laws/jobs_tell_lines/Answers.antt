@@ -1,4 +1,4 @@
-use Rattle.pardo_law.proofs.Telling.{jobs_tell_lines}
+use Rattle.pardo_law.proofs.FlatTelling.{jobs_tell_lines}
 use Rattle.pardo_law.proofs.laws.jobs_tell_lines.Goals as goal
 
 pub returns : goal.returns

@@ -4,7 +4,7 @@ use Rattle.pram_job.specs.declared.instr.Instr.{Instr}
 use Rattle.pram_job.specs.declared.instr.Instr.TheVariants.{Pid}
 use Rattle.pardo_job.specs.declared.fault.JobKind.{JobKind}
 use Rattle.pardo_job.specs.declared.fault.JobKind.TheVariants.{Memory}
-use Rattle.pardo_job.specs.Refusals.{IsProgramFault}
+use Rattle.pardo_job.specs.Refusals.{IsLinesFault}
 use Rattle.pardo_text.specs.Lawful.{IsLine, bounds_of}
 use Rattle.pardo_job.proofs.LineFits.{line_at}
 use Rattle.pardo_job.proofs.Placed.{code_more, code_none, line_there, only_memory, place_below}
@@ -34,7 +34,7 @@ returns-in-Err-clause-refused c =
     (slice_index c.args.self.now.places.items)
     (length c.loop-line.code.items) c.loop-line.line-index c.line-item.result c.in-Err.kind
     c.requires.places there c.in-Err.ensures.fault in
-    subst (λ (k : JobKind). IsProgramFault c.args.self.now.program.now c.fault_of.result.line k)
+    subst (λ (k : JobKind). IsLinesFault c.args.self.now.program.now c.fault_of.result.line k)
     (sym (c.fault_of.ensures.kind ∙ m)) (c.fault_of.ensures.memory m)
 
 pub loop-line-preserved : goal.loop-line-preserved
