@@ -4,7 +4,7 @@ use Rattle.std.proofs.Common.{ap, sym, arith, refl}
 use Rattle.std.specs.Prelude.{count_by}
 use Rattle.std.specs.List.{range_with_len}
 use Rattle.std.proofs.lemmas.List.Sums.{sum_by-cons}
-use Rattle.core.specs.Int.{from_bool}
+use Rattle.std.specs.Int.{from_bool}
 
 count_first : (p : ℕ → Bool) (a n : ℕ) → 0 < n → count_by p (range_with_len a n)
     ≡ cond (p a) 1 0 + count_by p (range_with_len (a + 1) (n - 1))

@@ -5,7 +5,7 @@ use Rattle.std.proofs.lemmas.Bool.{lt-ltb}
 use Rattle.std.specs.Option.{option_or}
 use Rattle.pram_job.specs.Job.{JobData}
 use Rattle.pram_machine.specs.Machine.{State, counter, halted}
-use Rattle.pardo_trace.specs.Temp.{first_below}
+use Rattle.pardo_job.specs.Meaning.{first_below}
 use Rattle.pardo_trace.specs.Traces.{standing_of}
 
 later : (f : ℕ → Option ℕ) (n k m v : ℕ) → m ≡ k + n → first_below n f ≡ Some v →

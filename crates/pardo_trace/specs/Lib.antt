@@ -1,2 +1,1 @@
-pub mod Temp
 pub mod Traces

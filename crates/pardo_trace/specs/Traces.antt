@@ -13,9 +13,9 @@ use Rattle.pardo_text.specs.declared.statement.Line.{Line}
 use Rattle.pardo_text.specs.declared.statement.Statement.{Statement}
 use Rattle.pardo_text.specs.declared.statement.Statement.TheVariants.{EndIf, While, EndWhile}
 use Rattle.pardo_text.specs.declared.statement.Statement.TheVariants.{For, EndFor}
-use Rattle.pardo_trace.specs.Temp.{first_below}
-use Rattle.pardo_trace.specs.Temp.{has_cell}
-use Rattle.pardo_trace.specs.Temp.{place_record}
+use Rattle.pardo_job.specs.Meaning.{first_below}
+use Rattle.pardo_job.specs.Printed.{has_cell}
+use Rattle.pardo_answers.specs.Records.{place_record}
 
 -- ---- where a line begins
 

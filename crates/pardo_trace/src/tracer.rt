@@ -9,9 +9,9 @@ ghost use Rattle.pardo_trace.specs.Traces.{line_begun, line_row, line_standing, 
 ghost use Rattle.pardo_trace.specs.Traces.{mask_depth, private_row, private_with, processor_rows};
 ghost use Rattle.pardo_trace.specs.Traces.{put_row, row_head, takes_part, trace_rows};
 ghost use Rattle.pardo_trace.specs.Traces.{lines_before, with_code};
-ghost use Rattle.pardo_trace.specs.Temp.{has_cell};
+ghost use Rattle.pardo_job.specs.Printed.{has_cell};
 
-use crate::temp::push_place;
+use pardo_answers::push_place;
 use pardo_text::{Array, Line, Private, Program, Statement};
 use pram_rows::Rows;
 use pram_step::{Moment, counter, laws, request_after};

@@ -1,5 +1,5 @@
 use Rattle.std.proofs.Common.{◌≡◌, ◌∙◌, Bool, cond, ap, arith, refl}
-use Rattle.core.specs.Int.{from_bool}
+use Rattle.std.specs.Int.{from_bool}
 use Rattle.pardo_trace.specs.Traces.{takes_part}
 use Rattle.pardo_trace.proofs.Counting.{as_one, count_more, one_at_most}
 use Rattle.pardo_trace.proofs.tracer.count_active.Goals as goal

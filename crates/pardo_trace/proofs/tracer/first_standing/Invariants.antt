@@ -1,5 +1,5 @@
 use Rattle.std.proofs.Common.{◌≡◌, None}
-use Rattle.pardo_trace.specs.Temp.{first_below}
+use Rattle.pardo_job.specs.Meaning.{first_below}
 use Rattle.pardo_trace.specs.Traces.{standing_of}
 use Rattle.pardo_trace.proofs.tracer.first_standing.Given as goal
 

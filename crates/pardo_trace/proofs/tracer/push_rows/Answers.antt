@@ -1,5 +1,5 @@
 use Rattle.std.proofs.Common.{◌+◌, refl, arith}
-use Rattle.pardo_trace.proofs.Ranges.{range_told}
+use Rattle.pardo_answers.proofs.Ranges.{range_told}
 use Rattle.pardo_trace.specs.Traces.{processor_rows}
 use Rattle.pardo_trace.proofs.tracer.push_rows.Goals as goal
 
