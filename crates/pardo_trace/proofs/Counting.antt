@@ -22,7 +22,7 @@ pub count_more : (p : ℕ → Bool) (so_far one now whole a n next less : ℕ) �
 count_more p so_far one now whole a n next less after fewer is is_now all =
     let less_is : n - 1 ≡ less = omega arith in
     let first : count_by p (range_with_len a n)
-        ≡ one + count_by p (range_with_len next less) =
+    ≡ one + count_by p (range_with_len next less) =
     count_first p a n (omega arith)
     ∙ ap (λ (m : ℕ). cond (p a) 1 0 + count_by p (range_with_len m (n - 1))) after
     ∙ ap (λ (m : ℕ). cond (p a) 1 0 + count_by p (range_with_len next m)) less_is

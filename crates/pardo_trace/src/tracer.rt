@@ -98,12 +98,7 @@ fn step_of(moment: &Moment<'_>) -> u64
     u64::from(moment.made) + 1
 }
 
-fn push_line_row(
-    text: &mut Vec<u8>,
-    step: u64,
-    number: u64,
-    active: u64,
-) -> Result<(), AllocError>
+fn push_line_row(text: &mut Vec<u8>, step: u64, number: u64, active: u64) -> Result<(), AllocError>
     ensures { OnOk result (text.new.items ≡ text.old.items ++ line_row step number active) }
 {
     push_labelled(text, b"", step)?;
@@ -231,11 +226,7 @@ fn mask_at(program: &Program, moment: &Moment<'_>, depth: usize, processor: u32)
 }
 
 // What each processor writes.
-fn push_rows(
-    text: &mut Vec<u8>,
-    tracer: &Tracer<'_>,
-    moment: &Moment<'_>,
-) -> Result<(), AllocError>
+fn push_rows(text: &mut Vec<u8>, tracer: &Tracer<'_>, moment: &Moment<'_>) -> Result<(), AllocError>
     ensures { OnOk result (text.new.items ≡ text.old.items
         ++ flat_map (processor_rows tracer.now.program.now tracer.now.numbers.now
         moment.now.job.now moment.now.state.now (moment.now.made + 1))
@@ -337,7 +328,12 @@ fn push_put(
         return push_private(text, head, value, variable);
     };
     push_head(text, head)?;
-    push_place(text, array, (cell as usize).saturating_sub(array.base()), value)
+    push_place(
+        text,
+        array,
+        (cell as usize).saturating_sub(array.base()),
+        value,
+    )
 }
 
 fn array_with(arrays: &[Array], cell: u32) -> Option<&Array>
