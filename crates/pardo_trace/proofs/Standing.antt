@@ -6,7 +6,7 @@ use Rattle.std.specs.Option.{option_or}
 use Rattle.pram_job.specs.Job.{JobData}
 use Rattle.pram_machine.specs.Machine.{State, counter, halted}
 use Rattle.pardo_job.specs.Meaning.{first_below}
-use Rattle.pardo_trace.specs.Traces.{standing_of}
+use Rattle.pardo_trace.specs.Traces.{running_counter}
 
 later : (f : ℕ → Option ℕ) (n k m v : ℕ) → m ≡ k + n → first_below n f ≡ Some v →
     first_below m f ≡ Some v
@@ -33,7 +33,7 @@ found_here f n m v within none here =
 
 -- it runs
 pub standing_here : (job : JobData) (state : State) (i at : ℕ) → at ≡ counter job state i →
-    at < halted job → standing_of job state i ≡ Some at
+    at < halted job → running_counter job state i ≡ Some at
 standing_here job state i at is low =
     let here : counter job state i < halted job = subst (λ (x : ℕ). x < halted job) is low in
     ap (λ (b : Bool). if b then Some (counter job state i) else None)

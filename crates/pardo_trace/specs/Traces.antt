@@ -20,13 +20,13 @@ use Rattle.pardo_answers.specs.Records.{place_record}
 -- ---- where a line begins
 
 -- the `end` of an `if` has no code
-abbrev pub has_code : Statement → Bool
-has_code EndIf = false
-has_code _ = true
+abbrev pub takes_steps : Statement → Bool
+takes_steps EndIf = false
+takes_steps _ = true
 
-abbrev pub with_code : Option Line → Option Line
-with_code None = None
-with_code (Some line) = if has_code line.statement then Some line else None
+abbrev pub made_in_steps : Option Line → Option Line
+made_in_steps None = None
+made_in_steps (Some line) = if takes_steps line.statement then Some line else None
 
 -- how many lines of code there are before the last one that begins at an instruction or before it
 abbrev pub lines_before : List ℕ → ℕ → ℕ
@@ -36,16 +36,16 @@ lines_before places at = count_by (λ place. nat_le place at) places - 1
 abbrev pub line_begun : ProgramData → List ℕ → ℕ → Option Line
 line_begun program places at =
     if slice_index places (lines_before places at) == at
-    then with_code (slice_get program.lines (lines_before places at)) else None
+    then made_in_steps (slice_get program.lines (lines_before places at)) else None
 
 -- where a processor stands, if it runs
-abbrev pub standing_of : JobData → State → ℕ → Option ℕ
-standing_of job state i =
+abbrev pub running_counter : JobData → State → ℕ → Option ℕ
+running_counter job state i =
     if nat_lt (counter job state i) (halted job) then Some (counter job state i) else None
 
 -- and the first that runs
 abbrev pub first_standing : JobData → State → Option ℕ
-first_standing job state = first_below job.procs (standing_of job state)
+first_standing job state = first_below job.procs (running_counter job state)
 
 -- ---- who takes part in it
 
@@ -70,13 +70,13 @@ count_active program job state depth =
     count_by (takes_part program job state depth) (range_with_len 0 job.procs)
 
 -- `5,12,8,,,`: in this step a line begins, and so many take part
-abbrev pub line_row : ℕ → ℕ → ℕ → List ℕ
-line_row step number active = decimal step ++ codes "," ++ decimal number ++ codes ","
+abbrev pub begun_row : ℕ → ℕ → ℕ → List ℕ
+begun_row step number active = decimal step ++ codes "," ++ decimal number ++ codes ","
     ++ decimal active ++ codes ",,,\n"
 
 abbrev pub heading_of : ProgramData → JobData → State → ℕ → Option Line → List ℕ
 heading_of program job state step None = []
-heading_of program job state step (Some line) = line_row step line.number
+heading_of program job state step (Some line) = begun_row step line.number
     (count_active program job state (mask_depth line.statement line.depth))
 
 abbrev pub line_standing : ProgramData → List ℕ → Option ℕ → Option Line

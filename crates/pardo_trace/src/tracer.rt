@@ -4,11 +4,11 @@ ghost use Rattle.std.specs.List.{flat_map, range_with_len};
 ghost use Rattle.std.specs.Option.{option_copied};
 ghost use Rattle.pram_machine.specs.Machine.{counter as counter_of};
 ghost use Rattle.pardo_trace.specs.Traces.{array_with, behind, count_active, first_standing};
-ghost use Rattle.pardo_trace.specs.Traces.{goes_in, gone_row, has_code, heading, heading_of};
-ghost use Rattle.pardo_trace.specs.Traces.{line_begun, line_row, line_standing, mask_cell};
+ghost use Rattle.pardo_trace.specs.Traces.{goes_in, gone_row, takes_steps, heading, heading_of};
+ghost use Rattle.pardo_trace.specs.Traces.{line_begun, begun_row, line_standing, mask_cell};
 ghost use Rattle.pardo_trace.specs.Traces.{mask_depth, private_row, private_with, processor_rows};
 ghost use Rattle.pardo_trace.specs.Traces.{put_row, row_head, takes_part, trace_rows};
-ghost use Rattle.pardo_trace.specs.Traces.{lines_before, with_code};
+ghost use Rattle.pardo_trace.specs.Traces.{lines_before, made_in_steps};
 ghost use Rattle.pardo_job.specs.Printed.{has_cell};
 
 use pardo_answers::push_place;
@@ -88,7 +88,7 @@ fn push_line(
     };
     let depth = mask_depth(&line.statement, line.depth);
     let active = count_active(program, moment, depth);
-    push_line_row(text, step_of(moment), line.number, active)
+    push_begun_row(text, step_of(moment), line.number, active)
 }
 
 // The number of the step that comes next.
@@ -98,8 +98,8 @@ fn step_of(moment: &Moment<'_>) -> u64
     u64::from(moment.made) + 1
 }
 
-fn push_line_row(text: &mut Vec<u8>, step: u64, number: u64, active: u64) -> Result<(), AllocError>
-    ensures { OnOk result (text.new.items ≡ text.old.items ++ line_row step number active) }
+fn push_begun_row(text: &mut Vec<u8>, step: u64, number: u64, active: u64) -> Result<(), AllocError>
+    ensures { OnOk result (text.new.items ≡ text.old.items ++ begun_row step number active) }
 {
     push_labelled(text, b"", step)?;
     push_labelled(text, b",", number)?;
@@ -140,14 +140,14 @@ fn line_begun<'a>(tracer: &Tracer<'a>, at: u32) -> Option<&'a Line>
     if place_at(tracer.places, index) != at {
         return None;
     }
-    line_with_code(tracer.program, index)
+    line_made_in_steps(tracer.program, index)
 }
 
-fn line_with_code(program: &Program, index: usize) -> Option<&Line>
-    ensures { option_copied result ≡ with_code (slice_get program.now.lines index) }
+fn line_made_in_steps(program: &Program, index: usize) -> Option<&Line>
+    ensures { option_copied result ≡ made_in_steps (slice_get program.now.lines index) }
 {
     let line = program.lines().get(index)?;
-    if has_code(&line.statement) {
+    if takes_steps(&line.statement) {
         Some(line)
     } else {
         None
@@ -170,8 +170,8 @@ fn place_at(places: &[u32], index: usize) -> u32
     places.get(index).copied().unwrap_or(0)
 }
 
-fn has_code(statement: &Statement) -> bool
-    ensures { result ≡ has_code statement.now }
+fn takes_steps(statement: &Statement) -> bool
+    ensures { result ≡ takes_steps statement.now }
 {
     match statement {
         Statement::EndIf => false,

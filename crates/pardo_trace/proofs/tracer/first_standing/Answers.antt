@@ -1,6 +1,6 @@
 use Rattle.std.proofs.Common.{◌≡◌, ℕ, ◌<◌, ap, arith, length, sym}
 use Rattle.pram_machine.specs.Machine.{halted}
-use Rattle.pardo_trace.specs.Traces.{standing_of}
+use Rattle.pardo_trace.specs.Traces.{running_counter}
 use Rattle.pardo_trace.proofs.Standing.{found_here, standing_here}
 use Rattle.pardo_trace.proofs.tracer.first_standing.Goals as goal
 
@@ -13,5 +13,5 @@ returns-then-at-code c =
     let same : length c.code.result.now ≡ halted job = ap length c.code.ensures.value in
     let low : at < halted job = omega (arith, same, c.if-at-code.true) in
     let within : i < job.procs = omega arith in
-    sym (found_here (standing_of job state) i job.procs at within c.loop-processor.invariant
+    sym (found_here (running_counter job state) i job.procs at within c.loop-processor.invariant
     (standing_here job state i at c.counter_in-at.ensures low))

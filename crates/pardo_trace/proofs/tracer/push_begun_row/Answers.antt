@@ -1,5 +1,5 @@
 use Rattle.std.proofs.Common.{append_assoc}
-use Rattle.pardo_trace.proofs.tracer.push_line_row.Goals as goal
+use Rattle.pardo_trace.proofs.tracer.push_begun_row.Goals as goal
 
 pub returns : goal.returns
 returns c = rw (
