@@ -38,6 +38,9 @@ pub enum AskAlone {
     /// Run the job on the plain machine, and print what each processor asks for in each step from
     /// one to another, counted from 1; after these rows the answer, unless they are to stand alone.
     Steps { from: u32, to: u32, alone: bool },
+    /// Run the job on the plain machine, and print the lines of its program as they are made; after
+    /// these rows the answer, unless they are to stand alone.
+    Trace { alone: bool },
     /// Run the job by the plan, and print each step; after these rows the answer, unless they are
     /// to stand alone.
     Replay { workers: Workers, alone: bool },

@@ -9,7 +9,7 @@ use Rattle.pram_machine.specs.Machine.{counter, halted}
 use Rattle.pram_step.specs.declared.answer.RunAnswer.{RunAnswer}
 use Rattle.pram_step.specs.Runs.{IsAnswer, state_after}
 use Rattle.pram_rows.specs.Rows.{line_number_text, row_end, rows_text}
-use Rattle.pram_rows.specs.Shown.{last_step}
+use Rattle.pram_rows.specs.Shown.{last_step, steps_text}
 use Rattle.pram_rows.specs.declared.window.Window.{Window}
 use Rattle.pardo_job.specs.Meaning.{after}
 use Rattle.pardo_job.specs.Runs.{line_number}
@@ -18,7 +18,9 @@ use Rattle.pardo_answers.specs.Language.{is_program}
 use Rattle.pram_commands.specs.Did.{ending}
 use Rattle.pram_commands.specs.Names.{AreNames, NamingData}
 use Rattle.pram_commands.specs.Steps.{numbers_told}
-use Rattle.command_law.specs.Programs.{AreProgramsSteps, IsEnding, IsProgramsJob}
+use Rattle.pram_commands.specs.Traced.{all_steps, traced}
+use Rattle.command_law.specs.Programs.{AreProgramsLines, AreProgramsSteps, IsEnding, IsProgramsJob}
+use Rattle.command_law.specs.Programs.{TellNumbers, TracesTellTheProgramsLines}
 use Rattle.command_law.specs.Programs.{StepsTellTheProgramsLines, TellLines, told_line}
 use Rattle.command_law.proofs.Answers.{told_answer}
 use Rattle.command_law.proofs.Jobs.{no_machines, programs_job}
@@ -46,13 +48,14 @@ tell_lines text job naming is t n i reached made some goes_on lt runs =
     by_line (inr (inl first)) = absurd (let none = first.0 in omega arith)
     by_line (inr (inr last)) = absurd (goes_on last.0)
 
-module _ (text : List ℕ) (job : JobData) (window : Window) (bytes : List ℕ) (ended : RunAnswer)
-    (one : is_program text ≡ true) where
+module _ (text : List ℕ) (job : JobData) (ended : RunAnswer) (one : is_program text ≡ true) where
   ends_so : (alone : Bool) (names : Option NamingData) → AreNames text job names →
       IsAnswer job ended → IsEnding alone text job (ending alone names ended job.steps)
   ends_so true names are is = refl
   ends_so false names are is = told_answer text job names ended one are is
 
+module _ (text : List ℕ) (job : JobData) (window : Window) (bytes : List ℕ) (ended : RunAnswer)
+    (one : is_program text ≡ true) where
   by_names : (alone : Bool) (names of_end : Option NamingData) → AreNames text job names →
       AreNames text job of_end → IsAnswer job ended →
       bytes ≡ rows_text (numbers_told names) job window.from window.to (last_step job ended)
@@ -69,13 +72,55 @@ module _ (text : List ℕ) (job : JobData) (window : Window) (bytes : List ℕ) 
         answers = answers;
         back = ending alone of_end ended job.steps;
         prints = prints;
-        ends = ends_so alone of_end are answers;
+        ends = ends_so text job ended one alone of_end are answers;
       }
 
 pub steps_tell : StepsTellTheProgramsLines
 steps_tell text job alone window bytes answer one comes =
     let told = comes.ends in
     by_names text job window bytes comes.ended one alone told.names comes.names told.are_names
+    comes.are_names told.answers
+    (comes.prints
+    ∙ ap (λ (front : List ℕ). front ++ ending alone comes.names comes.ended job.steps) told.rows)
+
+tell_numbers : (text : List ℕ) (job : JobData) (naming : NamingData)
+    (is : IsProgramsJob text job naming) → TellNumbers text job naming is
+tell_numbers text job naming is t n i reached made some goes_on lt runs =
+    by_line (is.goes.lines t n i reached made lt runs)
+  where
+    by_line : IsInLine naming.program job (slice_index naming.numbers) t
+        (after naming.program n) i →
+        slice_index naming.numbers (counter job (state_after job t) i)
+        ≡ line_number naming.program (after naming.program n)
+    by_line (inl comes) = comes
+    by_line (inr (inl first)) = absurd (let none = first.0 in omega arith)
+    by_line (inr (inr last)) = absurd (goes_on last.0)
+
+traced_by : (text : List ℕ) (job : JobData) (bytes : List ℕ) (ended : RunAnswer) →
+    is_program text ≡ true → (alone : Bool) (names of_end : Option NamingData) →
+    AreNames text job names → AreNames text job of_end → IsAnswer job ended →
+    bytes ≡ steps_text (traced names) job all_steps ended ++ ending alone of_end ended job.steps →
+    AreProgramsLines alone text job bytes
+traced_by text job bytes ended one alone None of_end is are answers prints =
+    no_machines text job one is
+traced_by text job bytes ended one alone (Some naming) of_end is are answers prints =
+    let its = programs_job text job naming is in record {
+      naming = naming;
+      is = its;
+      begins = is.begins;
+      numbers = tell_numbers text job naming its;
+      writes = its.goes.writes;
+      ended = ended;
+      answers = answers;
+      back = ending alone of_end ended job.steps;
+      prints = prints;
+      ends = ends_so text job ended one alone of_end are answers;
+    }
+
+pub traces_tell : TracesTellTheProgramsLines
+traces_tell text job alone bytes answer one comes =
+    let told = comes.ends in
+    traced_by text job bytes comes.ended one alone told.names comes.names told.are_names
     comes.are_names told.answers
     (comes.prints
     ∙ ap (λ (front : List ℕ). front ++ ending alone comes.names comes.ended job.steps) told.rows)

@@ -17,7 +17,7 @@ use Rattle.pram_fates.specs.declared.fates.Fates.{Fates}
 use Rattle.pram_fates.specs.declared.fates.Lost.{Lost}
 use Rattle.pram_fates.specs.Told.{fates_text}
 use Rattle.pram_rows.specs.Rows.{row_end, rows_text}
-use Rattle.pram_rows.specs.Shown.{last_step}
+use Rattle.pram_rows.specs.Shown.{last_step, steps_text}
 use Rattle.pram_rows.specs.declared.window.Window.{Window}
 use Rattle.pram_cost.specs.Costs.{IsCost}
 use Rattle.pram_cost.specs.Meetings.{Differ}
@@ -36,6 +36,7 @@ use Rattle.pram_run.specs.Replays.{IsReplay}
 use Rattle.pardo_text.specs.Program.{ProgramData}
 use Rattle.pardo_text.specs.Reading.{program_of}
 use Rattle.pardo_job.specs.Conflicts.{Assigns}
+use Rattle.pardo_job.specs.Drafts.{ArePlacesOf}
 use Rattle.pardo_job.specs.Layouts.{program_layout, private_cells}
 use Rattle.pardo_job.specs.Flat.{flat}
 use Rattle.pardo_job.specs.Lines.{job_of}
@@ -57,6 +58,7 @@ use Rattle.pram_commands.specs.Plain.{checking, no_plan, plainly}
 use Rattle.pram_commands.specs.Replayed.{replaying}
 use Rattle.pram_commands.specs.Steps.{stepping}
 use Rattle.pram_commands.specs.Threads.{cell_words, running, watching}
+use Rattle.pram_commands.specs.Traced.{all_steps, traced, tracing}
 use Rattle.pram_commands.specs.Why.{in_lines}
 use Rattle.command_law.specs.Laws.{IsCutOff, IsProgramsAnswer}
 
@@ -170,6 +172,40 @@ StepsTellTheProgramsLines = (text : List ℕ) (job : JobData) (alone : Bool) (wi
     (bytes : List ℕ) (answer : Option RunAnswer) → is_program text ≡ true →
     (stepping alone window).Comes text job no_plan bytes answer →
     AreProgramsSteps alone window text job bytes
+
+-- ---- `trace`
+
+-- In each step each processor that runs is told in the line of the program that is next, but in the
+-- first step, and after the last line.
+abbrev pub TellNumbers : (text : List ℕ) (job : JobData) (naming : NamingData) →
+    IsProgramsJob text job naming → Type 0
+TellNumbers text job naming is = (t n i : ℕ) → IsReached job t →
+    Made text job naming is t n → 1 ≤ t →
+    (IsProgramOver naming.program (after naming.program n) → ⊥) → i < naming.program.procs →
+    counter job (state_after job t) i < halted job →
+    slice_index naming.numbers (counter job (state_after job t) i)
+    ≡ line_number naming.program (after naming.program n)
+
+-- The bytes are rows of the program's job, whose lines and writes are the program's, and then its
+-- answer. The places in them are those where the code of the program's lines begins.
+pub record AreProgramsLines (alone : Bool) (text : List ℕ) (job : JobData) (bytes : List ℕ)
+    : Type 0 where
+  pub naming : NamingData
+  pub is : IsProgramsJob text job naming
+  pub begins : ArePlacesOf naming.program naming.places
+  pub numbers : TellNumbers text job naming is
+  pub writes : TellWrites text job naming is
+  pub ended : RunAnswer
+  pub answers : IsAnswer job ended
+  pub back : List ℕ
+  pub prints : bytes ≡ steps_text (traced (Some naming)) job all_steps ended ++ back
+  pub ends : IsEnding alone text job back
+
+abbrev pub TracesTellTheProgramsLines : Type 0
+TracesTellTheProgramsLines = (text : List ℕ) (job : JobData) (alone : Bool) (bytes : List ℕ)
+    (answer : Option RunAnswer) → is_program text ≡ true →
+    (tracing alone).Comes text job no_plan bytes answer →
+    AreProgramsLines alone text job bytes
 
 -- ---- `replay`
 

@@ -6,6 +6,7 @@ ghost use Rattle.command_law.specs.Programs.{CheckTellsTheProgramsJob, CostsTell
 ghost use Rattle.command_law.specs.Programs.{PlainTellsWhy, RecordsTellTheProgramsLines};
 ghost use Rattle.command_law.specs.Programs.{ReplaysPrintTheProgramsAnswer, RunsTellWhy};
 ghost use Rattle.command_law.specs.Programs.{StepsTellTheProgramsLines, WatchesTellThePrograms};
+ghost use Rattle.command_law.specs.Programs.{TracesTellTheProgramsLines};
 
 /// What `plain` prints of a program is the program's answer, by its meaning.
 pub fn plain_prints_the_programs_answer()
@@ -52,6 +53,13 @@ pub fn watches_tell_the_programs()
 /// program's answer.
 pub fn steps_tell_the_programs_lines()
     ensures { StepsTellTheProgramsLines }
+{}
+
+/// What `trace` prints of a program are rows of the program's job, with the lines of the program in
+/// which its steps lie, which write what they have written to a place; and what follows is the
+/// program's answer.
+pub fn traces_tell_the_programs_lines()
+    ensures { TracesTellTheProgramsLines }
 {}
 
 /// What a replay of a program prints after its trace is the program's answer, unless its plan stops

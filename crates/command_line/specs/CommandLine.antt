@@ -22,7 +22,7 @@ use Rattle.command_data.specs.declared.line.Ask.{Ask}
 use Rattle.command_data.specs.declared.line.Ask.TheVariants.{Alone, OnThreads}
 use Rattle.command_data.specs.declared.line.AskAlone.{AskAlone}
 use Rattle.command_data.specs.declared.line.AskAlone.TheVariants.{Check, Compile, Plain, Cost}
-use Rattle.command_data.specs.declared.line.AskAlone.TheVariants.{Steps, Replay}
+use Rattle.command_data.specs.declared.line.AskAlone.TheVariants.{Steps, Trace, Replay}
 use Rattle.command_data.specs.declared.line.AskOnThreads.{AskOnThreads}
 use Rattle.command_data.specs.declared.line.AskOnThreads.TheVariants.{Run, Watch}
 use Rattle.command_data.specs.declared.line.Line.{Line}
@@ -78,6 +78,10 @@ on_steps = with_rule (with_rule (with_rule (on_file (codes "steps"))
     (number_rule (codes "from") 1 4294967295)) (number_rule (codes "to") 1 4294967295))
     (flag_rule (codes "csv"))
 
+-- trace FILE [--csv]
+abbrev pub on_trace : App
+on_trace = with_rule (on_file (codes "trace")) (flag_rule (codes "csv"))
+
 -- NAME FILE --workers W [--plan P]
 abbrev pub with_workers : Text → App
 with_workers name =
@@ -112,7 +116,7 @@ bare =
     let app = new_app (codes "pramx") in
     record app { top = record app.top { has_version = true; subcommand_required = true } }
 
--- with those of the plain machine alone
+-- with most of those of the plain machine
 abbrev pub on_machine : App
 on_machine =
     with_subcommand (with_subcommand (with_subcommand (with_subcommand (with_subcommand bare
@@ -125,7 +129,8 @@ on_machine =
 -- the program's command
 abbrev pub pramx : App
 pramx =
-    with_subcommand (with_subcommand (with_subcommand on_machine
+    with_subcommand (with_subcommand (with_subcommand (with_subcommand on_machine
+    on_trace.top)
     on_run.top)
     on_watch.top)
     on_replay.top
@@ -227,6 +232,8 @@ IsMetAlone matches file plan (Cost lines) =
     HasFile matches (codes "cost") file × HasFlag (codes "lines") matches lines × (plan ≡ None)
 IsMetAlone matches file plan (Steps from to alone) =
     HasSteps matches (codes "steps") file from to alone × (plan ≡ None)
+IsMetAlone matches file plan (Trace alone) =
+    HasFile matches (codes "trace") file × HasFlag (codes "csv") matches alone × (plan ≡ None)
 IsMetAlone matches file plan (Replay workers alone) =
     HasWorkers matches (codes "replay") file workers.count plan alone
 

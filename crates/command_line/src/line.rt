@@ -14,7 +14,7 @@ ghost use Rattle.command_line.specs.CommandLine.{MeanNoLine, bare};
 ghost use Rattle.command_line.specs.CommandLine.{HasSettings, flag_rule, list_rule, needed};
 ghost use Rattle.command_line.specs.CommandLine.{number_rule, on_file};
 ghost use Rattle.command_line.specs.CommandLine.{on_cost, on_machine, on_plain, on_replay};
-ghost use Rattle.command_line.specs.CommandLine.{on_run, on_steps};
+ghost use Rattle.command_line.specs.CommandLine.{on_run, on_steps, on_trace};
 ghost use Rattle.command_line.specs.CommandLine.{on_watch, option_rule, placed_rule, pramx};
 ghost use Rattle.command_line.specs.CommandLine.{IsFlag, SuitsTerminal, telling_of};
 ghost use Rattle.command_line.specs.CommandLine.{with_manner, with_progress, with_style};
@@ -37,6 +37,7 @@ Examples:
   pramx plain examples/sum.pram --why
   pramx cost examples/prefix.pram
   pramx steps examples/prefix.pram --from 1 --to 5
+  pramx trace examples/prefix.pardo
   pramx run examples/prefix.pram --workers 4
   pramx run examples/prefix.pram --workers 4 --progress --pace 1000
   pramx watch examples/prefix.pram --workers 4 --cells 0,11 --rounds 3
@@ -270,12 +271,13 @@ fn refused(mut command: Command<'_>, message: &str) -> Result<Error, AllocError>
 fn command<'a>(alloc: Global) -> Result<Command<'a>, AllocError>
     ensures { IfOk result (λ command. app_of command ≡ pramx) }
 {
-    let command = with(machine_command(alloc)?, run_command(alloc))?;
+    let command = with(machine_command(alloc)?, trace_command(alloc))?;
+    let command = with(command, run_command(alloc))?;
     let command = with(command, watch_command(alloc))?;
     with(command, replay_command(alloc))
 }
 
-// The program with the subcommands of the plain machine alone.
+// The program with most subcommands of the plain machine.
 fn machine_command<'a>(alloc: Global) -> Result<Command<'a>, AllocError>
     ensures { IfOk result (λ command. app_of command ≡ on_machine) }
 {
@@ -366,6 +368,14 @@ fn steps_command<'a>(alloc: Global) -> Result<Command<'a>, AllocError>
     );
     let command = with_arg(command, step(alloc, "from", "A", FROM));
     let command = with_arg(command, step(alloc, "to", "B", TO));
+    with_arg(command, flag(alloc, "csv", CSV))
+}
+
+fn trace_command<'a>(alloc: Global) -> Result<Command<'a>, AllocError>
+    ensures { IfOk result (λ command. app_of command ≡ on_trace) }
+{
+    let about = "Run a program on the plain machine, and print its lines as they are made";
+    let command = file_command(alloc, "trace", about);
     with_arg(command, flag(alloc, "csv", CSV))
 }
 
@@ -618,6 +628,11 @@ fn rows_line_of<'a>(matches: &ArgMatches<'a>, on_terminal: bool) -> Option<Line<
                 ask: Ask::Alone(AskAlone::Steps { from, to, alone }),
             })
         }
+        "trace" => Some(Line {
+            file,
+            plan: None,
+            ask: Ask::Alone(AskAlone::Trace { alone }),
+        }),
         "replay" => {
             let workers = workers_of(inner)?;
             let plan = inner.get_str("plan");

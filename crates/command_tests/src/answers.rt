@@ -185,6 +185,23 @@ pram 1~cells 1~procs 1~steps 2~code~halt~ \
 pardo 1~rule common~procs i < 2~shared s~code~;~s := i~ \
     | 1 step,processor,place,instruction,writes,value,next,line~2,0,1,st 0..0 0 r3,cell 0,0,2,7~\
     2,1,1,st 0..0 0 r3,cell 0,1,2,7~
+-- line by line: one `if` and its `else`, a loop, one who is gone, a conflict, a text of the machine
+$ pramx trace job
+pardo 1~rule crew~procs i < 3~shared s~private x~code~if i~x := 4~else~x := 9~end~ \
+    | 0 step,line,active,name,index,value~2,7,3,,,~5,8,2,,,~8,8,,x,1,4~8,8,,x,2,4~9,9,3,,,~\
+    12,10,1,,,~15,10,,x,0,9~done steps=16~s = 0~
+pardo 1~rule crew~procs i < 2~shared s~code~for h = 1 to 2~if i < 1~s := s + h~end~end~ \
+    | 0 step,line,active,name,index,value~2,6,2,,,~6,7,2,,,~8,8,1,,,~14,8,,s,,1~15,10,2,,,~\
+    21,7,2,,,~23,8,1,,,~29,8,,s,,3~30,10,2,,,~done steps=33~s = 3~
+pardo 1~rule crew~procs i < 2~shared A[1]~code~A[i] := 7~ \
+    | 0 step,line,active,name,index,value~2,6,2,,,~2,6,,A,0,7~2,6,,gone processor,1,~\
+    done steps=3~A = 7~gone processor=1 line=6~
+pram 1~cells 1~procs 1~steps 1~code~halt~ \
+    | 0 step,line,active,name,index,value~done steps=1~0: 0~
+pram 1~cells 1~procs 1~steps 1~code~ | 2 text line=6 kind=NoCode~
+$ pramx trace job --csv
+pardo 1~rule common~procs i < 2~shared s~code~;~s := i~ \
+    | 1 step,line,active,name,index,value~2,7,2,,,~2,7,,s,,0~2,7,,s,,1~
 $ pramx replay job --workers 1 --csv
 pram 1~cells 1~procs 1~steps 0~code~halt~ \
     | 0 tick,worker,op,word,before,after~1,0,load,1,0,0~2,0,load,0,0,0~

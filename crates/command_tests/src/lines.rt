@@ -36,6 +36,10 @@ pramx steps --to 4294967295 f --from=9 -> Asked { line: Line { file: \"f\", plan
     Alone(Steps { from: 9, to: 4294967295, alone: false }) }, explain: false }
 pramx steps --csv f -> Asked { line: Line { file: \"f\", plan: None, ask: Alone(Steps { from: 1, \
     to: 4294967295, alone: true }) }, explain: false }
+pramx trace f -> Asked { line: Line { file: \"f\", plan: None, ask: Alone(Trace { alone: false }) \
+    }, explain: false }
+pramx trace f --csv -> Asked { line: Line { file: \"f\", plan: None, ask: Alone(Trace { alone: \
+    true }) }, explain: false }
 pramx run job.txt --workers 2 --plan p.csv --progress -> Asked { line: Line { file: \"job.txt\", \
     plan: Some(\"p.csv\"), ask: OnThreads(Run(AskRun { manner: Manner { workers: Workers { \
     count: 2 }, progress: Lines, pace: None, block: None }, style: Style { csv: false, why: \
@@ -83,6 +87,7 @@ pramx run f --workers 1 --block 128 -> ValueValidation
 pramx replay f --workers 1 --block 1 -> UnknownArgument
 pramx watch f --workers 1 --rounds 1 --cells 1 --why -> UnknownArgument
 pramx steps f --why -> UnknownArgument
+pramx trace -> MissingRequiredArgument
 pramx --version -> DisplayVersion
 pramx --help -> DisplayHelp
 pramx run --help -> DisplayHelp
@@ -128,6 +133,7 @@ $ pramx --help
     ~  plain    Run a job on the plain machine\
     ~  cost     Say what the run of a job costs, and which model of the PRAM it needs\
     ~  steps    Run a job on the plain machine, and print what each processor asks for in each step\
+    ~  trace    Run a program on the plain machine, and print its lines as they are made\
     ~  run      Run a job on threads\
     ~  watch    Run a job on threads, and read cells while they run\
     ~  replay   Run a job on one thread, and print each step\

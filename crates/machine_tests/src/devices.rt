@@ -3,7 +3,7 @@ use crate::printed::print;
 use crate::table::lines_of;
 use failing_devices::{Drip, Trickle};
 use pram_job::Job;
-use pram_rows::{Shown, Window, print_steps};
+use pram_rows::{Requests, Window, print_steps};
 use pram_streams::{FromRead, IntoWrite, MOST, PrintFault, TakeFault, put, take};
 use pram_text::{TextFault, read_job};
 use std::alloc::{AllocError, Global};
@@ -116,19 +116,17 @@ fn refused_growths_leave_a_beginning(rt: HostRuntime) -> Result<(), Fail> {
     let alloc = rt.alloc();
     let job = many_steps(alloc).or_else(|_| many_steps(alloc))?;
     let wanted = many_rows(alloc).or_else(|_| many_rows(alloc))?;
-    let shown = Shown {
-        window: Window { from: 1, to: 2 },
-        lines: None,
-    };
+    let window = Window { from: 1, to: 2 };
+    let requests = Requests { lines: None };
     let mut refused = 0u32;
     let mut sink = IntoWrite::new(Vec::new(alloc));
-    if print_steps(alloc, &mut sink, &job, &shown).is_err() {
+    if print_steps(alloc, &mut sink, &job, window, &requests).is_err() {
         let taken = sink.into_inner();
         assert!(rt; wanted.as_bytes().starts_with(taken.as_slice()));
         println!(rt; "taken={}", taken.len())?;
         refused = 1;
         sink = IntoWrite::new(Vec::new(alloc));
-        print_steps(alloc, &mut sink, &job, &shown)?;
+        print_steps(alloc, &mut sink, &job, window, &requests)?;
     }
     assert!(rt; sink.into_inner().as_slice() == wanted.as_bytes());
     println!(rt; "refused={refused}")?;

@@ -10,5 +10,5 @@ mod text;
 
 pub use language::is_program;
 pub use print::{Names, print_named, push_conflict};
-pub use records::print_records;
+pub use records::{print_records, push_place};
 pub use text::push_cell;

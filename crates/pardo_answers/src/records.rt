@@ -91,7 +91,13 @@ fn push_array(text: &mut Vec<u8>, array: &Array, cells: &[u32]) -> Result<(), Al
     Ok(())
 }
 
-fn push_place(text: &mut Vec<u8>, array: &Array, index: usize, value: u32) -> Result<(), AllocError>
+/// The record of a place of an array.
+pub fn push_place(
+    text: &mut Vec<u8>,
+    array: &Array,
+    index: usize,
+    value: u32,
+) -> Result<(), AllocError>
     ensures { OnOk result (text.new.items ≡ text.old.items ++ place_record array.now index value) }
 {
     text.extend_from_slice(array.name())?;

@@ -174,6 +174,10 @@ module _ (taken : Taking) (w : Writing) where
       let comes = prints.work.comes in
       absurd (ended-plain prints.work.job comes.ended prints.answer comes.ends.answers
       comes.gives (sym prints.is ∙ three))
+  stops_alone (alone.Trace rows_alone) status prints three =
+      let comes = prints.work.comes in
+      absurd (ended-plain prints.work.job comes.ended prints.answer comes.ends.answers
+      comes.gives (sym prints.is ∙ three))
   stops_alone (alone.Replay workers rows_alone) status prints three = refl
 
   stops : (ask : Ask) (status : ℕ) →

@@ -15,5 +15,6 @@ pub mod Replayed
 pub mod Served
 pub mod Steps
 pub mod Texts
+pub mod Traced
 pub mod Threads
 pub mod Why

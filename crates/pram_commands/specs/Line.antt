@@ -7,11 +7,12 @@ use Rattle.pram_commands.specs.Replayed.{replaying}
 use Rattle.pram_commands.specs.Steps.{stepping}
 use Rattle.pram_commands.specs.Texts.{compiling}
 use Rattle.pram_commands.specs.Threads.{running, watching}
+use Rattle.pram_commands.specs.Traced.{tracing}
 use Rattle.command_data.specs.declared.line.Ask.{Ask}
 use Rattle.command_data.specs.declared.line.Ask.TheVariants.{Alone, OnThreads}
 use Rattle.command_data.specs.declared.line.AskAlone.{AskAlone}
 use Rattle.command_data.specs.declared.line.AskAlone.TheVariants.{Check, Compile, Plain, Cost}
-use Rattle.command_data.specs.declared.line.AskAlone.TheVariants.{Steps, Replay}
+use Rattle.command_data.specs.declared.line.AskAlone.TheVariants.{Steps, Trace, Replay}
 use Rattle.command_data.specs.declared.line.AskOnThreads.{AskOnThreads}
 use Rattle.command_data.specs.declared.line.AskOnThreads.TheVariants.{Run, Watch}
 
@@ -23,6 +24,7 @@ command_alone Compile = compiling
 command_alone (Plain style) = plainly style
 command_alone (Cost lines) = costing_by lines
 command_alone (Steps from to alone) = stepping alone (record { from = from; to = to })
+command_alone (Trace alone) = tracing alone
 command_alone (Replay workers alone) = replaying alone workers.count
 
 -- what is asked on threads: the command says which bytes it prints on a job and a plan, and how it

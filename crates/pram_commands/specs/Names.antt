@@ -8,6 +8,7 @@ use Rattle.pram_streams.specs.Printed.{printed}
 use Rattle.pardo_text.specs.Program.{ProgramData}
 use Rattle.pardo_text.specs.Reading.{program_of}
 use Rattle.pardo_job.specs.Compiled.{IsCompiled}
+use Rattle.pardo_job.specs.Drafts.{ArePlacesOf}
 use Rattle.pardo_job.specs.Ends.{HasEnded}
 use Rattle.pardo_answers.specs.Language.{is_program}
 use Rattle.pardo_answers.specs.Named.{named_answer}
@@ -15,10 +16,12 @@ use Rattle.pardo_answers.specs.Records.{recorded_answer}
 use Rattle.pram_rows.specs.Cells.{answer_records}
 use Rattle.pardo_job.specs.declared.ended.Ended.{Ended}
 
--- What the answers of a program are told by: the program, the numbers of the lines that its job's
--- instructions came from, and how the job ends, and in which lines.
+-- What the answers of a program are told by: the program, where the code of each of its lines begins,
+-- the numbers of the lines that its job's instructions came from, and how the job ends, and in which
+-- lines.
 pub record NamingData : Type 0 where
   pub program : ProgramData
+  pub places : List ℕ
   pub numbers : List ℕ
   pub ended : Ended
 
@@ -31,6 +34,7 @@ pub record IsMachines (text : List ℕ) (job : JobData) : Type 0 where
 pub record IsNaming (text : List ℕ) (job : JobData) (naming : NamingData) : Type 0 where
   pub is_one : is_program text ≡ true
   pub reads : program_of text ≡ Ok naming.program
+  pub begins : ArePlacesOf naming.program naming.places
   pub makes : IsCompiled naming.program job (slice_index naming.numbers)
   pub ends : HasEnded job (slice_index naming.numbers) naming.ended
 

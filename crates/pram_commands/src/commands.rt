@@ -13,7 +13,7 @@ mod on_threads;
 
 use crate::names::print_told;
 use crate::sources::{Sources, Spelled};
-pub use alone::{check, compile, cost, cost_by_lines, plain, replay, steps, take_answer};
+pub use alone::{check, compile, cost, cost_by_lines, plain, replay, steps, take_answer, trace};
 use command_data::{AskAlone, AskOnThreads};
 pub use on_threads::{run, watch};
 use pram_cost::Cost;
@@ -58,6 +58,7 @@ pub fn do_alone<J: Source, P: Source, O: Sink>(
         AskAlone::Steps { from, to, alone } => {
             ended(steps(alloc, Window { from, to }, alone, sources, out))
         }
+        AskAlone::Trace { alone } => ended(trace(alloc, alone, sources, out)),
         AskAlone::Replay { workers, alone } => {
             ended(replay(alloc, workers, alone, sources, out))
         }

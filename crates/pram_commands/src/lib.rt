@@ -16,6 +16,7 @@ mod progress;
 mod server;
 mod sources;
 mod threads;
+mod traces;
 mod why;
 
 pub use bytes::Bytes;

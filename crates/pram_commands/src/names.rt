@@ -27,26 +27,29 @@ use crate::places::{Stretch, array_at, cell_at, place_text, push_told};
 use crate::sources::Spelled;
 use pardo_answers::{Names, is_program, print_named, print_records, push_conflict};
 use pardo_job::{
-    Ended, JobFault, JobKind, Refusal as ProgramRefusal, compile, counted_lines, draft_in, finish,
+    Ended, JobFault, JobKind, Refusal as ProgramRefusal, counted_lines, draft_in, finish,
 };
 use pardo_text::{Array, PardoFault, PardoKind, Program};
+use pardo_trace::Tracer;
 use pram_cost::{ByCells, CostNames, Measure, Meeting, cost_of};
 use pram_fates::Origin;
 use pram_job::Job;
 use pram_rows::print_cells;
 use pram_run::{CellNames, Numbers};
-use pram_step::{Cells, Fault, RunAnswer};
+use pram_step::{Cells, Fault, Nobody, RunAnswer};
 use pram_streams::{PrintFault, Sink, print_answer};
 use pram_text::{TextFault, TextKind, read_job};
 use refusals::CommandFault;
 use std::alloc::{AllocError, Global};
 use std::marker::Model;
 
-/// What the answers of a program are told by: the program, the numbers of the lines that its job's
-/// instructions came from, and how the job ends, and in which lines.
+/// What the answers of a program are told by: the program, where the code of each of its lines
+/// begins, the numbers of the lines that its job's instructions came from, and how the job ends, and
+/// in which lines.
 #[derive(Drop)]
 pub struct Naming {
     program: Program,
+    places: Vec<u32>,
     numbers: Vec<u64>,
     ended: Ended,
 }
@@ -63,7 +66,12 @@ impl Model for Naming {
     ghost coded = { Prim.hlevel (codes, a_program.the_row.coded, an_end.the_row.coded) };
 
     ghost view = { λ n.
-        record { program = n.program; numbers = n.numbers.items; ended = n.ended } };
+        record {
+          program = n.program;
+          places = n.places.items;
+          numbers = n.numbers.items;
+          ended = n.ended;
+        } };
 
     ghost use Rattle.pardo_text.specs.Lawful.{AreArrays};
 
@@ -92,6 +100,19 @@ impl Naming {
             (λ cells. (cells.end ≤ count) × AreAnArrays (Some self.now) name.now cells) }
     {
         array_at(self.program.arrays(), name, count)
+    }
+
+    /// What the run of the program is told by, line by line.
+    pub(crate) fn tracer(&self) -> Tracer<'_>
+        ensures program { result.program.now ≡ self.now.program }
+        ensures places { result.places.now ≡ self.now.places }
+        ensures numbers { result.numbers.now ≡ self.now.numbers }
+    {
+        Tracer {
+            program: &self.program,
+            places: self.places.as_slice(),
+            numbers: self.numbers.as_slice(),
+        }
     }
 
     /// The answer of the job, which was found with its lines.
@@ -215,13 +236,19 @@ fn read_program(alloc: Global, text: &[u8]) -> Result<(Job, Naming), CommandFaul
     ensures read { IfOk result (λ read. AreNames text.now read.0 (Some read.1)) }
     ensures bad { IfErr result (IsBadOrMemory text.now) }
 {
-    let (program, compiled) = match compile(alloc, text) {
-        Ok(given) => given,
+    let draft = match draft_in(alloc, text) {
+        Ok(draft) => draft,
         Err(refusal) => return Err(fault_of(refusal)),
+    };
+    let places = Vec::from_slice(alloc, draft.places.as_slice())?;
+    let (program, compiled, _) = match finish(alloc, draft, Nobody) {
+        Ok(given) => given,
+        Err(fault) => return Err(fault_of(ProgramRefusal::Job(fault))),
     };
     let (job, numbers, ended) = compiled.into_parts();
     let naming = Naming {
         program,
+        places,
         numbers,
         ended,
     };
@@ -279,6 +306,7 @@ fn cost_program(alloc: Global, text: &[u8]) -> Result<(Job, Naming, Costs), Comm
         Err(refusal) => return Err(fault_of(refusal)),
     };
     let counted = counted_lines(alloc, &draft.program, draft.places.as_slice())?;
+    let places = Vec::from_slice(alloc, draft.places.as_slice())?;
     let measure = Measure::new(alloc, &draft.job)?;
     let (program, compiled, measure) = match finish(alloc, draft, measure) {
         Ok(given) => given,
@@ -289,6 +317,7 @@ fn cost_program(alloc: Global, text: &[u8]) -> Result<(Job, Naming, Costs), Comm
     let lines = costs_of(alloc, counted.as_slice(), &measure.profile)?;
     let naming = Naming {
         program,
+        places,
         numbers,
         ended,
     };

@@ -10,7 +10,7 @@ use Rattle.pram_job.specs.Job.{JobData}
 use Rattle.pram_streams.specs.Transfer.{AppendsBeginning}
 use Rattle.pram_streams.proofs.Beginnings.{beginning-after, beginning-longer}
 use Rattle.pram_rows.specs.Inner.Printing.{TakesBut}
-use Rattle.pram_rows.specs.Rows.{rows_after, step_lines}
+use Rattle.pram_rows.specs.StepRows.{StepRows, rows_after, step_rows}
 
 -- so many numbers, and then more
 range_more : (t m n k u : ℕ) → k ≡ m + n → u ≡ t + m →
@@ -38,11 +38,11 @@ pieces-more text f t m k u count place =
     ∙ ap (λ l. flat_map f (range_with_len t m) ++ l) (append-nil (f u))))
 
 -- the rows of more steps begin with those of fewer
-pub lines-longer : (lines : Option (List ℕ)) (job : JobData) (t m n : ℕ) → m ≤ n →
-    rows_after lines job t n
-    ≡ rows_after lines job t m ++ rows_after lines job (t + m) (n - m)
-lines-longer lines job t m n few =
-    flat_map-range (step_lines lines job) t m (n - m) n (t + m) (omega arith) refl
+pub lines-longer : (rows : StepRows) (job : JobData) (t m n : ℕ) → m ≤ n →
+    rows_after rows job t n
+    ≡ rows_after rows job t m ++ rows_after rows job (t + m) (n - m)
+lines-longer rows job t m n few =
+    flat_map-range (step_rows rows job) t m (n - m) n (t + m) (omega arith) refl
 
 -- what was taken whole was begun
 pub whole-begins : (a b : Option (List ℕ)) (text : List ℕ) →
@@ -80,28 +80,28 @@ module _ (a b : Option (List ℕ)) (rest text : List ℕ) (takes : TakesBut a b 
   }
 
 -- before the first row
-pub no-rows : (lines : Option (List ℕ)) (job : JobData) (a : Option (List ℕ)) (t m : ℕ)
-    (rest : List ℕ) → rest ≡ [] → m ≡ 0 → TakesBut a a rest (rows_after lines job t m)
-no-rows lines job a t m rest none zero_rows = record {
+pub no-rows : (rows : StepRows) (job : JobData) (a : Option (List ℕ)) (t m : ℕ)
+    (rest : List ℕ) → rest ≡ [] → m ≡ 0 → TakesBut a a rest (rows_after rows job t m)
+no-rows rows job a t m rest none zero_rows = record {
   front = [];
   put = Appends-nil a;
-  text_is = none ∙ sym (ap (λ n. rows_after lines job t n) zero_rows);
+  text_is = none ∙ sym (ap (λ n. rows_after rows job t n) zero_rows);
 }
 
-module _ (lines : Option (List ℕ)) (job : JobData) (a b : Option (List ℕ)) (t m k u : ℕ)
-    (rest : List ℕ) (takes : TakesBut a b rest (rows_after lines job t m))
+module _ (rows : StepRows) (job : JobData) (a b : Option (List ℕ)) (t m k u : ℕ)
+    (rest : List ℕ) (takes : TakesBut a b rest (rows_after rows job t m))
     (count : k ≡ m + 1) (place : u ≡ t + m) where
-  pub row-begins : (c : Option (List ℕ)) → AppendsBeginning b c (rest ++ step_lines lines job u) →
-      AppendsBeginning a c (rows_after lines job t k)
+  pub row-begins : (c : Option (List ℕ)) → AppendsBeginning b c (rest ++ step_rows rows job u) →
+      AppendsBeginning a c (rows_after rows job t k)
   row-begins c begins =
       subst (λ l. AppendsBeginning a c l)
-      (pieces-more [] (step_lines lines job) t m k u count place)
-      (more-begins a b rest (rows_after lines job t m) takes c (step_lines lines job u) begins)
+      (pieces-more [] (step_rows rows job) t m k u count place)
+      (more-begins a b rest (rows_after rows job t m) takes c (step_rows rows job u) begins)
 
   pub row-taken : (c : Option (List ℕ)) (left : List ℕ) →
-      TakesBut b c left (rest ++ step_lines lines job u) →
-      TakesBut a c left (rows_after lines job t k)
+      TakesBut b c left (rest ++ step_rows rows job u) →
+      TakesBut a c left (rows_after rows job t k)
   row-taken c left taken =
       subst (λ l. TakesBut a c left l)
-      (pieces-more [] (step_lines lines job) t m k u count place)
-      (more-taken a b rest (rows_after lines job t m) takes c left (step_lines lines job u) taken)
+      (pieces-more [] (step_rows rows job) t m k u count place)
+      (more-taken a b rest (rows_after rows job t m) takes c left (step_rows rows job u) taken)

@@ -10,8 +10,8 @@ use Rattle.pram_step.specs.Runs.{IsAnswer, IsFirstConflict, IsReached, IsStateAf
 use Rattle.pram_step.specs.declared.answer.Fault.{Fault}
 use Rattle.pram_step.specs.declared.answer.RunAnswer.{RunAnswer}
 use Rattle.pram_step.specs.declared.answer.RunAnswer.TheVariants.{Final, Conflict, Unfinished}
-use Rattle.pram_rows.specs.Rows.{rows_in, step_lines}
 use Rattle.pram_rows.specs.Shown.{last_step}
+use Rattle.pram_rows.specs.StepRows.{StepRows, step_rows}
 
 -- steps that agree come before the last one, if the job has more
 pub last-beyond : (job : JobData) (t : ℕ) (answer : RunAnswer) → IsReached job t → t < job.steps →
@@ -54,6 +54,6 @@ disputed job t s made fault is = subst (λ (o : Option Fault). IsStepMade job t 
     IsFirstConflict job fault × (fault.step ≡ t + 1)) (sym is) (λ step. step)
 
 -- the rows of a step, by its state
-pub rows-of : (lines : Option (List ℕ)) (job : JobData) (t : ℕ) (s : State) →
-    IsStateAfter job t s → rows_in lines job s (t + 1) ≡ step_lines lines job t
-rows-of lines job t s after = ap (λ (state : State). rows_in lines job state (t + 1)) after.state
+pub rows-of : (rows : StepRows) (job : JobData) (t : ℕ) (s : State) →
+    IsStateAfter job t s → rows.of_step job s (t + 1) ≡ step_rows rows job t
+rows-of rows job t s after = ap (λ (state : State). rows.of_step job state (t + 1)) after.state

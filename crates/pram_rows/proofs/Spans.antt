@@ -4,7 +4,6 @@ use Rattle.std.proofs.Common.{inl, inr, refl, sym, ap, ap₂, subst, arith, ◌�
 use Rattle.std.proofs.KnownBytes.{Appends-nil, Appends-trans}
 use Rattle.std.proofs.lemmas.Bool.{cases_lt}
 use Rattle.std.specs.Io.KnownBytes.{Appends}
-use Rattle.std.specs.Option.{option_copied}
 use Rattle.std.specs.Prelude.{OnErr}
 use Rattle.pram_job.specs.Job.{JobData}
 use Rattle.pram_step.specs.Runs.{IsAnswer, IsFirstConflict, IsReached}
@@ -14,10 +13,10 @@ use Rattle.pram_streams.specs.Transfer.{AppendsBeginning}
 use Rattle.pram_streams.proofs.Beginnings.{beginning-after, beginning-longer}
 use Rattle.pram_rows.specs.Inner.Printing.{TakesBut}
 use Rattle.pram_rows.specs.Inner.Spans.{OfAnswers}
-use Rattle.pram_rows.specs.Rows.{header, rows_after}
 use Rattle.pram_rows.specs.Shown.{BeginsSteps, TakesSteps, last_step, steps_text}
-use Rattle.pram_rows.specs.declared.window.Shown.{Shown}
+use Rattle.pram_rows.specs.StepRows.{StepRows, rows_after}
 use Rattle.pram_rows.specs.declared.window.Span.{Span}
+use Rattle.pram_rows.specs.declared.window.Window.{Window}
 use Rattle.pram_rows.proofs.Lines.{but-beginning, but-rest, lines-longer, whole-begins}
 use Rattle.pram_rows.proofs.Reaching.{last-beyond, last-disputed, last-reached, last-within}
 
@@ -26,48 +25,47 @@ pub on_err : {T E P : Type 0} (r : Result T E) → P → OnErr r P
 on_err (Ok value) holds = tt
 on_err (Err error) holds = holds
 
-module _ (span : Span) where
+module _ (shown : StepRows) (span : Span) where
   -- nothing is a beginning
-  pub none-begins : (a : Option (List ℕ)) → OfAnswers span (AppendsBeginning a a)
+  pub none-begins : (a : Option (List ℕ)) → OfAnswers shown span (AppendsBeginning a a)
   none-begins a = λ answer is. ([], refl, Appends-nil a)
 
   -- what was left is put, or a beginning of it
   pub rest-begins : (a b c : Option (List ℕ)) (rest : List ℕ) →
-      OfAnswers span (TakesBut a b rest) → AppendsBeginning b c rest →
-      OfAnswers span (AppendsBeginning a c)
+      OfAnswers shown span (TakesBut a b rest) → AppendsBeginning b c rest →
+      OfAnswers shown span (AppendsBeginning a c)
   rest-begins a b c rest rows begins =
       λ answer is. but-beginning a b rest _ (rows answer is) c begins
 
-  pub rest-taken : (a b c : Option (List ℕ)) (rest : List ℕ) → OfAnswers span (TakesBut a b rest) →
-      Appends b c rest → OfAnswers span (Appends a c)
+  pub rest-taken : (a b c : Option (List ℕ)) (rest : List ℕ) → OfAnswers shown span (TakesBut a b rest) →
+      Appends b c rest → OfAnswers shown span (Appends a c)
   rest-taken a b c rest rows put = λ answer is. but-rest a b rest _ (rows answer is) c put
 
   -- what holds of the rows of the steps up to the last one holds of all
   pub rows-all : (Holds : List ℕ → Type 0) (made : ℕ) →
       ((answer : RunAnswer) → IsAnswer span.job.now answer →
       min span.end (last_step span.job.now answer) ≡ made) →
-      Holds (rows_after (option_copied span.lines) span.job.now span.first (made - span.first)) →
-      OfAnswers span Holds
+      Holds (rows_after shown span.job.now span.first (made - span.first)) →
+      OfAnswers shown span Holds
   rows-all Holds made all holds = λ answer is. subst (λ (n : ℕ).
-      Holds (rows_after (option_copied span.lines) span.job.now span.first (n - span.first)))
+      Holds (rows_after shown span.job.now span.first (n - span.first)))
       (sym (all answer is)) holds
 
   -- the rows of some steps are a beginning, where the job has these steps
   pub rows-begin : (a b : Option (List ℕ)) (made : ℕ) →
       ((answer : RunAnswer) → IsAnswer span.job.now answer →
       made ≤ min span.end (last_step span.job.now answer)) →
-      AppendsBeginning a b (rows_after (option_copied span.lines) span.job.now span.first
-      (made - span.first)) → OfAnswers span (AppendsBeginning a b)
+      AppendsBeginning a b (rows_after shown span.job.now span.first
+      (made - span.first)) → OfAnswers shown span (AppendsBeginning a b)
   rows-begin a b made had begins = λ answer is.
-      let lines = option_copied span.lines in
       let job = span.job.now in
       let m = made - span.first in
       let n = min span.end (last_step job answer) - span.first in
       let has = had answer is in
       subst (λ l. AppendsBeginning a b l)
-      (sym (lines-longer lines job span.first m n (omega (arith, has))))
-      (beginning-longer a b (rows_after lines job span.first m)
-      (rows_after lines job (span.first + m) (n - m)) begins)
+      (sym (lines-longer shown job span.first m n (omega (arith, has))))
+      (beginning-longer a b (rows_after shown job span.first m)
+      (rows_after shown job (span.first + m) (n - m)) begins)
 
   -- where so many steps agree, the job has one more
   pub has-next : (made : ℕ) → IsReached span.job.now made → made < span.end →
@@ -102,73 +100,73 @@ module _ (span : Span) where
       )
 
 -- rows of no steps are alike wherever they begin
-same-lines : (lines : Option (List ℕ)) (job : JobData) (t u m n : ℕ) → m ≡ 0 → n ≡ 0 →
-    rows_after lines job t m ≡ rows_after lines job u n
-same-lines lines job t u m n none nothing = ap (λ k. rows_after lines job t k) none
-    ∙ sym (ap (λ k. rows_after lines job u k) nothing)
+same-lines : (rows : StepRows) (job : JobData) (t u m n : ℕ) → m ≡ 0 → n ≡ 0 →
+    rows_after rows job t m ≡ rows_after rows job u n
+same-lines rows job t u m n none nothing = ap (λ k. rows_after rows job t k) none
+    ∙ sym (ap (λ k. rows_after rows job u k) nothing)
 
-module _ (lines : Option (List ℕ)) (job : JobData) (from to first end : ℕ)
+module _ (rows : StepRows) (job : JobData) (from to first end : ℕ)
     (last : end ≡ min to job.steps) (start : first ≡ min (from - 1) end) where
   -- the rows of a span are those of its window
   lines-are : (steps : ℕ) → steps ≤ job.steps →
-      rows_after lines job first (min end steps - first)
-      ≡ rows_after lines job (from - 1) (min to steps - (from - 1))
+      rows_after rows job first (min end steps - first)
+      ≡ rows_after rows job (from - 1) (min to steps - (from - 1))
   lines-are steps within = elim (cases_lt end (from - 1)) [
-    | inl past ↦ same-lines lines job first (from - 1) _ _ (omega (arith, last, start, past, within))
+    | inl past ↦ same-lines rows job first (from - 1) _ _ (omega (arith, last, start, past, within))
         (omega (arith, last, start, past, within))
     | inr begun ↦
         let same : first ≡ from - 1 = omega (arith, start, begun) in
         let few : min end steps ≡ min to steps = omega (arith, last, within) in
-        ap₂ (λ t n. rows_after lines job t (n - t)) same few
+        ap₂ (λ t n. rows_after rows job t (n - t)) same few
   ]
 
 -- what was taken is a beginning of itself
-pub begun : (job : JobData) (shown : Shown) (a b : Option (List ℕ)) (answer : RunAnswer) →
-    TakesSteps job shown a b answer → BeginsSteps job shown a b
-begun job shown a b answer takes = record {
+pub begun : (shown : StepRows) (job : JobData) (window : Window) (a b : Option (List ℕ)) (answer : RunAnswer) →
+    TakesSteps shown job window a b answer → BeginsSteps shown job window a b
+begun shown job window a b answer takes = record {
   answer = answer;
   answers = takes.answers;
-  prints = whole-begins a b (steps_text job shown answer) takes.prints;
+  prints = whole-begins a b (steps_text shown job window answer) takes.prints;
 }
 
 -- a beginning of the header is one of what is shown
-pub header-begins : (job : JobData) (shown : Shown) (a b : Option (List ℕ)) (answer : RunAnswer) →
-    IsAnswer job answer → AppendsBeginning a b (header (option_copied shown.lines)) →
-    BeginsSteps job shown a b
-header-begins job shown a b answer is some =
-    let from = shown.window.from - 1 in
+pub header-begins : (shown : StepRows) (job : JobData) (window : Window) (a b : Option (List ℕ)) (answer : RunAnswer) →
+    IsAnswer job answer → AppendsBeginning a b shown.header →
+    BeginsSteps shown job window a b
+header-begins shown job window a b answer is some =
+    let from = window.from - 1 in
     record {
       answer = answer;
       answers = is;
-      prints = beginning-longer a b (header (option_copied shown.lines))
-          (rows_after (option_copied shown.lines) job from
-          (min shown.window.to (last_step job answer) - from)) some;
+      prints = beginning-longer a b shown.header
+          (rows_after shown job from
+          (min window.to (last_step job answer) - from)) some;
     }
 
 -- the rows of a window's span go after the header
-module _ (job : JobData) (shown : Shown) (first end : ℕ)
-    (last : end ≡ min shown.window.to job.steps) (start : first ≡ min (shown.window.from - 1) end)
-    (a b c : Option (List ℕ)) (put : Appends a b (header (option_copied shown.lines)))
+module _ (shown : StepRows) (job : JobData) (window : Window) (first end : ℕ)
+    (last : end ≡ min window.to job.steps) (start : first ≡ min (window.from - 1) end)
+    (a b c : Option (List ℕ)) (put : Appends a b shown.header)
     (answer : RunAnswer) (is : IsAnswer job answer) where
-  same : rows_after (option_copied shown.lines) job first (min end (last_step job answer) - first)
-      ≡ rows_after (option_copied shown.lines) job (shown.window.from - 1)
-      (min shown.window.to (last_step job answer) - (shown.window.from - 1))
-  same = lines-are (option_copied shown.lines) job shown.window.from shown.window.to first end
+  same : rows_after shown job first (min end (last_step job answer) - first)
+      ≡ rows_after shown job (window.from - 1)
+      (min window.to (last_step job answer) - (window.from - 1))
+  same = lines-are shown job window.from window.to first end
       last start (last_step job answer) (last-within job answer is)
 
-  pub takes-steps : Appends b c (rows_after (option_copied shown.lines) job first
-      (min end (last_step job answer) - first)) → TakesSteps job shown a c answer
+  pub takes-steps : Appends b c (rows_after shown job first
+      (min end (last_step job answer) - first)) → TakesSteps shown job window a c answer
   takes-steps rows = record {
     answers = is;
-    prints = Appends-trans a b c (header (option_copied shown.lines)) _ put
+    prints = Appends-trans a b c shown.header _ put
         (subst (λ l. Appends b c l) same rows);
   }
 
-  pub begins-steps : AppendsBeginning b c (rows_after (option_copied shown.lines) job first
-      (min end (last_step job answer) - first)) → BeginsSteps job shown a c
+  pub begins-steps : AppendsBeginning b c (rows_after shown job first
+      (min end (last_step job answer) - first)) → BeginsSteps shown job window a c
   begins-steps rows = record {
     answer = answer;
     answers = is;
-    prints = beginning-after a b c (header (option_copied shown.lines)) _ put
+    prints = beginning-after a b c shown.header _ put
         (subst (λ l. AppendsBeginning b c l) same rows);
   }

@@ -3,3 +3,4 @@ pub mod Inner
 pub mod Instructions
 pub mod Rows
 pub mod Shown
+pub mod StepRows

@@ -1,5 +1,5 @@
 -- What each processor asks for in each step, as text.
-use Rattle.std.specs.Prelude.{ℕ, ◌+◌, ◌-◌, ◌==◌, ◌&&◌, nat_lt, min, if◌then◌else◌, List}
+use Rattle.std.specs.Prelude.{ℕ, ◌-◌, ◌==◌, ◌&&◌, nat_lt, if◌then◌else◌, List}
 use Rattle.std.specs.Prelude.{[], ◌++◌, Option, Some, None, slice_get, slice_index}
 use Rattle.std.specs.Prelude.{codes, decimal}
 use Rattle.std.specs.List.{flat_map, range_with_len}
@@ -7,7 +7,7 @@ use Rattle.pram_job.specs.declared.instr.Instr.{Instr}
 use Rattle.pram_job.specs.Job.{JobData}
 use Rattle.pram_machine.specs.Machine.{State, counter, halted, register_place}
 use Rattle.pram_machine.specs.Instructions.{request_in}
-use Rattle.pram_step.specs.Runs.{state_after}
+use Rattle.pram_rows.specs.StepRows.{StepRows, window_rows}
 use Rattle.pram_rows.specs.Instructions.{instruction_text}
 
 -- why a processor with this counter has stopped
@@ -60,20 +60,14 @@ abbrev pub rows_in : Option (List ℕ) → JobData → State → ℕ → List �
 rows_in lines job state step =
     flat_map (row_line lines job state step) (range_with_len 0 job.procs)
 
--- the rows of the step after t steps
-abbrev pub step_lines : Option (List ℕ) → JobData → ℕ → List ℕ
-step_lines lines job t = rows_in lines job (state_after job t) (t + 1)
-
--- the rows of so many steps after t steps
-abbrev pub rows_after : Option (List ℕ) → JobData → ℕ → ℕ → List ℕ
-rows_after lines job t count = flat_map (step_lines lines job) (range_with_len t count)
-
 abbrev pub header : Option (List ℕ) → List ℕ
 header None = codes "step,processor,place,instruction,writes,value,next\n"
 header (Some lines) = codes "step,processor,place,instruction,writes,value,next,line\n"
 
--- the header, and the rows of the steps from one to another, those that there are: the last of all
--- is `last`; with the lines that the job's instructions came from, where these are told
+-- The rows that tell what is asked for: with the lines that the job's instructions came from, where
+-- these are told.
+abbrev pub request_rows : Option (List ℕ) → StepRows
+request_rows lines = record { header = header lines; of_step = rows_in lines }
+
 abbrev pub rows_text : Option (List ℕ) → JobData → ℕ → ℕ → ℕ → List ℕ
-rows_text lines job from to last =
-    header lines ++ rows_after lines job (from - 1) (min to last - (from - 1))
+rows_text lines job from to last = window_rows (request_rows lines) job from to last

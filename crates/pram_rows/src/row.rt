@@ -7,10 +7,12 @@ ghost use Rattle.csv.specs.Writing.{default_writer, field_text, row_text, text_w
 ghost use Rattle.pram_machine.specs.Machine.{IsDataPlace};
 ghost use Rattle.pram_streams.specs.Records.{IsBetweenRecords};
 ghost use Rattle.pram_rows.specs.Inner.Printing.{told_fields};
-ghost use Rattle.pram_rows.specs.Rows.{instruction_at, line_number_text, row_line, rows_in};
+ghost use Rattle.pram_rows.specs.Rows.{header, instruction_at, line_number_text, request_rows};
+ghost use Rattle.pram_rows.specs.Rows.{row_line, rows_in};
 ghost use Rattle.pram_rows.specs.Rows.{stop_word, target_text, value_text};
 
 use crate::instruction::instruction_text;
+use crate::rows::Rows;
 use csv::{Error, Writer};
 use itoa::Buffer;
 use pram_job::Job;
@@ -19,8 +21,49 @@ use pram_streams::number_text;
 use std::alloc::{AllocError, Global};
 use std::io::Write;
 
-/// Writes the rows of the step that comes next, after these bytes.
-pub(crate) fn push_rows(
+/// What each processor asks for, a row each, with the numbers of the lines that the job's
+/// instructions came from, if they are told. An instruction without a number, or with the number 0,
+/// came from no line.
+#[derive(Clone, Copy, Debug)]
+pub struct Requests<'a> {
+    pub lines: Option<&'a [u64]>,
+}
+
+/// The fields of a row.
+const HEADER: &str = "step,processor,place,instruction,writes,value,next\n";
+
+/// The fields of a row where lines are told, too.
+const HEADER_WITH_LINES: &str = "step,processor,place,instruction,writes,value,next,line\n";
+
+impl Rows for Requests<'_> {
+    ghost rows = { λ requests. request_rows (option_copied requests.lines) };
+
+    fn header(&self) -> &str {
+        header(self.lines)
+    }
+
+    fn push_step(
+        &self,
+        alloc: Global,
+        moment: &Moment<'_>,
+        bytes: Vec<u8>,
+    ) -> Result<Vec<u8>, AllocError> {
+        push_rows(alloc, moment, self.lines, bytes)
+    }
+}
+
+// What stands before the rows.
+fn header(lines: Option<&[u64]>) -> &'static str
+    ensures { result.now ≡ header (option_copied lines.entry) }
+{
+    match lines {
+        None => HEADER,
+        Some(_) => HEADER_WITH_LINES,
+    }
+}
+
+// Writes the rows of the step that comes next, after these bytes.
+fn push_rows(
     alloc: Global,
     moment: &Moment<'_>,
     lines: Option<&[u64]>,

@@ -18,20 +18,10 @@ impl Window {
     };
 }
 
-/// What is shown of a job: the steps of a window, and the numbers of the lines that its
-/// instructions came from, if they are told. An instruction without a number, or with the number
-/// 0, came from no line.
-#[derive(Clone, Copy, Debug)]
-pub struct Shown<'a> {
-    pub window: Window,
-    pub lines: Option<&'a [u64]>,
-}
-
 /// The steps of a job that are shown: those after so many, up to this one.
 #[derive(Drop)]
 pub(crate) struct Span<'a> {
     pub job: &'a Job,
-    pub lines: Option<&'a [u64]>,
     pub first: u32,
     pub end: u32,
     pub ghost ordered: { first ≤ end },

@@ -1,4 +1,5 @@
-//! The commands that start no thread: `check`, `compile`, `plain`, `cost`, `steps` and `replay`.
+//! The commands that start no thread: `check`, `compile`, `plain`, `cost`, `steps`, `trace` and
+//! `replay`.
 ghost use Rattle.std.specs.Prelude.{◌≡◌, ◌↔◌, ⊤, true, false, IfErr, IfOk, IsErrOf, IsTrue};
 ghost use Rattle.pram_streams.specs.Transfer.{GivesSome};
 ghost use Rattle.pram_commands.specs.Did.{Did, Showing, tells, tells_none, writing};
@@ -14,6 +15,7 @@ ghost use Rattle.pram_commands.specs.LineRecords.{TellsLines, costing_by};
 ghost use Rattle.pram_commands.specs.Steps.{TellsSteps, stepping};
 ghost use Rattle.pram_commands.specs.Replayed.{TellsTrace, replaying};
 ghost use Rattle.pram_commands.specs.Texts.{TellsText, compiling};
+ghost use Rattle.pram_commands.specs.Traced.{TellsMadeLines, tracing};
 ghost use Rattle.pram_commands.specs.Why.{Explaining};
 ghost use Rattle.refusals.specs.declared.fault.CommandFault.TheVariants.{JobDevice};
 
@@ -23,12 +25,13 @@ use crate::line_costs::{Costed, Costs};
 use crate::line_records::records_of;
 use crate::names::lines_of;
 use crate::sources::{Inputs, Sources, Spelled};
+use crate::traces::Traces;
 use crate::why::{put_explained, put_told};
 use command_data::{Style, Workers};
 use job_text::print_text;
 use pram_cost::{Cost, print_cost};
 use pram_job::Job;
-use pram_rows::{Shown, Window, print_steps};
+use pram_rows::{Requests, Window, print_steps};
 use pram_run::replay_to;
 use pram_step::{RunAnswer, plain_answer};
 use pram_streams::{PrintFault, Sink, Source, print_summary, put};
@@ -246,11 +249,10 @@ fn put_steps<O: Sink>(
         read.job) ⊤
         (writing O.Sink out.old out.new) tells result }
 {
-    let shown = Shown {
-        window,
+    let requests = Requests {
         lines: lines_of(spelled),
     };
-    let answer = print_steps(alloc, out, &spelled.job, &shown)?;
+    let answer = print_steps(alloc, out, &spelled.job, window, &requests)?;
     print_ending(alloc, out, spelled, &answer, alone)?;
     Ok(answer)
 }
@@ -260,6 +262,43 @@ fn missing_step(job: &Job, step: u32) -> Option<u32>
     ensures { result ≡ missing_step job.now step }
 {
     (step > 1 && step > job.steps()).then_some(step)
+}
+
+/// Reads a job, and prints the lines of its program as they are made, and then the answer unless
+/// they are to stand alone. Where memory runs out, a beginning of it may stand printed. It costs
+/// what `print_steps` does.
+pub fn trace<J: Source, P: Source, O: Sink>(
+    alloc: Global,
+    alone: bool,
+    sources: &mut Sources<J, P>,
+    out: &mut O,
+) -> Result<RunAnswer, CommandFault>
+    requires { AreReady J.Source P.Source O.Sink sources.old out.old }
+    ensures { Did (tracing alone) (taking J.Source P.Source sources.old sources.new)
+        (writing O.Sink out.old out.new) tells result }
+{
+    let spelled = take_text(alloc, &mut sources.job, &mut sources.text)?;
+    printed(put_trace(alloc, &spelled, alone, out))
+}
+
+#[inline(never)]
+fn put_trace<O: Sink>(
+    alloc: Global,
+    spelled: &Spelled,
+    alone: bool,
+    out: &mut O,
+) -> Result<RunAnswer, PrintFault>
+    requires output { O.has_failed out.old ≡ false }
+    requires names { AreNames spelled.now.text.items spelled.now.job spelled.now.names }
+    ensures { let read = spelled.now in
+        PutsAnswer (Showing alone (TellsMadeLines read.text.items read.job) read.text.items
+        read.job) ⊤
+        (writing O.Sink out.old out.new) tells result }
+{
+    let traces = Traces { spelled };
+    let answer = print_steps(alloc, out, &spelled.job, Window::ALL, &traces)?;
+    print_ending(alloc, out, spelled, &answer, alone)?;
+    Ok(answer)
 }
 
 /// Reads a job, then its plan, and prints the trace of their replay, as its steps are made, and its

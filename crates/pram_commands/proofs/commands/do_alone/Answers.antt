@@ -8,6 +8,10 @@ pub returns-in-Steps : goal.returns-in-Steps
 returns-in-Steps g c =
     rw c.in-Steps.is (ended_did _ _ _ _ c.steps.ensures _ c.ended-in-Steps.ensures)
 
+pub returns-in-Trace : goal.returns-in-Trace
+returns-in-Trace g c =
+    rw c.in-Trace.is (ended_did _ _ _ _ c.trace.ensures _ c.ended-in-Trace.ensures)
+
 pub returns-in-Replay : goal.returns-in-Replay
 returns-in-Replay g c =
     rw c.in-Replay.is (ended_did _ _ _ _ c.replay.ensures _ c.ended-in-Replay.ensures)

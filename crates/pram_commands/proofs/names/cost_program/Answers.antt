@@ -16,7 +16,7 @@ invariant_of-result c =
           c.in_ok-counted.counted.items c.in_ok-lines.lines.items c.in-Ok-finish.ensures.made
           c.into_parts-job.ensures.job c.in-Ok-finish.ensures.seen.1
           c.in_ok-counted.ensures.counted
-          (c.in_ok-lines.ensures ∙ ap (map _) c.as_slice-2.ensures.value)
+          (c.in_ok-lines.ensures ∙ ap (map _) c.as_slice-3.ensures.value)
           few;
     }
 
@@ -34,6 +34,6 @@ returns-clause-costs c =
           c.in_ok-counted.counted.items c.in_ok-lines.lines.items c.in-Ok-finish.ensures.made
           c.into_parts-job.ensures.job c.in-Ok-finish.ensures.seen.1
           c.in_ok-counted.ensures.counted
-          (c.in_ok-lines.ensures ∙ ap (map _) c.as_slice-2.ensures.value)
+          (c.in_ok-lines.ensures ∙ ap (map _) c.as_slice-3.ensures.value)
           given.0 c.in-Ok-finish.ensures.program;
     }

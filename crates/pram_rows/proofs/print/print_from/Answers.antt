@@ -6,12 +6,12 @@ use Rattle.pram_rows.proofs.print.print_from.Goals as goal
 
 pub returns-in_err-put-clause-beginning : goal.returns-in_err-put-clause-beginning
 returns-in_err-put-clause-beginning g c =
-    on_err _ (rest-begins c.args.span.now _ _ _ _ c.in_ok-arrival.ensures.rows
+    on_err _ (rest-begins (g.R.Rows.rows c.args.rows.now) c.args.span.now _ _ _ _ c.in_ok-arrival.ensures.rows
     (subst (λ l. AppendsBeginning (g.W.Sink.taken c.show_span.new.sink)
     (g.W.Sink.taken c.put.new.sink) l) c.as_slice.ensures.value c.in_err-put.ensures.beginning))
 
 pub returns-clause-rows : goal.returns-clause-rows
 returns-clause-rows g c =
-    rest-taken c.args.span.now _ _ _ _ c.in_ok-arrival.ensures.rows
+    rest-taken (g.R.Rows.rows c.args.rows.now) c.args.span.now _ _ _ _ c.in_ok-arrival.ensures.rows
     (subst (λ l. Appends (g.W.Sink.taken c.show_span.new.sink) (g.W.Sink.taken c.put.new.sink) l)
     c.as_slice.ensures.value c.in_ok-put.ensures.ok)

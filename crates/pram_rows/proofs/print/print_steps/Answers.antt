@@ -7,14 +7,14 @@ use Rattle.pram_rows.proofs.print.print_steps.Goals as goal
 pub returns-in_err-put-clause-beginning : goal.returns-in_err-put-clause-beginning
 returns-in_err-put-clause-beginning g c =
     let some = c.has_answer.ensures c.args.job.now in
-    on_err _ (header-begins c.args.job.now c.args.shown.now _ _ some.0 some.1
+    on_err _ (header-begins (g.R.Rows.rows c.args.rows.now) c.args.job.now c.args.window _ _ some.0 some.1
     (subst (λ l. AppendsBeginning (g.W.Sink.taken c.args.sink.now) (g.W.Sink.taken c.put.new.sink)
     l) (c.as_bytes.ensures.value ∙ c.header.ensures) c.in_err-put.ensures.beginning))
 
 pub returns-in_err-arrival-clause-beginning : goal.returns-in_err-arrival-clause-beginning
 returns-in_err-arrival-clause-beginning g c =
     let some = c.has_answer.ensures c.args.job.now in
-    on_err _ (begins-steps c.args.job.now c.args.shown.now c.min-first.result c.min-end.result
+    on_err _ (begins-steps (g.R.Rows.rows c.args.rows.now) c.args.job.now c.args.window c.min-first.result c.min-end.result
     (omega arith) (omega arith) _ _ _
     (subst (λ l. Appends (g.W.Sink.taken c.args.sink.now) (g.W.Sink.taken c.put.new.sink) l)
     (c.as_bytes.ensures.value ∙ c.header.ensures) c.in_ok-put.ensures.ok)
@@ -23,8 +23,8 @@ returns-in_err-arrival-clause-beginning g c =
 pub returns-in_err-answer-clause-beginning : goal.returns-in_err-answer-clause-beginning
 returns-in_err-answer-clause-beginning g c =
     let some = c.has_answer.ensures c.args.job.now in
-    on_err _ (begun c.args.job.now c.args.shown.now _ _ some.0
-    (takes-steps c.args.job.now c.args.shown.now c.min-first.result c.min-end.result
+    on_err _ (begun (g.R.Rows.rows c.args.rows.now) c.args.job.now c.args.window _ _ some.0
+    (takes-steps (g.R.Rows.rows c.args.rows.now) c.args.job.now c.args.window c.min-first.result c.min-end.result
     (omega arith) (omega arith) _ _ _
     (subst (λ l. Appends (g.W.Sink.taken c.args.sink.now) (g.W.Sink.taken c.put.new.sink) l)
     (c.as_bytes.ensures.value ∙ c.header.ensures) c.in_ok-put.ensures.ok)
@@ -32,7 +32,7 @@ returns-in_err-answer-clause-beginning g c =
 
 pub returns-clause-ok : goal.returns-clause-ok
 returns-clause-ok g c =
-    takes-steps c.args.job.now c.args.shown.now c.min-first.result c.min-end.result
+    takes-steps (g.R.Rows.rows c.args.rows.now) c.args.job.now c.args.window c.min-first.result c.min-end.result
     (omega arith) (omega arith) _ _ _
     (subst (λ l. Appends (g.W.Sink.taken c.args.sink.now) (g.W.Sink.taken c.put.new.sink) l)
     (c.as_bytes.ensures.value ∙ c.header.ensures) c.in_ok-put.ensures.ok)
