@@ -42,7 +42,7 @@ use Rattle.pardo_job.specs.Times.{is_counted}
 use Rattle.pardo_law.specs.Between.{AreLinesMade, IsInLine}
 use Rattle.pardo_law.specs.Counted.{TellsLine}
 use Rattle.pardo_law.proofs.Summing.{lines_add_up}
-use Rattle.pardo_law.proofs.Telling.{jobs_tell_lines}
+use Rattle.pardo_law.proofs.FlatTelling.{jobs_tell_lines}
 use Rattle.pardo_answers.specs.Language.{is_program}
 use Rattle.pardo_answers.specs.Laws.{IsAnswerText, IsCarrying}
 use Rattle.pardo_answers.proofs.LawAnswers.{printed_answers_are_the_programs}

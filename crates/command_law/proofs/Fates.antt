@@ -20,6 +20,7 @@ use Rattle.pram_fates.specs.declared.fates.Lost.{Lost}
 use Rattle.pram_fates.specs.Fates.{AllName, AreFates, AreMade as AreStepsMade, IsEnd as IsEndAfter}
 use Rattle.pram_fates.specs.Fates.{IsFirstLost, IsFirstLostOrNone, NamesNone}
 use Rattle.pardo_text.specs.Program.{ProgramData}
+use Rattle.pardo_job.specs.Carries.{ShowsFlat}
 use Rattle.pardo_job.specs.Compiled.{IsWhole}
 use Rattle.pram_step.specs.declared.answer.Dispute.{Dispute}
 use Rattle.pardo_job.specs.Leaving.{GoneIn, Leaves}
@@ -183,6 +184,17 @@ module _ (text : List ℕ) (job : JobData) (naming : NamingData) (names : IsNami
   unfolding after
   gone_first n i e = ap (λ (k : ℕ). (after program k).gone i) e
 
+  -- the job has such a state, and who is gone in the program is out of range there
+  shown_reached : (n : ℕ) → ShowsFlat program job (after program n) (time n) →
+      IsReached job (time n)
+  shown_reached n (flat_source, stands, shows) = shows.0
+
+  shown_gone : (n i number : ℕ) → ShowsFlat program job (after program n) (time n) →
+      i < program.procs → (after program n).gone i ≡ Some number →
+      counter job (state_after job (time n)) i ≡ out_of_range job
+  shown_gone n i number (flat_source, stands, shows) lt e = shows.1.gone i lt
+      (ap is_some (ap (λ (g : ℕ → Option ℕ). g i) stands.gone ∙ e))
+
   -- who is gone after lines that are made leaves in one of these steps
   all_there : (u n : ℕ) → source.IsLineReached program n → ((n ≡ 0) ⊎ (time n ≤ u)) →
       ((t : ℕ) → t < u → AllName job (state_after job t)) → AllThere program n
@@ -193,7 +205,7 @@ module _ (text : List ℕ) (job : JobData) (naming : NamingData) (names : IsNami
       by_gone None e = e
       by_gone (Some number) e = absurd (there_so_far job is_job (time n) i (low i lt)
           (λ t less. all t (omega arith))
-          ((is.goes.carries.shows n reached).1.gone i lt (ap is_some e)))
+          (shown_gone n i number (is.goes.carries.shows n reached) lt e))
 
   lost_line : (t n i : ℕ) → NamesNone job (state_after job t) i →
       IsInLine program job line_of t (after program n) i →
@@ -253,7 +265,7 @@ module _ (text : List ℕ) (job : JobData) (naming : NamingData) (names : IsNami
   made_before n before dispute conflict e against = ⊎_elim
       (λ (low : time n < before + 1). omega arith)
       (λ (high : before + 1 ≤ time n). absurd (against
-      ((is.goes.carries.shows n conflict.reached).0 before (omega arith))))
+      (shown_reached n (is.goes.carries.shows n conflict.reached) before (omega arith))))
       (cases_lt (time n) (before + 1))
 
   none_disputed : (fault : Fault) (made : ℕ) → AreStepsMade job job.steps made →
