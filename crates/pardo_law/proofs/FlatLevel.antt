@@ -318,6 +318,7 @@ within_level at a b (Register register) y (inr own_one) too few =
     for_own : (t : Bool) → at + (if t then 2 else 1) ≤ 3 → at < 3
     for_own true less = omega (arith, less)
     for_own false less = omega (arith, less)
+
     by_case : (t : Bool) → (3 == at) ≡ t → at < 3 → (if t then at + 1 else at) < 3
     by_case true e lt = absurd (omega (arith, eqb-true 3 at e, lt))
     by_case false e lt = lt
