@@ -1,3 +1,4 @@
 pub mod Refused
 pub mod Texts
 pub mod Waited
+pub mod Sweeps

@@ -1,9 +1,12 @@
 -- What a status says of the words that the program was given.
-use Rattle.std.specs.Prelude.{◌≡◌, ◌⊎◌, ℕ, Bool, List, [], Option, None, Some}
+use Rattle.std.specs.Prelude.{◌≡◌, ◌⊎◌, ℕ, Bool, true, false, List, [], Option, None}
+use Rattle.std.specs.Prelude.{MatchBool, Some}
 use Rattle.std.specs.Global.{Vec}
 use Rattle.clap.specs.Words.{IsAmong, Text, fault_of, subcommand_of}
 use Rattle.clap.specs.declared.error.kind.ErrorKind.TheVariants.{DisplayHelp, DisplayVersion}
-use Rattle.command_data.specs.declared.line.Ask.TheVariants.{OnThreads}
+use Rattle.command_data.specs.declared.line.Ask.{Ask}
+use Rattle.command_data.specs.declared.line.Ask.TheVariants.{Alone, OnThreads}
+use Rattle.command_data.specs.declared.line.AskAlone.TheVariants.{Sweep}
 use Rattle.command_data.specs.declared.line.AskOnThreads.{AskOnThreads}
 use Rattle.command_data.specs.declared.line.Line.{Line}
 use Rattle.pardo_text.specs.declared.settings.SetKind.{SetKind}
@@ -13,6 +16,7 @@ use Rattle.refusals.specs.declared.refusal.TheConstants.{DONE, FAILED, MEMORY, R
 use Rattle.command_line.specs.CommandLine.{HasSettings, IsAskedLine, MeanNoLine, pramx}
 use Rattle.command_line.specs.declared.line.Asked.{Asked}
 use Rattle.command_answers.specs.Setting.{IsRefusedSet, IsSetText}
+use Rattle.command_answers.specs.Sweeping.{IsRefusedSweep, ServesSweep}
 use Rattle.command_answers.specs.declared.answer.Waiting.{Waiting}
 
 -- The words mean a line, on such a device, and set no name, and it was served from the files that it
@@ -31,18 +35,26 @@ pub record ServesLineSet (Holds : List ℕ → Option (List ℕ) → Type 0) (Fa
   pub set : IsSetText Holds line.file.now given text
   pub serves : ServesText text Holds Fails line writes status
 
--- A setting is refused, or a file failed, or memory ran out, and nothing was written.
-pub record RefusesSet (Holds : List ℕ → Option (List ℕ) → Type 0) (file : List ℕ)
-    (given : List Text) (writes : Writing) (status : ℕ) : Type 0 where
-  pub refused : status ≡ REFUSED → (kind : SetKind) × IsRefusedSet Holds file given kind
+-- It is refused for such a reason, or a file failed, or memory ran out, and nothing was written.
+pub record RefusesSet (Reason : Type 0) (writes : Writing) (status : ℕ) : Type 0 where
+  pub refused : status ≡ REFUSED → Reason
   pub told : (status ≡ REFUSED) ⊎ ((status ≡ FAILED) ⊎ (status ≡ MEMORY))
   pub unwritten : writes.Unwritten
 
+-- the line asks for a sweep
+abbrev pub is_sweep : Ask → Bool
+is_sweep (Alone Sweep) = true
+is_sweep _ = false
+
+-- The sweep was done, or another line was served so; or that is refused.
 abbrev pub ServesOrRefusesSet : (List ℕ → Option (List ℕ) → Type 0) → Type 0 → Line → List Text →
     Writing → ℕ → Type 0
 ServesOrRefusesSet Holds Fails line given writes status =
-    ServesLineSet Holds Fails line given writes status
-    ⊎ RefusesSet Holds line.file.now given writes status
+    MatchBool (is_sweep line.ask)
+    (ServesSweep Holds line given writes status
+    ⊎ RefusesSet (IsRefusedSweep Holds line.file.now given) writes status)
+    (ServesLineSet Holds Fails line given writes status
+    ⊎ RefusesSet ((kind : SetKind) × IsRefusedSet Holds line.file.now given kind) writes status)
 
 -- The words mean a line, on such a device, and set names: the line was served so, or the settings
 -- are refused.

@@ -1,3 +1,4 @@
 pub mod Answering
 pub mod Setting
+pub mod Sweeping
 pub mod Input

@@ -86,6 +86,11 @@ IsUnfit settings text set fault = (unmet settings text ≡ Some fault)
     ⊎ ((found : PardoFault) × (program_of set ≡ Err found)
     × (blamed settings text found ≡ Some fault))
 
+-- What is set does not fit the text, and the first fault is of this kind.
+abbrev pub IsUnfitBy : List SettingData → List ℕ → SetKind → Type 0
+IsUnfitBy settings text kind = (fault : SetFault)
+    × IsUnfit settings text (text_as_set settings text) fault × (kind ≡ fault.kind)
+
 -- The file gave a text that what the words set does not fit.
 pub record IsMisfit (Holds : List ℕ → Option (List ℕ) → Type 0) (file : List ℕ)
     (words : List Text) (kind : SetKind) : Type 0 where
@@ -93,9 +98,7 @@ pub record IsMisfit (Holds : List ℕ → Option (List ℕ) → Type 0) (file : 
   pub gives : FileGives Holds file text
   pub settings : List SettingData
   pub names : SetNames Holds [] words settings
-  pub fault : SetFault
-  pub unfit : IsUnfit settings text (text_as_set settings text) fault
-  pub is : kind ≡ fault.kind
+  pub unfit : IsUnfitBy settings text kind
 
 -- where a setting is refused, this holds of its kind; else a file failed, or memory ran out
 abbrev pub BySetting : (SetKind → Type 0) → Refusal → Type 0

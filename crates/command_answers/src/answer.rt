@@ -8,6 +8,7 @@ ghost use Rattle.command_answers.specs.Answering.{AnswersWords, AskForThreads, E
 ghost use Rattle.command_answers.specs.Answering.{ServesOrRefusesSet, ServesWaiting, WaitsFor};
 
 use crate::setting::set_text;
+use crate::sweep::{answer_sweep, is_sweep};
 use clap::error::ErrorKind;
 use command_line::read_line;
 use pram_commands::{
@@ -126,6 +127,9 @@ fn answer_set<'a, F: Folder, O: Sink, E: Sink>(
     ensures still { OnErr result ((console.new.out ≡ console.old.out)
         × (console.new.err ≡ console.old.err)) }
 {
+    if is_sweep(&line.ask) {
+        return Ok(answer_sweep(alloc, folder, &line, settings, console));
+    }
     let text = match set_text(alloc, folder, line.file, settings) {
         Ok(text) => text,
         Err(unset) => return Ok(tell_unset(alloc, &unset, console.explains, &mut console.err)),

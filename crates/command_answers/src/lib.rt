@@ -6,6 +6,7 @@
 mod answer;
 mod input;
 mod setting;
+mod sweep;
 
 pub use answer::{Waiting, answer_alone, answer_words, serve_waiting};
 pub use input::{Input, RealFiles};

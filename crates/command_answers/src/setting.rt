@@ -1,9 +1,9 @@
 //! The text of a line's file as names are set.
 ghost use Rattle.std.specs.Prelude.{◌≡◌, [], None, Ok, Err, map, IfErr, IfOk, IfSome, OnOk};
-ghost use Rattle.pardo_text.specs.Settings.{with_setting};
+ghost use Rattle.pardo_text.specs.Settings.{text_as_set, with_setting};
 ghost use Rattle.command_answers.specs.Setting.{AllMet, BySetting, FileGives, IsRefusedSet};
-ghost use Rattle.command_answers.specs.Setting.{IsSetText, IsUnfit, RefuseNames, RefusesName};
-ghost use Rattle.command_answers.specs.Setting.{SetNames, SetsName};
+ghost use Rattle.command_answers.specs.Setting.{IsSetText, IsUnfit, IsUnfitBy, RefuseNames};
+ghost use Rattle.command_answers.specs.Setting.{RefusesName, SetNames, SetsName};
 
 use pardo_answers::is_program;
 use pardo_text::{PardoKind, SetFault, SetKind, Settings, read_program};
@@ -27,10 +27,25 @@ pub(crate) fn set_text<'a, F: Folder>(
 {
     let settings = settings_of(alloc, folder, words)?;
     let text = taken(alloc, folder, file)?;
-    let Ok(set) = settings.text_as_set(alloc, text.as_slice()) else {
+    fitted(alloc, &settings, text.as_slice(), words)
+}
+
+/// A text as it is set, or which of the words, that set names so, does not fit it.
+pub(crate) fn fitted<'a>(
+    alloc: Global,
+    settings: &Settings,
+    text: &[u8],
+    words: &[&'a str],
+) -> Result<Vec<u8>, Unset<'a>>
+    ensures set { IfOk result (λ set. set.items ≡ text_as_set settings.now text.now) }
+    ensures met { IfOk result (λ set. AllMet settings.now text.now set.items) }
+    ensures refused { IfErr result (λ unset.
+        BySetting (IsUnfitBy settings.now text.now) unset.refusal) }
+{
+    let Ok(set) = settings.text_as_set(alloc, text) else {
         return Err(unset(Refusal::Memory));
     };
-    match unfit(alloc, &settings, text.as_slice(), set.as_slice()) {
+    match unfit(alloc, settings, text, set.as_slice()) {
         Ok(None) => Ok(set),
         Ok(Some(SetFault { at, kind })) => {
             let name = name_in(words.get(at).copied().unwrap_or(""));
@@ -60,8 +75,8 @@ fn unfit(
     }
 }
 
-// What the words set.
-fn settings_of<'a, F: Folder>(
+/// What the words set.
+pub(crate) fn settings_of<'a, F: Folder>(
     alloc: Global,
     folder: &F,
     words: &[&'a str],
@@ -123,8 +138,12 @@ fn name_in(word: &str) -> &str {
     }
 }
 
-// All bytes of a file.
-fn taken<'a, F: Folder>(alloc: Global, folder: &F, file: &'a str) -> Result<Vec<u8>, Unset<'a>>
+/// All bytes of a file.
+pub(crate) fn taken<'a, F: Folder>(
+    alloc: Global,
+    folder: &F,
+    file: &'a str,
+) -> Result<Vec<u8>, Unset<'a>>
     ensures gives { IfOk result (λ bytes. FileGives (F.holds folder.now) file.now bytes.items) }
     ensures failed { IfErr result (λ unset. BySetting (λ kind. ⊥) unset.refusal) }
 {
@@ -140,8 +159,8 @@ fn taken<'a, F: Folder>(alloc: Global, folder: &F, file: &'a str) -> Result<Vec<
     }
 }
 
-// What is refused without the reason of a file.
-fn unset(refusal: Refusal<'_>) -> Unset<'_>
+/// What is refused without the reason of a file.
+pub(crate) fn unset(refusal: Refusal<'_>) -> Unset<'_>
     ensures { result.refusal ≡ refusal.entry }
 {
     Unset {

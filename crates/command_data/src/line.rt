@@ -5,6 +5,7 @@ ghost use Rattle.command_data.specs.Line.{watched_place};
 use crate::cell_list::CellList;
 use crate::manner::Manner;
 use crate::workers::Workers;
+use pram_cost::Pram;
 
 /// What the program is asked for: the job's file, the plan's if one is named, and what is asked of
 /// them. A file is named as its word names it.
@@ -23,18 +24,21 @@ pub enum Ask<'a> {
     OnThreads(AskOnThreads<'a>),
 }
 
-/// What the thread that calls does alone.
+/// What the thread that calls does alone. Under a model of the PRAM it does so where that accepts
+/// all steps of the run, and else says where the run goes beyond it.
 #[derive(Clone, Copy, Debug, PartialEq, Eq)]
 pub enum AskAlone {
     /// Say how large the job is.
-    Check,
+    Check { model: Option<Pram> },
     /// Print the job as a text of the machine.
     Compile,
     /// Run the job on the plain machine.
-    Plain(Style),
+    Plain { style: Style, model: Option<Pram> },
     /// Say what the run of the job costs, and which model of the PRAM it needs; or, if it is asked
     /// for, what each counted line of its program costs.
-    Cost { lines: bool },
+    Cost { lines: bool, model: Option<Pram> },
+    /// Say in one record what the run of the job costs, as a sweep does of each size.
+    Sweep,
     /// Run the job on the plain machine, and print what each processor asks for in each step from
     /// one to another, counted from 1; after these rows the answer, unless they are to stand alone.
     Steps { from: u32, to: u32, alone: bool },

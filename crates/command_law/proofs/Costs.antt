@@ -59,7 +59,7 @@ use Rattle.command_law.proofs.Executing.{halt_access, pid_access}
 use Rattle.command_law.proofs.Jobs.{lawful, nested, no_machines, procs_are, programs_job}
 
 -- the steps before the last one of a run are reached
-reached_within : (job : JobData) (n : ℕ) (conflict : Option Fault) → IsLength job n conflict →
+pub reached_within : (job : JobData) (n : ℕ) (conflict : Option Fault) → IsLength job n conflict →
     (before : ℕ) → before < n → IsReached job before
 reached_within job n None length before lt = reached_down job before n (omega arith) length.1
 reached_within job n (Some fault) length before lt =
@@ -134,7 +134,7 @@ module _ (text : List ℕ) (job : JobData) (naming : NamingData) (names : IsNami
   by_meaning OtherValue before n meeting reached made meet =
       both_write OtherValue before n meeting reached made meet
 
-  meeting_is : (sharing : Sharing) (n : ℕ) (meeting : Meeting) →
+  pub meeting_is : (sharing : Sharing) (n : ℕ) (meeting : Meeting) →
       ((before : ℕ) → before < n → IsReached job before) → IsFirstMeeting sharing job n meeting →
       IsMeetingOf sharing naming time meeting
   meeting_is sharing n meeting reached first =
@@ -291,7 +291,7 @@ module _ (text : List ℕ) (job : JobData) (naming : NamingData) (names : IsNami
       ∙ ap (λ m. f (line_cost_by program n one) + m) (sum_of f counted)
       ∙ sym (sum_by-cons (λ c. f (line_cost_by program n c)) one counted)
 
-  costs_by_meaning : AreLineCosts program (line_costs (Some naming) job)
+  pub costs_by_meaning : AreLineCosts program (line_costs (Some naming) job)
   costs_by_meaning =
       let counted : List CountedLine = counted_from program 0 program.lines in
       let same : map (line_cost job) counted ≡ map (line_cost_by program n) counted =

@@ -8,3 +8,5 @@ pub mod Executing
 pub mod Costs
 pub mod Fates
 pub mod Whys
+pub mod Judging
+pub mod Swept

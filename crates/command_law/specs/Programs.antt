@@ -7,6 +7,7 @@ use Rattle.std.specs.List.{repeat}
 use Rattle.std.specs.List.Sorted.{IsNonDecreasingBy}
 use Rattle.pram_job.specs.Job.{JobData}
 use Rattle.pram_machine.specs.Machine.{counter, halted}
+use Rattle.pram_step.specs.declared.answer.Dispute.{Dispute}
 use Rattle.pram_step.specs.declared.answer.RunAnswer.{RunAnswer}
 use Rattle.pram_step.specs.declared.answer.RunAnswer.TheVariants.{Final, Conflict, Unfinished}
 use Rattle.pram_step.specs.Runs.{IsAnswer, IsReached, state_after}
@@ -19,10 +20,12 @@ use Rattle.pram_fates.specs.Told.{fates_text}
 use Rattle.pram_rows.specs.Rows.{row_end, rows_text}
 use Rattle.pram_rows.specs.Shown.{last_step, steps_text}
 use Rattle.pram_rows.specs.declared.window.Window.{Window}
+use Rattle.pram_cost.specs.Beyond.{IsBeyond, beyond_line}
 use Rattle.pram_cost.specs.Costs.{IsCost}
 use Rattle.pram_cost.specs.Meetings.{Differ}
 use Rattle.pram_cost.specs.Models.{IsWeakestModel}
 use Rattle.pram_cost.specs.Printed.{cost_text}
+use Rattle.pram_cost.specs.declared.beyond.Beyond.{Beyond}
 use Rattle.pram_cost.specs.declared.cost.Cost.{Cost}
 use Rattle.pram_cost.specs.declared.meeting.Meeting.{Meeting}
 use Rattle.pram_cost.specs.declared.meeting.Sharing.{Sharing}
@@ -52,13 +55,16 @@ use Rattle.pardo_answers.specs.Language.{is_program}
 use Rattle.pram_commands.specs.CellLists.{AreCellsOf}
 use Rattle.pram_commands.specs.declared.line_costs.LineCost.{LineCost}
 use Rattle.pram_commands.specs.Costs.{cost_words, costing, place_or_cell, spot_in}
+use Rattle.pram_commands.specs.Did.{Command}
 use Rattle.pram_commands.specs.LineRecords.{costing_by, records_text}
 use Rattle.pram_commands.specs.Names.{Means, NamingData}
 use Rattle.pram_commands.specs.Plain.{checking, no_plan, plainly}
 use Rattle.pram_commands.specs.Replayed.{replaying}
+use Rattle.pram_commands.specs.Sweeps.{TellsRecord, end_word, fields_text}
 use Rattle.pram_commands.specs.Steps.{stepping}
 use Rattle.pram_commands.specs.Threads.{cell_words, running, watching}
 use Rattle.pram_commands.specs.Traced.{all_steps, traced, tracing}
+use Rattle.pram_commands.specs.Under.{AcceptsRun, under_model}
 use Rattle.pram_commands.specs.Why.{in_lines}
 use Rattle.command_law.specs.Laws.{IsCutOff, IsProgramsAnswer}
 
@@ -324,6 +330,60 @@ abbrev pub RecordsTellTheProgramsLines : Type 0
 RecordsTellTheProgramsLines = (text : List ℕ) (job : JobData) (bytes : List ℕ)
     (answer : Option RunAnswer) → is_program text ≡ true →
     (costing_by true).Comes text job no_plan bytes answer → AreProgramsRecords text job bytes
+
+-- ---- `--model`
+
+-- The bytes say where the run of the program first goes beyond the model: by the line in which that
+-- step lies, and the place.
+pub record IsProgramsBeyond (pram : Pram) (text : List ℕ) (job : JobData) (bytes : List ℕ)
+    : Type 0 where
+  pub naming : NamingData
+  pub is : IsProgramsJob text job naming
+  pub cost : Cost
+  pub costs : IsCost job cost
+  pub beyond : Beyond
+  pub goes : IsBeyond pram job cost.steps beyond
+  pub meets : IsMeetingOf beyond.sharing naming is.goes.carries.time beyond.meeting
+  pub prints : bytes ≡ beyond_line (cost_words (Some naming) []) pram beyond
+
+-- Under a model a command tells of a program what it tells without one, and the model accepts the
+-- run; or where the run goes beyond it.
+abbrev pub ModelsJudgeTheProgram : Type 0
+ModelsJudgeTheProgram = (text : List ℕ) (job : JobData) (pram : Pram) (command : Command)
+    (bytes : List ℕ) (answer : Option RunAnswer) → is_program text ≡ true →
+    (under_model (Some pram) command).Comes text job no_plan bytes answer →
+    (AcceptsRun pram job × command.Comes text job no_plan bytes answer)
+    ⊎ IsProgramsBeyond pram text job bytes
+
+-- ---- `sweep`
+
+-- The word says how the run of the program ends.
+abbrev pub IsEndWord : ProgramData → List ℕ → Type 0
+IsEndWord program word =
+    ((n : ℕ) × IsProgramEnd program n × (word ≡ end_word program.procs (after program n).gone None))
+    ⊎ ((n : ℕ) × (dispute : Dispute) × IsProgramConflict program n dispute
+    × (word ≡ codes "conflict"))
+
+-- The bytes are the record of the program's run: its time and operations, by the meaning, and how
+-- it ends.
+pub record IsProgramsRun (text : List ℕ) (job : JobData) (bytes : List ℕ) : Type 0 where
+  pub naming : NamingData
+  pub is : IsProgramsJob text job naming
+  pub cost : Cost
+  pub pram : Pram
+  pub costs : IsCost job cost
+  pub procs : cost.procs ≡ naming.program.procs
+  pub needs : IsWeakestModel job cost.steps pram
+  pub lines : List LineCost
+  pub lines_cost : AreLineCosts naming.program lines
+  pub word : List ℕ
+  pub ends : IsEndWord naming.program word
+  pub prints : bytes ≡ fields_text lines cost pram word
+
+abbrev pub SweepsTellTheProgramsRuns : Type 0
+SweepsTellTheProgramsRuns = (text : List ℕ) (job : JobData) (bytes : List ℕ)
+    (answer : Option RunAnswer) → is_program text ≡ true →
+    TellsRecord text job bytes answer → IsProgramsRun text job bytes
 
 -- ---- `--why`
 

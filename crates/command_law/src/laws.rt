@@ -3,8 +3,10 @@ ghost use Rattle.command_law.specs.Laws.{CompilePrintsTheSameJob, PlainPrintsThe
 ghost use Rattle.command_law.specs.Laws.{PlainRecordsTheProgramsEnd, RunsPrintTheProgramsAnswer};
 ghost use Rattle.command_law.specs.Laws.{RunsRecordTheProgramsEnd};
 ghost use Rattle.command_law.specs.Programs.{CheckTellsTheProgramsJob, CostsTellTheProgramsLines};
-ghost use Rattle.command_law.specs.Programs.{PlainTellsWhy, RecordsTellTheProgramsLines};
+ghost use Rattle.command_law.specs.Programs.{ModelsJudgeTheProgram, PlainTellsWhy};
+ghost use Rattle.command_law.specs.Programs.{RecordsTellTheProgramsLines};
 ghost use Rattle.command_law.specs.Programs.{ReplaysPrintTheProgramsAnswer, RunsTellWhy};
+ghost use Rattle.command_law.specs.Programs.{SweepsTellTheProgramsRuns};
 ghost use Rattle.command_law.specs.Programs.{StepsTellTheProgramsLines, WatchesTellThePrograms};
 ghost use Rattle.command_law.specs.Programs.{TracesTellTheProgramsLines};
 
@@ -80,6 +82,18 @@ pub fn costs_tell_the_programs_lines()
 /// operations.
 pub fn records_tell_the_programs_lines()
     ensures { RecordsTellTheProgramsLines }
+{}
+
+/// Under a model a command prints of a program what it prints without one, and the model accepts the
+/// run; or it prints where the run goes beyond the model, by the line of the program and the place.
+pub fn models_judge_the_program()
+    ensures { ModelsJudgeTheProgram }
+{}
+
+/// The record that a sweep prints of a program as it is set says what its run costs by its meaning,
+/// and how it ends.
+pub fn sweeps_tell_the_programs_runs()
+    ensures { SweepsTellTheProgramsRuns }
 {}
 
 /// With `--why` what `plain` prints of a program is the program's answer, and then who of its

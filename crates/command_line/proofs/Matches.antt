@@ -10,7 +10,9 @@ use Rattle.clap.specs.declared.parser.matches.Found.{Found}
 use Rattle.clap.proofs.WalkLemmas.{first_value-rows, one_text-rows, raw_values-rows}
 use Rattle.clap.specs.Matches.{matched_of, raw_values}
 use Rattle.command_data.specs.declared.line.Style.{Style}
-use Rattle.command_line.specs.CommandLine.{HasFile, HasFlag, HasSettings, HasStyle, IsFlag}
+use Rattle.pram_cost.specs.declared.pram.Pram.{Pram}
+use Rattle.command_line.specs.CommandLine.{HasFile, HasFlag, HasModel, HasSettings, HasStyle}
+use Rattle.command_line.specs.CommandLine.{IsFlag, IsModelIfSet}
 
 abbrev pub both : {B X Y : Type 0} → (B → X) → (B → Y) → B → X × Y
 both f g b = (f b, g b)
@@ -47,6 +49,13 @@ pub has_flag : (matches : Option (Text × List Row)) (name : Text) (f : Found) (
     HasFlag option matches flag
 has_flag matches name f option flag is holds =
     subst (λ (o : Option (Text × List Row)). HasFlag option o flag) (sym is) holds
+
+-- a model that was met, or none
+pub has_model : (matches : Option (Text × List Row)) (name : Text) (f : Found)
+    (model : Option Pram) → matches ≡ Some (name, rows_of f) → IsModelIfSet (rows_of f) model →
+    HasModel matches model
+has_model matches name f model is holds =
+    subst (λ (o : Option (Text × List Row)). HasModel o model) (sym is) holds
 
 -- a style that was met
 pub has_style : (matches : Option (Text × List Row)) (name : Text) (f : Found) (style : Style) →

@@ -12,7 +12,10 @@ use Rattle.clap.specs.Words.{Row, Text, first_of, one_of}
 use Rattle.command_data.specs.CellLists.{SpellsCells}
 use Rattle.command_data.specs.Manner.{IsGrain, size_of}
 use Rattle.command_data.specs.declared.block.Block.{Block}
-use Rattle.command_line.specs.CommandLine.{HasBadBlock, HasBadCells, IsBlockIfSet, IsNumberOf}
+use Rattle.pram_cost.specs.Beyond.{model_named}
+use Rattle.pram_cost.specs.declared.pram.Pram.{Pram}
+use Rattle.command_line.specs.CommandLine.{HasBadBlock, HasBadCells, HasBadModel, IsBlockIfSet}
+use Rattle.command_line.specs.CommandLine.{IsModelIfSet, IsNumberOf}
 
 abbrev value_of : Text → ℕ
 value_of text = digits_value 10 (without_leading_plus text)
@@ -60,3 +63,37 @@ no_block rows block set bad =
     by (Some text) (Some block) none set = bad.bad (subst IsGrain
         (same_number (one_of (codes "block") rows) (size_of block) bad.size set bad.has_block)
         (grain_of block))
+
+-- ---- models
+
+module _ (rows : List Row) where
+  named_by : (text : Text) (named : Option Pram) → first_of (codes "model") rows ≡ Some text →
+      named ≡ model_named text → option_map model_named (first_of (codes "model") rows) ≡ Some named
+  named_by text named first is =
+      ap (λ (t : Option Text). option_map model_named t) first
+      ∙ ap (λ (p : Option Pram). Some p) (sym is)
+
+  pub is_model : (text : Text) (named : Option Pram) (pram : Pram) →
+      first_of (codes "model") rows ≡ Some text → named ≡ model_named text → named ≡ Some pram →
+      IsModelIfSet rows (Some pram)
+  is_model text named pram first is some =
+      named_by text named first is ∙ ap (λ (p : Option Pram). Some p) some
+
+  pub is_no_model : first_of (codes "model") rows ≡ None → IsModelIfSet rows None
+  is_no_model none = ap (λ (t : Option Text). option_map model_named t) none
+
+  pub bad_model : (text : Text) (named : Option Pram) → first_of (codes "model") rows ≡ Some text →
+      named ≡ model_named text → named ≡ None → HasBadModel rows
+  bad_model text named first is none =
+      named_by text named first is ∙ ap (λ (p : Option Pram). Some p) none
+
+  pub good_model : (text : Text) (named : Option Pram) (pram : Pram) →
+      first_of (codes "model") rows ≡ Some text → named ≡ model_named text → named ≡ Some pram →
+      HasBadModel rows → ⊥
+  good_model text named pram first is some bad =
+      let same : Some (Some pram) ≡ Some None = sym (is_model text named pram first is some) ∙ bad in
+      cc same
+
+  pub none_bad : first_of (codes "model") rows ≡ None → HasBadModel rows → ⊥
+  none_bad none bad =
+      let same : None ≡ Some None = sym (is_no_model none) ∙ bad in cc same

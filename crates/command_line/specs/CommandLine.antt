@@ -22,12 +22,14 @@ use Rattle.command_data.specs.declared.line.Ask.{Ask}
 use Rattle.command_data.specs.declared.line.Ask.TheVariants.{Alone, OnThreads}
 use Rattle.command_data.specs.declared.line.AskAlone.{AskAlone}
 use Rattle.command_data.specs.declared.line.AskAlone.TheVariants.{Check, Compile, Plain, Cost}
-use Rattle.command_data.specs.declared.line.AskAlone.TheVariants.{Steps, Trace, Replay}
+use Rattle.command_data.specs.declared.line.AskAlone.TheVariants.{Sweep, Steps, Trace, Replay}
 use Rattle.command_data.specs.declared.line.AskOnThreads.{AskOnThreads}
 use Rattle.command_data.specs.declared.line.AskOnThreads.TheVariants.{Run, Watch}
 use Rattle.command_data.specs.declared.line.Line.{Line}
 use Rattle.command_data.specs.declared.line.Style.{Style}
 use Rattle.command_line.specs.declared.line.Asked.{Asked}
+use Rattle.pram_cost.specs.Beyond.{model_named}
+use Rattle.pram_cost.specs.declared.pram.Pram.{Pram}
 
 -- an argument that is known by its place
 abbrev pub placed_rule : Text → Rule
@@ -54,23 +56,38 @@ flag_rule name = record (new_rule name) { long = Some name; action = Some SetTru
 abbrev pub list_rule : Text → Rule
 list_rule name = record (option_rule name) { action = Some Append }
 
+-- NAME FILE [--explain]
+abbrev pub on_text : Text → App
+on_text name = with_rule (with_rule (new_app name) (needed (placed_rule (codes "file"))))
+    (flag_rule (codes "explain"))
+
 -- NAME FILE [--explain] [--set NAME=V,..]..
 abbrev pub on_file : Text → App
-on_file name =
-    with_rule (with_rule (with_rule (new_app name) (needed (placed_rule (codes "file"))))
-    (flag_rule (codes "explain"))) (list_rule (codes "set"))
+on_file name = with_rule (on_text name) (list_rule (codes "set"))
+
+-- sweep FILE [--explain] --set NAME=V,.. [--set NAME=V,..]..
+abbrev pub on_sweep : App
+on_sweep = with_rule (on_text (codes "sweep")) (needed (list_rule (codes "set")))
 
 -- [--csv] [--why]
 abbrev pub with_style : App → App
 with_style app = with_rule (with_rule app (flag_rule (codes "csv"))) (flag_rule (codes "why"))
 
--- plain FILE, and these
-abbrev pub on_plain : App
-on_plain = with_style (on_file (codes "plain"))
+-- [--model M]
+abbrev pub with_model : App → App
+with_model app = with_rule app (option_rule (codes "model"))
 
--- cost FILE [--lines]
+-- check FILE [--model M]
+abbrev pub on_check : App
+on_check = with_model (on_file (codes "check"))
+
+-- plain FILE, a style, and [--model M]
+abbrev pub on_plain : App
+on_plain = with_model (with_style (on_file (codes "plain")))
+
+-- cost FILE [--lines] [--model M]
 abbrev pub on_cost : App
-on_cost = with_rule (on_file (codes "cost")) (flag_rule (codes "lines"))
+on_cost = with_model (with_rule (on_file (codes "cost")) (flag_rule (codes "lines")))
 
 -- steps FILE [--from A] [--to B] [--csv]
 abbrev pub on_steps : App
@@ -119,11 +136,13 @@ bare =
 -- with most of those of the plain machine
 abbrev pub on_machine : App
 on_machine =
-    with_subcommand (with_subcommand (with_subcommand (with_subcommand (with_subcommand bare
-    (on_file (codes "check")).top)
+    with_subcommand (with_subcommand (with_subcommand (with_subcommand (with_subcommand
+    (with_subcommand bare
+    on_check.top)
     (on_file (codes "compile")).top)
     on_plain.top)
     on_cost.top)
+    on_sweep.top)
     on_steps.top
 
 -- the program's command
@@ -217,6 +236,15 @@ pub record HasWatch (matches : Option (Text × List Row)) (name file : Text) (pl
   pub spells : SpellsCells cells
   pub has_rounds : IsNumberOf (codes "rounds") has_run.of_file.rows rounds
 
+-- The model is the one that the option's value names; there is none where the option is left out.
+abbrev pub IsModelIfSet : List Row → Option Pram → Type 0
+IsModelIfSet rows model =
+    option_map model_named (first_of (codes "model") rows) ≡ option_map Some model
+
+-- What was met is under this model, if under one.
+abbrev pub HasModel : Option (Text × List Row) → Option Pram → Type 0
+HasModel matches model = IfSome matches (λ met. IsModelIfSet met.1 model)
+
 -- What was met has this style.
 pub record HasStyle (matches : Option (Text × List Row)) (style : Style) : Type 0 where
   pub csv : HasFlag (codes "csv") matches style.csv
@@ -224,12 +252,14 @@ pub record HasStyle (matches : Option (Text × List Row)) (style : Style) : Type
 
 -- a file, a plan if there is one, and what the thread that calls is asked alone are what was met
 abbrev pub IsMetAlone : Option (Text × List Row) → Text → Option Text → AskAlone → Type 0
-IsMetAlone matches file plan Check = HasFile matches (codes "check") file × (plan ≡ None)
+IsMetAlone matches file plan (Check model) =
+    HasFile matches (codes "check") file × HasModel matches model × (plan ≡ None)
 IsMetAlone matches file plan Compile = HasFile matches (codes "compile") file × (plan ≡ None)
-IsMetAlone matches file plan (Plain style) =
-    HasFile matches (codes "plain") file × HasStyle matches style × (plan ≡ None)
-IsMetAlone matches file plan (Cost lines) =
-    HasFile matches (codes "cost") file × HasFlag (codes "lines") matches lines × (plan ≡ None)
+IsMetAlone matches file plan (Plain style model) = HasFile matches (codes "plain") file
+    × HasStyle matches style × HasModel matches model × (plan ≡ None)
+IsMetAlone matches file plan (Cost lines model) = HasFile matches (codes "cost") file
+    × HasFlag (codes "lines") matches lines × HasModel matches model × (plan ≡ None)
+IsMetAlone matches file plan Sweep = HasFile matches (codes "sweep") file × (plan ≡ None)
 IsMetAlone matches file plan (Steps from to alone) =
     HasSteps matches (codes "steps") file from to alone × (plan ≡ None)
 IsMetAlone matches file plan (Trace alone) =
@@ -298,11 +328,18 @@ pub record HasBadWindow (rows : List Row) : Type 0 where
   pub has_to : IsNumberOr (codes "to") rows (2 ^ 32 - 1) to
   pub empty : to < from
 
+-- What stands for a model names none.
+abbrev pub HasBadModel : List Row → Type 0
+HasBadModel rows = option_map model_named (first_of (codes "model") rows) ≡ Some None
+
+abbrev pub TakesModel : Text → Type 0
+TakesModel name = (name ≡ codes "check") ⊎ ((name ≡ codes "plain") ⊎ (name ≡ codes "cost"))
+
 -- A value of the subcommand of this name is bad.
 abbrev pub IsBadIn : Text → List Row → Type 0
 IsBadIn name rows = ((name ≡ codes "watch") × HasBadCells rows)
     ⊎ ((((name ≡ codes "run") ⊎ (name ≡ codes "watch")) × HasBadBlock rows)
-    ⊎ ((name ≡ codes "steps") × HasBadWindow rows))
+    ⊎ (((name ≡ codes "steps") × HasBadWindow rows) ⊎ (TakesModel name × HasBadModel rows)))
 
 -- A subcommand was met with a bad value.
 abbrev pub HasBadValue : Option (Text × List Row) → Type 0

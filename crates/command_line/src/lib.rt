@@ -1,6 +1,7 @@
 //! The command line of the program: which line its words mean.
 #![tactic(auto)]
 
+mod bad_value;
 mod line;
 
 pub use line::{Asked, read_line};

@@ -1,25 +1,26 @@
 //! The command line.
 ghost use Rattle.std.specs.Prelude.{◌≡◌, ◌≢◌, ◌≤◌, ◌-◌, ◌^◌, Some, codes};
-ghost use Rattle.std.specs.Prelude.{true, false, map, IfOk, IfErr, IfSome, MatchOption};
+ghost use Rattle.std.specs.Prelude.{true, false, map, IfOk, IfErr, IfSome};
 ghost use Rattle.clap.specs.Words.{App, Rule, app_of, first_of, found_of, kind_of, one_of};
 ghost use Rattle.clap.specs.Words.{rows_of, rule_of, subcommand_of, subcommand_rows_of};
 ghost use Rattle.clap.specs.Words.{with_rule, with_subcommand};
 ghost use Rattle.command_data.specs.CellLists.{SpellsCells};
 ghost use Rattle.command_data.specs.Manner.{is_told};
-ghost use Rattle.command_line.specs.CommandLine.{AreRefused, FailsByWords, HasBadBlock};
-ghost use Rattle.command_line.specs.CommandLine.{HasBadCells, HasBadValue, HasBadWindow};
-ghost use Rattle.command_line.specs.CommandLine.{HasManner, IsAskedLine, IsBlockIfSet, IsMet};
+ghost use Rattle.command_line.specs.CommandLine.{AreRefused, FailsByWords, HasManner};
+ghost use Rattle.command_line.specs.CommandLine.{IsAskedLine, IsBlockIfSet, IsMet, IsModelIfSet};
 ghost use Rattle.command_line.specs.CommandLine.{IsNumberIfSet, IsNumberOf, IsNumberOr};
 ghost use Rattle.command_line.specs.CommandLine.{MeanNoLine, bare};
 ghost use Rattle.command_line.specs.CommandLine.{HasSettings, flag_rule, list_rule, needed};
 ghost use Rattle.command_line.specs.CommandLine.{number_rule, on_file};
-ghost use Rattle.command_line.specs.CommandLine.{on_cost, on_machine, on_plain, on_replay};
-ghost use Rattle.command_line.specs.CommandLine.{on_run, on_steps, on_trace};
+ghost use Rattle.command_line.specs.CommandLine.{on_check, on_cost, on_machine, on_plain};
+ghost use Rattle.command_line.specs.CommandLine.{on_replay, on_run, on_steps, on_trace};
+ghost use Rattle.command_line.specs.CommandLine.{on_sweep, on_text};
 ghost use Rattle.command_line.specs.CommandLine.{on_watch, option_rule, placed_rule, pramx};
 ghost use Rattle.command_line.specs.CommandLine.{IsFlag, SuitsTerminal, telling_of};
 ghost use Rattle.command_line.specs.CommandLine.{with_manner, with_progress, with_style};
 ghost use Rattle.command_line.specs.CommandLine.{with_workers};
 
+use crate::bad_value::{bad_value, value_error};
 use clap::builder::ValueParser;
 use clap::error::ErrorKind;
 use clap::{Arg, ArgAction, ArgMatches, Command, Error, value_parser};
@@ -27,6 +28,7 @@ use command_data::{
     Ask, AskAlone, AskOnThreads, AskRun, AskWatch, Block, CellList, Line, Manner, Style, Telling,
     Workers,
 };
+use pram_cost::Pram;
 use std::alloc::{AllocError, Global};
 
 const EXAMPLES: &str = "\
@@ -36,6 +38,7 @@ Examples:
   pramx plain examples/prefix.pram
   pramx plain examples/sum.pram --why
   pramx cost examples/prefix.pram
+  pramx sweep examples/prefix.pardo --set n=8,16,32
   pramx steps examples/prefix.pram --from 1 --to 5
   pramx trace examples/prefix.pardo
   pramx run examples/prefix.pram --workers 4
@@ -61,6 +64,9 @@ const EXPLAIN: &str = "Explain a refusal in a sentence, as on a terminal";
 const SET: &str =
     "Set a constant or an array of a program: NAME=V, NAME=V,V,.. or NAME=@FILE, as CSV";
 
+const SWEPT: &str =
+    "Set names of a program; the first one to each of its values by itself: NAME=V,V,..";
+
 const WHY: &str = "Say after the answer what became of the processors";
 
 const LINES: &str = "Print what each counted line of a program costs, as records";
@@ -84,6 +90,9 @@ const ROUNDS: &str = "How often they are read, from 1 to 1000000";
 const PROGRESS: &str = "Tell on standard error how far the workers are";
 
 const PACE: &str = "The pause before each atomic step, from 0 to 1000000; none if it is left out";
+
+const MODEL: &str =
+    "The model of the PRAM that the run has to stay within: EREW, CREW, common or priority";
 
 const BLOCK: &str =
     "How many processors a leaf of the board stands for, a power of two from 1 to 64";
@@ -144,130 +153,6 @@ fn settings_of<'a>(alloc: Global, matches: &ArgMatches<'a>) -> Result<Vec<&'a st
     }
 }
 
-/// A value that the command takes, and that makes no line.
-#[derive(Clone, Copy)]
-enum BadValue<'a> {
-    /// This stands for the cells of a watch, and names none.
-    Cells(&'a str),
-    /// This stands for the block of a run or of a watch, and is no size of one.
-    Block { watches: bool, text: &'a str },
-    /// The window of steps ends before it begins.
-    Window { from: u32, to: u32 },
-}
-
-// The first value that makes no line, or that there is none; nothing where memory ran out.
-fn bad_value<'a>(matches: &ArgMatches<'a>) -> Option<Option<BadValue<'a>>>
-    ensures { IfSome result (λ found. MatchOption found
-        (¬ HasBadValue (subcommand_rows_of matches.now))
-        (λ bad. HasBadValue (subcommand_rows_of matches.now))) }
-{
-    let (name, inner) = matches.subcommand()?;
-    match name {
-        "steps" => bad_window(inner),
-        "run" => bad_block(inner, false),
-        "watch" => match bad_cells(inner)? {
-            Some(text) => Some(Some(BadValue::Cells(text))),
-            None => bad_block(inner, true),
-        },
-        _ => Some(None),
-    }
-}
-
-fn bad_cells<'a>(inner: &ArgMatches<'a>) -> Option<Option<&'a str>>
-    ensures { IfSome result (λ found. MatchOption found
-        (¬ HasBadCells (rows_of (found_of inner.now)))
-        (λ text. HasBadCells (rows_of (found_of inner.now)))) }
-{
-    let text = inner.get_str("cells")?;
-    match CellList::read(text) {
-        Some(_) => Some(None),
-        None => Some(Some(text)),
-    }
-}
-
-fn bad_block<'a>(inner: &ArgMatches<'a>, watches: bool) -> Option<Option<BadValue<'a>>>
-    ensures { IfSome result (λ found. MatchOption found
-        (¬ HasBadBlock (rows_of (found_of inner.now)))
-        (λ bad. HasBadBlock (rows_of (found_of inner.now)))) }
-{
-    let Some(size) = number_if_set(inner, "block")? else {
-        return Some(None);
-    };
-    match Block::of(size) {
-        Some(_) => Some(None),
-        None => {
-            let text = inner.get_str("block")?;
-            Some(Some(BadValue::Block { watches, text }))
-        }
-    }
-}
-
-fn bad_window(inner: &ArgMatches<'_>) -> Option<Option<BadValue<'static>>>
-    ensures { IfSome result (λ found. MatchOption found
-        (¬ HasBadWindow (rows_of (found_of inner.now)))
-        (λ bad. HasBadWindow (rows_of (found_of inner.now)))) }
-{
-    let (from, to) = window_of(inner)?;
-    if to < from {
-        Some(Some(BadValue::Window { from, to }))
-    } else {
-        Some(None)
-    }
-}
-
-// What is told of such a value.
-fn value_error(alloc: Global, bad: BadValue<'_>) -> Result<Error, AllocError>
-    ensures { IfOk result (λ error. kind_of error ≡ ErrorKind.ValueValidation) }
-{
-    match bad {
-        BadValue::Cells(text) => cells_error(alloc, text),
-        BadValue::Block { watches, text } => block_error(alloc, watches, text),
-        BadValue::Window { from, to } => window_error(alloc, from, to),
-    }
-}
-
-fn cells_error(alloc: Global, text: &str) -> Result<Error, AllocError>
-    ensures { IfOk result (λ error. kind_of error ≡ ErrorKind.ValueValidation) }
-{
-    let message = format!(in alloc;
-        "invalid value '{text}' for '--cells <C,C,..>': cells are numbers or places, \
-         with commas between"
-    )?;
-    let command = watch_command(alloc)?.bin_name("pramx watch")?;
-    refused(command, message.as_str())
-}
-
-fn block_error(alloc: Global, watches: bool, text: &str) -> Result<Error, AllocError>
-    ensures { IfOk result (λ error. kind_of error ≡ ErrorKind.ValueValidation) }
-{
-    let message = format!(in alloc;
-        "invalid value '{text}' for '--block <G>': {text} is not a power of two"
-    )?;
-    let command = if watches {
-        watch_command(alloc)?.bin_name("pramx watch")?
-    } else {
-        run_command(alloc)?.bin_name("pramx run")?
-    };
-    refused(command, message.as_str())
-}
-
-fn window_error(alloc: Global, from: u32, to: u32) -> Result<Error, AllocError>
-    ensures { IfOk result (λ error. kind_of error ≡ ErrorKind.ValueValidation) }
-{
-    let message = format!(in alloc;
-        "invalid value '{to}' for '--to <B>': there is no step from {from} to {to}"
-    )?;
-    let command = steps_command(alloc)?.bin_name("pramx steps")?;
-    refused(command, message.as_str())
-}
-
-// The error of a command with this message.
-fn refused(mut command: Command<'_>, message: &str) -> Result<Error, AllocError>
-    ensures { IfOk result (λ error. kind_of error ≡ ErrorKind.ValueValidation) }
-{
-    command.error(ErrorKind::ValueValidation, message)
-}
-
 fn command<'a>(alloc: Global) -> Result<Command<'a>, AllocError>
     ensures { IfOk result (λ command. app_of command ≡ pramx) }
 {
@@ -281,12 +166,12 @@ fn command<'a>(alloc: Global) -> Result<Command<'a>, AllocError>
 fn machine_command<'a>(alloc: Global) -> Result<Command<'a>, AllocError>
     ensures { IfOk result (λ command. app_of command ≡ on_machine) }
 {
-    let check = "Say whether a text spells a job, and how large it is";
     let compile = "Print the job of a program as a text of the machine";
-    let command = with(bare_command(alloc), file_command(alloc, "check", check))?;
+    let command = with(bare_command(alloc), check_command(alloc))?;
     let command = with(command, file_command(alloc, "compile", compile))?;
     let command = with(command, plain_command(alloc))?;
     let command = with(command, cost_command(alloc))?;
+    let command = with(command, sweep_command(alloc))?;
     with(command, steps_command(alloc))
 }
 
@@ -331,11 +216,20 @@ fn with_arg<'a>(
     made?.arg(arg)
 }
 
-fn plain_command<'a>(alloc: Global) -> Result<Command<'a>, AllocError>
+pub(crate) fn check_command<'a>(alloc: Global) -> Result<Command<'a>, AllocError>
+    ensures { IfOk result (λ command. app_of command ≡ on_check) }
+{
+    let about = "Say whether a text spells a job, and how large it is";
+    let command = file_command(alloc, "check", about);
+    with_arg(command, option(alloc, "model", "M", MODEL))
+}
+
+pub(crate) fn plain_command<'a>(alloc: Global) -> Result<Command<'a>, AllocError>
     ensures { IfOk result (λ command. app_of command ≡ on_plain) }
 {
     let command = file_command(alloc, "plain", "Run a job on the plain machine");
-    with_style(alloc, command)
+    let command = with_style(alloc, command);
+    with_arg(command, option(alloc, "model", "M", MODEL))
 }
 
 // The command, if it was made, with the style of its answer.
@@ -350,15 +244,24 @@ fn with_style<'a>(
     with_arg(command, flag(alloc, "why", WHY))
 }
 
-fn cost_command<'a>(alloc: Global) -> Result<Command<'a>, AllocError>
+pub(crate) fn cost_command<'a>(alloc: Global) -> Result<Command<'a>, AllocError>
     ensures { IfOk result (λ command. app_of command ≡ on_cost) }
 {
     let about = "Say what the run of a job costs, and which model of the PRAM it needs";
     let command = file_command(alloc, "cost", about);
-    with_arg(command, flag(alloc, "lines", LINES))
+    let command = with_arg(command, flag(alloc, "lines", LINES));
+    with_arg(command, option(alloc, "model", "M", MODEL))
 }
 
-fn steps_command<'a>(alloc: Global) -> Result<Command<'a>, AllocError>
+fn sweep_command<'a>(alloc: Global) -> Result<Command<'a>, AllocError>
+    ensures { IfOk result (λ command. app_of command ≡ on_sweep) }
+{
+    let about = "Say what the runs of a program cost in which a name is set to one value each";
+    let command = text_command(alloc, "sweep", about);
+    with_arg(command, needed(list(alloc, "set", "NAME=V,..", SWEPT)))
+}
+
+pub(crate) fn steps_command<'a>(alloc: Global) -> Result<Command<'a>, AllocError>
     ensures { IfOk result (λ command. app_of command ≡ on_steps) }
 {
     let command = file_command(
@@ -399,7 +302,7 @@ fn replay_command<'a>(alloc: Global) -> Result<Command<'a>, AllocError>
     with_arg(command, flag(alloc, "csv", CSV))
 }
 
-fn run_command<'a>(alloc: Global) -> Result<Command<'a>, AllocError>
+pub(crate) fn run_command<'a>(alloc: Global) -> Result<Command<'a>, AllocError>
     ensures { IfOk result (λ command. app_of command ≡ on_run) }
 {
     let command = workers_command(alloc, "run", "Run a job on threads");
@@ -407,7 +310,7 @@ fn run_command<'a>(alloc: Global) -> Result<Command<'a>, AllocError>
     with_style(alloc, command)
 }
 
-fn watch_command<'a>(alloc: Global) -> Result<Command<'a>, AllocError>
+pub(crate) fn watch_command<'a>(alloc: Global) -> Result<Command<'a>, AllocError>
     ensures { IfOk result (λ command. app_of command ≡ on_watch) }
 {
     let command = workers_command(
@@ -490,11 +393,18 @@ fn workers<'a>(alloc: Global) -> Arg<'a>
 fn file_command<'a>(alloc: Global, name: &'a str, about: &'a str) -> Result<Command<'a>, AllocError>
     ensures { IfOk result (λ command. app_of command ≡ on_file name.entry.now) }
 {
+    let command = text_command(alloc, name, about);
+    with_arg(command, list(alloc, "set", "NAME=V,..", SET))
+}
+
+// A command on the text of a file.
+fn text_command<'a>(alloc: Global, name: &'a str, about: &'a str) -> Result<Command<'a>, AllocError>
+    ensures { IfOk result (λ command. app_of command ≡ on_text name.entry.now) }
+{
     let command = Command::new(alloc, name).about(about);
     let file = placed(alloc, "file", "FILE", FILE);
     let command = with_arg(Ok(command), needed(file));
-    let command = with_arg(command, flag(alloc, "explain", EXPLAIN));
-    with_arg(command, list(alloc, "set", "NAME=V,..", SET))
+    with_arg(command, flag(alloc, "explain", EXPLAIN))
 }
 
 // An argument that is known by its place.
@@ -570,11 +480,14 @@ fn line_of<'a>(matches: &ArgMatches<'a>, on_terminal: bool) -> Option<Line<'a>>
     let (name, inner) = matches.subcommand()?;
     let file = inner.get_str("file")?;
     match name {
-        "check" => Some(Line {
-            file,
-            plan: None,
-            ask: Ask::Alone(AskAlone::Check),
-        }),
+        "check" => {
+            let model = model_if_set(inner)?;
+            Some(Line {
+                file,
+                plan: None,
+                ask: Ask::Alone(AskAlone::Check { model }),
+            })
+        }
         "compile" => Some(Line {
             file,
             plan: None,
@@ -582,20 +495,27 @@ fn line_of<'a>(matches: &ArgMatches<'a>, on_terminal: bool) -> Option<Line<'a>>
         }),
         "plain" => {
             let style = style_of(inner);
+            let model = model_if_set(inner)?;
             Some(Line {
                 file,
                 plan: None,
-                ask: Ask::Alone(AskAlone::Plain(style)),
+                ask: Ask::Alone(AskAlone::Plain { style, model }),
             })
         }
         "cost" => {
             let lines = inner.get_flag("lines");
+            let model = model_if_set(inner)?;
             Some(Line {
                 file,
                 plan: None,
-                ask: Ask::Alone(AskAlone::Cost { lines }),
+                ask: Ask::Alone(AskAlone::Cost { lines, model }),
             })
         }
+        "sweep" => Some(Line {
+            file,
+            plan: None,
+            ask: Ask::Alone(AskAlone::Sweep),
+        }),
         _ => rows_line_of(matches, on_terminal),
     }
 }
@@ -736,7 +656,7 @@ fn steps_of(inner: &ArgMatches<'_>) -> Option<(u32, u32)>
 }
 
 // The steps of a window.
-fn window_of(inner: &ArgMatches<'_>) -> Option<(u32, u32)>
+pub(crate) fn window_of(inner: &ArgMatches<'_>) -> Option<(u32, u32)>
     ensures from { IfSome result (λ window. IsNumberOr (codes "from")
         (rows_of (found_of inner.now)) 1 window.0) }
     ensures to { IfSome result (λ window. IsNumberOr (codes "to")
@@ -756,13 +676,26 @@ fn number_or(inner: &ArgMatches<'_>, option: &str, other: u32) -> Option<u32>
 }
 
 // The number of an option, if it stands.
-fn number_if_set(inner: &ArgMatches<'_>, option: &str) -> Option<Option<u32>>
+pub(crate) fn number_if_set(inner: &ArgMatches<'_>, option: &str) -> Option<Option<u32>>
     ensures { IfSome result (IsNumberIfSet option.now (rows_of (found_of inner.now))) }
 {
     match inner.get_str(option) {
         Some(_) => {
             let number = inner.get_one::<u32>(option)?;
             Some(Some(number))
+        }
+        None => Some(None),
+    }
+}
+
+// The model under which a job is run, if one stands.
+fn model_if_set(inner: &ArgMatches<'_>) -> Option<Option<Pram>>
+    ensures { IfSome result (IsModelIfSet (rows_of (found_of inner.now))) }
+{
+    match inner.get_str("model") {
+        Some(word) => {
+            let pram = Pram::named(word)?;
+            Some(Some(pram))
         }
         None => Some(None),
     }

@@ -151,6 +151,22 @@ pram 1~cells 1~procs 3~steps 2~code~pid r0~st r1 r0~ \
     needs CRCW priority~same read none~same write step=2 cell=0 processors=0,1~\
     other value step=2 cell=0 processors=0,1~conflict step=2 cell=0 processors=0,1~
 pram 1~cells 1~procs 1~steps 1~code~ | 2 text line=6 kind=NoCode~
+-- models that do not accept a run, and models that do; a job is judged first
+$ pramx check job --model EREW & pramx plain job --model EREW & pramx cost job --model erew --lines
+pardo 1~rule common~procs i < 2~shared s = 4~shared A[2]~code~A[i] := s~ \
+    | 1 model EREW same read step=2 line=7 place=s processors=0,1~
+pram 1~cells 1~procs 3~steps 2~code~pid r0~st r1 r0~ \
+    | 1 model EREW same write step=2 cell=0 processors=0,1~
+pram 1~cells 4~procs 4~steps 3~code~pid r0~st r0 r0~ | 0 {}
+pram 1~cells x~ | 2 text line=2 kind=BadNumber~
+$ pramx plain job --model crew
+pardo 1~rule common~procs i < 2~shared s = 4~shared A[2]~code~A[i] := s~ \
+    | 0 done steps=4~s = 4~A = 4 4~
+$ pramx check job --model common
+pram 1~cells 1~procs 3~steps 2~code~pid r0~st r1 r0~ \
+    | 1 model CRCW common other value step=2 cell=0 processors=0,1~
+$ pramx plain job --model priority
+pram 1~cells 1~procs 3~steps 2~code~pid r0~st r1 r0~ | 1 conflict step=2 cell=0 processors=0,1~
 -- a sum by a tree; a line with a comma, in which two write; a text of the machine
 $ pramx cost job --lines
 pardo 1~rule crew~const n = 8~procs i < n / 2~shared A[n]~code~for h = 1 to lg(n)~\
@@ -160,6 +176,22 @@ pardo 1~rule common~procs i < 4~shared A[4]~shared s~code~if A[i] = 0~s := min(i
     | 1 line,times,time,operations,most,text~7,1,1,4,4,if A[i] = 0~\
     8,1,1,4,4,\"s := min(i, 1)\"~
 pram 1~cells 1~procs 1~steps 0~code~halt~ | 0 line,times,time,operations,most,text~
+-- sizes: a sum by a tree, a conflict, one that is gone; what is refused
+$ pramx sweep job --set *
+n=8,2 : pardo 1~rule crew~const n = 4~procs i < n / 2~shared A[n]~code~for h = 1 to lg(n)~\
+    if i < n >> h~A[i] := A[2 * i] + A[2 * i + 1]~end~end~ \
+    | 0 n,steps,time,operations,processors,needs,end~8,66,3,7,4,EREW,done~2,24,1,1,1,EREW,done~
+n=1,2,1 : pardo 1~rule common~const n = 4~procs i < n~shared s~code~s := i~ \
+    | 1 n,steps,time,operations,processors,needs,end~1,3,1,1,1,EREW,done~\
+    2,2,1,2,2,CRCW priority,conflict~1,3,1,1,1,EREW,done~
+n=1,2 --set k=1 : pardo 1~rule crew~const n = 4~const k = 2~procs i < n~shared A[k]~code~\
+    A[i] := 7~ \
+    | 0 n,steps,time,operations,processors,needs,end~1,3,1,1,1,EREW,done~2,3,1,2,2,EREW,gone~
+n=1,0 --set k=1 : same | 2 text line=5 kind=OutOfLimits~
+n=1,x : same | 2 set name=n kind=BadNumber~
+m=1,2 : same | 2 set name=m kind=UnknownName~
+A=1,2 : same | 2 set name=A kind=WrongLength~
+n=1,2 : pram 1~cells 1~procs 1~steps 0~code~halt~ | 2 set name=n kind=UnknownName~
 -- the rows of two steps
 $ pramx steps job --from 2 --to 3
 pram 1~cells 1~procs 3~steps 2~code~pid r0~st r1 r0~ \

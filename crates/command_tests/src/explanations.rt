@@ -121,7 +121,7 @@ fn checked<R: AllocGlobal + Threads + Wait + Clock + Eprint + Sync>(
     let check = Line {
         file: "job",
         plan: None,
-        ask: Ask::Alone(AskAlone::Check),
+        ask: Ask::Alone(AskAlone::Check { model: None }),
     };
     let status = serve(rt, rt.alloc(), &check, &mut sources, &mut console);
     let Console { out, err, .. } = console;

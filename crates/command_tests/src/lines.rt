@@ -10,24 +10,33 @@ use std::test::Fail;
 
 // Words, and what they ask, or the kind of their error.
 const LINES: &str = "\
-pramx check f -> Asked { line: Line { file: \"f\", plan: None, ask: Alone(Check) }, explain: \
-    false }
-pramx check --explain f -> Asked { line: Line { file: \"f\", plan: None, ask: Alone(Check) }, \
-    explain: true }
+pramx check f -> Asked { line: Line { file: \"f\", plan: None, ask: Alone(Check { model: None }) \
+    }, explain: false }
+pramx check --explain f -> Asked { line: Line { file: \"f\", plan: None, ask: Alone(Check { \
+    model: None }) }, explain: true }
 pramx check f --set n=3 --set A=@g -> Asked { line: Line { file: \"f\", plan: None, ask: \
-    Alone(Check) }, explain: false } [\"n=3\", \"A=@g\"]
+    Alone(Check { model: None }) }, explain: false } [\"n=3\", \"A=@g\"]
 pramx compile f -> Asked { line: Line { file: \"f\", plan: None, ask: Alone(Compile) }, explain: \
     false }
-pramx plain f -> Asked { line: Line { file: \"f\", plan: None, ask: Alone(Plain(Style { csv: \
-    false, why: false })) }, explain: false }
-pramx plain --why f -> Asked { line: Line { file: \"f\", plan: None, ask: Alone(Plain(Style { \
-    csv: false, why: true })) }, explain: false }
-pramx plain f --csv -> Asked { line: Line { file: \"f\", plan: None, ask: Alone(Plain(Style { \
-    csv: true, why: false })) }, explain: false }
-pramx cost f -> Asked { line: Line { file: \"f\", plan: None, ask: Alone(Cost { lines: false }) \
-    }, explain: false }
+pramx plain f -> Asked { line: Line { file: \"f\", plan: None, ask: Alone(Plain { style: Style { \
+    csv: false, why: false }, model: None }) }, explain: false }
+pramx plain --why f -> Asked { line: Line { file: \"f\", plan: None, ask: Alone(Plain { style: \
+    Style { csv: false, why: true }, model: None }) }, explain: false }
+pramx plain f --csv -> Asked { line: Line { file: \"f\", plan: None, ask: Alone(Plain { style: \
+    Style { csv: true, why: false }, model: None }) }, explain: false }
+pramx cost f -> Asked { line: Line { file: \"f\", plan: None, ask: Alone(Cost { lines: false, \
+    model: None }) }, explain: false }
 pramx cost --lines f -> Asked { line: Line { file: \"f\", plan: None, ask: Alone(Cost { lines: \
-    true }) }, explain: false }
+    true, model: None }) }, explain: false }
+pramx check f --model EREW -> Asked { line: Line { file: \"f\", plan: None, ask: Alone(Check { \
+    model: Some(Erew) }) }, explain: false }
+pramx plain --model=common f --csv -> Asked { line: Line { file: \"f\", plan: None, ask: \
+    Alone(Plain { style: Style { csv: true, why: false }, model: Some(CommonCrcw) }) }, explain: \
+    false }
+pramx cost f --model crew -> Asked { line: Line { file: \"f\", plan: None, ask: Alone(Cost { \
+    lines: false, model: Some(Crew) }) }, explain: false }
+pramx sweep f --set n=3,4 --set A=1 -> Asked { line: Line { file: \"f\", plan: None, ask: \
+    Alone(Sweep) }, explain: false } [\"n=3,4\", \"A=1\"]
 pramx steps f -> Asked { line: Line { file: \"f\", plan: None, ask: Alone(Steps { from: 1, to: \
     4294967295, alone: false }) }, explain: false }
 pramx steps f --from 101 -> Asked { line: Line { file: \"f\", plan: None, ask: Alone(Steps { \
@@ -74,6 +83,9 @@ pramx replay job.txt --workers 65 -> ValueValidation
 pramx steps f --from 0 -> ValueValidation
 pramx steps f --to last -> ValueValidation
 pramx steps f --from 3 --to 2 -> ValueValidation
+pramx sweep f -> MissingRequiredArgument
+pramx check f --model PRAM -> ValueValidation
+pramx run f --workers 1 --model EREW -> UnknownArgument
 pramx watch f --workers 1 --rounds 1 -> MissingRequiredArgument
 pramx watch f --workers 1 --rounds 1 --cells 1,3x -> ValueValidation
 pramx watch f --workers 1 --rounds 1 --cells 1,,2 -> ValueValidation
@@ -132,6 +144,7 @@ $ pramx --help
     ~  compile  Print the job of a program as a text of the machine\
     ~  plain    Run a job on the plain machine\
     ~  cost     Say what the run of a job costs, and which model of the PRAM it needs\
+    ~  sweep    Say what the runs of a program cost in which a name is set to one value each\
     ~  steps    Run a job on the plain machine, and print what each processor asks for in each step\
     ~  trace    Run a program on the plain machine, and print its lines as they are made\
     ~  run      Run a job on threads\

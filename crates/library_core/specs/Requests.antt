@@ -44,10 +44,11 @@ command_asked Replay request = replaying (is_set request.rows_alone) request.wor
 
 -- what a call asks, as a line of the program's would
 abbrev pub IsAskOf : Call → Request → AskAlone → Type 0
-IsAskOf Check request ask.Check = ⊤
+IsAskOf Check request (ask.Check model) = model ≡ None
 IsAskOf Compile request ask.Compile = ⊤
-IsAskOf Plain request (ask.Plain style) = style ≡ in_lines (is_set request.why)
-IsAskOf Cost request (ask.Cost lines) = lines ≡ is_set request.lines
+IsAskOf Plain request (ask.Plain style model) =
+    (style ≡ in_lines (is_set request.why)) × (model ≡ None)
+IsAskOf Cost request (ask.Cost lines model) = (lines ≡ is_set request.lines) × (model ≡ None)
 IsAskOf Steps request (ask.Steps from to alone) =
     (from ≡ from_of request) × (to ≡ to_of request) × (alone ≡ is_set request.rows_alone)
 IsAskOf Replay request (ask.Replay workers alone) =

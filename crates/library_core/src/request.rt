@@ -143,14 +143,18 @@ pub(crate) fn ask_of(call: Call, request: &Request) -> AskAlone
 {
     let alone = request.rows_alone == 1;
     match call {
-        Call::Check => AskAlone::Check,
+        Call::Check => AskAlone::Check { model: None },
         Call::Compile => AskAlone::Compile,
-        Call::Plain => AskAlone::Plain(Style {
-            csv: false,
-            why: request.why == 1,
-        }),
+        Call::Plain => AskAlone::Plain {
+            style: Style {
+                csv: false,
+                why: request.why == 1,
+            },
+            model: None,
+        },
         Call::Cost => AskAlone::Cost {
             lines: request.lines == 1,
+            model: None,
         },
         Call::Steps => AskAlone::Steps {
             from: first_step(request),

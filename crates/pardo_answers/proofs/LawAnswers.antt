@@ -125,7 +125,7 @@ module _ (job : JobData) (line_of : ℕ → ℕ) (is_job : IsJob job) (i : ℕ)
   one_step t number other a b earlier =
       b.was_there (gone_on (a.before + 1) b.before (omega arith) a.is_gone)
 
-  one_line : (t : ℕ) (line other : Option ℕ) → GoneIn job line_of t i line →
+  pub one_line : (t : ℕ) (line other : Option ℕ) → GoneIn job line_of t i line →
       GoneIn job line_of t i other → line ≡ other
   one_line t None None there too = refl
   one_line t None (Some other) there leaves =

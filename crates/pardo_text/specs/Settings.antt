@@ -40,6 +40,17 @@ set_to settings word =
     option_and_then (λ at. option_map (λ setting. setting.values) (slice_get settings at))
     (setting_of settings word)
 
+-- the first name and its values
+abbrev pub first_in : List SettingData → Option (Word × List ℕ)
+first_in [] = None
+first_in (first ∷ others) = Some (first.name, first.values)
+
+-- the settings, the first name being set to this value alone
+abbrev pub with_first : List SettingData → ℕ → List SettingData
+with_first [] value = []
+with_first (first ∷ others) value =
+    record { name = first.name; values = value ∷ [] } ∷ others
+
 -- ---- the lines that are set
 
 -- the token that comes next in a line, and what stands after it

@@ -1,12 +1,12 @@
 //! Settings: values that constants and arrays are given from outside.
-ghost use Rattle.std.specs.Prelude.{◌≡◌, ◌==◌, ◌<◌, [], ◌∷◌, length, IfSome};
+ghost use Rattle.std.specs.Prelude.{◌≡◌, ◌==◌, ◌<◌, [], ◌∷◌, length, IfSome, OnOk};
 ghost use Rattle.std.specs.List.{position, slice_split};
 ghost use Rattle.std.specs.Option.{option_map};
 ghost use Rattle.text_lines.specs.Lines.{lines_of};
-ghost use Rattle.pardo_text.specs.Settings.{alone, field_value, fields_in, names_one};
+ghost use Rattle.pardo_text.specs.Settings.{alone, field_value, fields_in, first_in, names_one};
 ghost use Rattle.pardo_text.specs.Settings.{set_to, setting_of};
-ghost use Rattle.pardo_text.specs.Settings.{some_of, values_spelled, with_fields, with_rows};
-ghost use Rattle.pardo_text.specs.Settings.{with_setting};
+ghost use Rattle.pardo_text.specs.Settings.{some_of, values_spelled, with_fields, with_first};
+ghost use Rattle.pardo_text.specs.Settings.{with_rows, with_setting};
 ghost use Rattle.pardo_text.specs.Inner.Tokens.{after_blanks};
 ghost use Rattle.pardo_text.specs.Inner.Settings.{GivesAsSet, fields_left};
 ghost use Rattle.pardo_text.specs.declared.settings.SetKind.TheVariants.{Memory};
@@ -115,6 +115,26 @@ impl Settings {
         ensures { result ≡ (length self.now == 0) }
     {
         self.settings.is_empty()
+    }
+
+    /// The name that is set first, and its values.
+    pub fn first(&self) -> Option<(&[u8], &[u32])>
+        ensures { option_map (λ first. (first.0.now, first.1.now)) result ≡ first_in self.now }
+    {
+        let first = self.settings.first()?;
+        Some((first.name.as_slice(), first.values.as_slice()))
+    }
+
+    /// Sets the first name to this value alone.
+    pub fn set_first(&mut self, value: u32) -> Result<(), AllocError>
+        ensures { OnOk result (self.new ≡ with_first self.old value) }
+    {
+        let alloc = *self.settings.allocator();
+        let values = Vec::from_slice(alloc, &[value])?;
+        if let Some(first) = self.settings.first_mut() {
+            first.values = values;
+        }
+        Ok(())
     }
 
     /// Sets one name more, to the values that a text spells: numbers, parted by commas or by line

@@ -13,3 +13,5 @@ pub mod Costed
 pub mod Lined
 pub mod Explaining
 pub mod LineFinding
+pub mod Judged
+pub mod Recording

@@ -1,6 +1,6 @@
 -- The status of a line: that of what was done, or of the refusal that was told.
 use Rattle.std.proofs.Common.{Result, Ok, Err, IfOk, IfErr, IsTrue, ap, ◌≡◌, ◌≢◌, ◌⊎◌, ◌∙◌, ◌<◌, true, false}
-use Rattle.std.proofs.Common.{◌≤◌, ℕ, Option, Some, None, refl, sym, subst, inl, inr, arith}
+use Rattle.std.proofs.Common.{Bool, List, ◌≤◌, ℕ, Option, Some, None, refl, sym, subst, inl, inr, arith}
 use Rattle.std.specs.Prelude.{is_some}
 use Rattle.std.specs.Option.{option_map}
 use Rattle.pram_job.specs.Job.{JobData}
@@ -9,13 +9,18 @@ use Rattle.pram_step.specs.declared.answer.Fault.{Fault}
 use Rattle.pram_step.specs.declared.answer.RunAnswer.{RunAnswer}
 use Rattle.pram_step.specs.declared.answer.RunAnswer.TheVariants as answer
 use Rattle.pram_cost.specs.declared.cost.Cost.{Cost}
+use Rattle.pram_cost.specs.declared.pram.Pram.{Pram}
+use Rattle.stop_plan.specs.Plan.{PlanData}
 use Rattle.pram_commands.specs.Costs.{conflict_of}
 use Rattle.pram_commands.specs.Did.{Begins, Command, Did, Explains, Prints, Wrote}
 use Rattle.pram_commands.specs.Did.{Writing, ends_with, tells_status}
 use Rattle.refusals.specs.Faults.{fault_status}
 use Rattle.pram_commands.specs.Inputs.{InputsRead, Taking}
 use Rattle.pram_commands.specs.Line.{command_alone, command_of}
+use Rattle.pram_commands.specs.LineRecords.{costing_by}
+use Rattle.pram_commands.specs.Plain.{checking, no_plan, plainly}
 use Rattle.pram_commands.specs.Served.{Served}
+use Rattle.pram_commands.specs.Under.{under_model}
 use Rattle.refusals.specs.declared.fault.CommandFault.{CommandFault}
 use Rattle.refusals.specs.declared.fault.CommandFault.TheVariants.{Text, Program, Plan, OutsideCell}
 use Rattle.refusals.specs.declared.fault.CommandFault.TheVariants.{OutsidePlace}
@@ -29,6 +34,7 @@ use Rattle.command_data.specs.declared.line.AskAlone.{AskAlone}
 use Rattle.command_data.specs.declared.line.AskAlone.TheVariants as alone
 use Rattle.command_data.specs.declared.line.AskOnThreads.TheVariants as on_threads
 use Rattle.command_data.specs.declared.line.Line.{Line}
+use Rattle.command_data.specs.declared.line.Style.{Style}
 use Rattle.pram_commands.proofs.Doing.{err_same, ok_not_err}
 
 -- what was told with another status than 5 is no lack of memory
@@ -114,6 +120,35 @@ ended-cost cost given is = ended cost.conflict is
     ended None same three = let status = ap ends_with same in omega (arith, three, status)
     ended (Some fault) same three = let status = ap ends_with same in omega (arith, three, status)
 
+-- a command that follows no plan does not end so
+abbrev EndsAlone : Command → Type 0
+EndsAlone command = (job_text : List ℕ) (job : JobData) (plan : PlanData) (text : List ℕ)
+    (given : Option RunAnswer) → command.Comes job_text job plan text given →
+    ends_with given ≡ 3 → ⊥
+
+ends_summary : EndsAlone checking
+ends_summary job_text job plan text given comes three =
+    let none = ap ends_with comes.1 in absurd (omega (arith, three, none))
+
+ends_plain : (style : Style) → EndsAlone (plainly style)
+ends_plain style job_text job plan text given comes three =
+    ended-plain job comes.ended given comes.ends comes.gives three
+
+ends_cost : (lines : Bool) → EndsAlone (costing_by lines)
+ends_cost false job_text job plan text given comes three =
+    ended-cost comes.cost given comes.gives three
+ends_cost true job_text job plan text given comes three =
+    ended-cost comes.cost given comes.gives three
+
+-- nor does it under a model
+ends_under : (model : Option Pram) (command : Command) → EndsAlone command →
+    EndsAlone (under_model model command)
+ends_under None command ends = ends
+ends_under (Some pram) command ends job_text job plan text given (inl both) three =
+    ends job_text job no_plan text given both.1 three
+ends_under (Some pram) command ends job_text job plan text given (inr beyond) three =
+    let status = ap ends_with beyond.gives in omega (arith, three, status)
+
 -- what a fault wrote with the status of a refused text, and with another
 wrote-none : (command : Command) (r : InputsRead) (w : Writing) (fault : CommandFault) →
     fault_status fault ≡ 2 → Wrote command r w fault → w.Unwritten
@@ -156,18 +191,18 @@ module _ (taken : Taking) (w : Writing) where
   stops_alone : (ask : AskAlone) (status : ℕ) →
       Prints (command_alone ask) taken.reads w (tells_status status) → status ≡ 3 →
       IsTrue (is_some (command_alone ask).workers)
-  stops_alone alone.Check status prints three =
-      let none = ap ends_with prints.work.comes.1 in absurd (omega (arith, prints.is, three, none))
+  stops_alone (alone.Check model) status prints three =
+      absurd (ends_under model checking ends_summary _ _ _ _ _ prints.work.comes
+      (sym prints.is ∙ three))
   stops_alone alone.Compile status prints three =
       let none = ap ends_with prints.work.comes.1 in absurd (omega (arith, prints.is, three, none))
-  stops_alone (alone.Plain style) status prints three =
-      let comes = prints.work.comes in
-      absurd (ended-plain prints.work.job comes.ended prints.answer comes.ends
-      comes.gives (sym prints.is ∙ three))
-  stops_alone (alone.Cost false) status prints three =
-      let comes = prints.work.comes in
-      absurd (ended-cost comes.cost prints.answer comes.gives (sym prints.is ∙ three))
-  stops_alone (alone.Cost true) status prints three =
+  stops_alone (alone.Plain style model) status prints three =
+      absurd (ends_under model (plainly style) (ends_plain style) _ _ _ _ _ prints.work.comes
+      (sym prints.is ∙ three))
+  stops_alone (alone.Cost lines model) status prints three =
+      absurd (ends_under model (costing_by lines) (ends_cost lines) _ _ _ _ _ prints.work.comes
+      (sym prints.is ∙ three))
+  stops_alone alone.Sweep status prints three =
       let comes = prints.work.comes in
       absurd (ended-cost comes.cost prints.answer comes.gives (sym prints.is ∙ three))
   stops_alone (alone.Steps from to rows_alone) status prints three =

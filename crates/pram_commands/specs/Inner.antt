@@ -7,3 +7,4 @@ pub mod Places
 pub mod Lines
 pub mod Costed
 pub mod Finding
+pub mod Told

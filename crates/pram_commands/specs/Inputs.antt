@@ -92,6 +92,13 @@ IsBad text (Program refusal) =
     (is_program text ≡ true) × IsProgramRefusal text refusal × IsOfText refusal
 IsBad text _ = ⊥
 
+-- the text has this fault, or memory ran out
+abbrev pub IsBadOrMemory : List ℕ → CommandFault → Type 0
+IsBadOrMemory text (Text line kind) = IsBad text (Text line kind)
+IsBadOrMemory text (Program refusal) = IsBad text (Program refusal)
+IsBadOrMemory text Memory = ⊤
+IsBadOrMemory text _ = ⊥
+
 -- The source gave a text of which this holds.
 pub record GivesSuch (source source' : Option (List ℕ)) (Is : List ℕ → Type 0) : Type 0 where
   pub text : List ℕ

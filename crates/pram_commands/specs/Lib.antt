@@ -13,8 +13,10 @@ pub mod Plain
 pub mod Progress
 pub mod Replayed
 pub mod Served
+pub mod Sweeps
 pub mod Steps
 pub mod Texts
 pub mod Traced
 pub mod Threads
+pub mod Under
 pub mod Why

@@ -10,10 +10,13 @@ ghost use Rattle.pram_commands.specs.Line.{command_alone, command_on_threads};
 
 mod alone;
 mod on_threads;
+mod under;
 
 use crate::names::print_told;
 use crate::sources::{Sources, Spelled};
-pub use alone::{check, compile, cost, cost_by_lines, plain, replay, steps, take_answer, trace};
+pub use alone::{
+    check, compile, cost, cost_by_lines, plain, replay, steps, sweep, take_answer, trace,
+};
 use command_data::{AskAlone, AskOnThreads};
 pub use on_threads::{run, watch};
 use pram_cost::Cost;
@@ -25,6 +28,7 @@ use std::alloc::Global;
 use std::rt::Clock;
 use std::sync::Wait;
 use std::thread::Threads;
+use under::{Told, under_model};
 
 /// Does what the thread that calls is asked alone, and answers the status of its answer.
 pub fn do_alone<J: Source, P: Source, O: Sink>(
@@ -38,7 +42,7 @@ pub fn do_alone<J: Source, P: Source, O: Sink>(
         (writing O.Sink out.old out.new) tells_status result }
 {
     match ask {
-        AskAlone::Check => {
+        AskAlone::Check { model: None } => {
             check(alloc, sources, out)?;
             Ok(DONE)
         }
@@ -46,13 +50,38 @@ pub fn do_alone<J: Source, P: Source, O: Sink>(
             compile(alloc, sources, out)?;
             Ok(DONE)
         }
-        AskAlone::Plain(style) => ended(plain(alloc, style, sources, out)),
-        AskAlone::Cost { lines: false } => {
+        AskAlone::Plain { style, model: None } => ended(plain(alloc, style, sources, out)),
+        AskAlone::Cost {
+            lines: false,
+            model: None,
+        } => {
             let cost = cost(alloc, sources, out)?;
             Ok(cost_status(&cost))
         }
-        AskAlone::Cost { lines: true } => {
+        AskAlone::Cost {
+            lines: true,
+            model: None,
+        } => {
             let cost = cost_by_lines(alloc, sources, out)?;
+            Ok(cost_status(&cost))
+        }
+        AskAlone::Check { model: Some(pram) } => under_model(
+            alloc,
+            pram,
+            Told::Summary,
+            sources,
+            out,
+        ),
+        AskAlone::Plain {
+            style,
+            model: Some(pram),
+        } => under_model(alloc, pram, Told::Answer(style), sources, out),
+        AskAlone::Cost {
+            lines,
+            model: Some(pram),
+        } => under_model(alloc, pram, Told::Costs { lines }, sources, out),
+        AskAlone::Sweep => {
+            let cost = sweep(alloc, sources, out)?;
             Ok(cost_status(&cost))
         }
         AskAlone::Steps { from, to, alone } => {
@@ -108,7 +137,8 @@ fn answer_status(answer: &RunAnswer) -> u8
     }
 }
 
-fn cost_status(cost: &Cost) -> u8
+/// The status of a run that was counted.
+pub(crate) fn cost_status(cost: &Cost) -> u8
     ensures { result ≡ ends_with (conflict_of cost.now) }
 {
     match cost.conflict {

@@ -15,6 +15,7 @@ mod printing;
 mod progress;
 mod server;
 mod sources;
+mod sweeps;
 mod threads;
 mod traces;
 mod why;
@@ -35,3 +36,4 @@ pub use refusals::{
 };
 pub use server::{serve, serve_alone};
 pub use sources::{Console, Inputs, Sources, Spelled};
+pub use sweeps::{RunRecord, run_record};

@@ -51,7 +51,8 @@ pub(crate) fn push_sums(text: &mut Vec<u8>, lines: &[LineCost]) -> Result<(), Al
     Ok(())
 }
 
-fn total_time(lines: &[LineCost]) -> u64
+/// The time of a program.
+pub(crate) fn total_time(lines: &[LineCost]) -> u64
     requires { AreSmall lines.now }
     ensures { result ≡ sum_by (λ cost. cost.time) lines.now }
 {
@@ -62,7 +63,8 @@ fn total_time(lines: &[LineCost]) -> u64
     time
 }
 
-fn total_operations(lines: &[LineCost]) -> u64
+/// The operations of a program.
+pub(crate) fn total_operations(lines: &[LineCost]) -> u64
     requires { AreSmall lines.now }
     ensures { result ≡ sum_by (λ cost. cost.operations) lines.now }
 {

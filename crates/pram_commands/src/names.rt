@@ -4,6 +4,7 @@ ghost use Rattle.std.specs.Option.{option_copied};
 ghost use Rattle.std.specs.Prelude.{MatchOption, ◌≤◌};
 ghost use Rattle.pardo_text.specs.Lawful.{AreArrays};
 ghost use Rattle.pardo_job.specs.Compiled.{IsWhole};
+ghost use Rattle.pardo_job.specs.Ends.{gone_in};
 ghost use Rattle.pardo_job.specs.Printed.{cell_text};
 ghost use Rattle.pardo_answers.specs.Language.{is_program};
 ghost use Rattle.pram_cost.specs.Costs.{IsLength};
@@ -13,7 +14,8 @@ ghost use Rattle.pram_step.specs.Runs.{IsAnswer};
 ghost use Rattle.pram_commands.specs.Did.{writing};
 ghost use Rattle.pram_commands.specs.Inner.Costed.{AreCosts};
 ghost use Rattle.pram_commands.specs.Inner.Hearing.{PutText};
-ghost use Rattle.pram_commands.specs.Inner.Refusals.{IsBadOrMemory, IsFaultOf};
+ghost use Rattle.pram_commands.specs.Inner.Refusals.{IsFaultOf};
+ghost use Rattle.pram_commands.specs.Inputs.{IsBadOrMemory};
 ghost use Rattle.pram_commands.specs.CellLists.{AreAnArrays, IsPlaceOf};
 ghost use Rattle.pram_commands.specs.declared.places.Stretch.{Stretch};
 ghost use Rattle.pram_commands.specs.Costs.{cost_words, spot_in};
@@ -113,6 +115,14 @@ impl Naming {
             places: self.places.as_slice(),
             numbers: self.numbers.as_slice(),
         }
+    }
+
+    /// The line in which a processor is gone, if it is.
+    pub(crate) fn gone_in(&self, processor: u32) -> Option<u64>
+        ensures { result ≡ gone_in self.now.ended.lines.gone.items processor }
+    {
+        let gone = self.ended.lines.gone.as_slice();
+        gone.get(processor as usize).copied().unwrap_or(None)
     }
 
     /// The answer of the job, which was found with its lines.

@@ -13,3 +13,4 @@ pub mod Needed
 pub mod Ending
 pub mod Sized
 pub mod Tallying
+pub mod Passing

@@ -1,4 +1,5 @@
 -- What private contracts alone cite.
+pub mod Firsts
 pub mod Found
 pub mod Groups
 pub mod Seen

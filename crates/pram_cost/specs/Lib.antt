@@ -6,5 +6,6 @@ pub mod Profiles
 pub mod Profiled
 pub mod Tallies
 pub mod Printed
+pub mod Beyond
 pub mod Laws
 pub mod Inner

@@ -2,6 +2,7 @@
 #![tactic(auto)]
 
 mod access;
+mod beyond;
 mod cost;
 mod cost_names;
 mod found;
@@ -15,6 +16,7 @@ mod profile;
 mod work;
 
 pub use access::{is_running, read_of, write_of};
+pub use beyond::{Beyond, print_beyond};
 pub use cost::{Cost, Tally, cost_of};
 pub use cost_names::{ByCells, CostNames};
 pub use meeting::{Meeting, Meetings, Sharing};

@@ -110,7 +110,8 @@ fn push_meetings<C: CostNames>(
     Ok(())
 }
 
-fn push_meeting<C: CostNames>(
+/// Adds where two processors first meet, or that none do.
+pub(crate) fn push_meeting<C: CostNames>(
     alloc: Global,
     text: &mut Vec<u8>,
     found: Option<Meeting>,

@@ -65,3 +65,8 @@ printed_as (Err fault) = Err (fault_of_print fault)
 abbrev pub status_result : Result RunAnswer CommandFault → Result ℕ CommandFault
 status_result (Ok answer) = Ok (status_of answer)
 status_result (Err fault) = Err fault
+
+-- a status of what was printed
+abbrev pub with_status : {A : Type 0} → (A → ℕ) → Result A PrintFault → Result ℕ PrintFault
+with_status status (Ok told) = Ok (status told)
+with_status status (Err fault) = Err fault

@@ -1,5 +1,5 @@
 //! The commands that start no thread: `check`, `compile`, `plain`, `cost`, `steps`, `trace` and
-//! `replay`.
+//! `replay`, and the record of a sweep.
 ghost use Rattle.std.specs.Prelude.{◌≡◌, ◌↔◌, ⊤, true, false, IfErr, IfOk, IsErrOf, IsTrue};
 ghost use Rattle.pram_streams.specs.Transfer.{GivesSome};
 ghost use Rattle.pram_commands.specs.Did.{Did, Showing, tells, tells_none, writing};
@@ -12,6 +12,7 @@ ghost use Rattle.pram_step.specs.Runs.{IsAnswer};
 ghost use Rattle.pram_commands.specs.Names.{AreNames};
 ghost use Rattle.pram_commands.specs.Costs.{TellsCost, costing, tells_conflict};
 ghost use Rattle.pram_commands.specs.LineRecords.{TellsLines, costing_by};
+ghost use Rattle.pram_commands.specs.Sweeps.{TellsRecord, sweeping};
 ghost use Rattle.pram_commands.specs.Steps.{TellsSteps, stepping};
 ghost use Rattle.pram_commands.specs.Replayed.{TellsTrace, replaying};
 ghost use Rattle.pram_commands.specs.Texts.{TellsText, compiling};
@@ -25,6 +26,7 @@ use crate::line_costs::{Costed, Costs};
 use crate::line_records::records_of;
 use crate::names::lines_of;
 use crate::sources::{Inputs, Sources, Spelled};
+use crate::sweeps::record_of;
 use crate::traces::Traces;
 use crate::why::{put_explained, put_told};
 use command_data::{Style, Workers};
@@ -53,7 +55,7 @@ pub fn check<J: Source, P: Source, O: Sink>(
 }
 
 #[tactic(auto, using(crate::proofs::Doing::text_put))]
-fn put_summary<O: Sink>(alloc: Global, job: &Job, out: &mut O) -> Result<(), PrintFault>
+pub(super) fn put_summary<O: Sink>(alloc: Global, job: &Job, out: &mut O) -> Result<(), PrintFault>
     requires { O.has_failed out.old ≡ false }
     ensures { PutsAnswer (TellsSummary job.now) ⊥ (writing O.Sink out.old out.new) tells_none
         result }
@@ -100,7 +102,7 @@ pub fn plain<J: Source, P: Source, O: Sink>(
     printed(put_plain(alloc, style, &spelled, out))
 }
 
-fn put_plain<O: Sink>(
+pub(super) fn put_plain<O: Sink>(
     alloc: Global,
     style: Style,
     spelled: &Spelled,
@@ -160,7 +162,7 @@ pub fn cost<J: Source, P: Source, O: Sink>(
     printed(put_cost(alloc, &spelled, &costs, out))
 }
 
-fn put_cost<O: Sink>(
+pub(super) fn put_cost<O: Sink>(
     alloc: Global,
     spelled: &Spelled,
     costs: &Costs,
@@ -195,7 +197,7 @@ pub fn cost_by_lines<J: Source, P: Source, O: Sink>(
     printed(put_records(alloc, &spelled, &costs, out))
 }
 
-fn put_records<O: Sink>(
+pub(super) fn put_records<O: Sink>(
     alloc: Global,
     spelled: &Spelled,
     costs: &Costs,
@@ -208,6 +210,38 @@ fn put_records<O: Sink>(
 {
     let records = records_of(alloc, spelled.text.as_slice(), costs.lines.as_slice())?;
     put(out, records.as_slice())?;
+    Ok(costs.cost)
+}
+
+/// Reads a job, and prints what its run costs in one record, without a first field. It takes the
+/// time of `cost`.
+pub fn sweep<J: Source, P: Source, O: Sink>(
+    alloc: Global,
+    sources: &mut Sources<J, P>,
+    out: &mut O,
+) -> Result<Cost, CommandFault>
+    requires { AreReady J.Source P.Source O.Sink sources.old out.old }
+    ensures { Did sweeping (taking J.Source P.Source sources.old sources.new)
+        (writing O.Sink out.old out.new) tells_conflict result }
+{
+    let (spelled, costs) = take_costed(alloc, &mut sources.job, &mut sources.text)?;
+    printed(put_record(alloc, &spelled, &costs, out))
+}
+
+fn put_record<O: Sink>(
+    alloc: Global,
+    spelled: &Spelled,
+    costs: &Costs,
+    out: &mut O,
+) -> Result<Cost, PrintFault>
+    requires output { O.has_failed out.old ≡ false }
+    requires costs { IsCosted spelled.now costs.now }
+    ensures { PutsAnswer (TellsRecord spelled.now.text.items spelled.now.job) ⊥
+        (writing O.Sink out.old out.new) tells_conflict result }
+{
+    let pram = costs.cost.needs();
+    let record = record_of(alloc, &spelled.names, costs, pram)?;
+    put(out, record.as_slice())?;
     Ok(costs.cost)
 }
 

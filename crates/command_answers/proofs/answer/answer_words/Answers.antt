@@ -16,4 +16,6 @@ returns-in-Err-clause-answers g c =
     (texts_of c.args.words.now) c.args.console.now.is_terminal
     (writing g.O.Sink out c.serve_waiting.new.console.out) c.serve_waiting.result)
     c.in-Err.ensures.still.0 (waited_answers _ _ _ _ _ _ asks.asked asks.given _ _ asks.met
-    asks.sets asks.waits.is asks.waits.text c.serve_waiting.ensures)
+    asks.sets asks.waits.is asks.waits.text
+    asks.waits.asks asks.waits.threads
+    c.serve_waiting.ensures)

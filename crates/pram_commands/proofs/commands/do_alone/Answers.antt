@@ -1,8 +1,8 @@
 use Rattle.pram_commands.proofs.Doing.{ended_did}
 use Rattle.pram_commands.proofs.commands.do_alone.Goals as goal
 
-pub returns-in-Plain : goal.returns-in-Plain
-returns-in-Plain g c = rw c.in-Plain.is (ended_did _ _ _ _ c.plain.ensures _ c.ended.ensures)
+pub returns-in-Plain-None : goal.returns-in-Plain-None
+returns-in-Plain-None g c = rw c.in-Plain-None.is (ended_did _ _ _ _ c.plain.ensures _ c.ended.ensures)
 
 pub returns-in-Steps : goal.returns-in-Steps
 returns-in-Steps g c =

@@ -2,7 +2,7 @@ use Rattle.std.proofs.Common.{◌∙◌, codes, sym}
 use Rattle.clap.specs.Words.{found_of}
 use Rattle.clap.proofs.WalkLemmas.{first_value-rows}
 use Rattle.command_line.proofs.Values.{no_cells}
-use Rattle.command_line.proofs.line.bad_cells.Goals as goal
+use Rattle.command_line.proofs.bad_value.bad_cells.Goals as goal
 
 pub returns-in-None : goal.returns-in-None
 returns-in-None c = record {

@@ -3,7 +3,7 @@ use Rattle.clap.specs.Words.{found_of, rows_of}
 use Rattle.command_data.specs.Manner.{size_of}
 use Rattle.command_line.specs.CommandLine.{IsNumberIfSet}
 use Rattle.command_line.proofs.Values.{no_block}
-use Rattle.command_line.proofs.line.bad_block.Goals as goal
+use Rattle.command_line.proofs.bad_value.bad_block.Goals as goal
 
 pub returns-in-Some-of : goal.returns-in-Some-of
 returns-in-Some-of c =

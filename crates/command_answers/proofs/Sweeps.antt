@@ -1,0 +1,99 @@
+-- What a sweep comes to, size by size.
+use Rattle.std.proofs.Common.{◌≡◌, ◌∙◌, ◌+◌, ◌<◌, ◌⊎◌, ℕ, List, [], ◌∷◌, ◌++◌, max, take, drop, get_or}
+use Rattle.std.proofs.Common.{ap, append_assoc, arith, inl, inr, length, refl, Some}
+use Rattle.std.proofs.Common.{Bool, true, false, subst, sym}
+use Rattle.std.specs.Prelude.{MatchBool, slice_get}
+use Rattle.pardo_text.specs.Settings.{SettingData, text_as_set, with_first}
+use Rattle.pram_commands.specs.Inputs.{IsBad, IsBadOrMemory}
+use Rattle.refusals.specs.Faults.{fault_status}
+use Rattle.refusals.specs.declared.fault.CommandFault.{CommandFault}
+use Rattle.refusals.specs.declared.fault.CommandFault.TheVariants as fault
+use Rattle.refusals.specs.declared.refusal.TheConstants.{FAILED, MEMORY, REFUSED}
+use Rattle.command_answers.specs.Setting.{AllMet, IsUnfitBy}
+use Rattle.command_answers.specs.Sweeping.{AreSizes, ByRefusal, IsSizeOf, RefusesSize, RefusesSizes}
+use Rattle.command_answers.specs.declared.sweep.Unswept.{Unswept}
+use Rattle.command_answers.specs.declared.sweep.Unswept.TheVariants.{Unset, Fault}
+use Rattle.command_answers.proofs.Refused.{by_weaker}
+
+-- the last value that the first name is set to counts
+pub set_again : (settings : List SettingData) (value other : ℕ) →
+    with_first (with_first settings value) other ≡ with_first settings other
+set_again [] value other = refl
+set_again (first ∷ others) value other = refl
+
+-- a fault's status is one of a refusal
+pub refused_by : (f : CommandFault) (status : ℕ) → (status ≡ MEMORY) ⊎ (status ≡ fault_status f) →
+    (status ≡ REFUSED) ⊎ ((status ≡ FAILED) ⊎ (status ≡ MEMORY))
+refused_by f status (inl memory) = inr (inr memory)
+refused_by (fault.Text line kind) status (inr same) = inl same
+refused_by (fault.Program refusal) status (inr same) = inl same
+refused_by (fault.Plan row kind) status (inr same) = inl same
+refused_by (fault.OutsideCell cell) status (inr same) = inl same
+refused_by (fault.OutsidePlace at) status (inr same) = inl same
+refused_by (fault.OutsideStep step) status (inr same) = inl same
+refused_by fault.JobDevice status (inr same) = inr (inl same)
+refused_by fault.PlanDevice status (inr same) = inr (inl same)
+refused_by fault.OutDevice status (inr same) = inr (inl same)
+refused_by fault.JobTooLarge status (inr same) = inr (inl same)
+refused_by fault.PlanTooLarge status (inr same) = inr (inl same)
+refused_by fault.Memory status (inr same) = inr (inr same)
+
+-- a fault of a text that is told with a refusal's status is in the text
+pub bad_of : (text : List ℕ) (f : CommandFault) → IsBadOrMemory text f →
+    fault_status f ≡ REFUSED → IsBad text f
+bad_of text (fault.Text line kind) bad refused = bad
+bad_of text (fault.Program refusal) bad refused = bad
+bad_of text (fault.Plan row kind) bad refused = bad
+bad_of text (fault.OutsideCell cell) bad refused = bad
+bad_of text (fault.OutsidePlace at) bad refused = bad
+bad_of text (fault.OutsideStep step) bad refused = bad
+bad_of text fault.JobDevice bad refused = bad
+bad_of text fault.PlanDevice bad refused = bad
+bad_of text fault.OutDevice bad refused = bad
+bad_of text fault.JobTooLarge bad refused = bad
+bad_of text fault.PlanTooLarge bad refused = bad
+bad_of text fault.Memory bad refused = cc refused
+
+-- what is said of a refusal, and what follows from it
+pub by_so : {P Q : Type 0} → (P → Q) → (unswept : Unswept) → ByRefusal P unswept →
+    ByRefusal Q unswept
+by_so {P} {Q} f (Unset unset) says =
+    by_weaker {P = λ kind. P} {Q = λ kind. Q} (λ kind it. f it) unset.refusal says
+by_so f (Fault found text) says = λ refused. f (says refused)
+
+-- one size more after others
+pub sizes_next : (settings : List SettingData) (text values : List ℕ) (value : ℕ)
+    (bytes size : List ℕ) (status ends : ℕ) → AreSizes settings text values bytes status →
+    IsSizeOf settings text value size ends →
+    AreSizes settings text (values ++ value ∷ []) (bytes ++ size) (max status ends)
+sizes_next settings text [] value bytes size status ends so_far is = (
+  size,
+  ends,
+  [],
+  0,
+  is,
+  (refl, refl),
+  (let e : bytes ++ size ≡ size ++ [] = rw so_far.0 (sym (append_nil size)) in e),
+  (let e : max status ends ≡ max ends 0 = rw so_far.1 (omega arith) in e),
+)
+sizes_next settings text (first ∷ values) value bytes size status ends
+    (head, now, rest, later, one, others, same, most) is =
+    let more = sizes_next settings text values value rest size later ends others is in (
+      head,
+      now,
+      rest ++ size,
+      max later ends,
+      one,
+      more,
+      ap (λ b. b ++ size) same ∙ append_assoc {a = head} {b = rest} {c = size},
+      (let e : max status ends ≡ max now (max later ends) = rw most (omega arith) in e),
+    )
+
+-- a line that asks for a sweep, and another one
+pub swept_so : (S L : Type 0) (b : Bool) → b ≡ true → S → MatchBool b S L
+swept_so S L true is swept = swept
+swept_so S L false is swept = absurd (let never : false ≡ true = is in cc never)
+
+pub served_so : (S L : Type 0) (b : Bool) → b ≡ false → L → MatchBool b S L
+served_so S L true is served = absurd (let never : true ≡ false = is in cc never)
+served_so S L false is served = served
