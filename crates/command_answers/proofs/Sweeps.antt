@@ -1,9 +1,12 @@
 -- What a sweep comes to, size by size.
 use Rattle.std.proofs.Common.{◌≡◌, ◌∙◌, ◌+◌, ◌<◌, ◌⊎◌, ℕ, List, [], ◌∷◌, ◌++◌, max, take, drop, get_or}
-use Rattle.std.proofs.Common.{ap, append_assoc, arith, inl, inr, length, refl, Some}
+use Rattle.std.proofs.Common.{ap, append_assoc, arith, inl, inr, length, refl, ◌≤◌}
 use Rattle.std.proofs.Common.{Bool, true, false, subst, sym}
-use Rattle.std.specs.Prelude.{MatchBool, slice_get}
+use Rattle.std.specs.Prelude.{MatchBool}
+use Rattle.std.proofs.lemmas.List.{append-nil, take_all, take_more}
+use Rattle.std.proofs.lemmas.Option.{slice_get-get_or}
 use Rattle.pardo_text.specs.Settings.{SettingData, text_as_set, with_first}
+use Rattle.pardo_text.specs.declared.settings.SetKind.{SetKind}
 use Rattle.pram_commands.specs.Inputs.{IsBad, IsBadOrMemory}
 use Rattle.refusals.specs.Faults.{fault_status}
 use Rattle.refusals.specs.declared.fault.CommandFault.{CommandFault}
@@ -73,7 +76,7 @@ sizes_next settings text [] value bytes size status ends so_far is = (
   0,
   is,
   (refl, refl),
-  (let e : bytes ++ size ≡ size ++ [] = rw so_far.0 (sym (append_nil size)) in e),
+  (let e : bytes ++ size ≡ size ++ [] = rw so_far.0 (sym (append-nil size)) in e),
   (let e : max status ends ≡ max ends 0 = rw so_far.1 (omega arith) in e),
 )
 sizes_next settings text (first ∷ values) value bytes size status ends
@@ -88,6 +91,58 @@ sizes_next settings text (first ∷ values) value bytes size status ends
       ap (λ b. b ++ size) same ∙ append_assoc {a = head} {b = rest} {c = size},
       (let e : max status ends ≡ max now (max later ends) = rw most (omega arith) in e),
     )
+
+-- a size of settings whose first name is set as that of others
+pub size_as : (settings other : List SettingData) (text : List ℕ) (value : ℕ) (bytes : List ℕ)
+    (status : ℕ) → with_first other value ≡ with_first settings value →
+    IsSizeOf other text value bytes status → IsSizeOf settings text value bytes status
+size_as settings other text value bytes status same is = record {
+  set = is.set;
+  size = is.size;
+  is_set = is.is_set ∙ ap (λ (all : List SettingData). text_as_set all text) same;
+  met = subst (λ (all : List SettingData). AllMet all text is.set) same is.met;
+  is = is.is;
+  prints = is.prints;
+  ends = is.ends;
+}
+
+-- what is refused as the first name is set to a value
+abbrev pub IsRefusedAs : List ℕ → List SettingData → Type 0
+IsRefusedAs text set = ((kind : SetKind) × IsUnfitBy set text kind)
+    ⊎ ((fault : CommandFault) × IsBad (text_as_set set text) fault)
+
+-- the sizes so far, one after the other, of these settings
+module _ (settings : List SettingData) (text values : List ℕ) (d : ℕ) where
+  pub sizes_more : (at : ℕ) (now : List SettingData) (bytes size : List ℕ) (status ends : ℕ) →
+      at < length values → AreSizes settings text (take at values) bytes status →
+      with_first now (get_or values at d) ≡ with_first settings (get_or values at d) →
+      IsSizeOf now text (get_or values at d) size ends →
+      AreSizes settings text (take (at + 1) values) (bytes ++ size) (max status ends)
+  sizes_more at now bytes size status ends within so_far same is =
+      subst (λ (l : List ℕ). AreSizes settings text l (bytes ++ size) (max status ends))
+      (sym (take_more values at d within))
+      (sizes_next settings text (take at values) (get_or values at d) bytes size status ends so_far
+      (size_as settings now text (get_or values at d) size ends same is))
+
+  pub sizes_all : (at : ℕ) (bytes : List ℕ) (status : ℕ) → length values ≤ at →
+      AreSizes settings text (take at values) bytes status →
+      AreSizes settings text values bytes status
+  sizes_all at bytes status over all =
+      subst (λ (l : List ℕ). AreSizes settings text l bytes status) (take_all at values over) all
+
+  pub size_refused : (at : ℕ) (now : List SettingData) (bytes : List ℕ) (status : ℕ) →
+      at < length values → AreSizes settings text (take at values) bytes status →
+      with_first now (get_or values at d) ≡ with_first settings (get_or values at d) →
+      RefusesSize now text (get_or values at d) → RefusesSizes settings text values
+  size_refused at now bytes status within so_far same refuses = record {
+    at = at;
+    value = get_or values at d;
+    is = slice_get-get_or values at d within;
+    records = bytes;
+    ends = status;
+    before = so_far;
+    refuses = subst (IsRefusedAs text) same refuses;
+  }
 
 -- a line that asks for a sweep, and another one
 pub swept_so : (S L : Type 0) (b : Bool) → b ≡ true → S → MatchBool b S L
