@@ -1,7 +1,8 @@
 //! Cells as a word of the command line names them.
-ghost use Rattle.std.specs.Prelude.{◌≡◌, ◌↔◌, None, IfSome, IsTrue, MatchOption};
+ghost use Rattle.std.specs.Prelude.{◌≡◌, ◌↔◌, ◌∷◌, None, IfSome, IsTrue, MatchOption, drop, false};
 ghost use Rattle.command_data.specs.CellLists.{SpellsCell, SpellsCells, SpellsPart, begins_place};
-ghost use Rattle.command_data.specs.CellLists.{cell_listed, part_at, parts_of};
+ghost use Rattle.command_data.specs.CellLists.{cell_listed, open_after, part_at, part_len, parts_left};
+ghost use Rattle.command_data.specs.CellLists.{parts_of};
 
 /// Cells by their numbers, or as places of a program, which a text parts by commas. The numbers are
 /// below 2^32; a cell may stand there several times.
@@ -17,10 +18,13 @@ impl<'a> CellList<'a> {
         ensures spells { IfSome result (λ list. SpellsCells text.entry.now) }
         ensures none { result ≡ None → ¬ SpellsCells text.entry.now }
     {
-        for part in text.split(',') {
+        let mut left = Some(text);
+        while let Some(rest) = left {
+            let (part, next) = first_part(rest);
             if !spells_part(part) {
                 return None;
             }
+            left = next;
         }
         Some(CellList { text })
     }
@@ -36,7 +40,59 @@ impl<'a> CellList<'a> {
     pub fn part(&self, at: usize) -> &'a str
         ensures { result.now ≡ part_at (parts_of self.now.text.now) at }
     {
-        self.text.split(',').nth(at).unwrap_or("")
+        let mut left = Some(self.text);
+        for _part in 0..at {
+            left = after_part(left);
+        }
+        match left {
+            Some(rest) => first_part(rest).0,
+            None => "",
+        }
+    }
+}
+
+/// The first part of a list, and what is after its comma, if it has one.
+pub fn first_part(text: &str) -> (&str, Option<&str>)
+    ensures { parts_of text.now ≡ result.0.now ∷ parts_left result.1 }
+{
+    let end = part_len(text.as_bytes());
+    if end >= text.len() {
+        return (text, None);
+    }
+    (&text[..end], Some(&text[end + 1..]))
+}
+
+// What is after the first part, if there is one.
+fn after_part(left: Option<&str>) -> Option<&str>
+    ensures { parts_left result ≡ drop 1 (parts_left left) }
+{
+    match left {
+        Some(rest) => first_part(rest).1,
+        None => None,
+    }
+}
+
+// How many bytes stand before the first comma that parts. One in brackets parts nothing.
+fn part_len(text: &[u8]) -> usize
+    ensures { result ≡ part_len false text.now }
+{
+    let mut is_open = false;
+    for at in 0..text.len() {
+        if text[at] == b',' && !is_open {
+            return at;
+        }
+        is_open = open_after(is_open, text[at]);
+    }
+    text.len()
+}
+
+fn open_after(is_open: bool, byte: u8) -> bool
+    ensures { result ≡ open_after is_open byte }
+{
+    match byte {
+        b'[' => true,
+        b']' => false,
+        _ => is_open,
     }
 }
 

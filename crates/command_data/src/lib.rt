@@ -9,7 +9,7 @@ mod manner;
 mod workers;
 
 pub use block::Block;
-pub use cell_list::{CellList, cell_of};
+pub use cell_list::{CellList, cell_of, first_part};
 pub use line::{Ask, AskAlone, AskOnThreads, AskRun, AskWatch, Line, Style};
 pub use manner::{Manner, Telling};
 pub use workers::Workers;

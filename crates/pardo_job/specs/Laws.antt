@@ -1,5 +1,5 @@
 -- The laws of the meaning.
-use Rattle.std.specs.Prelude.{◌≡◌, ◌≢◌, ℕ, ◌⊎◌, ◌+◌, ◌*◌, ◌≤◌, ◌&&◌, nat_lt}
+use Rattle.std.specs.Prelude.{◌≡◌, ◌≢◌, ℕ, ◌⊎◌, ◌+◌, ◌*◌, ◌<◌, ◌≤◌, ◌&&◌, nat_lt}
 use Rattle.std.specs.Prelude.{if◌then◌else◌, false, slice_get, Some, None}
 use Rattle.pram_job.specs.declared.instr.Rule.{Rule}
 use Rattle.pram_job.specs.declared.instr.Rule.TheVariants.{Priority, Crew}
@@ -10,6 +10,7 @@ use Rattle.pardo_text.specs.Expression.{Tree, number}
 use Rattle.pardo_text.specs.Expressions.{applied, constant_of, tested}
 use Rattle.pardo_text.specs.Lawful.{IsCommon, IsExpression, bounds_of}
 use Rattle.pardo_text.specs.Program.{ProgramData}
+use Rattle.pardo_text.specs.Tests.{Known, without_tests}
 use Rattle.pram_step.specs.declared.answer.Dispute.{Dispute}
 use Rattle.pardo_job.specs.Conflicts.{LineAgrees, IsLineDispute, Assigns, asked}
 use Rattle.pardo_job.specs.Layouts.{program_layout}
@@ -89,3 +90,16 @@ IndicesAreTested = (program : ProgramData) (source : Source) (i h w r c : ℕ)
     value program source i column ≡ Some c →
     value program source i (row_by_row h w row column)
     ≡ (if nat_lt r h && nat_lt c w then Some (r * w + c) else None)
+
+-- what is known of variables is true of those of processor i
+pub record IsKnown (known : Known) (source : Source) (i : ℕ) : Type 0 where
+  pub own : i < known.procs
+  pub privates : (x most : ℕ) → slice_get known.privates x ≡ Some most →
+      source.privates x i ≤ most
+  pub loops : (nest most : ℕ) → slice_get known.loops nest ≡ Some most → source.loops nest ≤ most
+
+-- A test that is left out would have passed: no expression has another value without it.
+abbrev pub LeftOutTestsPass : Type 0
+LeftOutTestsPass = (program : ProgramData) (known : Known) (source : Source) (i : ℕ) (tree : Tree) →
+    IsKnown known source i →
+    value program source i (without_tests known tree) ≡ value program source i tree

@@ -1,6 +1,6 @@
 //! The laws of the meaning: each function does nothing, and says to a proof that its law holds.
 ghost use Rattle.pardo_job.specs.Laws.{GoneForGood, IndicesAreTested, LoopsAreCommon, OutsideIsUnchanged};
-ghost use Rattle.pardo_job.specs.Laws.{TreesAreLawful};
+ghost use Rattle.pardo_job.specs.Laws.{LeftOutTestsPass, TreesAreLawful};
 ghost use Rattle.pardo_job.specs.Leaves.{ConditionsDecide, ExpressionsAreEvaluated};
 
 /// The value of an expression without the own number and private variables is one for all
@@ -40,4 +40,10 @@ pub fn trees_are_lawful()
 #[tactic(auto, using(crate::proofs::Tables::indices_are_tested))]
 pub fn indices_are_tested()
     ensures { IndicesAreTested }
+{}
+
+/// A test of an index that is left out would have passed.
+#[tactic(auto, using(crate::proofs::Untested::left_out_tests_pass))]
+pub fn left_out_tests_pass()
+    ensures { LeftOutTestsPass }
 {}

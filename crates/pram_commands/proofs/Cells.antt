@@ -6,7 +6,8 @@ use Rattle.std.proofs.lemmas.List.Elements.{All-append, All-head, All-tail}
 use Rattle.std.proofs.lemmas.List.FromFn.{get_or-range_with_len, length-range_with_len}
 use Rattle.std.proofs.Common.{Option, None, Some, MatchOption, sym, subst, ap, inl, inr, refl, arith}
 use Rattle.std.proofs.Common.{length, take, get_or}
-use Rattle.std.proofs.lemmas.List.{get_or-take, get_or_default}
+use Rattle.std.proofs.lemmas.List.{get_or-take, get_or_default, length-append}
+use Rattle.std.proofs.Math.Seq.{get_or-append_seam, take-append_seam}
 use Rattle.command_data.specs.CellLists.{SpellsCell, cell_listed, part_at}
 use Rattle.pram_job.specs.Job.{JobData}
 use Rattle.pram_commands.specs.CellLists.{AreNamed, HasCells, NamesCells, IsFirstOutside, IsOutside}
@@ -20,6 +21,23 @@ use Rattle.refusals.specs.declared.fault.CommandFault.TheVariants.{OutsideCell, 
 turn_at : (parts : List (List ℕ)) (n : ℕ) (part : List ℕ) →
     (n < length parts) × (part ≡ get_or parts n part) → part ≡ part_at parts n
 turn_at parts n part turn = turn.1 ∙ get_or_default parts n part [] turn.0
+
+-- the part after those that are done
+pub turn_here : (parts done tail : List (List ℕ)) (part : List ℕ) →
+    parts ≡ done ++ part ∷ tail → (length done < length parts)
+    × (part ≡ get_or parts (length done) part)
+turn_here parts done tail part e =
+    let sum : length parts ≡ length (done ++ part ∷ tail) =
+    ap (λ (l : List (List ℕ)). length l) e in (
+      omega (arith, sum, length-append done (part ∷ tail)),
+      sym (ap (λ (l : List (List ℕ)). get_or l (length done) part) e
+          ∙ get_or-append_seam done part tail part),
+    )
+
+pub front_here : (parts done tail : List (List ℕ)) → parts ≡ done ++ tail →
+    done ≡ take (length done) parts
+front_here parts done tail e =
+    sym (ap (λ (l : List (List ℕ)). take (length done) l) e ∙ take-append_seam done tail)
 
 -- whether one was found
 pub found_none : {X : Type 0} → (r : Option X) (No : Type 0) (Yes : X → Type 0) →

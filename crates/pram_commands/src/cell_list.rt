@@ -9,7 +9,7 @@ ghost use Rattle.pram_commands.specs.declared.places.Stretch.{Stretch};
 
 use crate::places::Stretch;
 use crate::sources::Spelled;
-use command_data::cell_of;
+use command_data::{cell_of, first_part};
 use refusals::CommandFault;
 use std::alloc::{AllocError, Global};
 
@@ -39,11 +39,14 @@ fn named_in(alloc: Global, text: &str, spelled: &Spelled) -> Result<Vec<Stretch>
         (parts_of text.now)) }
 {
     let mut named = Vec::new(alloc);
-    for part in text.split(',') {
+    let mut left = Some(text);
+    while let Some(rest) = left {
+        let (part, next) = first_part(rest);
         let Some(cells) = cells_of(alloc, part, spelled)? else {
             return Err(outside(part, named.len()));
         };
         keep(&mut named, cells)?;
+        left = next;
     }
     Ok(named)
 }
