@@ -13,3 +13,4 @@ pub mod Costed
 pub mod Lined
 pub mod Explaining
 pub mod LineFinding
+pub mod ArrayNames
