@@ -42,6 +42,15 @@ pardo 1~rule crew~procs i < 2~shared A[2]~code~A[i] := i + 7~ \
 pardo 1~rule common~procs i < 4~shared A[4] = 3, 1, 4, 1~shared sum = 10~code~sum := sum + A[i]~ \
     | 0 pram 3~cells 5~procs 4~steps 5~rule common~array sum 4 1~array A 0 4~\
     init 0 3 1 4 1 10~code~pid r3~ld r0 sum 0~ld r1 A r3~add r0 r0 r1~st sum 0 r0~halt~
+-- a register's name is none of an array; and what is printed, printed again, is by numbers
+pardo 1~rule crew~procs i < 2~shared r1[2]~shared A[2] = 3, 4~private x~code~x := i + 7~\
+    r1[i] := x + A[i]~ \
+    | 0 pram 3~cells 6~procs 2~steps 8~rule crew~array x 4 2~array A 2 2~array .a0_2 0 2~\
+    init 2 3 4~code~pid r3~add r0 r3 7~st x r3 r0~ld r0 x r3~ld r1 A r3~add r0 r0 r1~\
+    st .a0_2 r3 r0~halt~
+pram 3~cells 2~procs 2~steps 4~rule crew~array A 0 2~code~pid r3~add r0 r3 7~st A r3 r0~halt~ \
+    | 0 pram 3~cells 2~procs 2~steps 4~rule crew~array .a0_2 0 2~code~pid r3~add r0 r3 7~\
+    st .a0_2 r3 r0~halt~
 pram 1~cells 4~procs 1~steps 5~init 3 7~init 1 2~code~l: set r1 1~jz r0 l~ \
     | 0 pram 3~cells 4~procs 1~steps 5~rule common~init 1 2~init 3 7~code~L0: set r1 1~jz r0 L0~
 pardo 1~rule crew~procs i < 2~shared A[2]~code~A[i] = 7~ | 2 text line=6 kind=BadLine~
