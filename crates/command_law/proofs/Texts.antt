@@ -12,7 +12,12 @@ use Rattle.text_lines.specs.Lines.{Line, Word, is_filled, lines_of, words_of, wo
 use Rattle.pram_text.specs.Text.{Spells, code_heading}
 use Rattle.pram_text.proofs.LawOneJob.{spells_once}
 use Rattle.pram_text.proofs.Lawful.{spells_lawful}
-use Rattle.job_text.specs.Printed.{text_of}
+use Rattle.job_text.specs.Printed.{array_word, text_of}
+use Rattle.job_text.proofs.Naming.{array_words_lawful}
+use Rattle.pardo_text.specs.Variables.{AreDistinct, variable_names}
+use Rattle.pardo_text.proofs.LawNames.{names_are_distinct}
+use Rattle.pram_commands.specs.ArrayNames.{array_words}
+use Rattle.command_law.proofs.ArrayNames.{names_lawful}
 use Rattle.job_text.proofs.Landing.{jumps_land as spelled_jumps_land}
 use Rattle.job_text.proofs.ReadBack.{read_back}
 use Rattle.pardo_text.specs.declared.fault.PardoFault.{PardoFault}
@@ -100,17 +105,24 @@ machine_text text job spells =
 
 -- a job that a text means has a text
 has_text : (text : List ℕ) (job : JobData) (names : Option NamingData) →
-    AreNames text job names → Spells (text_of job) job
+    AreNames text job names → Spells (text_of (array_words names) job) job
 has_text text job None is =
-    read_back job (spells_lawful text job is.spells) (spelled_jumps_land text job is.spells)
+    let lawful = spells_lawful text job is.spells in
+    read_back array_word job lawful (spelled_jumps_land text job is.spells)
+    (array_words_lawful job.cells lawful.cells.1)
 has_text text job (Some naming) is =
     let lawful : IsProgram naming.program =
     subst (λ (r : Result ProgramData PardoFault). IfOk r IsProgram) is.reads
     (programs_are_lawful text) in
-    read_back job is.makes.job_is
+    let distinct : AreDistinct (variable_names naming.program) =
+    subst (λ (r : Result ProgramData PardoFault). IfOk r (λ program.
+    AreDistinct (variable_names program))) is.reads (names_are_distinct text) in
+    read_back (array_words (Some naming)) job is.makes.job_is
     (jumps_land naming.program job (slice_index naming.numbers) lawful is.makes)
+    (names_lawful naming.program distinct job.cells is.makes.job_is.cells.1)
 
 pub compile_prints : CompilePrintsTheSameJob
 compile_prints text job bytes answer means comes =
-    subst (λ (b : List ℕ). IsTextOf b job) (sym comes.0)
-    (machine_text (text_of job) job (has_text text job means.0 means.1))
+    subst (λ (b : List ℕ). IsTextOf b job) (sym comes.prints)
+    (machine_text (text_of (array_words comes.names) job) job
+    (has_text text job comes.names comes.are_names))

@@ -37,11 +37,20 @@ $ pramx check plan --explain
     worker,act,ticks~    ^~
 $ pramx compile job
 pardo 1~rule crew~procs i < 2~shared A[2]~code~A[i] := i + 7~ \
+    | 0 pram 3~cells 2~procs 2~steps 4~rule crew~array A 0 2~code~pid r3~add r0 r3 7~st A r3 r0~\
+    halt~
+pardo 1~rule common~procs i < 4~shared A[4] = 3, 1, 4, 1~shared sum = 10~code~sum := sum + A[i]~ \
+    | 0 pram 3~cells 5~procs 4~steps 5~rule common~array sum 4 1~array A 0 4~\
+    init 0 3 1 4 1 10~code~pid r3~ld r0 sum 0~ld r1 A r3~add r0 r0 r1~st sum 0 r0~halt~
+-- a register's name is none of an array; and what is printed, printed again, is by numbers
+pardo 1~rule crew~procs i < 2~shared r1[2]~shared A[2] = 3, 4~private x~code~x := i + 7~\
+    r1[i] := x + A[i]~ \
+    | 0 pram 3~cells 6~procs 2~steps 8~rule crew~array x 4 2~array A 2 2~array .a0_2 0 2~\
+    init 2 3 4~code~pid r3~add r0 r3 7~st x r3 r0~ld r0 x r3~ld r1 A r3~add r0 r0 r1~\
+    st .a0_2 r3 r0~halt~
+pram 3~cells 2~procs 2~steps 4~rule crew~array A 0 2~code~pid r3~add r0 r3 7~st A r3 r0~halt~ \
     | 0 pram 3~cells 2~procs 2~steps 4~rule crew~array .a0_2 0 2~code~pid r3~add r0 r3 7~\
     st .a0_2 r3 r0~halt~
-pardo 1~rule common~procs i < 4~shared A[4] = 3, 1, 4, 1~shared sum = 10~code~sum := sum + A[i]~ \
-    | 0 pram 3~cells 5~procs 4~steps 5~rule common~array .a4_1 4 1~array .a0_4 0 4~\
-    init 0 3 1 4 1 10~code~pid r3~ld r0 .a4_1 0~ld r1 .a0_4 r3~add r0 r0 r1~st .a4_1 0 r0~halt~
 pram 1~cells 4~procs 1~steps 5~init 3 7~init 1 2~code~l: set r1 1~jz r0 l~ \
     | 0 pram 3~cells 4~procs 1~steps 5~rule common~init 1 2~init 3 7~code~L0: set r1 1~jz r0 L0~
 pardo 1~rule crew~procs i < 2~shared A[2]~code~A[i] = 7~ | 2 text line=6 kind=BadLine~
@@ -114,10 +123,10 @@ pram 1~cells 2~procs 4~steps 4~code~pid r0~set r1 1~and r2 r0 r1~st r2 r0~ \
 pram 2~cells 2~procs 4~steps 4~rule priority~code~pid r0~set r1 1~and r2 r0 r1~st r2 r0~ \
     | 0 done steps=4~0: 0~1: 1~
 -- what is printed of the jobs of two programs
-pram 3~cells 2~procs 2~steps 4~rule crew~array .a0_2 0 2~code~pid r3~add r0 r3 7~st .a0_2 r3 r0~\
-    halt~ | 0 done steps=4~0: 7~1: 8~
-pram 3~cells 5~procs 4~steps 5~rule common~array .a4_1 4 1~array .a0_4 0 4~init 0 3 1 4 1 10~\
-    code~pid r3~ld r0 .a4_1 0~ld r1 .a0_4 r3~add r0 r0 r1~st .a4_1 0 r0~halt~ \
+pram 3~cells 2~procs 2~steps 4~rule crew~array A 0 2~code~pid r3~add r0 r3 7~st A r3 r0~halt~ \
+    | 0 done steps=4~0: 7~1: 8~
+pram 3~cells 5~procs 4~steps 5~rule common~array sum 4 1~array A 0 4~init 0 3 1 4 1 10~code~\
+    pid r3~ld r0 sum 0~ld r1 A r3~add r0 r0 r1~st sum 0 r0~halt~ \
     | 1 conflict step=5 cell=4 processors=0,1~
 pram 1~cells 1~procs 1~steps 1~code~ | 2 text line=6 kind=NoCode~
 -- who left is named

@@ -17,8 +17,8 @@ use Rattle.pram_text.specs.Judgement.{Entry, names, gives, entry_of}
 use Rattle.text_lines.specs.Lines.{Word}
 use Rattle.pram_text.specs.Text.{array_in, array_by, value_in, value_by, gives_values, is_taken}
 use Rattle.pram_text.specs.Text.{SaysEntries, SpellsInit}
-use Rattle.job_text.specs.Printed.{array_word, array_line, once, run_lines}
-use Rattle.job_text.proofs.Naming.{SmallArray, AreApart, named, array_read, once_apart, once_keeps}
+use Rattle.job_text.specs.Printed.{ArrayWords, AreArrayWords, array_line, once, run_lines}
+use Rattle.job_text.proofs.Naming.{AreApart, named, array_read, once_apart, once_keeps}
 use Rattle.job_text.proofs.Inits.{run_entries, AreSmall, RunsFit, runs_read, run_values}
 use Rattle.job_text.proofs.Inits.{value_in-append, past_run}
 
@@ -74,38 +74,38 @@ gives-push (names n a ∷ entries) name array h = gives-push entries name array 
 gives-push (gives first values ∷ entries) name array h = h
 
 -- these names are not taken yet
-abbrev AreNew : List Entry → List Array → Type 0
-AreNew before arrays =
-    AllByRecursion (λ array. array_in before (array_word array) ≡ None) arrays
+abbrev AreNew : ArrayWords → List Entry → List Array → Type 0
+AreNew words before arrays =
+    AllByRecursion (λ array. array_in before (words array) ≡ None) arrays
 
-new_after : (before : List Entry) (a : Array) (arrays : List Array) → AreNew before arrays →
-    AllByRecursion (λ b. bytes_eq (array_word a) (array_word b) ≡ false) arrays →
-    AreNew (before ++ named a ∷ []) arrays
-new_after before a [] h k = tt
-new_after before a (b ∷ arrays) h k = (
-  array_in-push before (named a) (array_word b)
-      ∙ or_some (array_in before (array_word b)) (bytes_eq (array_word a) (array_word b)) a h.0 k.0,
-  new_after before a arrays h.1 k.1,
+new_after : (words : ArrayWords) (before : List Entry) (a : Array) (arrays : List Array) → AreNew words before arrays →
+    AllByRecursion (λ b. bytes_eq (words a) (words b) ≡ false) arrays →
+    AreNew words (before ++ named words a ∷ []) arrays
+new_after words before a [] h k = tt
+new_after words before a (b ∷ arrays) h k = (
+  array_in-push before (named words a) (words b)
+      ∙ or_some (array_in before (words b)) (bytes_eq (words a) (words b)) a h.0 k.0,
+  new_after words before a arrays h.1 k.1,
 )
 
-taken_nothing : (before : List Entry) (a : Array) → list_any gives_values before ≡ false →
-    array_in before (array_word a) ≡ None → is_taken before (named a) ≡ false
+taken_nothing : (words : ArrayWords) (before : List Entry) (a : Array) → list_any gives_values before ≡ false →
+    array_in before (words a) ≡ None → is_taken before (named words a) ≡ false
 unfolding is_taken
-taken_nothing before a h k = ap₂ (λ b o. (b || is_some o)) h k
+taken_nothing words before a h k = ap₂ (λ b o. (b || is_some o)) h k
 
 -- Arrays are fresh, and so is what is fresh after entries that give no cell a value.
-arrays_fresh : (before : List Entry) (arrays : List Array) (rest : List Entry) →
-    list_any gives_values before ≡ false → AreNew before arrays → AreApart arrays →
+arrays_fresh : (words : ArrayWords) (before : List Entry) (arrays : List Array) (rest : List Entry) →
+    list_any gives_values before ≡ false → AreNew words before arrays → AreApart words arrays →
     ((c : ℕ) → value_in before c ≡ None) →
     ((all : List Entry) → ((c : ℕ) → value_in all c ≡ None) → AreFresh all rest) →
-    AreFresh before (map named arrays ++ rest)
-arrays_fresh before [] rest h k apart none after = after before none
-arrays_fresh before (a ∷ arrays) rest h k apart none after = (
-  taken_nothing before a h k.0,
-  arrays_fresh (before ++ named a ∷ []) arrays rest (gives-push before (array_word a) a h)
-      (new_after before a arrays k.1 apart.0) apart.1
-      (λ c. value_in-append before (named a ∷ []) c
-      ∙ ap (λ o. option_or o (value_in (named a ∷ []) c)) (none c)) after,
+    AreFresh before (map (named words) arrays ++ rest)
+arrays_fresh words before [] rest h k apart none after = after before none
+arrays_fresh words before (a ∷ arrays) rest h k apart none after = (
+  taken_nothing words before a h k.0,
+  arrays_fresh words (before ++ named words a ∷ []) arrays rest (gives-push before (words a) a h)
+      (new_after words before a arrays k.1 apart.0) apart.1
+      (λ c. value_in-append before (named words a ∷ []) c
+      ∙ ap (λ o. option_or o (value_in (named words a ∷ []) c)) (none c)) after,
 )
 
 -- ---- start values
@@ -141,51 +141,56 @@ runs_fresh before cell ((v ∷ run) ∷ runs) h = (
 -- ---- all of them
 
 -- what the lines between say
-abbrev pub entries_for : List Array → List (List ℕ) → List Entry
-entries_for arrays runs = map named (once arrays) ++ run_entries 0 runs
+abbrev pub entries_for : ArrayWords → List Array → List (List ℕ) → List Entry
+entries_for words arrays runs = map (named words) (once arrays) ++ run_entries 0 runs
 
-arrays_said : (cells : ℕ) (arrays : List Array) → cells ≤ 65536 →
-    AllByRecursion (IsArray cells) arrays → map (entry_of true cells) (map array_line arrays)
-    ≡ map (λ entry. Ok entry) (map named arrays)
-arrays_said cells [] few h = refl
-arrays_said cells (a ∷ arrays) few h =
-    let here = array_read cells a few h.0 in
-    let more = arrays_said cells arrays few h.1 in
-    λ i. here i ∷ more i
+module _ (cells : ℕ) (few : cells ≤ 65536) (words : ArrayWords) (are : AreArrayWords cells words)
+  where
+    arrays_said : (arrays : List Array) → AllByRecursion (IsArray cells) arrays →
+        map (entry_of true cells) (map (array_line words) arrays)
+        ≡ map (λ entry. Ok entry) (map (named words) arrays)
+    arrays_said [] h = refl
+    arrays_said (a ∷ arrays) h =
+        let here = array_read cells few words are a h.0 in
+        let more = arrays_said arrays h.1 in
+        λ i. here i ∷ more i
 
-all_new : (arrays : List Array) → AreNew [] arrays
-all_new [] = tt
-all_new (a ∷ arrays) = (refl, all_new arrays)
+all_new : (words : ArrayWords) (arrays : List Array) → AreNew words [] arrays
+all_new words [] = tt
+all_new words (a ∷ arrays) = (refl, all_new words arrays)
 
-pub entries_said : (cells : ℕ) (arrays : List Array) (runs : List (List ℕ)) → cells ≤ 65536 →
-    AllByRecursion (IsArray cells) arrays → AllByRecursion SmallArray arrays →
-    RunsFit cells 0 runs →
-    SaysEntries true cells (map array_line (once arrays) ++ run_lines 0 runs)
-    (entries_for arrays runs)
-entries_said cells arrays runs few h small fit = record {
-  said = map-append (entry_of true cells) (map array_line (once arrays)) (run_lines 0 runs)
-      ∙ ap₂ (λ xs ys. xs ++ ys)
-      (arrays_said cells (once arrays) few (once_keeps (IsArray cells) arrays h))
-      (runs_read cells 0 runs few fit)
-      ∙ sym (map-append (λ entry. Ok entry) (map named (once arrays)) (run_entries 0 runs));
-  fresh = λ before entry after e. fresh_at [] (entries_for arrays runs) before entry after
-      (arrays_fresh [] (once arrays) (run_entries 0 runs) refl (all_new (once arrays))
-      (once_apart arrays small) (λ c. refl)
-      (λ all none. runs_fresh all 0 runs (λ c low. none c))) e;
-}
+module _ (cells : ℕ) (few : cells ≤ 65536) (words : ArrayWords) (are : AreArrayWords cells words)
+  where
+    pub entries_said : (arrays : List Array) (runs : List (List ℕ)) →
+        AllByRecursion (IsArray cells) arrays → RunsFit cells 0 runs →
+        SaysEntries true cells (map (array_line words) (once arrays) ++ run_lines 0 runs)
+        (entries_for words arrays runs)
+    entries_said arrays runs h fit = record {
+      said = map-append (entry_of true cells) (map (array_line words) (once arrays))
+          (run_lines 0 runs)
+          ∙ ap₂ (λ xs ys. xs ++ ys)
+          (arrays_said cells few words are (once arrays) (once_keeps (IsArray cells) arrays h))
+          (runs_read cells 0 runs few fit)
+          ∙ sym (map-append (λ entry. Ok entry) (map (named words) (once arrays))
+          (run_entries 0 runs));
+      fresh = λ before entry after e. fresh_at [] (entries_for words arrays runs) before entry after
+          (arrays_fresh words [] (once arrays) (run_entries 0 runs) refl
+          (all_new words (once arrays)) (once_apart cells few words are arrays h) (λ c. refl)
+          (λ all none. runs_fresh all 0 runs (λ c low. none c))) e;
+    }
 
 -- ---- the runs of start values
 
-no_values : (arrays : List Array) (c : ℕ) → value_in (map named arrays) c ≡ None
-no_values [] c = refl
-no_values (a ∷ arrays) c = no_values arrays c
+no_values : (words : ArrayWords) (arrays : List Array) (c : ℕ) → value_in (map (named words) arrays) c ≡ None
+no_values words [] c = refl
+no_values words (a ∷ arrays) c = no_values words arrays c
 
 abbrev pub runs_of : List ℕ → List (List ℕ)
 runs_of init = slice_split (λ value. value == 0) init
 
-pub init_said : (cells : ℕ) (arrays : List Array) (init : List ℕ) → length init ≡ cells →
-    SpellsInit cells (entries_for arrays (runs_of init)) init
-init_said cells arrays init len = record {
+pub init_said : (words : ArrayWords) (cells : ℕ) (arrays : List Array) (init : List ℕ) → length init ≡ cells →
+    SpellsInit cells (entries_for words arrays (runs_of init)) init
+init_said words cells arrays init len = record {
   len = len;
   values = λ c below.
       let at : c ≡ c - 0 = omega arith in
@@ -193,9 +198,9 @@ init_said cells arrays init len = record {
       ∙ ap (λ k. get_or (join_with_byte 0 (runs_of init)) k 0) at
       ∙ run_values 0 c (runs_of init) (omega arith)
       ∙ sym (ap (λ o. unwrap_or o 0)
-      (value_in-append (map named (once arrays)) (run_entries 0 (runs_of init)) c
+      (value_in-append (map (named words) (once arrays)) (run_entries 0 (runs_of init)) c
       ∙ ap (λ o. option_or o (value_in (run_entries 0 (runs_of init)) c))
-      (no_values (once arrays) c)));
+      (no_values words (once arrays) c)));
 }
 
 -- The first run may be longer.

@@ -2,8 +2,8 @@
 use Rattle.std.proofs.Common.{◌≡◌, ℕ, ◌<◌, ◌≤◌, ◌^◌, ◌-◌, Bool, true, false, not}
 use Rattle.std.proofs.Common.{◌||◌, ◌==◌, List, [], ◌∷◌, ◌++◌, map, Ok, Option, Some}
 use Rattle.std.proofs.Common.{refl, sym, ap, subst, ◌∙◌, arith, codes, decimal, bytes_eq}
-use Rattle.std.proofs.Common.{append_assoc, ⊎_elim}
-use Rattle.std.specs.Char.{is_ascii_digit, is_ascii_alphanumeric}
+use Rattle.std.proofs.Common.{append_assoc, ⊎_elim, ◌&&◌, is_err}
+use Rattle.std.specs.Char.{is_ascii_digit, is_ascii_alphanumeric, is_ascii_alphabetic}
 use Rattle.std.specs.List.{AllByRecursion, list_all, list_any, filter}
 use Rattle.std.specs.Option.{option_or}
 use Rattle.std.proofs.lemmas.Bool.{and_parts, and_from, cases_Bool, eqb-true, eq-eqb, not-true}
@@ -15,11 +15,12 @@ use Rattle.std.proofs.lemmas.Slice.Eq.{bytes_eq-Decides}
 use Rattle.pram_job.specs.declared.instr.Array.{Array}
 use Rattle.pram_job.specs.Instructions.{IsArray}
 use Rattle.pram_text.specs.Judgement.{Entry, names, entry_of, array_of, is_array_name, is_name}
-use Rattle.pram_text.specs.Judgement.{number_in, says_array}
+use Rattle.pram_text.specs.Judgement.{number_in, register_of, says_array}
 use Rattle.text_lines.specs.Lines.{Word}
 use Rattle.pram_text.specs.Text.{array_in, array_by}
 use Rattle.pram_text.proofs.Lists.{NonePasses, cut_once}
-use Rattle.job_text.specs.Printed.{array_word, array_line, is_same, once}
+use Rattle.job_text.specs.Printed.{ArrayWords, AreArrayWords, array_word, array_line}
+use Rattle.job_text.specs.Printed.{is_same, once}
 use Rattle.job_text.proofs.Header.{bytes_same}
 use Rattle.job_text.proofs.Lines.{PlainLines}
 use Rattle.job_text.proofs.Numbers.{decimal_digits, decimal_plain, decimal_in}
@@ -95,95 +96,70 @@ pub is_same-itself : (a : Array) → is_same a a ≡ true
 is_same-itself a = and_from (a.base == a.base) (a.len == a.len) (eq-eqb a.base a.base refl)
     (eq-eqb a.len a.len refl)
 
-apart : (a b : Array) → SmallArray a → SmallArray b → is_same a b ≡ false →
-    bytes_eq (array_word a) (array_word b) ≡ false
-apart a b h k other = false_from_ne_true (bytes_eq (array_word a) (array_word b)) (λ one.
-    let same : a ≡ b =
-    word_once a b h k ((bytes_eq-Decides (array_word a) (array_word b)).0 one) in
-    both_ways (is_same a b) other (subst (λ c. is_same a c ≡ true) same (is_same-itself a)))
+pub small_array : (cells : ℕ) → cells ≤ 65536 → (array : Array) → IsArray cells array →
+    SmallArray array
+small_array cells few array h = record {
+  base = omega (arith, few, h.0, h.1);
+  len = omega (arith, few, h.0, h.1);
+}
 
--- ---- the line of an array
+pub array_words_lawful : (cells : ℕ) → cells ≤ 65536 → AreArrayWords cells array_word
+array_words_lawful cells few = record {
+  names = λ a h. array_name a (small_array cells few a h);
+  differ = λ a b h k e. word_once a b (small_array cells few a h) (small_array cells few b k) e;
+}
 
-pub array_read : (cells : ℕ) (array : Array) → cells ≤ 65536 → IsArray cells array →
-    entry_of true cells (array_line array) ≡ Ok (names (array_word array) array)
-unfolding entry_of array_of says_array
-array_read cells array few h =
-    let small : SmallArray array = record {
-      base = omega (arith, h.0, h.1);
-      len = omega (arith, h.0, h.1);
-    } in
-    let base : number_in 0 (cells - 1) (decimal array.base) ≡ Ok array.base =
-    decimal_in 0 (cells - 1) array.base small.base (omega arith) (omega (arith, h.0, h.1)) in
-    let len : number_in 1 (cells - array.base) (decimal array.len) ≡ Ok array.len =
-    decimal_in 1 (cells - array.base) array.len small.len h.0 (omega (arith, h.0, h.1)) in
-    rw (array_name array small) (rw base (rw len refl))
+-- ---- names are plain words
 
-pub array_plain : (array : Array) → SmallArray array → PlainWord (array_word array)
-array_plain array h = word_after (codes ".a")
-    ((decimal array.base ++ codes "_") ++ decimal array.len) refl
-    (word_after (decimal array.base ++ codes "_") (decimal array.len)
-    (list_all-append is_plain (decimal array.base) (codes "_")
-    ∙ and_from (list_all is_plain (decimal array.base)) (list_all is_plain (codes "_"))
-    (decimal_plain array.base h.base).plain refl) (decimal_plain array.len h.len))
+name_byte_plain : (c : ℕ) → name_byte c ≡ true → is_plain c ≡ true
+name_byte_plain c h = grind arith
 
-pub arrays_plain : (arrays : List Array) → AllByRecursion SmallArray arrays →
-    PlainLines (map array_line arrays)
-arrays_plain [] h = tt
-arrays_plain (array ∷ arrays) h = (
-  record {
-    filled = refl;
-    plain = (
-      record { filled = refl; plain = refl },
-      (
-        array_plain array h.0,
-        (decimal_plain array.base h.0.base, (decimal_plain array.len h.0.len, tt)),
-      ),
-    );
-  },
-  arrays_plain arrays h.1,
-)
+first_plain : (c : ℕ) → (is_ascii_alphabetic c || (c == 95)) ≡ true → is_plain c ≡ true
+first_plain c h = grind arith
+
+name_bytes_plain : (word : Word) → list_all name_byte word ≡ true → list_all is_plain word ≡ true
+name_bytes_plain [] h = refl
+name_bytes_plain (c ∷ cs) h =
+    let parts = and_parts (name_byte c) (list_all name_byte cs) h in
+    and_from (is_plain c) (list_all is_plain cs) (name_byte_plain c parts.0)
+    (name_bytes_plain cs parts.1)
+
+name_plain : (word : Word) → is_name word ≡ true → PlainWord word
+unfolding is_name
+name_plain [] h = absurd (both_ways false refl h)
+name_plain (c ∷ cs) h =
+    let parts = and_parts (is_ascii_alphabetic c || (c == 95)) (list_all name_byte cs) h in
+    record {
+      filled = refl;
+      plain = and_from (is_plain c) (list_all is_plain cs) (first_plain c parts.0)
+          (name_bytes_plain cs parts.1);
+    }
+
+array_name_plain : (word : Word) → is_array_name word ≡ true → PlainWord word
+unfolding is_array_name
+array_name_plain [] h = absurd (both_ways false refl h)
+array_name_plain (c ∷ cs) h = ⊎_elim
+    (λ dot. let rest : is_name cs ≡ true = rw dot at h in
+    let at : c ≡ 46 = eqb-true c 46 dot in
+    subst (λ b. PlainWord (b ∷ cs)) (sym at)
+    (word_after (46 ∷ []) cs refl (name_plain cs rest)))
+    (λ other. let both : (is_name (c ∷ cs) && is_err (register_of (c ∷ cs))) ≡ true =
+    rw other at h in
+    name_plain (c ∷ cs) (and_parts (is_name (c ∷ cs)) (is_err (register_of (c ∷ cs))) both).0)
+    (cases_Bool (c == 46))
 
 -- ---- each of them once
-
-abbrev pub named : Array → Entry
-named array = names (array_word array) array
-
--- no two have one name
-abbrev pub AreApart : List Array → Type 0
-AreApart [] = Unit {0}
-AreApart (a ∷ arrays) =
-    AllByRecursion (λ b. bytes_eq (array_word a) (array_word b) ≡ false) arrays × AreApart arrays
-
-module _ (test : Array → Bool) where
-  filtered : (P : Array → Type 0) (arrays : List Array) → AllByRecursion P arrays →
-      AllByRecursion P (filter test arrays)
-  filtered P [] h = tt
-  filtered P (a ∷ arrays) h =
-      let more = filtered P arrays h.1 in
-      cond_both (test a) (a ∷ filter test arrays) (filter test arrays)
-      (λ kept. AllByRecursion P kept) (λ e. (h.0, more)) (λ e. more)
-
-  filtered_apart : (arrays : List Array) → AreApart arrays → AreApart (filter test arrays)
-  filtered_apart [] h = tt
-  filtered_apart (a ∷ arrays) h =
-      let more = filtered_apart arrays h.1 in
-      cond_both (test a) (a ∷ filter test arrays) (filter test arrays) AreApart
-      (λ e. (filtered (λ b. bytes_eq (array_word a) (array_word b) ≡ false) arrays h.0, more))
-      (λ e. more)
 
 abbrev pub other_than : Array → Array → Bool
 other_than a b = not (is_same a b)
 
-others_apart : (a : Array) (arrays : List Array) → SmallArray a →
-    AllByRecursion SmallArray arrays →
-    AllByRecursion (λ b. bytes_eq (array_word a) (array_word b) ≡ false)
-    (filter (other_than a) arrays)
-others_apart a [] h k = tt
-others_apart a (b ∷ arrays) h k =
-    let more = others_apart a arrays h k.1 in
-    cond_both (other_than a b) (b ∷ filter (other_than a) arrays) (filter (other_than a) arrays)
-    (λ kept. AllByRecursion (λ b. bytes_eq (array_word a) (array_word b) ≡ false) kept)
-    (λ e. (apart a b h k.0 (not-true (is_same a b) e), more)) (λ e. more)
+filtered : (test : Array → Bool) (P : Array → Type 0) (arrays : List Array) →
+    AllByRecursion P arrays → AllByRecursion P (filter test arrays)
+filtered test P [] h = tt
+filtered test P (a ∷ arrays) h =
+    let more = filtered test P arrays h.1 in
+    cond_both (test a) (a ∷ filter test arrays) (filter test arrays)
+    (λ kept. AllByRecursion P kept) (λ e. (h.0, more)) (λ e. more)
 
 pub once_keeps : (P : Array → Type 0) (arrays : List Array) → AllByRecursion P arrays →
     AllByRecursion P (once arrays)
@@ -191,50 +167,131 @@ once_keeps P [] h = tt
 once_keeps P (a ∷ arrays) h =
     (h.0, filtered (other_than a) P (once arrays) (once_keeps P arrays h.1))
 
-pub once_apart : (arrays : List Array) → AllByRecursion SmallArray arrays → AreApart (once arrays)
-once_apart [] h = tt
-once_apart (a ∷ arrays) h = (
-  others_apart a (once arrays) h.0 (once_keeps SmallArray arrays h.1),
-  filtered_apart (other_than a) (once arrays) (once_apart arrays h.1),
-)
+-- ---- by words
 
--- ---- what a name stands for
+abbrev pub named : ArrayWords → Array → Entry
+named words array = names (words array) array
 
-module _ (rest : List Entry) (a : Array) (small : SmallArray a) where
-  -- what the name stands for among these and the rest
-  abbrev stands : List Array → Option Array
-  stands arrays = array_in (map named arrays ++ rest) (array_word a)
+-- no two have one name
+abbrev pub AreApart : ArrayWords → List Array → Type 0
+AreApart words [] = Unit {0}
+AreApart words (a ∷ arrays) =
+    AllByRecursion (λ b. bytes_eq (words a) (words b) ≡ false) arrays × AreApart words arrays
 
-  stands_past : (b : Array) (arrays : List Array) → SmallArray b → is_same b a ≡ false →
-      stands (b ∷ arrays) ≡ stands arrays
-  stands_past b arrays h other = rw (apart b a h small other) refl
+filtered_apart : (words : ArrayWords) (test : Array → Bool) (arrays : List Array) →
+    AreApart words arrays → AreApart words (filter test arrays)
+filtered_apart words test [] h = tt
+filtered_apart words test (a ∷ arrays) h =
+    let more = filtered_apart words test arrays h.1 in
+    cond_both (test a) (a ∷ filter test arrays) (filter test arrays) (AreApart words)
+    (λ e. (filtered test (λ b. bytes_eq (words a) (words b) ≡ false) arrays h.0, more))
+    (λ e. more)
 
-  stands_here : (b : Array) (arrays : List Array) → is_same b a ≡ true →
-      stands (b ∷ arrays) ≡ Some a
-  stands_here b arrays one =
-      let same : b ≡ a = is_same-true b a one in
-      subst (λ c. stands (c ∷ arrays) ≡ Some a) (sym same) (rw (bytes_same (array_word a)) refl)
+-- ---- by words that are lawful
 
-  without_others : (b : Array) (arrays : List Array) → SmallArray b → is_same b a ≡ false →
-      AllByRecursion SmallArray arrays → stands (filter (other_than b) arrays) ≡ stands arrays
-  without_others b [] h other k = refl
-  without_others b (c ∷ arrays) h other k =
-      let more = without_others b arrays h other k.1 in
-      let kept = filter (other_than b) arrays in
-      ⊎_elim
-      (λ e. ap stands (cond-false (other_than b c) (c ∷ kept) kept (not_from_true (is_same b c) e))
-      ∙ more ∙ sym (stands_past c arrays k.0
-      (subst (λ d. is_same d a ≡ false) (is_same-true b c e) other)))
-      (λ e. ap stands (cond-true (other_than b c) (c ∷ kept) kept (not_from_false (is_same b c) e))
-      ∙ ap (option_or (array_by (named c) (array_word a))) more)
-      (cases_Bool (is_same b c))
+module _ (cells : ℕ) (few : cells ≤ 65536) (words : ArrayWords) (are : AreArrayWords cells words)
+  where
+    apart : (a b : Array) → IsArray cells a → IsArray cells b → is_same a b ≡ false →
+        bytes_eq (words a) (words b) ≡ false
+    apart a b h k other = false_from_ne_true (bytes_eq (words a) (words b)) (λ one.
+        let same : a ≡ b =
+        are.differ a b h k ((bytes_eq-Decides (words a) (words b)).0 one) in
+        both_ways (is_same a b) other (subst (λ c. is_same a c ≡ true) same (is_same-itself a)))
 
-  pub once_stands : (arrays : List Array) → AllByRecursion SmallArray arrays →
-      list_any (λ b. is_same b a) arrays ≡ true → stands (once arrays) ≡ Some a
-  once_stands [] h among = absurd (both_ways false refl among)
-  once_stands (b ∷ arrays) h among =
-      let more = once_stands arrays h.1 in
-      ⊎_elim (λ e. stands_here b (filter (other_than b) (once arrays)) e)
-      (λ e. stands_past b (filter (other_than b) (once arrays)) h.0 e
-      ∙ without_others b (once arrays) h.0 e (once_keeps SmallArray arrays h.1)
-      ∙ more (rw e at among)) (cases_Bool (is_same b a))
+    -- ---- the line of an array
+
+    pub array_read : (array : Array) → IsArray cells array →
+        entry_of true cells (array_line words array) ≡ Ok (names (words array) array)
+    unfolding entry_of array_of says_array
+    array_read array h =
+        let small = small_array cells few array h in
+        let base : number_in 0 (cells - 1) (decimal array.base) ≡ Ok array.base =
+        decimal_in 0 (cells - 1) array.base small.base (omega arith) (omega (arith, h.0, h.1)) in
+        let len : number_in 1 (cells - array.base) (decimal array.len) ≡ Ok array.len =
+        decimal_in 1 (cells - array.base) array.len small.len h.0 (omega (arith, h.0, h.1)) in
+        rw (are.names array h) (rw base (rw len refl))
+
+    pub array_plain : (array : Array) → IsArray cells array → PlainWord (words array)
+    array_plain array h = array_name_plain (words array) (are.names array h)
+
+    pub arrays_plain : (arrays : List Array) → AllByRecursion (IsArray cells) arrays →
+        PlainLines (map (array_line words) arrays)
+    arrays_plain [] h = tt
+    arrays_plain (array ∷ arrays) h = (
+      record {
+        filled = refl;
+        plain = (
+          record { filled = refl; plain = refl },
+          (
+            array_plain array h.0,
+            (
+              decimal_plain array.base (small_array cells few array h.0).base,
+              (decimal_plain array.len (small_array cells few array h.0).len, tt),
+            ),
+          ),
+        );
+      },
+      arrays_plain arrays h.1,
+    )
+
+    others_apart : (a : Array) (arrays : List Array) → IsArray cells a →
+        AllByRecursion (IsArray cells) arrays →
+        AllByRecursion (λ b. bytes_eq (words a) (words b) ≡ false)
+        (filter (other_than a) arrays)
+    others_apart a [] h k = tt
+    others_apart a (b ∷ arrays) h k =
+        let more = others_apart a arrays h k.1 in
+        cond_both (other_than a b) (b ∷ filter (other_than a) arrays) (filter (other_than a) arrays)
+        (λ kept. AllByRecursion (λ b. bytes_eq (words a) (words b) ≡ false) kept)
+        (λ e. (apart a b h k.0 (not-true (is_same a b) e), more)) (λ e. more)
+
+    pub once_apart : (arrays : List Array) → AllByRecursion (IsArray cells) arrays →
+        AreApart words (once arrays)
+    once_apart [] h = tt
+    once_apart (a ∷ arrays) h = (
+      others_apart a (once arrays) h.0 (once_keeps (IsArray cells) arrays h.1),
+      filtered_apart words (other_than a) (once arrays) (once_apart arrays h.1),
+    )
+
+    -- ---- what a name stands for
+
+    module _ (rest : List Entry) (a : Array) (fits : IsArray cells a) where
+      -- what the name stands for among these and the rest
+      abbrev stands : List Array → Option Array
+      stands arrays = array_in (map (named words) arrays ++ rest) (words a)
+
+      stands_past : (b : Array) (arrays : List Array) → IsArray cells b → is_same b a ≡ false →
+          stands (b ∷ arrays) ≡ stands arrays
+      stands_past b arrays h other = rw (apart b a h fits other) refl
+
+      stands_here : (b : Array) (arrays : List Array) → is_same b a ≡ true →
+          stands (b ∷ arrays) ≡ Some a
+      stands_here b arrays one =
+          let same : b ≡ a = is_same-true b a one in
+          subst (λ c. stands (c ∷ arrays) ≡ Some a) (sym same) (rw (bytes_same (words a)) refl)
+
+      without_others : (b : Array) (arrays : List Array) → IsArray cells b → is_same b a ≡ false →
+          AllByRecursion (IsArray cells) arrays → stands (filter (other_than b) arrays) ≡ stands arrays
+      without_others b [] h other k = refl
+      without_others b (c ∷ arrays) h other k =
+          let more = without_others b arrays h other k.1 in
+          let kept = filter (other_than b) arrays in
+          ⊎_elim
+          (λ e. ap stands (cond-false (other_than b c) (c ∷ kept) kept
+          (not_from_true (is_same b c) e))
+          ∙ more ∙ sym (stands_past c arrays k.0
+          (subst (λ d. is_same d a ≡ false) (is_same-true b c e) other)))
+          (λ e. ap stands (cond-true (other_than b c) (c ∷ kept) kept
+          (not_from_false (is_same b c) e))
+          ∙ ap (option_or (array_by (named words c) (words a))) more)
+          (cases_Bool (is_same b c))
+
+      pub once_stands : (arrays : List Array) → AllByRecursion (IsArray cells) arrays →
+          list_any (λ b. is_same b a) arrays ≡ true → stands (once arrays) ≡ Some a
+      once_stands [] h among = absurd (both_ways false refl among)
+      once_stands (b ∷ arrays) h among =
+          let more = once_stands arrays h.1 in
+          ⊎_elim (λ e. stands_here b (filter (other_than b) (once arrays)) e)
+          (λ e. stands_past b (filter (other_than b) (once arrays)) h.0 e
+          ∙ without_others b (once arrays) h.0 e (once_keeps (IsArray cells) arrays h.1)
+          ∙ more (rw e at among)) (cases_Bool (is_same b a))

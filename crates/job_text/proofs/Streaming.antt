@@ -14,7 +14,7 @@ use Rattle.pram_job.specs.declared.instr.Instr.{Instr}
 use Rattle.pram_job.specs.Instructions.{row_of}
 use Rattle.text_lines.specs.Lines.{Word, Line}
 use Rattle.job_text.specs.Inner.Printing.{aims_of, spaced}
-use Rattle.job_text.specs.Printed.{aims_at, instruction_line, printed_instructions, is_aim}
+use Rattle.job_text.specs.Printed.{ArrayWords, aims_at, body_lines, instruction_line, printed_instructions, is_aim}
 use Rattle.job_text.specs.Printed.{line_if_any}
 use Rattle.job_text.specs.Printed.{line_text, lines_text, run_lines, array_line, arrays_in, once}
 use Rattle.job_text.specs.Printed.{header_lines, init_lines, text_of}
@@ -88,18 +88,18 @@ notes_stay code k d aims low at h = record {
 
 -- ---- lines
 
-pub code_step : (aim : ℕ → Bool) (code : List Instr) (index : ℕ) (d : Instr) (b : Bool)
+pub code_step : (words : ArrayWords) (aim : ℕ → Bool) (code : List Instr) (index : ℕ) (d : Instr) (b : Bool)
     (now new all : List ℕ) → index < length code → b ≡ aim index →
-    new ≡ now ++ line_text (instruction_line b index (get_or code index d)) →
-    now ++ lines_text (printed_instructions aim index (drop index code)) ≡ all →
-    new ++ lines_text (printed_instructions aim (index + 1) (drop (index + 1) code)) ≡ all
-code_step aim code index d b now new all low same added h =
+    new ≡ now ++ line_text (instruction_line words b index (get_or code index d)) →
+    now ++ lines_text (printed_instructions words aim index (drop index code)) ≡ all →
+    new ++ lines_text (printed_instructions words aim (index + 1) (drop (index + 1) code)) ≡ all
+code_step words aim code index d b now new all low same added h =
     let instr = get_or code index d in
-    let rest = lines_text (printed_instructions aim (index + 1) (drop (index + 1) code)) in
+    let rest = lines_text (printed_instructions words aim (index + 1) (drop (index + 1) code)) in
     ap (λ text. text ++ rest)
-    (added ∙ ap (λ c. now ++ line_text (instruction_line c index instr)) same)
-    ∙ append_assoc now (line_text (instruction_line (aim index) index instr)) rest
-    ∙ sym (ap (λ left. now ++ lines_text (printed_instructions aim index left))
+    (added ∙ ap (λ c. now ++ line_text (instruction_line words c index instr)) same)
+    ∙ append_assoc now (line_text (instruction_line words (aim index) index instr)) rest
+    ∙ sym (ap (λ left. now ++ lines_text (printed_instructions words aim index left))
     (drop_more code index d low)) ∙ h
 
 -- what holds where bytes were added, holds on `Ok`
@@ -133,24 +133,24 @@ runs_step cell run runs now new all added h =
     ∙ ap (λ text. now ++ text) (sym (flat_map-append line_text (line_if_any cell run) rest)) ∙ h
 
 -- the pieces of a text are the text
-pub whole : (job : JobData) (arrays : List Array) (none header named given said all : List ℕ) →
+pub whole : (words : ArrayWords) (job : JobData) (arrays : List Array) (none header named given said all : List ℕ) →
     none ≡ [] → header ≡ none ++ lines_text (header_lines job) →
-    arrays ≡ once (arrays_in job.code) → named ≡ header ++ lines_text (map array_line arrays) →
+    arrays ≡ once (arrays_in job.code) → named ≡ header ++ lines_text (map (array_line words) arrays) →
     given ≡ named ++ lines_text (init_lines job.init) → said ≡ given ++ codes "code\n" →
-    all ≡ said ++ lines_text (printed_instructions (is_aim job.code) 0 job.code) → all ≡ text_of job
+    all ≡ said ++ lines_text (body_lines words job.code) → all ≡ text_of words job
 unfolding text_of
-whole job arrays none header named given said all n h are a i c b =
+whole words job arrays none header named given said all n h are a i c b =
     let code = codes "code\n" in
     let heads = header_lines job in
-    let names = map array_line (once (arrays_in job.code)) in
+    let names = map (array_line words) (once (arrays_in job.code)) in
     let inits = init_lines job.init in
-    let body = printed_instructions (is_aim job.code) 0 job.code in
+    let body = body_lines words job.code in
     let t = lines_text heads in
     let u = lines_text names in
     let v = lines_text inits in
     let w = lines_text body in
     b ∙ ap (λ text. text ++ w) (c ∙ ap (λ text. text ++ code) (i ∙ ap (λ text. text ++ v)
-    (a ∙ ap₂ (λ text ls. text ++ lines_text (map array_line ls)) (h ∙ ap (λ text. text ++ t) n)
+    (a ∙ ap₂ (λ text ls. text ++ lines_text (map (array_line words) ls)) (h ∙ ap (λ text. text ++ t) n)
     are)))
     ∙ append_assoc ((t ++ u) ++ v) code w ∙ append_assoc (t ++ u) v (code ++ w)
     ∙ append_assoc t u (v ++ (code ++ w))

@@ -5,7 +5,7 @@ use Rattle.pram_job.specs.declared.instr.Operands.TheVariants.{RegisterIndex, In
 use Rattle.pram_job.specs.Instructions.{row_of}
 use Rattle.pram_job.specs.Job.{JobData, IsJob}
 use Rattle.pram_text.specs.Text.{Spells}
-use Rattle.job_text.specs.Printed.{text_of}
+use Rattle.job_text.specs.Printed.{ArrayWords, AreArrayWords, array_word, text_of}
 
 -- A jump goes to one of so many instructions.
 abbrev pub LandsWithin : ℕ → Operands → Type 0
@@ -18,7 +18,12 @@ abbrev pub JumpsLand : JobData → Type 0
 JumpsLand job = All (λ instr. LandsWithin (length job.code) (row_of instr).1) job.code
 
 abbrev pub PrintedIsReadBack : Type 0
-PrintedIsReadBack = (job : JobData) → IsJob job → JumpsLand job → Spells (text_of job) job
+PrintedIsReadBack = (words : ArrayWords) (job : JobData) → IsJob job → JumpsLand job →
+    AreArrayWords job.cells words → Spells (text_of words job) job
+
+-- A job has so few cells that its arrays may have the names of their bounds.
+abbrev pub ArrayWordsAreLawful : Type 0
+ArrayWordsAreLawful = (job : JobData) → IsJob job → AreArrayWords job.cells array_word
 
 -- Only such jobs have a text at all.
 abbrev pub SpelledJumpsLand : Type 0

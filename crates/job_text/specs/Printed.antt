@@ -1,5 +1,5 @@
 -- A job printed as a text of version 3: its lines, each as its words.
-use Rattle.std.specs.Prelude.{ℕ, ◌+◌, Bool, false, not, ◌&&◌, ◌==◌, if◌then◌else◌}
+use Rattle.std.specs.Prelude.{◌≡◌, ℕ, ◌+◌, Bool, true, false, not, ◌&&◌, ◌==◌, if◌then◌else◌}
 use Rattle.std.specs.Prelude.{List, [], ◌∷◌, ◌++◌, length, map, filter, codes, decimal}
 use Rattle.std.specs.List.{flat_map, list_any, slice_split, join_with_byte}
 use Rattle.pram_job.specs.declared.instr.Array.{Array}
@@ -14,9 +14,10 @@ use Rattle.pram_job.specs.declared.instr.Place.{Place}
 use Rattle.pram_job.specs.declared.instr.Place.TheVariants.{Cell, Named}
 use Rattle.pram_job.specs.declared.instr.Rule.{Rule}
 use Rattle.pram_job.specs.declared.instr.Rule.TheVariants.{Common, Priority, Crew}
-use Rattle.pram_job.specs.Instructions.{row_of}
+use Rattle.pram_job.specs.Instructions.{IsArray, row_of}
 use Rattle.pram_job.specs.Job.{JobData}
 use Rattle.text_lines.specs.Lines.{Word, Line, is_filled}
+use Rattle.pram_text.specs.Judgement.{is_array_name}
 use Rattle.pram_text.specs.Text.{code_heading}
 
 -- ---- the header
@@ -41,13 +42,23 @@ header_lines job =
 
 -- ---- arrays
 
+-- how an array is named
+abbrev pub ArrayWords : Type 0
+ArrayWords = Array → Word
+
 -- The array of the cells 8 to 11 has the name `.a8_4`: its first cell, and how many it has.
-abbrev pub array_word : Array → Word
+abbrev pub array_word : ArrayWords
 array_word array = codes ".a" ++ decimal array.base ++ codes "_" ++ decimal array.len
 
-abbrev pub array_line : Array → Line
-array_line array =
-    codes "array" ∷ array_word array ∷ decimal array.base ∷ decimal array.len ∷ []
+-- Words by which a job of so many cells is read back: names, and another one for another array.
+pub record AreArrayWords (cells : ℕ) (words : ArrayWords) : Type 0 where
+  pub names : (array : Array) → IsArray cells array → is_array_name (words array) ≡ true
+  pub differ : (array other : Array) → IsArray cells array → IsArray cells other →
+      words array ≡ words other → array ≡ other
+
+abbrev pub array_line : ArrayWords → Array → Line
+array_line words array =
+    codes "array" ∷ words array ∷ decimal array.base ∷ decimal array.len ∷ []
 
 abbrev pub is_same : Array → Array → Bool
 is_same array other = (array.base == other.base) && (array.len == other.len)
@@ -97,24 +108,24 @@ abbrev pub operand_word : Operand → Word
 operand_word (Register register) = register_word register
 operand_word (Number number) = decimal number
 
-abbrev pub place_words : Place → Line
-place_words (Cell index) = operand_word index ∷ []
-place_words (Named array index) = array_word array ∷ operand_word index ∷ []
+abbrev pub place_words : ArrayWords → Place → Line
+place_words words (Cell index) = operand_word index ∷ []
+place_words words (Named array index) = words array ∷ operand_word index ∷ []
 
 -- The label of the instruction of index 7, counted from 0, is `L7`.
 abbrev pub label : ℕ → Word
 label index = codes "L" ++ decimal index
 
-abbrev pub operand_words : Operands → Line
-operand_words Bare = []
-operand_words (Target target) = register_word target ∷ []
-operand_words (TargetNumber target number) = register_word target ∷ decimal number ∷ []
-operand_words (TargetPlace target place) = register_word target ∷ place_words place
-operand_words (TargetTwo target first second) =
+abbrev pub operand_words : ArrayWords → Operands → Line
+operand_words words Bare = []
+operand_words words (Target target) = register_word target ∷ []
+operand_words words (TargetNumber target number) = register_word target ∷ decimal number ∷ []
+operand_words words (TargetPlace target place) = register_word target ∷ place_words words place
+operand_words words (TargetTwo target first second) =
     register_word target ∷ register_word first ∷ operand_word second ∷ []
-operand_words (PlaceValue place value) = place_words place ++ operand_word value ∷ []
-operand_words (RegisterIndex register index) = register_word register ∷ label index ∷ []
-operand_words (Index index) = label index ∷ []
+operand_words words (PlaceValue place value) = place_words words place ++ operand_word value ∷ []
+operand_words words (RegisterIndex register index) = register_word register ∷ label index ∷ []
+operand_words words (Index index) = label index ∷ []
 
 -- whether an instruction with these operands jumps to this index
 abbrev pub aims_at : ℕ → Operands → Bool
@@ -130,21 +141,26 @@ is_aim code index = list_any (λ instr. aims_at index (row_of instr).1) code
 abbrev pub label_words : Bool → ℕ → Line
 label_words is_aim index = if is_aim then (label index ++ codes ":") ∷ [] else []
 
-abbrev pub instruction_line : Bool → ℕ → Instr → Line
-instruction_line is_aim index instr =
-    label_words is_aim index ++ (row_of instr).0 ∷ operand_words (row_of instr).1
+abbrev pub instruction_line : ArrayWords → Bool → ℕ → Instr → Line
+instruction_line words is_aim index instr =
+    label_words is_aim index ++ (row_of instr).0 ∷ operand_words words (row_of instr).1
 
 -- the lines of instructions, the first of which has this index
-abbrev pub printed_instructions : (ℕ → Bool) → ℕ → List Instr → List Line
-printed_instructions is_aim index [] = []
-printed_instructions is_aim index (instr ∷ code) =
-    instruction_line (is_aim index) index instr ∷ printed_instructions is_aim (index + 1) code
+abbrev pub printed_instructions : ArrayWords → (ℕ → Bool) → ℕ → List Instr → List Line
+printed_instructions words is_aim index [] = []
+printed_instructions words is_aim index (instr ∷ code) =
+    instruction_line words (is_aim index) index instr
+    ∷ printed_instructions words is_aim (index + 1) code
 
 -- ---- the whole
 
-abbrev pub job_lines : JobData → List Line
-job_lines job = header_lines job ++ (map array_line (once (arrays_in job.code))
-    ++ (init_lines job.init ++ code_heading ∷ printed_instructions (is_aim job.code) 0 job.code))
+abbrev pub body_lines : ArrayWords → List Instr → List Line
+body_lines words code = printed_instructions words (is_aim code) 0 code
+
+abbrev pub job_lines : ArrayWords → JobData → List Line
+job_lines words job =
+    header_lines job ++ (map (array_line words) (once (arrays_in job.code))
+    ++ (init_lines job.init ++ code_heading ∷ body_lines words job.code))
 
 -- the words of a line with a blank between each two, and a line feed
 abbrev pub line_text : Line → List ℕ
@@ -153,6 +169,6 @@ line_text words = join_with_byte 32 words ++ codes "\n"
 abbrev pub lines_text : List Line → List ℕ
 lines_text lines = flat_map line_text lines
 
--- the text that is printed of a job
-unfoldable pub text_of : JobData → List ℕ
-text_of job = lines_text (job_lines job)
+-- the text that is printed of a job, its arrays by these words
+unfoldable pub text_of : ArrayWords → JobData → List ℕ
+text_of words job = lines_text (job_lines words job)

@@ -6,6 +6,7 @@ ghost use Rattle.job_text.specs.Printed.{array_line, arrays_in, line_text, lines
 ghost use Rattle.job_text.specs.Printed.{operand_arrays};
 ghost use Rattle.pram_job.specs.Instructions.{row_of};
 
+use crate::array_names::ArrayNames;
 use pram_job::{Array, Instr, Operands, Place};
 use std::alloc::{AllocError, Global};
 use std::collections::BTreeSet;
@@ -82,20 +83,26 @@ fn array_of(instr: Instr) -> Option<Array>
 }
 
 /// Adds a line for each array.
-pub(crate) fn push_arrays(text: &mut String, arrays: &[Array]) -> Result<(), AllocError>
-    ensures { OnOk result (string_bytes text.new
-        ≡ string_bytes text.old ++ lines_text (map array_line arrays.now)) }
+pub(crate) fn push_arrays<N: ArrayNames>(
+    text: &mut String,
+    names: &N,
+    arrays: &[Array],
+) -> Result<(), AllocError>
+    ensures { OnOk result (string_bytes text.new ≡ string_bytes text.old
+        ++ lines_text (map (array_line (N.words names.now)) arrays.now)) }
 {
     for array in arrays {
-        push_array(text, *array)?;
+        push_array(text, names, *array)?;
     }
     Ok(())
 }
 
-fn push_array(text: &mut String, array: Array) -> Result<(), AllocError>
+fn push_array<N: ArrayNames>(text: &mut String, names: &N, array: Array) -> Result<(), AllocError>
     ensures { OnOk result (string_bytes text.new
-        ≡ string_bytes text.old ++ line_text (array_line array)) }
+        ≡ string_bytes text.old ++ line_text (array_line (N.words names.now) array)) }
 {
     let Array { base, len } = array;
-    writeln!(text, "array .a{base}_{len} {base} {len}")
+    text.push_str("array ")?;
+    names.push_name(text, array)?;
+    writeln!(text, " {base} {len}")
 }

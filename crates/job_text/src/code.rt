@@ -2,12 +2,13 @@
 ghost use Rattle.std.specs.Prelude.{◌≡◌, ℕ, ◌++◌, ◌∷◌, ◌==◌, [], true, false, slice_set};
 ghost use Rattle.std.specs.Prelude.{string_bytes, IfOk, MatchOption, OnOk};
 ghost use Rattle.job_text.specs.Inner.Printing.{aims_of, spaced};
-ghost use Rattle.job_text.specs.Printed.{aims_at, instruction_line, printed_instructions, is_aim};
+ghost use Rattle.job_text.specs.Printed.{aims_at, body_lines, instruction_line};
 ghost use Rattle.job_text.specs.Printed.{line_text, lines_text, operand_word, operand_words};
 ghost use Rattle.job_text.specs.Printed.{place_words};
 ghost use Rattle.pram_job.specs.Instructions.{row_of};
 
-use pram_job::{Array, Instr, Operand, Operands, Place};
+use crate::array_names::ArrayNames;
+use pram_job::{Instr, Operand, Operands, Place};
 use std::alloc::{AllocError, Global};
 
 /// For each instruction, whether one jumps to it.
@@ -46,39 +47,50 @@ fn mark(aims: &mut [bool], aim: usize)
 }
 
 /// Adds a line for each instruction.
-pub(crate) fn push_code(text: &mut String, code: &[Instr], aims: &[bool]) -> Result<(), AllocError>
+pub(crate) fn push_code<N: ArrayNames>(
+    text: &mut String,
+    names: &N,
+    code: &[Instr],
+    aims: &[bool],
+) -> Result<(), AllocError>
     requires { aims.now ≡ aims_of code.now }
     ensures { OnOk result (string_bytes text.new ≡ string_bytes text.old
-        ++ lines_text (printed_instructions (is_aim code.now) 0 code.now)) }
+        ++ lines_text (body_lines (N.words names.now) code.now)) }
 {
     for (index, instr) in code.iter().enumerate() {
-        push_instruction(text, aims[index], index, *instr)?;
+        push_instruction(text, names, aims[index], index, *instr)?;
     }
     Ok(())
 }
 
-fn push_instruction(
+fn push_instruction<N: ArrayNames>(
     text: &mut String,
+    names: &N,
     is_aim: bool,
     index: usize,
     instr: Instr,
 ) -> Result<(), AllocError>
     ensures { OnOk result (string_bytes text.new
-        ≡ string_bytes text.old ++ line_text (instruction_line is_aim index instr)) }
+        ≡ string_bytes text.old
+        ++ line_text (instruction_line (N.words names.now) is_aim index instr)) }
 {
     let (name, operands) = instr.row();
     if is_aim {
         write!(text, "L{index}: ")?;
     }
     text.push_str(name)?;
-    push_operands(text, operands)?;
+    push_operands(text, names, operands)?;
     text.push_str("\n")
 }
 
 // Each operand stands after a blank.
-fn push_operands(text: &mut String, operands: Operands) -> Result<(), AllocError>
+fn push_operands<N: ArrayNames>(
+    text: &mut String,
+    names: &N,
+    operands: Operands,
+) -> Result<(), AllocError>
     ensures { OnOk result (string_bytes text.new
-        ≡ string_bytes text.old ++ spaced (operand_words operands)) }
+        ≡ string_bytes text.old ++ spaced (operand_words (N.words names.now) operands)) }
 {
     match operands {
         Operands::Bare => Ok(()),
@@ -86,14 +98,14 @@ fn push_operands(text: &mut String, operands: Operands) -> Result<(), AllocError
         Operands::TargetNumber(r, k) => write!(text, " r{r} {k}"),
         Operands::TargetPlace(r, place) => {
             write!(text, " r{r}")?;
-            push_place(text, place)
+            push_place(text, names, place)
         }
         Operands::TargetTwo(r, a, b) => {
             write!(text, " r{r} r{a}")?;
             push_operand(text, b)
         }
         Operands::PlaceValue(place, b) => {
-            push_place(text, place)?;
+            push_place(text, names, place)?;
             push_operand(text, b)
         }
         Operands::RegisterIndex(r, index) => write!(text, " r{r} L{index}"),
@@ -101,14 +113,15 @@ fn push_operands(text: &mut String, operands: Operands) -> Result<(), AllocError
     }
 }
 
-fn push_place(text: &mut String, place: Place) -> Result<(), AllocError>
+fn push_place<N: ArrayNames>(text: &mut String, names: &N, place: Place) -> Result<(), AllocError>
     ensures { OnOk result (string_bytes text.new
-        ≡ string_bytes text.old ++ spaced (place_words place)) }
+        ≡ string_bytes text.old ++ spaced (place_words (N.words names.now) place)) }
 {
     match place {
         Place::Cell(index) => push_operand(text, index),
-        Place::Named(Array { base, len }, index) => {
-            write!(text, " .a{base}_{len}")?;
+        Place::Named(array, index) => {
+            text.push_str(" ")?;
+            names.push_name(text, array)?;
             push_operand(text, index)
         }
     }

@@ -3,7 +3,7 @@ ghost use Rattle.std.specs.Prelude.{◌≡◌, false};
 
 use crate::table::expect;
 use failing_devices::Trickle;
-use job_text::print_text;
+use job_text::{Dotted, print_text};
 use pardo_answers::{Names, print_named};
 use pardo_job::{Compiled, Lines, compile};
 use pardo_text::Program;
@@ -49,7 +49,7 @@ fn of_job(
     match call {
         "rows" => rows(alloc, given, &job, sink),
         "cost" => cost(alloc, &job, sink),
-        "text" => print_text(alloc, sink, &job),
+        "text" => print_text(alloc, sink, &job, &Dotted),
         "again" => again(alloc, &job, sink),
         _ => printed(alloc, &job, sink),
     }
@@ -103,9 +103,9 @@ fn again(alloc: Global, job: &Job, sink: &mut Trickle) -> Result<(), PrintFault>
     requires { ⟦<Trickle as Sink>⟧.has_failed sink.old ≡ false }
 {
     let mut once = Trickle::new(alloc, usize::MAX);
-    print_text(alloc, &mut once, job)?;
+    print_text(alloc, &mut once, job, &Dotted)?;
     match read_job(alloc, once.taken.as_slice()) {
-        Ok(job) => print_text(alloc, sink, &job),
+        Ok(job) => print_text(alloc, sink, &job, &Dotted),
         Err(_) => Err(PrintFault::Memory),
     }
 }

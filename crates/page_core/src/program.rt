@@ -14,8 +14,8 @@ ghost use Rattle.page_core.specs.Programs.{why_told};
 use crate::codes::{
     DONE, MEMORY, NO_JOB, NO_ROOM, OTHER_LANGUAGE, Status, TEXT_MOST, TEXT_TOO_LONG, coded,
 };
-use job_text::laws::printed_is_read_back;
-use job_text::spell;
+use job_text::laws::{array_words_are_lawful, printed_is_read_back};
+use job_text::{Dotted, spell};
 use pardo_answers::is_program;
 use pardo_job::{Compiled, JobKind, Refusal, compile};
 use pardo_text::laws::programs_are_lawful;
@@ -100,9 +100,10 @@ fn spelled(alloc: Global, program: &Program, compiled: Compiled) -> Result<Made,
     ensures spells { IfOk result (λ made. Spells (string_bytes made.text) compiled.job) }
     ensures numbers { IfOk result (λ made. made.numbers.items ≡ compiled.numbers) }
 {
+    array_words_are_lawful();
     printed_is_read_back();
     let (job, numbers, _) = compiled.into_parts();
-    let text = spell(alloc, &job)?;
+    let text = spell(alloc, &job, &Dotted)?;
     Ok(Made { text, numbers })
 }
 

@@ -37,4 +37,5 @@ pub mod LawCode
 pub mod LawTied
 pub mod LawOpen
 pub mod LawNesting
+pub mod LawNames
 pub mod LawFors

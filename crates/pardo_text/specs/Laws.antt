@@ -19,6 +19,7 @@ use Rattle.pardo_text.specs.Reading.{with_text_line, program_in, program_of}
 use Rattle.pardo_text.specs.Settings.{SettingData, line_as_set, text_as_set}
 use Rattle.text_lines.specs.Reads.{◌>>=◌}
 use Rattle.pardo_text.specs.Tokens.{Token, token_at, tokens_of}
+use Rattle.pardo_text.specs.Variables.{AreDistinct, variable_names}
 
 -- cells, processors and open brackets
 abbrev pub ProgramLimitsAre : Type 0
@@ -115,6 +116,11 @@ ProgramsAreLawful = (text : List ℕ) → IfOk (program_of text) IsProgram
 -- each block is closed by its own `end`
 abbrev pub ProgramsAreNested : Type 0
 ProgramsAreNested = (text : List ℕ) → IfOk (program_of text) (λ program. IsNested program.lines)
+
+-- no two variables have one name
+abbrev pub NamesAreDistinct : Type 0
+NamesAreDistinct = (text : List ℕ) →
+    IfOk (program_of text) (λ program. AreDistinct (variable_names program))
 
 -- ---- settings
 

@@ -5,7 +5,8 @@ ghost use Rattle.pardo_text.specs.Laws.{TokensAreLongest, LgIsLeast, ConstantsAr
 ghost use Rattle.pardo_text.specs.Laws.{ProgramCommentsSayNothing, IndentationSaysNothing};
 ghost use Rattle.pardo_text.specs.Laws.{EmptyLinesSayNothing, LinesAreWhatTheySay};
 ghost use Rattle.pardo_text.specs.Laws.{FirstBadLine, AllLinesAreTaken, ProgramsAreLawful};
-ghost use Rattle.pardo_text.specs.Laws.{NothingSetChangesNothing, ProgramsAreNested};
+ghost use Rattle.pardo_text.specs.Laws.{NamesAreDistinct, NothingSetChangesNothing};
+ghost use Rattle.pardo_text.specs.Laws.{ProgramsAreNested};
 ghost use Rattle.pardo_text.specs.Laws.{SetLinesStay};
 
 /// The limits by their numbers.
@@ -66,6 +67,11 @@ pub fn programs_are_lawful()
 /// Each block of a program is closed by its own `end`, and each loop and its end know each other.
 pub fn programs_are_nested()
     ensures { ProgramsAreNested }
+{}
+
+/// The shared arrays and the private variables of a program have names that differ.
+pub fn names_are_distinct()
+    ensures { NamesAreDistinct }
 {}
 
 /// A text in which nothing is set is as it was.

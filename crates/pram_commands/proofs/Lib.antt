@@ -15,3 +15,4 @@ pub mod Explaining
 pub mod LineFinding
 pub mod Judged
 pub mod Recording
+pub mod ArrayNames

@@ -40,7 +40,7 @@ none_before (array ∷ arrays) base cell are before =
     skipped array arrays cell (not_yet array cell (omega (arith, are.0)))
     ∙ none_before arrays (base + length array.start) cell are.3 (omega arith)
 
-begins_after : (arrays : List ArrayData) (base k : ℕ) (held : ArrayData) → AreArrays arrays base →
+pub begins_after : (arrays : List ArrayData) (base k : ℕ) (held : ArrayData) → AreArrays arrays base →
     k < length arrays → held ≡ get_or arrays k held → base ≤ held.base
 begins_after [] base k held are lt is = absurd (omega arith)
 begins_after (array ∷ arrays) base zero held are lt is =

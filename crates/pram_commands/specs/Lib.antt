@@ -1,3 +1,4 @@
+pub mod ArrayNames
 pub mod CellLists
 pub mod Costs
 pub mod Did

@@ -2,6 +2,7 @@
 //! status.
 #![tactic(auto)]
 
+mod array_names;
 mod bytes;
 mod cell_list;
 pub mod commands;

@@ -81,6 +81,14 @@ impl Model for Naming {
 }
 
 impl Naming {
+    /// The program.
+    pub(crate) fn program(&self) -> &Program
+        ensures program { result.now ≡ self.now.program }
+        ensures arrays { AreArrays result.now.arrays 0 }
+    {
+        &self.program
+    }
+
     /// The cell, of so many, whose place is told by this text, if there is one.
     pub(crate) fn cell_at(
         &self,

@@ -4,7 +4,7 @@ ghost use Rattle.std.specs.Prelude.{codes, decimal, length, IfOk, OnOk, IsTrue, 
 ghost use Rattle.std.specs.Option.{option_copied};
 ghost use Rattle.pardo_text.specs.Lawful.{AreArrays};
 ghost use Rattle.pardo_job.specs.Printed.{cell_text, has_cell, place_text};
-ghost use Rattle.pram_commands.specs.Inner.Places.{IsPlaceText, read_on, with_digit};
+ghost use Rattle.pram_commands.specs.Inner.Places.{IsPlaceText, NameAlike, read_on, with_digit};
 ghost use Rattle.pram_commands.specs.CellLists.{AreOfArray, array_named};
 ghost use Rattle.pram_commands.specs.declared.places.Stretch.{Stretch};
 
@@ -22,11 +22,13 @@ pub(crate) struct Stretch {
 // A number in brackets is read on as long as it is below.
 const MOST: usize = 1 << 32;
 
-// Those of the arrays that may have the cell: one at most. They are halved as long as they are
-// more.
-fn arrays_at(arrays: &[Array], cell: usize) -> &[Array]
+/// Those of the arrays that may have the cell: one at most. They are halved as long as they are
+/// more.
+pub(crate) fn arrays_at(arrays: &[Array], cell: usize) -> &[Array]
     requires { AreArrays arrays.now 0 }
-    ensures { cell_text result.now cell ≡ cell_text arrays.now cell }
+    ensures text { cell_text result.now cell ≡ cell_text arrays.now cell }
+    ensures named { NameAlike result.now arrays.now cell }
+    ensures few { length result.now ≤ 1 }
 {
     let mut left = arrays;
     while left.len() > 1 {
@@ -41,6 +43,7 @@ fn half_at(arrays: &[Array], cell: usize) -> &[Array]
     requires several { 1 < length arrays.now }
     ensures are { (base : ℕ) × AreArrays result.now base }
     ensures text { cell_text result.now cell ≡ cell_text arrays.now cell }
+    ensures named { NameAlike result.now arrays.now cell }
     ensures fewer { length result.now < length arrays.now }
 {
     let half = arrays.len() / 2;

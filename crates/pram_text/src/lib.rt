@@ -17,4 +17,5 @@ pub use fault::{TextFault, TextKind};
 pub use lines::instruction_line;
 pub use pram_job::{Array, Instr, Job, Operand, Operands, Place, Rule, limits, places};
 pub use reader::read_job;
+pub use statement::{is_name_word, register_in};
 pub use text_lines::{TextLines, is_blank, is_lawful, is_word, next_word, value_of};

@@ -59,9 +59,9 @@ fn all_name_bytes(word: &[u8]) -> bool
     word.iter().all(|&byte| is_name_byte(byte))
 }
 
-/// Whether the word may name a label.
+/// Whether the word is a letter or `_`, and then letters, digits or `_`.
 #[tactic(auto, unfolding(crate::specs::Judgement::is_name))]
-pub(crate) fn is_name_word(word: &[u8]) -> bool
+pub fn is_name_word(word: &[u8]) -> bool
     ensures { result ≡ is_name word.now }
 {
     match word.split_first() {
@@ -71,8 +71,9 @@ pub(crate) fn is_name_word(word: &[u8]) -> bool
     }
 }
 
+/// The register that a word names.
 #[tactic(auto, unfolding(crate::specs::Judgement::register_of))]
-pub(crate) fn register_in(word: &[u8]) -> Result<u8, TextKind>
+pub fn register_in(word: &[u8]) -> Result<u8, TextKind>
     ensures { result ≡ register_of word.now }
 {
     if is_word(word, "r0") {

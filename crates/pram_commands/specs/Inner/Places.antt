@@ -3,7 +3,14 @@ use Rattle.std.specs.Prelude.{◌≡◌, ◌≤◌, ℕ, ◌+◌, ◌*◌, ◌-�
 use Rattle.std.specs.Prelude.{List, length, nat_le, nat_lt}
 use Rattle.std.specs.Prelude.{if◌then◌else◌}
 use Rattle.pardo_text.specs.Program.{ArrayData}
+use Rattle.pram_job.specs.declared.instr.Array.{Array}
+use Rattle.pram_commands.specs.ArrayNames.{shared_name}
 use Rattle.pardo_job.specs.Printed.{cell_text}
+
+-- an array that begins with the cell has the same name among those arrays as among these
+abbrev pub NameAlike : List ArrayData → List ArrayData → ℕ → Type 0
+NameAlike those arrays cell =
+    (array : Array) → array.base ≡ cell → shared_name those array ≡ shared_name arrays array
 
 -- the text is that of the cell's place
 abbrev pub IsPlaceText : List ArrayData → List ℕ → ℕ → Type 0

@@ -63,8 +63,9 @@ pub(super) fn put_summary<O: Sink>(alloc: Global, job: &Job, out: &mut O) -> Res
     print_summary(alloc, out, job)
 }
 
-/// Reads a job, and prints it as a text of version 3 of the machine, which spells that very job.
-/// The time is that of reading the text and of `print_text`.
+/// Reads a job, and prints it as a text of version 3 of the machine, which spells that very job, by
+/// the names of a program. The time is that of reading the text and of `print_text`, and for each
+/// name with it the logarithm of how many arrays the program has.
 pub fn compile<J: Source, P: Source, O: Sink>(
     alloc: Global,
     sources: &mut Sources<J, P>,
@@ -74,16 +75,20 @@ pub fn compile<J: Source, P: Source, O: Sink>(
     ensures { Did compiling (taking J.Source P.Source sources.old sources.new)
         (writing O.Sink out.old out.new) tells_none result }
 {
-    let job = take_job(alloc, &mut sources.job, &mut sources.text)?;
-    printed(put_job(alloc, &job, out))
+    let spelled = take_text(alloc, &mut sources.job, &mut sources.text)?;
+    let told = put_job(alloc, &spelled, out);
+    sources.text = Some(spelled.text);
+    printed(told)
 }
 
-#[tactic(auto, using(crate::proofs::Doing::text_put))]
-fn put_job<O: Sink>(alloc: Global, job: &Job, out: &mut O) -> Result<(), PrintFault>
-    requires { O.has_failed out.old ≡ false }
-    ensures { PutsAnswer (TellsText job.now) ⊥ (writing O.Sink out.old out.new) tells_none result }
+fn put_job<O: Sink>(alloc: Global, spelled: &Spelled, out: &mut O) -> Result<(), PrintFault>
+    requires output { O.has_failed out.old ≡ false }
+    requires names { AreNames spelled.now.text.items spelled.now.job spelled.now.names }
+    ensures { let read = spelled.now in
+        PutsAnswer (TellsText read.text.items read.job) ⊥ (writing O.Sink out.old out.new)
+        tells_none result }
 {
-    print_text(alloc, out, job)
+    print_text(alloc, out, &spelled.job, spelled)
 }
 
 /// Reads a job, and prints its answer in a style. The time is that of reading the text and running

@@ -3,6 +3,8 @@ use Rattle.std.proofs.Common.{length-drop, length-take-le}
 use Rattle.pardo_text.specs.Lawful.{AreArrays}
 use Rattle.pardo_text.specs.Program.{ArrayData}
 use Rattle.pardo_job.specs.Printed.{cell_text}
+use Rattle.pram_commands.specs.ArrayNames.{shared_name}
+use Rattle.pram_commands.proofs.ArrayNames.{earlier_named, later_named}
 use Rattle.pram_commands.proofs.Rows.{earlier_are, earlier_half, later_are, later_half, rest_whole}
 use Rattle.pram_commands.proofs.places.half_at.Goals as goal
 
@@ -20,6 +22,9 @@ returns-then-base-cell c =
       text = ap (λ (l : List ArrayData). cell_text l c.args.cell) rest
           ∙ later_half arrays c.requires.are.0 half c.args.cell c.index-arrays-half.result
           c.requires.are.1 lt c.index-arrays-half.is from;
+      named = λ array at. ap (λ (l : List ArrayData). shared_name l array) rest
+          ∙ later_named arrays c.requires.are.0 half c.index-arrays-half.result array
+          c.requires.are.1 lt c.index-arrays-half.is (omega (arith, at, from));
       fewer = omega (arith, ap length rest, length-drop half arrays);
     }
 
@@ -34,5 +39,7 @@ returns c =
       are = (c.requires.are.0, earlier_are arrays c.requires.are.0 half c.requires.are.1);
       text = earlier_half arrays c.requires.are.0 half c.args.cell c.index-arrays-half.result
           c.requires.are.1 lt c.index-arrays-half.is before;
+      named = λ array at. earlier_named arrays c.requires.are.0 half c.index-arrays-half.result array
+          c.requires.are.1 lt c.index-arrays-half.is (omega (arith, at, before));
       fewer = omega (arith, length-take-le half arrays);
     }
