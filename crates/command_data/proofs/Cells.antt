@@ -1,11 +1,10 @@
 -- The parts of a list.
 use Rattle.std.proofs.Common.{◌≡◌, ◌∙◌, ℕ, zero, suc, ◌+◌, ◌<◌, ◌≤◌, ◌==◌, ◌&&◌, Bool, true, false}
 use Rattle.std.proofs.Common.{not, if◌then◌else◌, List, [], ◌∷◌, refl, sym, ap, arith, length, take}
-use Rattle.std.proofs.Common.{drop, get_or, slice_index_or, Option, Some, None, subst}
-use Rattle.std.specs.Borrow.{Bor}
-use Rattle.std.specs.List.{onto_first, All}
+use Rattle.std.proofs.Common.{drop, get_or, subst}
+use Rattle.std.specs.List.{onto_first}
 use Rattle.std.proofs.lemmas.Bool.{eqb-true}
-use Rattle.command_data.specs.CellLists.{cut, open_after, part_at, part_len, parts_left, parts_of}
+use Rattle.command_data.specs.CellLists.{cut, open_after, part_at, part_len}
 
 both_first : (a b : Bool) → (a && b) ≡ true → a ≡ true
 both_first true b e = refl
@@ -72,9 +71,9 @@ len_more inside [] at lt e = absurd (omega (arith, lt))
 len_more inside (byte ∷ bytes) zero lt e =
     ap (λ t. if t then 0 else part_len (open_after inside byte) bytes + 1) e
 len_more inside (byte ∷ bytes) (suc at) lt e =
+    let next : suc (at + 1) ≡ suc at + 1 = omega arith in
     subst (λ k. part_len inside (drop at bytes)
-    ≡ part_len (open_after inside (get_or bytes at 0)) (drop k (byte ∷ bytes)) + 1)
-    (omega arith : suc (at + 1) ≡ suc at + 1)
+    ≡ part_len (open_after inside (get_or bytes at 0)) (drop k (byte ∷ bytes)) + 1) next
     (len_more inside bytes at (omega (arith, lt)) e)
 
 pub len_here : (inside : Bool) (text : List ℕ) (at : ℕ) → at < length text →

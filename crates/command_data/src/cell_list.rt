@@ -64,7 +64,7 @@ pub fn first_part(text: &str) -> (&str, Option<&str>)
 
 // What is after the first part, if there is one.
 fn after_part(left: Option<&str>) -> Option<&str>
-    ensures { parts_left result ≡ drop 1 (parts_left left) }
+    ensures { parts_left result ≡ drop 1 (parts_left left.entry) }
 {
     match left {
         Some(rest) => first_part(rest).1,

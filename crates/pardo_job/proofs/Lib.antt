@@ -42,3 +42,4 @@ pub mod FlatFirsts
 pub mod Drafting
 pub mod FlatCompiled
 pub mod Tables
+pub mod Untested

@@ -1,11 +1,10 @@
 -- The value of two indices.
-use Rattle.std.proofs.Common.{◌≡◌, ℕ, ◌+◌, ◌*◌, ◌^◌, ◌%◌, ◌<◌, ◌≤◌, Bool, true, false, not, ◌&&◌, nat_lt}
+use Rattle.std.proofs.Common.{◌≡◌, ℕ, ◌+◌, ◌*◌, ◌^◌, ◌<◌, ◌≤◌, Bool, true, false, not, ◌&&◌, nat_lt}
 use Rattle.std.proofs.Common.{if◌then◌else◌, Option, Some, None, refl, sym, ap, ◌∙◌, arith, suc}
 use Rattle.std.specs.Option.{option_and_then}
 use Rattle.std.proofs.Math.Nat.{mod-eq_of_lt, mul-le-mul_right, suc-mul}
 use Rattle.std.proofs.lemmas.Bool.{ltb-true}
 use Rattle.pardo_text.specs.declared.limits.TheConstants.{MAX_CELLS}
-use Rattle.pardo_text.specs.declared.operation.Op.{Op}
 use Rattle.pardo_text.specs.declared.operation.Op.TheVariants.{Add, Mul, Within}
 use Rattle.pardo_text.specs.Expression.{Tree, number, own, loop, private, place, apply}
 use Rattle.pardo_text.specs.Expressions.{applied, constant_of, tested}
@@ -15,7 +14,7 @@ use Rattle.pardo_text.proofs.LawBounds.{applied_keeps}
 use Rattle.pardo_job.specs.Laws.{IndicesAreTested, row_by_row}
 use Rattle.pardo_job.specs.Meaning.{Source, value}
 
-worked_within : (k n : ℕ) → worked_out Within k n ≡ (if nat_lt k n then Some k else None)
+pub worked_within : (k n : ℕ) → worked_out Within k n ≡ (if nat_lt k n then Some k else None)
 unfolding lacks operation_value
 worked_within k n = by_test (nat_lt k n)
   where

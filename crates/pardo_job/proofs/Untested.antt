@@ -1,10 +1,10 @@
 -- An expression keeps its value without the tests that cannot fail.
-use Rattle.std.proofs.Common.{◌≡◌, ◌∙◌, ℕ, ◌<◌, ◌≤◌, ◌==◌, ◌&&◌, Bool, true, false, not, nat_lt, nat_le}
-use Rattle.std.proofs.Common.{if◌then◌else◌, ◌%◌, suc, Option, Some, None, refl, sym, ap, subst, arith}
+use Rattle.std.proofs.Common.{◌≡◌, ◌≢◌, ◌∙◌, ℕ, ◌<◌, ◌≤◌, ◌==◌, Bool, true, false}
+use Rattle.std.proofs.Common.{if◌then◌else◌, ◌%◌, Option, Some, None, refl, sym, ap, subst, arith}
 use Rattle.std.proofs.Common.{slice_get}
 use Rattle.std.specs.Option.{option_and_then, option_map}
 use Rattle.std.proofs.Math.Nat.{mod-lt}
-use Rattle.std.proofs.lemmas.Bool.{ltb-true, leb-true, lt-ltb}
+use Rattle.std.proofs.lemmas.Bool.{eqb-false, ltb-true, leb-true, lt-ltb}
 use Rattle.pardo_text.specs.declared.operation.Op.{Op}
 use Rattle.pardo_text.specs.declared.operation.Op.TheVariants as op
 use Rattle.pardo_text.specs.Expression.{Tree, number, own, loop, private, place, apply}
@@ -35,10 +35,15 @@ most_below n (Some most) v e known =
 -- a remainder, where there is one, is below its divisor
 rest_below : (a k v : ℕ) → worked_out op.Rem a k ≡ Some v → v < k
 unfolding lacks operation_value is_division
-rest_below a 0 v e = absurd (let no : None ≡ Some v = e in cc)
-rest_below a (suc k) v e =
-    let same : Some (a % suc k) ≡ Some v = e in
-    let is : a % suc k ≡ v = cc in subst (λ r. r < suc k) is (mod-lt a (omega arith))
+rest_below a k v e = by_test (k == 0) refl e
+  where
+    by_test : (t : Bool) → (k == 0) ≡ t → (if t then None else Some (a % k)) ≡ Some v → v < k
+    by_test true none f = absurd (let no : None ≡ Some v = f in cc)
+    by_test false more f =
+        let same : Some (a % k) ≡ Some v = f in
+        let is : a % k ≡ v = cc in
+        let apart : k ≢ 0 = eqb-false k 0 more in
+        subst (λ r. r < k) is (mod-lt a (omega (arith, apart)))
 
 within_passes : (k n : ℕ) → k < n → worked_out op.Within k n ≡ Some k
 within_passes k n lt =
