@@ -73,6 +73,11 @@ A[11],A1,B[1],A[1],13,A1,A[0] : pardo 1~rule crew~procs i < 2~shared A[12]~share
     code~A[i] := i + 7~ under 0,stop,0~1,stop,0~ \
     | 3 step,place,value~0,A[11],0~0,A1,0~0,B[1],0~0,A[1],0~0,B[0],0~0,A1,0~0,A[0],0~\
     unfinished step=0~
+A[1,0],A,0 : pardo 1~rule crew~procs i < 2~shared A[2, 1]~code~A[i, 0] := i + 7~ under 0,stop,0~\
+    1,stop,0~ | 3 step,place,value~0,\"A[1,0]\",0~0,\"A[0,0]\",0~0,\"A[1,0]\",0~\
+    0,\"A[0,0]\",0~unfinished step=0~
+A[0],A[1,1] : same under 0,stop,0~1,stop,0~ | 2 watch place=A[0]~
+A[1,1],A[0 : same under 0,stop,0~1,stop,0~ | 2 watch place=A[1,1]~
 -- words that are nearly places
 A] : pardo 1~rule crew~procs i < 2~shared A[12]~shared A1~code~A[i] := i + 7~ under 0,stop,0~\
     1,stop,0~ | 2 watch place=A]~

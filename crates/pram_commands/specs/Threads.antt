@@ -1,7 +1,8 @@
 -- What the commands come to that run a job on threads.
-use Rattle.std.specs.Prelude.{◌≡◌, ◌<◌, ℕ, List, [], ◌∷◌, Option, None, Some, ⊤, map}
+use Rattle.std.specs.Prelude.{◌≡◌, ◌<◌, ◌==◌, ◌++◌, if◌then◌else◌, ℕ, List, [], ◌∷◌, Option, None}
+use Rattle.std.specs.Prelude.{Some, ⊤, map}
 use Rattle.std.specs.Prelude.{slice_index, All, codes, decimal}
-use Rattle.std.specs.List.{repeat}
+use Rattle.std.specs.List.{list_any, repeat}
 use Rattle.std.specs.List.Sorted.{IsNonDecreasingBy}
 use Rattle.pram_job.specs.Job.{JobData}
 use Rattle.pram_step.specs.Runs.{IsReached, state_after}
@@ -78,10 +79,15 @@ pub record IsWatchEnd (job : JobData) (plan : PlanData) (cells : List ℕ) (roun
   pub later : SeatData
   pub at_it : WatchEndsAt job plan cells rounds later sights answer
 
+-- a place as a field of a record: in quotes where it has a comma, as one of two indices has
+abbrev pub as_field : List ℕ → List ℕ
+as_field place =
+    if list_any (λ byte. byte == 44) place then 34 ∷ place ++ 34 ∷ [] else place
+
 -- how a watch tells cells: by their numbers, or by a program's places, of those that have one
 abbrev pub or_number : List ℕ → ℕ → List ℕ
 or_number [] cell = decimal cell
-or_number (byte ∷ bytes) cell = byte ∷ bytes
+or_number (byte ∷ bytes) cell = as_field (byte ∷ bytes)
 
 abbrev pub cell_words : Option NamingData → CellWords
 cell_words None = by_numbers

@@ -220,7 +220,7 @@ fn push_spot(
     text.extend_from_slice(place.as_slice())
 }
 
-// The place of a cell, or where it has none its number.
+// The place of a cell as a field of a record, or where it has none its number.
 fn push_place(text: &mut Vec<u8>, arrays: &[Array], cell: u32) -> Result<(), AllocError>
     requires { AreArrays arrays.now 0 }
     ensures { OnOk result (text.new.items ≡ text.old.items
@@ -230,6 +230,10 @@ fn push_place(text: &mut Vec<u8>, arrays: &[Array], cell: u32) -> Result<(), All
     push_told(text, arrays, cell as usize)?;
     if text.len() == before {
         return Numbers.push_cell(text, cell);
+    }
+    if text.as_slice()[before..].contains(&b',') {
+        text.insert(before, b'"')?;
+        text.push(b'"')?;
     }
     Ok(())
 }

@@ -234,7 +234,7 @@ fn sights_between<C: CellNames>(
     Ok(lines)
 }
 
-// Numbers and names hold no comma and no quote, so the line is a record as it stands.
+// Numbers hold no comma and no quote, and a cell's word is a field as it stands.
 fn push_sight<C: CellNames>(lines: &mut Vec<u8>, names: &C, sight: &Sight) -> Result<(), AllocError>
     ensures { OnOk result (lines.new.items
         ≡ lines.old.items ++ sight_line (C.words names.now) sight.now) }
