@@ -5,6 +5,7 @@ mod cells;
 mod instruction;
 mod print;
 mod row;
+mod row_names;
 mod rows;
 mod window;
 
@@ -12,5 +13,6 @@ pub use cells::print_cells;
 pub use instruction::instruction_text;
 pub use print::print_steps;
 pub use row::Requests;
+pub use row_names::{ByNumbers, RowNames};
 pub use rows::Rows;
 pub use window::Window;

@@ -23,7 +23,6 @@ use crate::commands::{print_ending, printed};
 use crate::inputs::{take_costed, take_inputs, take_job, take_text};
 use crate::line_costs::{Costed, Costs};
 use crate::line_records::records_of;
-use crate::names::lines_of;
 use crate::sources::{Inputs, Sources, Spelled};
 use crate::traces::Traces;
 use crate::why::{put_explained, put_told};
@@ -217,7 +216,7 @@ fn put_records<O: Sink>(
 }
 
 /// Reads a job, and prints the steps of the window as they are made, of a program with the lines of
-/// its text, and then the answer unless they are to stand alone. A window that begins after the
+/// its text and by its names, and then the answer unless they are to stand alone. A window that begins after the
 /// job's last step is refused, but for one that begins with step 1. Where memory runs out, a
 /// beginning of it may stand printed. It costs what `print_steps` does.
 pub fn steps<J: Source, P: Source, O: Sink>(
@@ -254,9 +253,7 @@ fn put_steps<O: Sink>(
         read.job) ⊤
         (writing O.Sink out.old out.new) tells result }
 {
-    let requests = Requests {
-        lines: lines_of(spelled),
-    };
+    let requests = Requests { names: spelled };
     let answer = print_steps(alloc, out, &spelled.job, window, &requests)?;
     print_ending(alloc, out, spelled, &answer, alone)?;
     Ok(answer)
