@@ -179,8 +179,8 @@ pram 1~cells 1~procs 1~steps 4~code~set r0 7~halt~ \
     done steps=4~0: 0~
 -- of a program each row has its line, where the processor has not stopped
 pardo 1~rule crew~procs i < 2~shared A[1]~code~A[i] := 7~ \
-    | 0 step,processor,place,instruction,writes,value,next,line~2,0,1,st 0..0 r3 7,cell 0,7,2,6~\
-    2,1,1,st 0..0 r3 7,,,4,6~3,0,2,halt,,,3,6~3,1,4,out_of_range,,,4,~done steps=3~A = 7~\
+    | 0 step,processor,place,instruction,writes,value,next,line~2,0,1,st A r3 7,A[0],7,2,6~\
+    2,1,1,st A r3 7,,,4,6~3,0,2,halt,,,3,6~3,1,4,out_of_range,,,4,~done steps=3~A = 7~\
     gone processor=1 line=6~
 pram 1~cells 1~procs 1~steps 1~code~halt~ | 2 steps step=2~
 pram 1~cells 1~procs 1~steps 1~code~ | 2 text line=6 kind=NoCode~
@@ -192,8 +192,8 @@ pram 1~cells 1~procs 2~steps 2~code~pid r0~st r1 r0~ \
 pram 1~cells 1~procs 1~steps 2~code~halt~ \
     | 0 step,processor,place,instruction,writes,value,next~2,0,1,halted,,,1~
 pardo 1~rule common~procs i < 2~shared s~code~;~s := i~ \
-    | 1 step,processor,place,instruction,writes,value,next,line~2,0,1,st 0..0 0 r3,cell 0,0,2,7~\
-    2,1,1,st 0..0 0 r3,cell 0,1,2,7~
+    | 1 step,processor,place,instruction,writes,value,next,line~2,0,1,st s 0 r3,s,0,2,7~\
+    2,1,1,st s 0 r3,s,1,2,7~
 -- line by line: one `if` and its `else`, a loop, one who is gone, a conflict, a text of the machine
 $ pramx trace job
 pardo 1~rule crew~procs i < 3~shared s~private x~code~if i~x := 4~else~x := 9~end~ \

@@ -3,6 +3,7 @@
 
 mod cells;
 mod instruction;
+pub mod laws;
 mod print;
 mod row;
 mod row_names;
