@@ -1,5 +1,5 @@
 -- What csv writes of rows that are told by numbers.
-use Rattle.std.specs.Prelude.{◌≡◌, ◌×◌, ℕ, ◌<◌, List, Option, IfSome}
+use Rattle.std.specs.Prelude.{◌≡◌, ℕ, ◌<◌, List, Option, IfSome}
 use Rattle.csv.specs.Writing.{default_writer, field_text}
 use Rattle.pram_job.specs.Job.{JobData, IsJob}
 use Rattle.pram_machine.specs.Machine.{IsDataPlace}

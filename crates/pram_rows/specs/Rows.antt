@@ -3,6 +3,7 @@ use Rattle.std.specs.Prelude.{ℕ, ◌-◌, ◌==◌, ◌&&◌, nat_lt, if◌the
 use Rattle.std.specs.Prelude.{[], ◌++◌, Option, Some, None, slice_get, slice_index}
 use Rattle.std.specs.Prelude.{codes, decimal}
 use Rattle.std.specs.List.{flat_map, range_with_len}
+use Rattle.csv.specs.Writing.{default_writer, field_text}
 use Rattle.pram_job.specs.declared.instr.Array.{Array}
 use Rattle.pram_job.specs.declared.instr.Instr.{Instr}
 use Rattle.pram_job.specs.Job.{JobData}
