@@ -1,7 +1,7 @@
 -- The fields of a row as csv writes them: by numbers without quotes.
 use Rattle.std.proofs.Common.{◌≡◌, ◌∙◌, ◌==◌, ◌++◌, ◌+◌, ◌-◌, ◌<◌, ◌^◌, ◌∷◌, [], ℕ, List}
 use Rattle.std.proofs.Common.{Option, Some, None, Bool, true, false, cond, refl}
-use Rattle.std.proofs.Common.{sym, subst, append_assoc, arith, length, inl, inr}
+use Rattle.std.proofs.Common.{subst, append_assoc, arith, length, inl, inr}
 use Rattle.std.proofs.lemmas.List.Folds.{list_any-append}
 use Rattle.std.proofs.lemmas.Option.{slice_get_within, get_or_from_slice_get}
 use Rattle.std.specs.Prelude.{codes, decimal, slice_get, nat_lt, IfSome}
@@ -195,47 +195,47 @@ pub record AreFields (words : RowWords) (job : JobData) (s : State) (n i : ℕ)
 module _ (words : RowWords) (job : JobData) (s : State) (n i : ℕ)
     (step processor index instruction target value next line : List ℕ)
     (fields : AreFields words job s n i step processor index instruction target value next line)
-    where
-  row-of : (lines : Option (List ℕ)) (told : Bool) → told ≡ is_some lines →
-      IfSome lines (λ numbers. line ≡ line_number_text numbers job (counter job s i)) →
-      row_text default_writer (told_fields told
-      (step ∷ processor ∷ index ∷ instruction ∷ target ∷ value ∷ next ∷ line ∷ []))
-      ≡ decimal n ++ codes "," ++ decimal i ++ codes "," ++ decimal (counter job s i) ++ codes ","
-      ++ field_text default_writer (instruction_at words job (counter job s i)) ++ codes ","
-      ++ field_text default_writer (target_text words job i (request_in job s i).put)
-      ++ codes "," ++ value_text (request_in job s i).put ++ codes ","
-      ++ decimal (request_in job s i).next ++ row_end lines job (counter job s i)
-  row-of None true never line_is = absurd (cc never)
-  row-of None false is_told line_is =
-      seven-text step processor index instruction target value next
-      fields.steps fields.processors fields.indices fields.values fields.nexts
-      ∙ rw (
-        fields.step_is,
-        fields.processor_is,
-        fields.index_is,
-        fields.instruction_is,
-        fields.target_is,
-        fields.value_is,
-        fields.next_is,
-      ) refl
-  row-of (Some numbers) false never line_is = absurd (cc never)
-  row-of (Some numbers) true is_told line_is =
-      eight-text step processor index instruction target value next line
-      fields.steps fields.processors fields.indices fields.values fields.nexts fields.numbers
-      ∙ rw (
-        fields.step_is,
-        fields.processor_is,
-        fields.index_is,
-        fields.instruction_is,
-        fields.target_is,
-        fields.value_is,
-        fields.next_is,
-        line_is,
-      ) refl
+  where
+    row-of : (lines : Option (List ℕ)) (told : Bool) → told ≡ is_some lines →
+        IfSome lines (λ numbers. line ≡ line_number_text numbers job (counter job s i)) →
+        row_text default_writer (told_fields told
+        (step ∷ processor ∷ index ∷ instruction ∷ target ∷ value ∷ next ∷ line ∷ []))
+        ≡ decimal n ++ codes "," ++ decimal i ++ codes "," ++ decimal (counter job s i) ++ codes ","
+        ++ field_text default_writer (instruction_at words job (counter job s i)) ++ codes ","
+        ++ field_text default_writer (target_text words job i (request_in job s i).put)
+        ++ codes "," ++ value_text (request_in job s i).put ++ codes ","
+        ++ decimal (request_in job s i).next ++ row_end lines job (counter job s i)
+    row-of None true never line_is = absurd (cc never)
+    row-of None false is_told line_is =
+        seven-text step processor index instruction target value next
+        fields.steps fields.processors fields.indices fields.values fields.nexts
+        ∙ rw (
+          fields.step_is,
+          fields.processor_is,
+          fields.index_is,
+          fields.instruction_is,
+          fields.target_is,
+          fields.value_is,
+          fields.next_is,
+        ) refl
+    row-of (Some numbers) false never line_is = absurd (cc never)
+    row-of (Some numbers) true is_told line_is =
+        eight-text step processor index instruction target value next line
+        fields.steps fields.processors fields.indices fields.values fields.nexts fields.numbers
+        ∙ rw (
+          fields.step_is,
+          fields.processor_is,
+          fields.index_is,
+          fields.instruction_is,
+          fields.target_is,
+          fields.value_is,
+          fields.next_is,
+          line_is,
+        ) refl
 
-  pub row-is : (told : Bool) → told ≡ is_some words.lines →
-      row_text default_writer (told_fields told
-      (step ∷ processor ∷ index ∷ instruction ∷ target ∷ value ∷ next ∷ line ∷ []))
-      ≡ row_line words job s n i
-  unfolding row_line
-  row-is told is_told = row-of words.lines told is_told fields.line_is
+    pub row-is : (told : Bool) → told ≡ is_some words.lines →
+        row_text default_writer (told_fields told
+        (step ∷ processor ∷ index ∷ instruction ∷ target ∷ value ∷ next ∷ line ∷ []))
+        ≡ row_line words job s n i
+    unfolding row_line
+    row-is told is_told = row-of words.lines told is_told fields.line_is

@@ -16,7 +16,7 @@ loop-processor-init g c = record {
 pub loop-processor-preserved : goal.loop-processor-preserved
 loop-processor-preserved g c =
     let line =
-    row_line (g.N.words c.args.names.now) c.args.moment.now.job.now c.args.moment.now.state.now
+    row_line (g.N.RowNames.words c.args.names.now) c.args.moment.now.job.now c.args.moment.now.state.now
     (c.args.moment.now.made + 1) in
     let i = c.loop-processor.processor in
     record {

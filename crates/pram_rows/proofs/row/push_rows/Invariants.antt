@@ -10,6 +10,6 @@ abbrev pub invariant-loop-processor : goal.invariant-loop-processor
 invariant-loop-processor g l = record {
   between : IsBetweenRecords l.writer;
   text : (writer_under l.writer).items ++ writer_pending l.writer ≡ l.fn.bytes.items
-      ++ flat_map (row_line (g.N.words l.names.now) l.moment.job.now l.moment.state.now
+      ++ flat_map (row_line (g.N.RowNames.words l.names) l.moment.job.now l.moment.state.now
       (l.moment.made + 1)) (range_with_len 0 l.processor);
 }

@@ -23,9 +23,9 @@ copied (Some numbers) = refl
 
 pub returns-clause-text : goal.returns-clause-text
 returns-clause-text g c =
-    let words = g.N.words c.args.names.now in
+    let words = g.N.RowNames.words c.args.names.now in
     let job = c.args.moment.now.job.now in
-    let lines_are : option_copied c.lines.result ≡ words.lines = c.lines.ensures in
+    let lines_are : option_copied c.lines-lines.result ≡ words.lines = c.lines-lines.ensures in
     let same = row-is words job c.args.moment.now.state.now (c.args.moment.now.made + 1)
     c.args.processor c.number_text.result.now c.number_text-2.result.now c.number_text-3.result.now
     c.as_bytes.result.now c.as_slice.result.now c.value_in.result.now c.number_text-4.result.now
@@ -44,7 +44,7 @@ returns-clause-text g c =
       line_is = subst (λ (o : Option (List ℕ)). IfSome o (λ numbers. c.line_in.result.now
           ≡ line_number_text numbers job
           (counter job c.args.moment.now.state.now c.args.processor))) lines_are
-          (told c.lines.result c.unwrap_or.result _ job _ c.line_in.result.now
+          (told c.lines-lines.result c.unwrap_or.result _ job _ c.line_in.result.now
           c.unwrap_or.ensures (c.line_in.ensures.text
           ∙ ap (λ n. line_number_text c.unwrap_or.result.now job n) c.counter-index.ensures));
       steps = c.number_text.ensures.plain;
@@ -54,6 +54,6 @@ returns-clause-text g c =
       nexts = c.number_text-4.ensures.plain;
       numbers = c.line_in.ensures.plain;
     })
-    c.is_some.result (c.is_some.ensures ∙ copied c.lines.result
+    c.is_some.result (c.is_some.ensures ∙ copied c.lines-lines.result
     ∙ ap (λ (o : Option (List ℕ)). is_some o) lines_are) in
     on_ok_weaker c.write_record.result (λ written. rw same at written) c.write_record.ensures.text
