@@ -37,8 +37,15 @@ def _cell_read(instruction: str, registers: List[int], cells: int) -> Optional[i
     return first + index if index <= end - first else None
 
 
+def accesses_in(text: Source, last: Optional[int] = None) -> Iterator[Access]:
+    """The accesses of the steps up to the last. Those of a program name no cells: so they are read
+    in the rows of its compiled text."""
+    return accesses_of(calls.steps(calls.compile(text), 1, last), calls.check(text)["cells"])
+
+
 def accesses_of(rows: Rows, cells: int) -> Iterator[Access]:
-    """The accesses of the rows of `steps` from the first step on, of a job with so many cells."""
+    """The accesses of the rows of `steps` from the first step on, of a job with so many cells, as a
+    text of the machine."""
     registers: Dict[int, List[int]] = {}
     for row in rows:
         own = registers.setdefault(row["processor"], [0] * 4)

@@ -8,7 +8,7 @@ from typing import Dict, List, NamedTuple, Optional, Tuple
 from . import calls, texts
 from .boards import Board
 from .canvas import Picture
-from .moments import STOPPED, Access, Moment, accesses_of, made_of, moment
+from .moments import STOPPED, Access, Moment, accesses_in, made_of, moment
 from .plans import Plan
 from .rows import Rows
 from .texts import Source, bytes_of
@@ -83,8 +83,7 @@ def draw_work(text: Source, first: int = 1, last: Optional[int] = None) -> Pictu
     given, last = bytes_of(text), first + MOST_STEPS - 1 if last is None else last
     rows, facts = calls.steps(given, 1, last), calls.check(given)
     procs = min(facts["procs"], MOST_PROCESSORS)
-    accesses = accesses_of(rows, facts["cells"])
-    shown = [it for it in accesses if it.step >= first and it.processor < procs]
+    shown = [it for it in accesses_in(given, last) if it.step >= first and it.processor < procs]
     columns = max((it.step for it in shown), default=first) - first + 1
     wide, tall = max(4, min(16, 960 // columns)), max(4, min(16, 480 // procs))
     grid = _Grid(40, 34, wide, tall, columns, procs)
@@ -181,7 +180,7 @@ def draw_memory(text: Source, first: int = 1, last: Optional[int] = None) -> Pic
     cells = min(sum(it.length for it in shared) or facts["cells"], MOST_CELLS)
     names = [texts.place_of(shared, it) if shared else str(it) for it in range(cells)]
     made = made_of(given)
-    accesses = [it for it in accesses_of(rows, facts["cells"]) if it.step <= made]
+    accesses = [it for it in accesses_in(given, last) if it.step <= made]
     held = _held_by(given, accesses, cells)
     before = sum(it.step < max(first, 1) for it in held) - 1
     shown = held[before : before + 1 + MOST_COLUMNS]

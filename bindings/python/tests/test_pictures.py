@@ -7,7 +7,7 @@ from xml.etree import ElementTree
 
 import kaolinsilk
 from common import CONFLICT, EXAMPLES, GALLERY, PREFIX, TINY
-from kaolinsilk.moments import accesses_of
+from kaolinsilk.moments import accesses_in, accesses_of
 
 SVG = "{http://www.w3.org/2000/svg}"
 
@@ -70,8 +70,7 @@ class Pictures(unittest.TestCase):
 
     def test_accesses_are_those_of_the_costs(self):
         for file in GALLERY:
-            cost, cells = kaolinsilk.cost(file), kaolinsilk.check(file)["cells"]
-            found = list(accesses_of(kaolinsilk.steps(file), cells))
+            cost, found = kaolinsilk.cost(file), list(accesses_in(file))
             with self.subTest(file=file.name):
                 for name, field in (("reading", "reads"), ("writing", "writes")):
                     steps = {it.step for it in found if getattr(it, field) is not None}

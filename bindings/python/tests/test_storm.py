@@ -12,7 +12,7 @@ import unittest
 
 import kaolinsilk
 from common import GALLERY
-from kaolinsilk.moments import accesses_of, made_of
+from kaolinsilk.moments import accesses_in, made_of
 
 STORMS = int(os.environ.get("KAOLINSILK_STORMS", "60"))
 SEED = int(os.environ.get("KAOLINSILK_SEED", "7"))
@@ -27,9 +27,8 @@ class Course:
         board = kaolinsilk.Board(self.text, workers=1)
         seat, self.cells = board.seat(), board.cells
         self.held = {cell: [(0, seat.read(cell).value)] for cell in range(self.cells)}
-        rows = kaolinsilk.steps(self.text)
         last = made_of(self.text)
-        for it in accesses_of(rows, self.cells):
+        for it in accesses_in(self.text):
             if it.writes is not None and it.step <= last:
                 held = self.held[it.writes]
                 # Of several who write, the first one's value counts, or all write the same.

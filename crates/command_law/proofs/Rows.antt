@@ -17,7 +17,7 @@ use Rattle.pardo_law.specs.Between.{IsInLine}
 use Rattle.pardo_answers.specs.Language.{is_program}
 use Rattle.pram_commands.specs.Did.{ending}
 use Rattle.pram_commands.specs.Names.{AreNames, NamingData}
-use Rattle.pram_commands.specs.Steps.{numbers_told}
+use Rattle.pram_commands.specs.Steps.{row_words}
 use Rattle.pram_commands.specs.Traced.{all_steps, traced}
 use Rattle.command_law.specs.Programs.{AreProgramsLines, AreProgramsSteps, IsEnding, IsProgramsJob}
 use Rattle.command_law.specs.Programs.{TellNumbers, TracesTellTheProgramsLines}
@@ -58,7 +58,7 @@ module _ (text : List ℕ) (job : JobData) (window : Window) (bytes : List ℕ) 
     (one : is_program text ≡ true) where
   by_names : (alone : Bool) (names of_end : Option NamingData) → AreNames text job names →
       AreNames text job of_end → IsAnswer job ended →
-      bytes ≡ rows_text (numbers_told names) job window.from window.to (last_step job ended)
+      bytes ≡ rows_text (row_words names) job window.from window.to (last_step job ended)
       ++ ending alone of_end ended job.steps →
       AreProgramsSteps alone window text job bytes
   by_names alone None of_end is are answers prints = no_machines text job one is

@@ -61,7 +61,7 @@ use Rattle.pram_commands.specs.Names.{Means, NamingData}
 use Rattle.pram_commands.specs.Plain.{checking, no_plan, plainly}
 use Rattle.pram_commands.specs.Replayed.{replaying}
 use Rattle.pram_commands.specs.Sweeps.{TellsRecord, end_word, fields_text}
-use Rattle.pram_commands.specs.Steps.{stepping}
+use Rattle.pram_commands.specs.Steps.{row_words, stepping}
 use Rattle.pram_commands.specs.Threads.{cell_words, running, watching}
 use Rattle.pram_commands.specs.Traced.{all_steps, traced, tracing}
 use Rattle.pram_commands.specs.Under.{AcceptsRun, under_model}
@@ -169,7 +169,7 @@ pub record AreProgramsSteps (alone : Bool) (window : Window) (text : List ℕ) (
   pub ended : RunAnswer
   pub answers : IsAnswer job ended
   pub back : List ℕ
-  pub prints : bytes ≡ rows_text (Some naming.numbers) job window.from window.to
+  pub prints : bytes ≡ rows_text (row_words (Some naming)) job window.from window.to
       (last_step job ended) ++ back
   pub ends : IsEnding alone text job back
 

@@ -211,8 +211,8 @@ pram 1~cells 1~procs 1~steps 4~code~set r0 7~halt~ \
     done steps=4~0: 0~
 -- of a program each row has its line, where the processor has not stopped
 pardo 1~rule crew~procs i < 2~shared A[1]~code~A[i] := 7~ \
-    | 0 step,processor,place,instruction,writes,value,next,line~2,0,1,st 0..0 r3 7,cell 0,7,2,6~\
-    2,1,1,st 0..0 r3 7,,,4,6~3,0,2,halt,,,3,6~3,1,4,out_of_range,,,4,~done steps=3~A = 7~\
+    | 0 step,processor,place,instruction,writes,value,next,line~2,0,1,st A r3 7,A[0],7,2,6~\
+    2,1,1,st A r3 7,,,4,6~3,0,2,halt,,,3,6~3,1,4,out_of_range,,,4,~done steps=3~A = 7~\
     gone processor=1 line=6~
 pram 1~cells 1~procs 1~steps 1~code~halt~ | 2 steps step=2~
 pram 1~cells 1~procs 1~steps 1~code~ | 2 text line=6 kind=NoCode~
@@ -224,8 +224,16 @@ pram 1~cells 1~procs 2~steps 2~code~pid r0~st r1 r0~ \
 pram 1~cells 1~procs 1~steps 2~code~halt~ \
     | 0 step,processor,place,instruction,writes,value,next~2,0,1,halted,,,1~
 pardo 1~rule common~procs i < 2~shared s~code~;~s := i~ \
-    | 1 step,processor,place,instruction,writes,value,next,line~2,0,1,st 0..0 0 r3,cell 0,0,2,7~\
-    2,1,1,st 0..0 0 r3,cell 0,1,2,7~
+    | 1 step,processor,place,instruction,writes,value,next,line~2,0,1,st s 0 r3,s,0,2,7~\
+    2,1,1,st s 0 r3,s,1,2,7~
+-- by names, in quotes where they have a comma; a register's name is none
+$ pramx steps job --from 3 --to 6 --csv
+pardo 1~rule priority~procs i < 2~shared r1~shared A[1, 2]~private x~code~A[0, i] := 7~x := i~\
+    r1 := x~ \
+    | 0 step,processor,place,instruction,writes,value,next,line~3,0,2,st A r0 7,\"A[0,0]\",7,3,8~\
+    3,1,2,st A r0 7,\"A[0,1]\",7,3,8~4,0,3,st x r3 r3,cell 3,0,4,9~\
+    4,1,3,st x r3 r3,cell 4,1,4,9~5,0,4,ld r0 x r3,r0,0,5,10~5,1,4,ld r0 x r3,r0,1,5,10~\
+    6,0,5,st 0..0 0 r0,cell 0,0,6,10~6,1,5,st 0..0 0 r0,cell 0,1,6,10~
 -- line by line: one `if` and its `else`, a loop, one who is gone, a conflict, a text of the machine
 $ pramx trace job
 pardo 1~rule crew~procs i < 3~shared s~private x~code~if i~x := 4~else~x := 9~end~ \

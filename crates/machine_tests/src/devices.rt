@@ -3,7 +3,7 @@ use crate::printed::print;
 use crate::table::lines_of;
 use failing_devices::{Drip, Trickle};
 use pram_job::Job;
-use pram_rows::{Requests, Window, print_steps};
+use pram_rows::{ByNumbers, Requests, Window, print_steps};
 use pram_streams::{FromRead, IntoWrite, MOST, PrintFault, TakeFault, put, take};
 use pram_text::{TextFault, read_job};
 use std::alloc::{AllocError, Global};
@@ -117,7 +117,8 @@ fn refused_growths_leave_a_beginning(rt: HostRuntime) -> Result<(), Fail> {
     let job = many_steps(alloc).or_else(|_| many_steps(alloc))?;
     let wanted = many_rows(alloc).or_else(|_| many_rows(alloc))?;
     let window = Window { from: 1, to: 2 };
-    let requests = Requests { lines: None };
+    let names = ByNumbers { lines: None };
+    let requests = Requests { names: &names };
     let mut refused = 0u32;
     let mut sink = IntoWrite::new(Vec::new(alloc));
     if print_steps(alloc, &mut sink, &job, window, &requests).is_err() {

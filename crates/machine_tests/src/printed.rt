@@ -9,7 +9,7 @@ use pardo_job::{Compiled, Lines, compile};
 use pardo_text::Program;
 use pram_cost::{ByCells, cost_of, print_cost};
 use pram_job::{Array, Instr, Job, Operand, Place};
-use pram_rows::{Requests, Window, instruction_text, print_steps};
+use pram_rows::{ByNumbers, Requests, Window, instruction_text, print_steps};
 use pram_step::{RunAnswer, plain_answer};
 use pram_streams::{PrintFault, Sink, print_answer};
 use pram_text::read_job;
@@ -86,7 +86,9 @@ fn rows(alloc: Global, given: &str, job: &Job, sink: &mut Trickle) -> Result<(),
     } else {
         Some(numbers.as_slice())
     };
-    let answer = print_steps(alloc, sink, job, window, &Requests { lines })?;
+    let names = ByNumbers { lines };
+    let requests = Requests { names: &names };
+    let answer = print_steps(alloc, sink, job, window, &requests)?;
     print_answer(alloc, sink, &answer, job.steps())
 }
 
@@ -377,7 +379,7 @@ fn each_instruction_as_a_text_spells_it(rt: HostRuntime) -> Result<(), Fail> {
         (Instr::Halt, "halt"),
     ];
     for (instr, wanted) in rows {
-        let text = instruction_text(rt.alloc(), instr)?;
+        let text = instruction_text(rt.alloc(), &ByNumbers { lines: None }, instr)?;
         assert!(rt; text.as_str() == wanted);
     }
     Ok(())

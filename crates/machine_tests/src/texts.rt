@@ -1,7 +1,7 @@
 //! Texts that are read, and each kind of fault.
 use crate::table::expect;
 use pram_job::Job;
-use pram_rows::instruction_text;
+use pram_rows::{ByNumbers, instruction_text};
 use pram_text::{TextFault, TextKind, instruction_line, read_job};
 use std::alloc::{AllocError, Global};
 use std::test::Fail;
@@ -28,9 +28,10 @@ fn fault(alloc: Global, text: &str) -> Result<String, Fail> {
 pub fn job_text(alloc: Global, job: &Job) -> Result<String, AllocError> {
     let (cells, procs, steps) = (job.cells(), job.procs(), job.steps());
     let (rule, init) = (job.rule(), job.init());
+    let names = ByNumbers { lines: None };
     let mut told = format!(in alloc; "{rule:?} {cells} {procs} {steps} {init:?}\n")?;
     for instr in job.code() {
-        told.push_str(instruction_text(alloc, *instr)?.as_str())?;
+        told.push_str(instruction_text(alloc, &names, *instr)?.as_str())?;
         told.push_str("\n")?;
     }
     Ok(told)

@@ -1,7 +1,7 @@
 -- The variables of programs have distinct names.
 use Rattle.std.proofs.Common.{◌≡◌, ◌≢◌, ℕ, ◌+◌, Bool, Result, Ok, Err, true, false, ◌==◌, not, nat_le, List, [], ◌∷◌}
 use Rattle.std.proofs.Common.{◌++◌, length, map, Option, Some, None, IfOk, refl, sym, ap, ap₂}
-use Rattle.std.proofs.Common.{subst, ◌∙◌, is_some, is_none, unwrap_or, bytes_eq, append_assoc}
+use Rattle.std.proofs.Common.{subst, ◌∙◌, is_some, bytes_eq, append_assoc}
 use Rattle.std.proofs.Common.{append-nil, if◌then◌else◌, ⊎_elim, ◌&&◌, max}
 use Rattle.std.specs.List.{AllByRecursion, list_all}
 use Rattle.std.specs.Prelude.{codes}
@@ -31,11 +31,12 @@ use Rattle.pardo_text.specs.Drafts.{with_private, thing_of}
 use Rattle.pardo_text.specs.Expressions.{new_name, rest_after_mark, indexed, ended}
 use Rattle.pardo_text.specs.Expressions.{expression_at, fixed_at}
 use Rattle.pardo_text.specs.Header.{version_line, rule_named, rule_line, const_line, procs_line}
-use Rattle.pardo_text.specs.Header.{length_at, shared_line, private_start, private_line, code_line}
+use Rattle.pardo_text.specs.Header.{shape_at, shared_line, private_start, private_line, code_line}
 use Rattle.pardo_text.specs.Header.{header_line}
 use Rattle.pardo_text.specs.Laws.{NamesAreDistinct}
 use Rattle.pardo_text.specs.Names.{Names, named}
-use Rattle.pardo_text.specs.Program.{ArrayData, PrivateData, ProgramData}
+use Rattle.pardo_text.specs.declared.arrays.Shape.{Shape}
+use Rattle.pardo_text.specs.Program.{ArrayData, PrivateData, ProgramData, places_in}
 use Rattle.pardo_text.specs.Reading.{line_in_stage, with_tokens, with_text_line, finished_draft}
 use Rattle.pardo_text.specs.Reading.{program_in, on_line, program_after, program_of}
 use Rattle.pardo_text.specs.Tokens.{Token, name, number as literal, symbol, tokens_of}
@@ -123,10 +124,10 @@ name_names w new d is = record {
   known = still_known w new d.names (names_in d) is.known;
 }
 
-array_names : (d : Draft) (w : Word) (is_scalar : Bool) (start : List ℕ) →
-    is_some (d.names w) ≡ false → HaveNames d → HaveNames (with_array w is_scalar start d)
-array_names d w is_scalar start new is =
-    let next = with_array w is_scalar start d in
+array_names : (d : Draft) (w : Word) (form : Shape) (start : List ℕ) →
+    is_some (d.names w) ≡ false → HaveNames d → HaveNames (with_array w form start d)
+array_names d w form start new is =
+    let next = with_array w form start d in
     let xs = map (λ (array : ArrayData). array.name) d.arrays in
     let ys = map (λ (variable : PrivateData). variable.name) d.privates in
     let all : names_in next ≡ xs ++ w ∷ ys =
@@ -137,8 +138,8 @@ array_names d w is_scalar start new is =
           (new_among w d.names (xs ++ ys) new is.known) is.distinct);
       known = subst (AreKnown next.names) (sym all)
           (put_among (λ v. is_some (next.names v) ≡ true) w xs ys
-          (is_known w (thing_of is_scalar (length d.arrays)) d.names)
-          (still_known w (thing_of is_scalar (length d.arrays)) d.names (xs ++ ys) is.known));
+          (is_known w (thing_of form (length d.arrays)) d.names)
+          (still_known w (thing_of form (length d.arrays)) d.names (xs ++ ys) is.known));
     }
 
 own_names : (d : Draft) (w : Word) (start : List ℕ) → is_some (d.names w) ≡ false →
@@ -209,10 +210,10 @@ unfolding shared_line
 shared_names d tokens is =
     ok_bind (new_name d.names tokens) _ (IsNew d.names) HaveNames (new_is d.names tokens)
     (λ word new.
-    ok_after (length_at d.names word.1 (indexed word.1)) _ HaveNames (λ places.
-    ok_after (start_at d.names (unwrap_or places.0 1) places.1) _ HaveNames (λ start.
-    fitting_names (with_array word.0 (is_none places.0) start d)
-    (array_names d word.0 (is_none places.0) start new is))))
+    ok_after (shape_at d.names word.1 (indexed word.1)) _ HaveNames (λ form.
+    ok_after (start_at d.names (places_in form.0) form.1) _ HaveNames (λ start.
+    fitting_names (with_array word.0 form.0 start d)
+    (array_names d word.0 form.0 start new is))))
 
 private_names : (d : Draft) (tokens : List Token) → HaveNames d →
     IfOk (private_line d tokens) HaveNames

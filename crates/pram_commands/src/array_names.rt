@@ -1,19 +1,23 @@
-//! The names of arrays in the printed job of a text.
+//! The names of arrays in the printed job of a text, and in the rows of its steps.
 ghost use Rattle.std.specs.Prelude.{◌≡◌, ◌+◌, ◌<◌, ◌++◌, if◌then◌else◌, Some, None, slice_get};
-ghost use Rattle.std.specs.Prelude.{string_bytes, MatchOption, OnOk};
+ghost use Rattle.std.specs.Prelude.{string_bytes, IfOk, MatchOption, OnOk};
 ghost use Rattle.std.specs.Option.{option_copied, option_map};
 ghost use Rattle.pardo_text.specs.Lawful.{AreArrays};
 ghost use Rattle.pardo_text.specs.Program.{shared_cells};
 ghost use Rattle.pram_commands.specs.ArrayNames.{array_words, may_name, private_name};
 ghost use Rattle.pram_commands.specs.ArrayNames.{shared_name, variable_name, word_of};
+ghost use Rattle.pram_commands.specs.Steps.{place_word, range_word, row_words};
+ghost use Rattle.pardo_job.specs.Printed.{cell_text};
 
-use crate::places::arrays_at;
+use crate::names::lines_of;
+use crate::places::{arrays_at, place_text};
 use crate::sources::Spelled;
 use job_text::{ArrayNames, Dotted};
 use pardo_text::{Array as SharedArray, Program};
 use pram_job::Array;
+use pram_rows::{ByNumbers, RowNames};
 use pram_text::{is_name_word, register_in};
-use std::alloc::AllocError;
+use std::alloc::{AllocError, Global};
 
 impl ArrayNames for Spelled {
     ghost words = { λ spelled. array_words spelled.names };
@@ -24,6 +28,56 @@ impl ArrayNames for Spelled {
             Some(naming) => push_name_of(text, naming.program(), array),
         }
     }
+}
+
+impl RowNames for Spelled {
+    ghost words = { λ spelled. row_words spelled.names };
+
+    fn lines(&self) -> Option<&[u64]> {
+        lines_of(self)
+    }
+
+    fn cell_text(&self, alloc: Global, cell: u32) -> Result<Vec<u8>, AllocError> {
+        match &self.names {
+            None => BY_NUMBERS.cell_text(alloc, cell),
+            Some(naming) => place_in(alloc, naming.program().arrays(), cell),
+        }
+    }
+
+    fn array_text(&self, alloc: Global, array: Array) -> Result<String, AllocError> {
+        match &self.names {
+            None => BY_NUMBERS.array_text(alloc, array),
+            Some(naming) => range_in(alloc, naming.program(), array),
+        }
+    }
+}
+
+const BY_NUMBERS: ByNumbers<'static> = ByNumbers { lines: None };
+
+// The place of a cell, or its number.
+fn place_in(alloc: Global, arrays: &[SharedArray], cell: u32) -> Result<Vec<u8>, AllocError>
+    requires { AreArrays arrays.now 0 }
+    ensures { IfOk result (λ text. text.items ≡ place_word (cell_text arrays.now cell) cell) }
+{
+    let place = place_text(alloc, arrays, cell as usize)?;
+    if place.is_empty() || register_in(place.as_slice()).is_ok() {
+        return BY_NUMBERS.cell_text(alloc, cell);
+    }
+    Ok(place)
+}
+
+// The name of the variable that has just these cells, or these.
+fn range_in(alloc: Global, program: &Program, array: Array) -> Result<String, AllocError>
+    requires { AreArrays program.now.arrays 0 }
+    ensures { IfOk result (λ text. string_bytes text
+        ≡ range_word (variable_name program.now array) array) }
+{
+    if let Some(name) = variable_name(program, array) {
+        if let Some(word) = word_in(name) {
+            return String::from_str(alloc, word);
+        }
+    }
+    BY_NUMBERS.array_text(alloc, array)
 }
 
 // The name of the variable that has just these cells, or else that of an array of no name.

@@ -21,7 +21,7 @@ ghost use Rattle.pram_commands.specs.declared.places.Stretch.{Stretch};
 ghost use Rattle.pram_commands.specs.Costs.{cost_words, spot_in};
 ghost use Rattle.pram_commands.specs.Names.{AreNames, IsMachines, line_at, printed_answer};
 ghost use Rattle.pram_commands.specs.Names.{recorded, styled};
-ghost use Rattle.pram_commands.specs.Steps.{numbers_told};
+ghost use Rattle.pram_commands.specs.Steps.{row_words};
 ghost use Rattle.pram_commands.specs.Threads.{cell_words, or_number};
 
 use crate::line_costs::{Costed, Costs, costs_of, push_sums};
@@ -487,7 +487,7 @@ pub(crate) fn origin_of<'a>(text: &'a [u8], names: &'a Option<Naming>) -> Origin
 
 /// The numbers of the lines that the instructions of a program's job came from.
 pub(crate) fn lines_of(spelled: &Spelled) -> Option<&[u64]>
-    ensures { option_copied result ≡ numbers_told spelled.now.names }
+    ensures { option_copied result ≡ (row_words spelled.now.names).lines }
 {
     let naming = spelled.names.as_ref()?;
     Some(naming.numbers.as_slice())

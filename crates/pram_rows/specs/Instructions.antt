@@ -1,5 +1,5 @@
--- Instructions as a text spells them. A jump names a label there, whose index the job keeps: here
--- it names that index. So it is with an array: here its cells stand for its name.
+-- Instructions as a text spells them, arrays by some words. A jump names a label there, whose index
+-- the job keeps: here it names that index.
 use Rattle.std.specs.Prelude.{ℕ, ◌+◌, ◌-◌, List, ◌++◌, codes, decimal}
 use Rattle.pram_job.specs.declared.instr.Array.{Array}
 use Rattle.pram_job.specs.declared.instr.Instr.{Instr}
@@ -23,13 +23,13 @@ abbrev pub array_text : Array → List ℕ
 array_text array =
     (decimal array.base ++ codes "..") ++ decimal (array.base + array.len - 1)
 
-abbrev pub address_text : Place → List ℕ
-address_text (Cell index) = operand_text index
-address_text (Named array index) = (array_text array ++ codes " ") ++ operand_text index
-
 -- what stands before, and after a blank what follows it
 abbrev pub then_word : List ℕ → List ℕ → List ℕ
 then_word before after = (before ++ codes " ") ++ after
+
+abbrev pub address_text : (Array → List ℕ) → Place → List ℕ
+address_text words (Cell index) = operand_text index
+address_text words (Named array index) = then_word (words array) (operand_text index)
 
 -- a name, and a register or a number after it
 abbrev pub one_register_text : List ℕ → ℕ → List ℕ
@@ -40,19 +40,19 @@ register_number_text name register number =
     then_word (one_register_text name register) (decimal number)
 
 -- a name, and the operands after it
-abbrev pub spelled : List ℕ → Operands → List ℕ
-spelled name Bare = name
-spelled name (Target target) = one_register_text name target
-spelled name (TargetNumber target number) = register_number_text name target number
-spelled name (TargetPlace target place) =
-    then_word (one_register_text name target) (address_text place)
-spelled name (TargetTwo target first second) =
+abbrev pub spelled : (Array → List ℕ) → List ℕ → Operands → List ℕ
+spelled words name Bare = name
+spelled words name (Target target) = one_register_text name target
+spelled words name (TargetNumber target number) = register_number_text name target number
+spelled words name (TargetPlace target place) =
+    then_word (one_register_text name target) (address_text words place)
+spelled words name (TargetTwo target first second) =
     then_word (then_word (one_register_text name target) (operand_text (Register first)))
     (operand_text second)
-spelled name (PlaceValue place value) =
-    then_word (then_word name (address_text place)) (operand_text value)
-spelled name (RegisterIndex register index) = register_number_text name register index
-spelled name (Index index) = then_word name (decimal index)
+spelled words name (PlaceValue place value) =
+    then_word (then_word name (address_text words place)) (operand_text value)
+spelled words name (RegisterIndex register index) = register_number_text name register index
+spelled words name (Index index) = then_word name (decimal index)
 
-abbrev pub instruction_text : Instr → List ℕ
-instruction_text instr = spelled (row_of instr).0 (row_of instr).1
+abbrev pub instruction_text : (Array → List ℕ) → Instr → List ℕ
+instruction_text words instr = spelled words (row_of instr).0 (row_of instr).1

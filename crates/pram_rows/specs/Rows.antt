@@ -3,30 +3,48 @@ use Rattle.std.specs.Prelude.{ℕ, ◌-◌, ◌==◌, ◌&&◌, nat_lt, if◌the
 use Rattle.std.specs.Prelude.{[], ◌++◌, Option, Some, None, slice_get, slice_index}
 use Rattle.std.specs.Prelude.{codes, decimal}
 use Rattle.std.specs.List.{flat_map, range_with_len}
+use Rattle.csv.specs.Writing.{default_writer, field_text}
+use Rattle.pram_job.specs.declared.instr.Array.{Array}
 use Rattle.pram_job.specs.declared.instr.Instr.{Instr}
 use Rattle.pram_job.specs.Job.{JobData}
 use Rattle.pram_machine.specs.Machine.{State, counter, halted, register_place}
 use Rattle.pram_machine.specs.Instructions.{request_in}
 use Rattle.pram_rows.specs.StepRows.{StepRows, window_rows}
-use Rattle.pram_rows.specs.Instructions.{instruction_text}
+use Rattle.pram_rows.specs.Instructions.{array_text, instruction_text}
+
+-- What rows are told by: the lines that the job's instructions came from, where these are told; a
+-- cell that is written to; and an array that an instruction names.
+pub record RowWords : Type 0 where
+  pub lines : Option (List ℕ)
+  pub cell : ℕ → List ℕ
+  pub array : Array → List ℕ
+
+-- by numbers: `cell 12`, and `8..11`
+abbrev pub by_numbers : Option (List ℕ) → RowWords
+by_numbers told = record {
+  lines = told;
+  cell = λ cell. codes "cell " ++ decimal cell;
+  array = array_text;
+}
 
 -- why a processor with this counter has stopped
 abbrev pub stop_word : JobData → ℕ → List ℕ
 stop_word job counter = if counter == halted job then codes "halted" else codes "out_of_range"
 
 -- the instruction at a counter, or why there is none
-abbrev pub instruction_or_stop : JobData → ℕ → Option Instr → List ℕ
-instruction_or_stop job counter None = stop_word job counter
-instruction_or_stop job counter (Some instr) = instruction_text instr
+abbrev pub instruction_or_stop : RowWords → JobData → ℕ → Option Instr → List ℕ
+instruction_or_stop words job counter None = stop_word job counter
+instruction_or_stop words job counter (Some instr) = instruction_text words.array instr
 
-abbrev pub instruction_at : JobData → ℕ → List ℕ
-instruction_at job counter = instruction_or_stop job counter (slice_get job.code counter)
+abbrev pub instruction_at : RowWords → JobData → ℕ → List ℕ
+instruction_at words job counter =
+    instruction_or_stop words job counter (slice_get job.code counter)
 
 -- what data of processor i goes to: nothing, a cell, or one of its own registers
-abbrev pub target_text : JobData → ℕ → Option (ℕ × ℕ) → List ℕ
-target_text job i None = []
-target_text job i (Some write) =
-    if nat_lt write.0 job.cells then codes "cell " ++ decimal write.0
+abbrev pub target_text : RowWords → JobData → ℕ → Option (ℕ × ℕ) → List ℕ
+target_text words job i None = []
+target_text words job i (Some write) =
+    if nat_lt write.0 job.cells then words.cell write.0
     else codes "r" ++ decimal (write.0 - register_place job i 0)
 
 -- the data, if there is any
@@ -46,28 +64,29 @@ abbrev pub row_end : Option (List ℕ) → JobData → ℕ → List ℕ
 row_end None job counter = codes "\n"
 row_end (Some lines) job counter = codes "," ++ line_number_text lines job counter ++ codes "\n"
 
--- the row of processor i in this step, which is made in the state
-unfoldable pub row_line : Option (List ℕ) → JobData → State → ℕ → ℕ → List ℕ
-row_line lines job state step i =
+-- The row of processor i in this step, which is made in the state. An instruction and what is written
+-- to stand as csv writes them: in quotes, where a name has a comma.
+unfoldable pub row_line : RowWords → JobData → State → ℕ → ℕ → List ℕ
+row_line words job state step i =
     decimal step ++ codes "," ++ decimal i ++ codes "," ++ decimal (counter job state i)
-    ++ codes "," ++ instruction_at job (counter job state i) ++ codes ","
-    ++ target_text job i (request_in job state i).put ++ codes ","
+    ++ codes "," ++ field_text default_writer (instruction_at words job (counter job state i))
+    ++ codes "," ++ field_text default_writer
+    (target_text words job i (request_in job state i).put) ++ codes ","
     ++ value_text (request_in job state i).put ++ codes ","
-    ++ decimal (request_in job state i).next ++ row_end lines job (counter job state i)
+    ++ decimal (request_in job state i).next ++ row_end words.lines job (counter job state i)
 
 -- the rows of this step, one of each processor
-abbrev pub rows_in : Option (List ℕ) → JobData → State → ℕ → List ℕ
-rows_in lines job state step =
-    flat_map (row_line lines job state step) (range_with_len 0 job.procs)
+abbrev pub rows_in : RowWords → JobData → State → ℕ → List ℕ
+rows_in words job state step =
+    flat_map (row_line words job state step) (range_with_len 0 job.procs)
 
 abbrev pub header : Option (List ℕ) → List ℕ
 header None = codes "step,processor,place,instruction,writes,value,next\n"
 header (Some lines) = codes "step,processor,place,instruction,writes,value,next,line\n"
 
--- The rows that tell what is asked for: with the lines that the job's instructions came from, where
--- these are told.
-abbrev pub request_rows : Option (List ℕ) → StepRows
-request_rows lines = record { header = header lines; of_step = rows_in lines }
+-- the rows that tell what is asked for
+abbrev pub request_rows : RowWords → StepRows
+request_rows words = record { header = header words.lines; of_step = rows_in words }
 
-abbrev pub rows_text : Option (List ℕ) → JobData → ℕ → ℕ → ℕ → List ℕ
-rows_text lines job from to last = window_rows (request_rows lines) job from to last
+abbrev pub rows_text : RowWords → JobData → ℕ → ℕ → ℕ → List ℕ
+rows_text words job from to last = window_rows (request_rows words) job from to last

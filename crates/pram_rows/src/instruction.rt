@@ -1,18 +1,24 @@
 //! Instructions as a text spells them.
 ghost use Rattle.std.specs.Prelude.{◌≡◌, string_bytes, IfOk};
 ghost use Rattle.pram_job.specs.declared.instr.Operand.TheVariants.{Register};
-ghost use Rattle.pram_rows.specs.Instructions.{instruction_text, operand_text, array_text};
-ghost use Rattle.pram_rows.specs.Instructions.{address_text, then_word, one_register_text};
+ghost use Rattle.pram_rows.specs.Instructions.{instruction_text, operand_text, address_text};
+ghost use Rattle.pram_rows.specs.Instructions.{then_word, one_register_text};
 ghost use Rattle.pram_rows.specs.Instructions.{register_number_text};
 
-use pram_job::{Array, Instr, Operand, Operands, Place};
+use crate::row_names::RowNames;
+use pram_job::{Instr, Operand, Operands, Place};
 use std::alloc::{AllocError, Global};
 
-/// The instruction as a text spells it, with one blank between its words. A jump names the index
-/// that it goes to, counted from 0: the label that a text had for it is not kept. Nor is the name
-/// of an array: its first and its last cell stand there, as `8..11`.
-pub fn instruction_text(alloc: Global, instr: Instr) -> Result<String, AllocError>
-    ensures { IfOk result (λ text. string_bytes text ≡ instruction_text instr) }
+/// The instruction as a text spells it, with one blank between its words, and an array by its name.
+/// A jump names the index that it goes to, counted from 0: the label that a text had for it is not
+/// kept.
+pub fn instruction_text<N: RowNames>(
+    alloc: Global,
+    names: &N,
+    instr: Instr,
+) -> Result<String, AllocError>
+    ensures { IfOk result (λ text. string_bytes text
+        ≡ instruction_text (N.words names.now).array instr) }
 {
     let (name, operands) = instr.row();
     match operands {
@@ -20,7 +26,7 @@ pub fn instruction_text(alloc: Global, instr: Instr) -> Result<String, AllocErro
         Operands::Target(r) => format!(in alloc; "{name} r{r}"),
         Operands::TargetNumber(r, k) => numbered(alloc, name, r, k),
         Operands::TargetPlace(r, place) => {
-            let place = place_text(alloc, place)?;
+            let place = place_text(alloc, names, place)?;
             two(alloc, name, r, &place)
         }
         Operands::TargetTwo(r, a, b) => {
@@ -28,7 +34,7 @@ pub fn instruction_text(alloc: Global, instr: Instr) -> Result<String, AllocErro
             three(alloc, name, r, a, &b)
         }
         Operands::PlaceValue(place, b) => {
-            let place = place_text(alloc, place)?;
+            let place = place_text(alloc, names, place)?;
             let b = operand_text(alloc, b)?;
             joined(alloc, name, &place, &b)
         }
@@ -46,24 +52,24 @@ fn operand_text(alloc: Global, operand: Operand) -> Result<String, AllocError>
     }
 }
 
-fn place_text(alloc: Global, place: Place) -> Result<String, AllocError>
-    ensures { IfOk result (λ text. string_bytes text ≡ address_text place) }
+fn place_text<N: RowNames>(alloc: Global, names: &N, place: Place) -> Result<String, AllocError>
+    ensures { IfOk result (λ text. string_bytes text
+        ≡ address_text (N.words names.now).array place) }
 {
     match place {
         Place::Cell(index) => operand_text(alloc, index),
         Place::Named(array, index) => {
+            let array = names.array_text(alloc, array)?;
             let index = operand_text(alloc, index)?;
-            in_array(alloc, array, &index)
+            then(alloc, &array, &index)
         }
     }
 }
 
-fn in_array(alloc: Global, array: Array, index: &str) -> Result<String, AllocError>
-    ensures { IfOk result (λ text. string_bytes text ≡ then_word (array_text array) index.now) }
+fn then(alloc: Global, before: &str, after: &str) -> Result<String, AllocError>
+    ensures { IfOk result (λ text. string_bytes text ≡ then_word before.now after.now) }
 {
-    let first = u64::from(array.base);
-    let last = (first + u64::from(array.len)).saturating_sub(1);
-    format!(in alloc; "{first}..{last} {index}")
+    format!(in alloc; "{before} {after}")
 }
 
 fn numbered(alloc: Global, name: &str, r: u8, number: u32) -> Result<String, AllocError>

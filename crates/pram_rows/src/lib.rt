@@ -3,8 +3,10 @@
 
 mod cells;
 mod instruction;
+pub mod laws;
 mod print;
 mod row;
+mod row_names;
 mod rows;
 mod window;
 
@@ -12,5 +14,6 @@ pub use cells::print_cells;
 pub use instruction::instruction_text;
 pub use print::print_steps;
 pub use row::Requests;
+pub use row_names::{ByNumbers, RowNames};
 pub use rows::Rows;
 pub use window::Window;

@@ -12,6 +12,7 @@ ghost use Rattle.pram_rows.specs.Rows.{row_line, rows_in};
 ghost use Rattle.pram_rows.specs.Rows.{stop_word, target_text, value_text};
 
 use crate::instruction::instruction_text;
+use crate::row_names::RowNames;
 use crate::rows::Rows;
 use csv::{Error, Writer};
 use itoa::Buffer;
@@ -21,12 +22,10 @@ use pram_streams::number_text;
 use std::alloc::{AllocError, Global};
 use std::io::Write;
 
-/// What each processor asks for, a row each, with the numbers of the lines that the job's
-/// instructions came from, if they are told. An instruction without a number, or with the number 0,
-/// came from no line.
+/// What each processor asks for, a row each, told by names.
 #[derive(Clone, Copy, Debug)]
-pub struct Requests<'a> {
-    pub lines: Option<&'a [u64]>,
+pub struct Requests<'a, N> {
+    pub names: &'a N,
 }
 
 /// The fields of a row.
@@ -35,11 +34,11 @@ const HEADER: &str = "step,processor,place,instruction,writes,value,next\n";
 /// The fields of a row where lines are told, too.
 const HEADER_WITH_LINES: &str = "step,processor,place,instruction,writes,value,next,line\n";
 
-impl Rows for Requests<'_> {
-    ghost rows = { λ requests. request_rows (option_copied requests.lines) };
+impl<N: RowNames> Rows for Requests<'_, N> {
+    ghost rows = { λ requests. request_rows (N.words requests.names.now) };
 
     fn header(&self) -> &str {
-        header(self.lines)
+        header(self.names.lines())
     }
 
     fn push_step(
@@ -48,7 +47,7 @@ impl Rows for Requests<'_> {
         moment: &Moment<'_>,
         bytes: Vec<u8>,
     ) -> Result<Vec<u8>, AllocError> {
-        push_rows(alloc, moment, self.lines, bytes)
+        push_rows(alloc, moment, self.names, bytes)
     }
 }
 
@@ -63,18 +62,18 @@ fn header(lines: Option<&[u64]>) -> &'static str
 }
 
 // Writes the rows of the step that comes next, after these bytes.
-fn push_rows(
+fn push_rows<N: RowNames>(
     alloc: Global,
     moment: &Moment<'_>,
-    lines: Option<&[u64]>,
+    names: &N,
     bytes: Vec<u8>,
 ) -> Result<Vec<u8>, AllocError>
-    ensures { IfOk result (λ rows. rows.items ≡ bytes.items ++ rows_in (option_copied lines.entry)
+    ensures { IfOk result (λ rows. rows.items ≡ bytes.items ++ rows_in (N.words names.now)
         moment.now.job.now moment.now.state.now (moment.now.made + 1)) }
 {
     let mut writer = Writer::from_writer(bytes);
     for processor in 0..moment.job.procs() {
-        write_row(alloc, &mut writer, moment, lines, processor)?;
+        write_row(alloc, &mut writer, moment, names, processor)?;
     }
     match writer.into_inner() {
         Ok(rows) => Ok(rows),
@@ -82,19 +81,18 @@ fn push_rows(
     }
 }
 
-// The fields of a row are numbers and words, which csv writes without quotes.
-fn write_row<W: Write + Drop>(
+fn write_row<W: Write + Drop, N: RowNames>(
     alloc: Global,
     writer: &mut Writer<W>,
     moment: &Moment<'_>,
-    lines: Option<&[u64]>,
+    names: &N,
     processor: u32,
 ) -> Result<(), AllocError>
     requires between { IsBetweenRecords writer.old }
     requires processor { processor < moment.now.job.now.procs }
     ensures between { OnOk result (IsBetweenRecords writer.new) }
     ensures text { OnOk result (Appends (text_written W.contents writer.old)
-        (text_written W.contents writer.new) (row_line (option_copied lines.entry)
+        (text_written W.contents writer.new) (row_line (N.words names.now)
         moment.now.job.now moment.now.state.now (moment.now.made + 1) processor)) }
 {
     let (job, state, made) = (moment.job, moment.state, moment.made);
@@ -102,8 +100,9 @@ fn write_row<W: Write + Drop>(
     laws::states_have_all_places();
     let index = counter(job, state, processor);
     let request = request_after(job, state, processor);
-    let instruction = instruction_in(alloc, job, index)?;
-    let target = target_in(alloc, job, processor, request.put)?;
+    let instruction = instruction_in(alloc, names, job, index)?;
+    let target = target_in(alloc, names, job, processor, request.put)?;
+    let lines = names.lines();
     let (mut steps, mut processors, mut indices) = (Buffer::new(), Buffer::new(), Buffer::new());
     let (mut values, mut nexts, mut numbers) = (Buffer::new(), Buffer::new(), Buffer::new());
     let fields = [
@@ -111,7 +110,7 @@ fn write_row<W: Write + Drop>(
         number_text(&mut processors, u64::from(processor)),
         number_text(&mut indices, u64::from(index)),
         instruction.as_bytes(),
-        target.as_bytes(),
+        target.as_slice(),
         value_in(&mut values, request.put),
         number_text(&mut nexts, u64::from(request.next)),
         line_in(&mut numbers, job, lines.unwrap_or(&[]), index),
@@ -139,11 +138,17 @@ fn write_record<W: Write + Drop>(
 }
 
 // The instruction at a counter, or why the processor has stopped.
-fn instruction_in(alloc: Global, job: &Job, counter: u32) -> Result<String, AllocError>
-    ensures { IfOk result (λ text. string_bytes text ≡ instruction_at job.now counter) }
+fn instruction_in<N: RowNames>(
+    alloc: Global,
+    names: &N,
+    job: &Job,
+    counter: u32,
+) -> Result<String, AllocError>
+    ensures { IfOk result (λ text. string_bytes text
+        ≡ instruction_at (N.words names.now) job.now counter) }
 {
     match job.code().get(counter as usize) {
-        Some(instr) => instruction_text(alloc, *instr),
+        Some(instr) => instruction_text(alloc, names, *instr),
         None => {
             let word = stop(job, counter);
             format!(in alloc; "{word}")
@@ -163,24 +168,27 @@ fn stop(job: &Job, counter: u32) -> &'static str
 }
 
 // What data of a processor goes to.
-fn target_in(
+fn target_in<N: RowNames>(
     alloc: Global,
+    names: &N,
     job: &Job,
     processor: u32,
     put: Option<(u32, u32)>,
-) -> Result<String, AllocError>
+) -> Result<Vec<u8>, AllocError>
     requires processor { processor < job.now.procs }
     requires place { IfSome put (λ w. IsDataPlace job.now processor w.0) }
-    ensures { IfOk result (λ text. string_bytes text ≡ target_text job.now processor put) }
+    ensures { IfOk result (λ text. text.items
+        ≡ target_text (N.words names.now) job.now processor put) }
 {
     job.limits_hold();
     let cells = job.cells();
     match put {
-        None => Ok(String::new(alloc)),
-        Some((place, _)) if place < cells => format!(in alloc; "cell {place}"),
+        None => Ok(Vec::new(alloc)),
+        Some((place, _)) if place < cells => names.cell_text(alloc, place),
         Some((place, _)) => {
             let register = place - job.register_place(processor, 0);
-            format!(in alloc; "r{register}")
+            let text = format!(in alloc; "r{register}")?;
+            Ok(text.into_bytes())
         }
     }
 }

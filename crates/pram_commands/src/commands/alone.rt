@@ -24,7 +24,6 @@ use crate::commands::{print_ending, printed};
 use crate::inputs::{take_costed, take_inputs, take_job, take_text};
 use crate::line_costs::{Costed, Costs};
 use crate::line_records::records_of;
-use crate::names::lines_of;
 use crate::sources::{Inputs, Sources, Spelled};
 use crate::sweeps::record_of;
 use crate::traces::Traces;
@@ -251,7 +250,7 @@ fn put_record<O: Sink>(
 }
 
 /// Reads a job, and prints the steps of the window as they are made, of a program with the lines of
-/// its text, and then the answer unless they are to stand alone. A window that begins after the
+/// its text and by its names, and then the answer unless they are to stand alone. A window that begins after the
 /// job's last step is refused, but for one that begins with step 1. Where memory runs out, a
 /// beginning of it may stand printed. It costs what `print_steps` does.
 pub fn steps<J: Source, P: Source, O: Sink>(
@@ -288,9 +287,7 @@ fn put_steps<O: Sink>(
         read.job) ⊤
         (writing O.Sink out.old out.new) tells result }
 {
-    let requests = Requests {
-        lines: lines_of(spelled),
-    };
+    let requests = Requests { names: spelled };
     let answer = print_steps(alloc, out, &spelled.job, window, &requests)?;
     print_ending(alloc, out, spelled, &answer, alone)?;
     Ok(answer)

@@ -1,11 +1,10 @@
 use Rattle.std.proofs.Common.{◌∙◌, ◌++◌, ◌+◌, ap, refl, arith}
-use Rattle.std.specs.Option.{option_copied}
 use Rattle.pram_rows.specs.Rows.{row_line}
 use Rattle.pram_rows.proofs.Lines.{pieces-more}
 use Rattle.pram_rows.proofs.row.push_rows.Goals as goal
 
 pub loop-processor-init : goal.loop-processor-init
-loop-processor-init c = record {
+loop-processor-init g c = record {
   between = record {
     setup = c.from_writer-writer.ensures.cfg;
     fields = c.from_writer-writer.ensures.fields;
@@ -15,9 +14,9 @@ loop-processor-init c = record {
 }
 
 pub loop-processor-preserved : goal.loop-processor-preserved
-loop-processor-preserved c =
+loop-processor-preserved g c =
     let line =
-    row_line (option_copied c.args.lines) c.args.moment.now.job.now c.args.moment.now.state.now
+    row_line (g.N.RowNames.words c.args.names.now) c.args.moment.now.job.now c.args.moment.now.state.now
     (c.args.moment.now.made + 1) in
     let i = c.loop-processor.processor in
     record {

@@ -4,8 +4,7 @@ use Rattle.std.specs.Option.{is_some, option_copied, unwrap_or}
 use Rattle.std.specs.Prelude.{IfSome}
 use Rattle.pram_job.specs.Job.{JobData}
 use Rattle.pram_machine.specs.declared.requests.Request.{Request}
-use Rattle.pram_machine.specs.Instructions.{request_in}
-use Rattle.pram_machine.specs.Machine.{IsDataPlace}
+use Rattle.pram_machine.specs.Machine.{counter}
 use Rattle.pram_rows.specs.Rows.{instruction_at, line_number_text, target_text}
 use Rattle.pram_rows.proofs.Plain.{row-is}
 use Rattle.pram_rows.proofs.row.write_row.Goals as goal
@@ -24,35 +23,37 @@ copied (Some numbers) = refl
 
 pub returns-clause-text : goal.returns-clause-text
 returns-clause-text g c =
-    let lines = option_copied c.args.lines in
+    let words = g.N.RowNames.words c.args.names.now in
     let job = c.args.moment.now.job.now in
-    let own : IfSome (request_in job c.args.moment.now.state.now c.args.processor).put
-    (λ w. IsDataPlace job c.args.processor w.0) = subst (λ (request : Request).
-    IfSome request.put (λ w. IsDataPlace job c.args.processor w.0))
-    c.request_after-request.ensures.request c.request_after-request.ensures.own in
-    let same = row-is job c.args.moment.now.state.now (c.args.moment.now.made + 1)
+    let lines_are : option_copied c.lines-lines.result ≡ words.lines = c.lines-lines.ensures in
+    let same = row-is words job c.args.moment.now.state.now (c.args.moment.now.made + 1)
     c.args.processor c.number_text.result.now c.number_text-2.result.now c.number_text-3.result.now
-    c.as_bytes.result.now c.as_bytes-2.result.now c.value_in.result.now c.number_text-4.result.now
-    c.line_in.result.now c.limits_hold.ensures c.requires.processor own lines
-    c.is_some.result (c.is_some.ensures ∙ copied c.args.lines) (record {
+    c.as_bytes.result.now c.as_slice.result.now c.value_in.result.now c.number_text-4.result.now
+    c.line_in.result.now (record {
       step_is = cc;
       processor_is = cc;
       index_is = cc;
       instruction_is = c.as_bytes.ensures.value
-          ∙ c.in_ok-instruction.ensures ∙ ap (λ n. instruction_at job n) c.counter-index.ensures;
-      target_is = c.as_bytes-2.ensures.value ∙ c.in_ok-target.ensures ∙ ap
-          (λ (request : Request). target_text job c.args.processor request.put)
+          ∙ c.in_ok-instruction.ensures
+          ∙ ap (λ n. instruction_at words job n) c.counter-index.ensures;
+      target_is = c.as_slice.ensures.value ∙ c.in_ok-target.ensures ∙ ap
+          (λ (request : Request). target_text words job c.args.processor request.put)
           c.request_after-request.ensures.request;
       value_is = cc;
       next_is = cc;
-      line_is = told c.args.lines c.unwrap_or.result _ job _ c.line_in.result.now
+      line_is = subst (λ (o : Option (List ℕ)). IfSome o (λ numbers. c.line_in.result.now
+          ≡ line_number_text numbers job
+          (counter job c.args.moment.now.state.now c.args.processor))) lines_are
+          (told c.lines-lines.result c.unwrap_or.result _ job _ c.line_in.result.now
           c.unwrap_or.ensures (c.line_in.ensures.text
-          ∙ ap (λ n. line_number_text c.unwrap_or.result.now job n) c.counter-index.ensures);
+          ∙ ap (λ n. line_number_text c.unwrap_or.result.now job n) c.counter-index.ensures));
       steps = c.number_text.ensures.plain;
       processors = c.number_text-2.ensures.plain;
       indices = c.number_text-3.ensures.plain;
       values = c.value_in.ensures.plain;
       nexts = c.number_text-4.ensures.plain;
       numbers = c.line_in.ensures.plain;
-    }) in
+    })
+    c.is_some.result (c.is_some.ensures ∙ copied c.lines-lines.result
+    ∙ ap (λ (o : Option (List ℕ)). is_some o) lines_are) in
     on_ok_weaker c.write_record.result (λ written. rw same at written) c.write_record.ensures.text

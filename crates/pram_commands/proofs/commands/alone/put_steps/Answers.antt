@@ -1,30 +1,27 @@
-use Rattle.std.proofs.Common.{◌≡◌, ℕ, Bor, List, Option, ap, inr, refl}
-use Rattle.std.specs.Option.{option_copied}
+use Rattle.std.proofs.Common.{ℕ, List, Option, inr, refl}
 use Rattle.pram_job.specs.Job.{JobData}
 use Rattle.pram_step.specs.Runs.{IsAnswer}
 use Rattle.pram_step.specs.declared.answer.RunAnswer.{RunAnswer}
 use Rattle.pram_streams.specs.declared.print.PrintFault.TheVariants.{Device}
-use Rattle.pram_rows.specs.Rows.{request_rows, rows_text}
-use Rattle.pram_rows.specs.Shown.{last_step, steps_text}
+use Rattle.pram_rows.specs.Rows.{request_rows}
+use Rattle.pram_rows.specs.Shown.{steps_text}
 use Rattle.pram_rows.specs.declared.window.Window.{Window}
 use Rattle.pram_commands.specs.Names.{AreNames, NamingData}
-use Rattle.pram_commands.specs.Steps.{TellsSteps, numbers_told}
+use Rattle.pram_commands.specs.Steps.{TellsSteps, row_words}
 use Rattle.pram_commands.proofs.Doing.{begins_after, begins_front, err_as, err_is, put_both}
 use Rattle.pram_commands.proofs.Doing.{put_failed}
 use Rattle.pram_commands.proofs.commands.alone.put_steps.Goals as goal
 
 -- what was shown tells the steps
-tells_steps : (text : List ℕ) (job : JobData) (window : Window) (lines : Option (Bor (List ℕ)))
-    (names : Option NamingData) → AreNames text job names →
-    option_copied lines ≡ numbers_told names → (answer : RunAnswer) → IsAnswer job answer →
+tells_steps : (text : List ℕ) (job : JobData) (window : Window) (names : Option NamingData) →
+    AreNames text job names → (answer : RunAnswer) → IsAnswer job answer →
     TellsSteps text job window answer
-    (steps_text (request_rows (option_copied lines)) job window answer)
-tells_steps text job window lines names are_names told answer is = record {
+    (steps_text (request_rows (row_words names)) job window answer)
+tells_steps text job window names are_names answer is = record {
   answers = is;
   names = names;
   are_names = are_names;
-  rows = ap (λ (numbers : Option (List ℕ)).
-      rows_text numbers job window.from window.to (last_step job answer)) told;
+  rows = refl;
 }
 
 pub returns-in_err-answer : goal.returns-in_err-answer
@@ -36,7 +33,7 @@ returns-in_err-answer g c =
     put_failed _ _ _ _ _ c.in_err-answer.field-0.0
     (err_is _ _ c.from_residual.ensures)
     (begins_front c.args.alone _ text job _ begins.answer _
-    (tells_steps text job c.args.window c.lines_of.result _ c.requires.names c.lines_of.ensures begins.answer begins.answers)
+    (tells_steps text job c.args.window _ c.requires.names begins.answer begins.answers)
     _ c.requires.names begins.prints)
     (λ e. inr tt) ((λ f. err_as _ Device (failed.0 f)), (λ e. failed.1 (err_as _ Device e)))
 
@@ -48,7 +45,7 @@ returns-in_err-print_ending g c =
     put_failed _ _ _ _ _ c.in_err-print_ending.field-0.0
     (err_is _ _ c.from_residual-in_err-print_ending.ensures)
     (begins_after c.args.alone _ text job _ answer _
-    (tells_steps text job c.args.window c.lines_of.result _ c.requires.names c.lines_of.ensures answer
+    (tells_steps text job c.args.window _ c.requires.names answer
     c.in_ok-answer.ensures.ok.answers) _ c.requires.names _ _ refl
     c.in_ok-answer.ensures.ok.prints c.in_err-print_ending.ensures.beginning)
     (λ e. inr tt) c.in_err-print_ending.ensures.failed
@@ -59,7 +56,7 @@ returns g c =
     let job = c.args.spelled.now.job in
     let answer = c.in_ok-answer.answer in
     put_both c.args.alone _ text job _ answer _
-    (tells_steps text job c.args.window c.lines_of.result _ c.requires.names c.lines_of.ensures answer
+    (tells_steps text job c.args.window _ c.requires.names answer
     c.in_ok-answer.ensures.ok.answers) _ c.requires.names _ _ _ refl
     c.in_ok-answer.ensures.ok.prints c.in_ok-print_ending.ensures.ok
     c.in_ok-print_ending.ensures.failed

@@ -1,6 +1,6 @@
 use Rattle.std.proofs.Common.{◌∙◌, append_assoc}
 use Rattle.std.proofs.lemmas.Result.{IfOk-weaker}
-use Rattle.pram_rows.proofs.instruction.in_array.Goals as goal
+use Rattle.pram_rows.proofs.row_names.ByNumbersRowNames.array_text.Goals as goal
 
 pub returns : goal.returns
 returns c = IfOk-weaker c.format.result _ _

@@ -1,0 +1,7 @@
+use Rattle.std.proofs.Common.{◌∙◌, append_assoc}
+use Rattle.std.proofs.lemmas.Result.{IfOk-weaker}
+use Rattle.pram_rows.proofs.instruction.then.Goals as goal
+
+pub returns : goal.returns
+returns c = IfOk-weaker c.format.result _ _
+    (λ text written. written ∙ simp append_assoc) c.format.ensures.ok
