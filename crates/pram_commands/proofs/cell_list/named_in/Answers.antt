@@ -1,6 +1,8 @@
-use Rattle.std.proofs.Common.{◌≡◌, ◌⊎◌, ◌≤◌, ◌∙◌, ℕ, List, [], ◌∷◌, ◌++◌, All, Some, ap, sym, subst}
+use Rattle.std.proofs.Common.{◌≡◌, ◌⊎◌, ◌≤◌, ◌∙◌, ℕ, List, [], ◌∷◌, ◌++◌, All, Option, None}
+use Rattle.std.proofs.Common.{Some, ap, sym, subst}
 use Rattle.std.proofs.Common.{append-nil, append_assoc, arith, length, refl}
 use Rattle.std.proofs.lemmas.List.Elements.{All-nil, All-push}
+use Rattle.std.specs.Borrow.{Bor}
 use Rattle.command_data.specs.CellLists.{SpellsCell, cell_listed, parts_left, parts_of}
 use Rattle.pram_commands.specs.CellLists.{AreNamed}
 use Rattle.pram_commands.specs.declared.places.Stretch.{Stretch}
@@ -9,11 +11,24 @@ use Rattle.pram_commands.proofs.Cells.{as_many, named_more, first_without, found
 use Rattle.pram_commands.proofs.Cells.{front_here, said_outside, turn_here}
 use Rattle.pram_commands.proofs.cell_list.named_in.Goals as goal
 
-pub loop-left-init : goal.loop-left-init
-loop-left-init c = ([], refl, tt, All-nil (λ (cells : Stretch). cells.end ≤ c.args.spelled.now.job.cells))
+no_parts : (left : Option (Bor (List ℕ))) → ((rest : Bor (List ℕ)) → left ≡ Some rest → ⊥) →
+    parts_left left ≡ []
+no_parts None none = refl
+no_parts (Some rest) none = absurd (none rest refl)
 
-pub returns-in_default-clause-outside : goal.returns-in_default-clause-outside
-returns-in_default-clause-outside c =
+pub loop-left-init : goal.loop-left-init
+loop-left-init c =
+    let names = c.args.spelled.now.names in
+    let none = sym c.new-named.ensures.items in (
+      [],
+      refl,
+      subst (λ (l : List Stretch). AreNamed names [] l) none tt,
+      subst (λ (l : List Stretch). All (λ cells. cells.end ≤ c.args.spelled.now.job.cells) l) none
+          (All-nil (λ (cells : Stretch). cells.end ≤ c.args.spelled.now.job.cells)),
+    )
+
+pub returns-in_default-2-clause-outside : goal.returns-in_default-2-clause-outside
+returns-in_default-2-clause-outside c =
     let names = c.args.spelled.now.names in
     let job = c.args.spelled.now.job in
     let parts = parts_of c.args.text.now in
@@ -26,7 +41,7 @@ returns-in_default-clause-outside c =
     let turn = turn_here parts done tail part e in
     let all = as_many names done c.loop-left.named.items c.loop-left.invariant.2 in
     let count : c.len.result ≡ length done = omega (arith, c.len.ensures, c.loop-left.named.ok, all) in
-    let none = found_none c.in_ok-cells.field-0 _ _ c.in_ok-cells.ensures c.in_default.not-Some in
+    let none = found_none c.in_ok-cells.field-0 _ _ c.in_ok-cells.ensures c.in_default-2.not-Some in
     said_outside names job parts (length done) part c.outside.result
     (first_without names job parts done c.loop-left.named.items (length done) part
     (front_here parts done (part ∷ tail) e) refl c.loop-left.invariant.2 c.loop-left.invariant.3 turn
@@ -60,6 +75,8 @@ pub returns-clause-named : goal.returns-clause-named
 returns-clause-named c =
     let done = c.loop-left.invariant.0 in
     let whole : parts_of c.args.text.now ≡ done =
-    c.loop-left.invariant.1 ∙ ap (λ left. done ++ parts_left left) c.in-None.is ∙ append-nil done in
+    c.loop-left.invariant.1
+    ∙ ap (λ (l : List (List ℕ)). done ++ l) (no_parts c.loop-left.left c.in_default.not-Some)
+    ∙ append-nil done in
     subst (λ (ps : List (List ℕ)). AreNamed c.args.spelled.now.names ps c.loop-left.named.items)
     (sym whole) c.loop-left.invariant.2
