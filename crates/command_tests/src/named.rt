@@ -101,7 +101,11 @@ fn expect_text<R: Abort + Threads + Wait + Clock + Eprint + Sync>(
     };
     expect_row(rt, alloc, &job.row("pramx compile job", numbered))?;
     let written = format!(in alloc; "{beginning}{{}}")?;
-    let ended = Program { text, status, ..job };
+    let ended = Program {
+        text,
+        status,
+        ..job
+    };
     expect_row(rt, alloc, &ended.row("pramx plain job", written.as_str()))
 }
 
