@@ -69,7 +69,21 @@ fn expect_answers<R: Abort + Threads + Wait + Clock + Eprint + Sync>(
     Ok(())
 }
 
-// The text of a program's job is printed again as it is, and ends with this status and beginning.
+// What `compile` prints of a text.
+fn printed<R: Abort + Threads + Wait + Clock + Eprint + Sync>(
+    rt: &R,
+    alloc: Global,
+    text: &str,
+) -> Result<Vec<u8>, Fail> {
+    let shelf = Shelf {
+        job: text.as_bytes(),
+        plan: &[],
+    };
+    Ok(answer(rt, alloc, &shelf, "pramx compile job", AMPLE)?.out)
+}
+
+// The text of a program's job ends with this status and beginning. Printed again it is by numbers,
+// and from then on as it is.
 fn expect_text<R: Abort + Threads + Wait + Clock + Eprint + Sync>(
     rt: &R,
     alloc: Global,
@@ -77,15 +91,21 @@ fn expect_text<R: Abort + Threads + Wait + Clock + Eprint + Sync>(
     status: u8,
     beginning: &str,
 ) -> Result<(), Fail> {
+    let again = printed(rt, alloc, text)?;
+    let numbered = str::from_utf8(again.as_slice())?;
     let job = Program {
-        text,
+        text: numbered,
         status: 0,
         answer: "",
         cost: "",
     };
-    expect_row(rt, alloc, &job.row("pramx compile job", text))?;
+    expect_row(rt, alloc, &job.row("pramx compile job", numbered))?;
     let written = format!(in alloc; "{beginning}{{}}")?;
-    let ended = Program { status, ..job };
+    let ended = Program {
+        text,
+        status,
+        ..job
+    };
     expect_row(rt, alloc, &ended.row("pramx plain job", written.as_str()))
 }
 
@@ -95,17 +115,13 @@ fn expect_printed<R: Abort + Threads + Wait + Clock + Eprint + Sync>(
     alloc: Global,
     program: Program<'_>,
 ) -> Result<(), Fail> {
-    let shelf = Shelf {
-        job: program.text.as_bytes(),
-        plan: &[],
-    };
-    let printed = answer(rt, alloc, &shelf, "pramx compile job", AMPLE)?.out;
+    let compiled = printed(rt, alloc, program.text)?;
     let beginning = if program.status == 0 {
         program.answer.lines().next()
     } else {
         None
     };
-    let text = str::from_utf8(printed.as_slice())?;
+    let text = str::from_utf8(compiled.as_slice())?;
     expect_text(rt, alloc, text, program.status, beginning.unwrap_or(""))
 }
 

@@ -24,7 +24,7 @@ abbrev pub place_word : List ℕ → ℕ → List ℕ
 place_word place cell =
     if is_filled place && is_err (register_of place) then place else codes "cell " ++ decimal cell
 
--- an array by the name of its variable, but by its cells where none has it, or none that may name it
+-- an array by the name of its variable, but by its cells where it has none, or a register's
 abbrev pub range_word : Option Word → Array → List ℕ
 range_word None array = array_text array
 range_word (Some name) array = if may_name name then name else array_text array

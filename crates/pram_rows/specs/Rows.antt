@@ -64,8 +64,8 @@ abbrev pub row_end : Option (List ℕ) → JobData → ℕ → List ℕ
 row_end None job counter = codes "\n"
 row_end (Some lines) job counter = codes "," ++ line_number_text lines job counter ++ codes "\n"
 
--- The row of processor i in this step, which is made in the state. An instruction and what is written
--- to stand as csv writes them: in quotes, where a name has a comma.
+-- The row of processor i in this step, which is made in the state. An instruction and what is
+-- written to stand as csv writes them: in quotes, where a name has a comma.
 unfoldable pub row_line : RowWords → JobData → State → ℕ → ℕ → List ℕ
 row_line words job state step i =
     decimal step ++ codes "," ++ decimal i ++ codes "," ++ decimal (counter job state i)
