@@ -1,19 +1,23 @@
 -- What a sweep comes to, size by size.
-use Rattle.std.proofs.Common.{◌≡◌, ◌∙◌, ◌+◌, ◌<◌, ◌⊎◌, ℕ, List, [], ◌∷◌, ◌++◌, max, take, drop, get_or}
-use Rattle.std.proofs.Common.{ap, append_assoc, arith, inl, inr, length, refl, ◌≤◌}
-use Rattle.std.proofs.Common.{Bool, true, false, subst, sym}
+use Rattle.std.proofs.Common.{◌≡◌, ◌∙◌, ◌+◌, ◌<◌, ◌≤◌, ◌⊎◌, ℕ, List, [], ◌∷◌, ◌++◌, max, take}
+use Rattle.std.proofs.Common.{Bool, true, false, Option, Some, ap, append_assoc, arith, get_or, inl}
+use Rattle.std.proofs.Common.{inr, length, refl, subst, sym}
 use Rattle.std.specs.Prelude.{MatchBool}
 use Rattle.std.proofs.lemmas.List.{append-nil, take_all, take_more}
-use Rattle.std.proofs.lemmas.Option.{slice_get-get_or}
-use Rattle.pardo_text.specs.Settings.{SettingData, text_as_set, with_first}
+use Rattle.std.proofs.lemmas.Option.{slice_get-get_or, some_pair_parts}
+use Rattle.clap.specs.Words.{Text}
+use Rattle.pardo_text.specs.Settings.{SettingData, first_in, text_as_set, with_first}
 use Rattle.pardo_text.specs.declared.settings.SetKind.{SetKind}
 use Rattle.pram_commands.specs.Inputs.{IsBad, IsBadOrMemory}
 use Rattle.refusals.specs.Faults.{fault_status}
 use Rattle.refusals.specs.declared.fault.CommandFault.{CommandFault}
 use Rattle.refusals.specs.declared.fault.CommandFault.TheVariants as fault
+use Rattle.refusals.specs.declared.refusal.Refusal.{Refusal}
 use Rattle.refusals.specs.declared.refusal.TheConstants.{FAILED, MEMORY, REFUSED}
-use Rattle.command_answers.specs.Setting.{AllMet, IsUnfitBy}
-use Rattle.command_answers.specs.Sweeping.{AreSizes, ByRefusal, IsSizeOf, RefusesSize, RefusesSizes}
+use Rattle.command_answers.specs.Setting.{AllMet, BySetting, FileGives, IsUnfitBy, RefuseNames}
+use Rattle.command_answers.specs.Setting.{SetNames}
+use Rattle.command_answers.specs.Sweeping.{AreSizes, ByRefusal, IsRefusedSweep, IsSizeOf, IsSweep}
+use Rattle.command_answers.specs.Sweeping.{RefusesSize, RefusesSizes, sweep_text}
 use Rattle.command_answers.specs.declared.sweep.Unswept.{Unswept}
 use Rattle.command_answers.specs.declared.sweep.Unswept.TheVariants.{Unset, Fault}
 use Rattle.command_answers.proofs.Refused.{by_weaker}
@@ -143,6 +147,49 @@ module _ (settings : List SettingData) (text values : List ℕ) (d : ℕ) where
     before = so_far;
     refuses = subst (IsRefusedAs text) same refuses;
   }
+
+-- what the words set, where they set a name
+module _ (Holds : List ℕ → Option (List ℕ) → Type 0) (file : List ℕ) (words : List Text)
+    (text name values : List ℕ) (gives : FileGives Holds file text) where
+  pub sweep_made : (settings : List SettingData) → SetNames Holds [] words settings →
+      Some (name, values) ≡ first_in settings → (records bytes : List ℕ) (status : ℕ) →
+      AreSizes settings text values records status → bytes ≡ sweep_text name records →
+      IsSweep Holds file words bytes status
+  sweep_made [] names is records bytes status sizes prints = cc is
+  sweep_made (swept ∷ others) names is records bytes status sizes prints =
+      let parts = some_pair_parts name swept.name values swept.values is in record {
+        text = text;
+        gives = gives;
+        swept = swept;
+        others = others;
+        names = names;
+        records = records;
+        sizes = subst (λ (l : List ℕ). AreSizes (swept ∷ others) text l records status) parts.1
+            sizes;
+        prints = prints ∙ ap (λ (l : List ℕ). sweep_text l records) parts.0;
+      }
+
+  pub sweep_refused : (settings : List SettingData) → SetNames Holds [] words settings →
+      Some (name, values) ≡ first_in settings → RefusesSizes settings text values →
+      IsRefusedSweep Holds file words
+  sweep_refused [] names is refuses = cc is
+  sweep_refused (swept ∷ others) names is refuses = inr (record {
+    text = text;
+    gives = gives;
+    swept = swept;
+    others = others;
+    names = names;
+    refuses = subst (λ (l : List ℕ). RefusesSizes (swept ∷ others) text l)
+        (some_pair_parts name swept.name values swept.values is).1 refuses;
+  })
+
+-- a word that is refused, and a file that fails
+pub word_refused : (Holds : List ℕ → Option (List ℕ) → Type 0) (file : List ℕ) (words : List Text)
+    (refused : Refusal) → BySetting (RefuseNames Holds [] words) refused →
+    BySetting (λ kind. IsRefusedSweep Holds file words) refused
+word_refused Holds file words refused says =
+    by_weaker {P = RefuseNames Holds [] words} {Q = λ kind. IsRefusedSweep Holds file words}
+    (λ kind refuses. inl (kind, refuses)) refused says
 
 -- a line that asks for a sweep, and another one
 pub swept_so : (S L : Type 0) (b : Bool) → b ≡ true → S → MatchBool b S L
