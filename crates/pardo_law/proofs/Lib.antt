@@ -30,6 +30,7 @@ pub mod Ruling
 pub mod Answering
 pub mod Between
 pub mod Splitting
+pub mod LoopPieces
 pub mod FlatStates
 pub mod FlatLawful
 pub mod Flattening

@@ -1,5 +1,5 @@
 -- Three registers are enough for what is left of an expression, and for its pieces.
-use Rattle.std.specs.Prelude.{◌≡◌, ℕ, ◌+◌, ◌≤◌, true, [], slice_get, Some}
+use Rattle.std.specs.Prelude.{◌≡◌, ℕ, ◌+◌, ◌≤◌, Bool, true, [], slice_get, Some}
 use Rattle.std.specs.List.{All}
 use Rattle.pardo_text.specs.declared.statement.Line.{Line}
 use Rattle.pardo_text.specs.declared.statement.Statement.{Statement}
@@ -20,13 +20,14 @@ RoomIsEnough = (layout : ProgramLayoutData) (tree : Tree) (at : ℕ) →
 
 -- they are enough for all pieces of an expression, and for what is left of it
 abbrev pub PiecesAreSmall : Type 0
-PiecesAreSmall = (t : ℕ) (tree : Tree) →
-    All (λ piece. (shape_of piece).need ≤ 3) (split t tree).0
-    × ((shape_of (split t tree).1).need ≤ 3)
+PiecesAreSmall = (common : Bool) (t : ℕ) (tree : Tree) →
+    All (λ piece. (shape_of piece).need ≤ 3) (split common t tree).0
+    × ((shape_of (split common t tree).1).need ≤ 3)
 
 -- Where they are enough for the expression, nothing is split off.
 abbrev pub SmallIsWhole : Type 0
-SmallIsWhole = (t : ℕ) (tree : Tree) → (shape_of tree).need ≤ 3 → split t tree ≡ ([], tree)
+SmallIsWhole = (common : Bool) (t : ℕ) (tree : Tree) → (shape_of tree).need ≤ 3 →
+    split common t tree ≡ ([], tree)
 
 -- an assignment or an `if`
 abbrev pub IsPlain : Statement → Type 0
