@@ -23,14 +23,14 @@ use Rattle.pardo_law.proofs.Picturing.{IsFor, TurnsAreTied}
 
 -- ---- loops
 
-record Located (f : Line → List Line) (lines : List Line) (found : Line) : Type 0 where
-  at : ℕ
-  line : Line
-  is : slice_get lines at ≡ Some line
-  k : ℕ
-  here : slice_get (f line) k ≡ Some found
+pub record Located (f : Line → List Line) (lines : List Line) (found : Line) : Type 0 where
+  pub at : ℕ
+  pub line : Line
+  pub is : slice_get lines at ≡ Some line
+  pub k : ℕ
+  pub here : slice_get (f line) k ≡ Some found
 
-located : (f : Line → List Line) (lines : List Line) (m : ℕ) (found : Line) →
+pub located : (f : Line → List Line) (lines : List Line) (m : ℕ) (found : Line) →
     slice_get (flat_map f lines) m ≡ Some found → Located f lines found
 located f [] m found e = absurd (none-some found e)
 located f (line ∷ lines) m found e = ⊎_elim

@@ -92,7 +92,7 @@ made program end line plain t (piece ∷ pieces) m stand (suc k) le =
 
 -- ---- hidden lines of a loop
 
-no_more : {A : Type 0} (xs : List A) → slice_get xs (length xs) ≡ None
+pub no_more : {A : Type 0} (xs : List A) → slice_get xs (length xs) ≡ None
 no_more [] = refl
 no_more (x ∷ xs) = no_more xs
 
@@ -291,7 +291,7 @@ giving_asks : (program : ProgramData) (source : Source) (depth : ℕ) (common : 
 giving_asks program source depth true end x tree i = refl
 giving_asks program source depth false end x tree i = refl
 
-none_asked : (program : ProgramData) (source : Source) (i : ℕ) →
+pub none_asked : (program : ProgramData) (source : Source) (i : ℕ) →
     slice_get program.lines source.at ≡ None → asked program source i ≡ None
 unfolding asked
 none_asked program source i none =
