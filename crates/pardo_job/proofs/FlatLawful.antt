@@ -311,8 +311,12 @@ module _ (program : ProgramData) (lawful : IsProgram program) where
   plain_parts (EndWhile begin) depth is few = (no_pieces false, first_within begin is, few)
   plain_parts (For nest first last up end) depth is few = (
     no_pieces true,
-    ((let f = is.0 in omega (arith, f)), wide_common first is.1, wide_common last is.2,
-        last_within end is.3),
+    (
+      (let f = is.0 in omega (arith, f)),
+      wide_common first is.1,
+      wide_common last is.2,
+      last_within end is.3,
+    ),
     few,
   )
   plain_parts (EndFor begin) depth is few = (no_pieces true, last_within begin is, few)

@@ -43,8 +43,10 @@ module _ (program : ProgramData) where
       by_statement : (statement : Statement) → fits statement ≡ true →
           statement_parts program statement ≡ ([], statement)
       by_statement (EndFor begin) is =
-          ap (λ b. ((if b then [] else last_pieces program (statement_at program begin)),
-          EndFor begin)) (opener_fits begin (slice_get program.lines begin) refl)
+          ap (λ b. (
+            (if b then [] else last_pieces program (statement_at program begin)),
+            EndFor begin,
+          )) (opener_fits begin (slice_get program.lines begin) refl)
       by_statement (Assign target tree) is = ap (λ b. if b then ([], Assign target tree)
           else split_statement program (Assign target tree)) is
       by_statement (If tree) is =

@@ -440,5 +440,7 @@ pub made_so_far : (program : ProgramData) (job : JobData) → IsOf program job �
 made_so_far program job of n reached earlier lt =
     let c = carried_after program job of earlier (λ before less. reached before (omega arith)) in
     let line = line_next program (after program earlier) c.pictured.within (reached earlier lt).0 in
-    inl (slice_get_within program.lines (after program earlier).at line.0 line.1,
-    (reached earlier lt).1)
+    inl (
+      slice_get_within program.lines (after program earlier).at line.0 line.1,
+      (reached earlier lt).1,
+    )

@@ -692,7 +692,9 @@ pub compared_level : (up : Bool) (first last : Tree) → IsSmall first → IsSma
     (value_operand (takes first) last)) ≡ true
 compared_level up first last small smaller =
     subst (λ n. is_shallow (native 0 (if up then Gt else Lt) (value_operand 0 first)
-    (value_operand n last)) ≡ true) (sym (takes_as first)) (by_way up)
+    (value_operand n last)) ≡ true)
+    (let e = takes_as first in
+    let same : 0 + taken (shape_of first) ≡ takes first = omega (arith, e) in same) (by_way up)
   where
     one : IsOf (shape_of first) 0 (value_operand 0 first)
     one = operand_of first 0 (omega (arith, small))

@@ -30,8 +30,8 @@ use Rattle.pardo_job.specs.Carries.{Shares, StandsFor}
 use Rattle.pardo_law.specs.Flattening.{flat_count, size_next}
 use Rattle.pardo_law.proofs.Carrying.{all_at}
 use Rattle.pardo_job.proofs.FlatLines.{first_next, get_front, hidden_is, hidden_stands, last_stands}
-use Rattle.pardo_law.proofs.FlatStates.{IsOpening, line_stands, loop_cut, loop_line, now_shares}
-use Rattle.pardo_law.proofs.FlatStates.{opener_is, shares_kept}
+use Rattle.pardo_law.proofs.FlatStates.{IsOpening, line_stands, now_shares}
+use Rattle.pardo_law.proofs.LoopLines.{loop_cut, loop_line, opener_is, shares_kept}
 use Rattle.pardo_law.proofs.LoopPieces.{Cut, Let, LoopsBelow, PiecesBelow, after_lets}
 use Rattle.pardo_law.proofs.LoopPieces.{bounds_below, last_below, lets_run, split_below}
 use Rattle.pardo_law.proofs.Splitting.{after_pieces}

@@ -32,6 +32,7 @@ pub mod Between
 pub mod Splitting
 pub mod LoopPieces
 pub mod FlatStates
+pub mod LoopLines
 pub mod FlatLawful
 pub mod Flattening
 pub mod FlatCarrying

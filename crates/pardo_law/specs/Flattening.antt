@@ -1,23 +1,12 @@
 -- Flattening keeps runs, and the job of the flat program carries that of the program.
 use Rattle.std.specs.Prelude.{◌≡◌, ℕ, zero, suc, ◌+◌, ◌<◌, ◌≤◌, ◌⊎◌, length, slice_get}
 use Rattle.std.specs.Prelude.{Option, Some, None, IsTrue, is_some}
-use Rattle.pram_job.specs.Job.{JobData, IsJob}
-use Rattle.pram_step.specs.declared.answer.Dispute.{Dispute}
-use Rattle.pram_machine.specs.Machine.{counter, halted}
-use Rattle.pram_step.specs.Runs.{IsFault, state_after}
-use Rattle.pram_step.specs.Runs as machine
 use Rattle.pardo_text.specs.declared.statement.Line.{Line}
 use Rattle.pardo_text.specs.Lawful.{IsProgram}
-use Rattle.pardo_text.specs.Nested.{IsNested}
 use Rattle.pardo_text.specs.Program.{ProgramData}
 use Rattle.pardo_job.specs.Carries.{Shares, StandsFor}
-use Rattle.pardo_job.specs.Compiled.{IsCompiled}
-use Rattle.pardo_job.specs.Conflicts.{Assigns, asked}
-use Rattle.pardo_job.specs.Layouts.{program_layout}
+use Rattle.pardo_job.specs.Conflicts.{asked}
 use Rattle.pardo_job.specs.Meaning.{Source, after}
-use Rattle.pardo_job.specs.Runs.{IsProgramConflict, IsProgramEnd, line_number}
-use Rattle.pardo_job.specs.Runs as source
-use Rattle.pardo_law.specs.Between.{AreLinesMade, HoldsVariables, IsInLine, LeavesIn, PutsTo}
 use Rattle.pardo_job.specs.Flat.{flat, first_flat_of, is_common, pieces_of, flat_size}
 
 -- how many flat lines are made for the line that is next
