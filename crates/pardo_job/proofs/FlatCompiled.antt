@@ -17,14 +17,15 @@ cells_within a b c d e le = let same = mul_comm (b + c + d) e in omega (arith, l
 module _ (program : ProgramData) (job : JobData) (line_of : ℕ → ℕ) (lawful : IsProgram program)
     (compiled : IsCompiled program job line_of) where
   cells_few : shared_cells program.arrays
-      + program.procs * (length (flat program).privates + program.loops + program.choices)
+      + program.procs
+      * (length (flat program).privates + (flat program).loops + program.choices)
       ≤ 65536
   unfolding job_of program_layout
   cells_few =
       let few : job.cells ≤ 65536 = compiled.job_is.cells.1 in
       let are : job.cells ≡ cell_count (program_layout (flat program)) =
       ap (λ (j : JobData). j.cells) compiled.made in
-      cells_within (shared_cells program.arrays) (length (flat program).privates) program.loops
+      cells_within (shared_cells program.arrays) (length (flat program).privates) (flat program).loops
       program.choices program.procs (omega (arith, few, are))
 
   pub compiled_lawful : IsProgram (flat program)

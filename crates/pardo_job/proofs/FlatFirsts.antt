@@ -14,8 +14,9 @@ use Rattle.pardo_text.specs.declared.statement.Target.TheVariants.{Private, Arra
 use Rattle.pardo_text.specs.Expression.{Tree, number, own as own_number, loop, private, place}
 use Rattle.pardo_text.specs.Expression.{apply}
 use Rattle.pardo_text.specs.Program.{ProgramData}
-use Rattle.pardo_job.specs.Flat.{beside, first_flat_of, fits, flat, is_beside, last_line, moved_statement}
-use Rattle.pardo_job.specs.Flat.{pieces_of, shape_of, flat_size, split, split_statement}
+use Rattle.pardo_job.specs.Flat.{base_of, beside, first_flat_of, fits, flat, flat_size, giving}
+use Rattle.pardo_job.specs.Flat.{is_beside, is_common, last_line, last_of, moved_statement, parts_of}
+use Rattle.pardo_job.specs.Flat.{pieces_of, shape_of, split, split_statement, statement_parts}
 use Rattle.pardo_job.specs.Lines.{length_of_line, place_of}
 use Rattle.pardo_job.specs.Times.{is_counted, reads_shared}
 use Rattle.pardo_job.proofs.FlatLines.{first_next, hidden_is, hidden_stands, last_stands}
@@ -44,29 +45,33 @@ place_some program j = omega arith
 
 -- ---- what is split off
 
-two_none : (t : ℕ) (op : Op) (first second : Tree) (left right : List Tree × Tree) (b : Bool) →
+two_none : (common : Bool) (t : ℕ) (op : Op) (first second : Tree) (left right : List Tree × Tree)
+    (b : Bool) →
     (length left.0 ≡ 0 → left.1 ≡ first) → (length right.0 ≡ 0 → right.1 ≡ second) →
-    length (beside t b left right).0 ≡ 0 →
-    apply op (beside t b left right).1 (beside t b left right).2 ≡ apply op first second
-two_none t op first second left right true one other few =
+    length (beside common t b left right).0 ≡ 0 →
+    apply op (beside common t b left right).1 (beside common t b left right).2
+    ≡ apply op first second
+two_none common t op first second left right true one other few =
     let long = length-append left.0 right.0 in
     ap (λ (x : Tree). apply op x right.1) (one (omega (arith, few, long)))
     ∙ ap (apply op first) (other (omega (arith, few, long)))
-two_none t op first second left right false one other few =
+two_none common t op first second left right false one other few =
     let long = length-append left.0 (right.0 ++ right.1 ∷ []) in
     let more = length-append right.0 (right.1 ∷ []) in absurd (omega (arith, few, long, more))
 
-split_none : (t : ℕ) (tree : Tree) → length (split t tree).0 ≡ 0 → (split t tree).1 ≡ tree
-split_none t (number k) none = refl
-split_none t own_number none = refl
-split_none t (loop nest) none = refl
-split_none t (private x) none = refl
-split_none t (place array index) none = ap (place array) (split_none t index none)
-split_none t (apply op first second) none =
-    two_none t op first second (split t first) (split (t + length (split t first).0) second)
-    (is_beside op (shape_of (split t first).1) (shape_of second))
-    (λ few. split_none t first few)
-    (λ few. split_none (t + length (split t first).0) second few) none
+pub split_none : (common : Bool) (t : ℕ) (tree : Tree) → length (split common t tree).0 ≡ 0 →
+    (split common t tree).1 ≡ tree
+split_none common t (number k) none = refl
+split_none common t own_number none = refl
+split_none common t (loop nest) none = refl
+split_none common t (private x) none = refl
+split_none common t (place array index) none = ap (place array) (split_none common t index none)
+split_none common t (apply op first second) none =
+    two_none common t op first second (split common t first)
+    (split common (t + length (split common t first).0) second)
+    (is_beside op (shape_of (split common t first).1) (shape_of second))
+    (λ few. split_none common t first few)
+    (λ few. split_none common (t + length (split common t first).0) second few) none
 
 -- ---- where the lines for a line stand
 
@@ -97,23 +102,37 @@ module _ (program : ProgramData) where
 
   module _ (j : ℕ) (line : Line) (is : slice_get program.lines j ≡ Some line)
       (counted : is_counted line.statement ≡ true) where
-    rest_counts : (t : ℕ) (statement : Statement) → is_counted statement ≡ true → (b : Bool) →
-        length (if b then ([], statement) else split_statement t statement).0 ≡ 0 →
+    rest_counts : (statement : Statement) → is_counted statement ≡ true → (b : Bool) →
+        length (if b then ([], statement) else split_statement program statement).0 ≡ 0 →
         is_counted (moved_statement program (if b then ([], statement)
-        else split_statement t statement).1) ≡ true
-    rest_counts t (Assign (Private x) tree) counts true none = refl
-    rest_counts t (Assign (Private x) tree) counts false none = refl
-    rest_counts t (Assign (Shared array index) tree) counts true none = refl
-    rest_counts t (Assign (Shared array index) tree) counts false none = refl
-    rest_counts t (If tree) counts true none = counts
-    rest_counts t (If tree) counts false none = ap reads_shared (split_none t tree none) ∙ counts
-    rest_counts t Else counts b none = absurd (let e : false ≡ true = counts in cc)
-    rest_counts t EndIf counts b none = absurd (let e : false ≡ true = counts in cc)
-    rest_counts t (While tree end) counts b none = absurd (let e : false ≡ true = counts in cc)
-    rest_counts t (EndWhile begin) counts b none = absurd (let e : false ≡ true = counts in cc)
-    rest_counts t (For nest first last up end) counts b none =
+        else split_statement program statement).1) ≡ true
+    rest_counts (Assign (Private x) tree) counts true none = refl
+    rest_counts (Assign (Private x) tree) counts false none = refl
+    rest_counts (Assign (Shared array index) tree) counts true none = refl
+    rest_counts (Assign (Shared array index) tree) counts false none = refl
+    rest_counts (If tree) counts true none = counts
+    rest_counts (If tree) counts false none =
+        ap reads_shared (split_none false (length program.privates) tree none) ∙ counts
+    rest_counts Else counts b none = absurd (let e : false ≡ true = counts in cc)
+    rest_counts EndIf counts b none = absurd (let e : false ≡ true = counts in cc)
+    rest_counts (While tree end) counts b none = absurd (let e : false ≡ true = counts in cc)
+    rest_counts (EndWhile begin) counts b none = absurd (let e : false ≡ true = counts in cc)
+    rest_counts (For nest first last up end) counts b none =
         absurd (let e : false ≡ true = counts in cc)
-    rest_counts t (EndFor begin) counts b none = absurd (let e : false ≡ true = counts in cc)
+    rest_counts (EndFor begin) counts b none = absurd (let e : false ≡ true = counts in cc)
+
+    counted_parts : (statement : Statement) → is_counted statement ≡ true →
+        (statement_parts program statement ≡ parts_of program statement)
+        × (is_common statement ≡ false)
+    counted_parts (Assign target tree) counts = (refl, refl)
+    counted_parts (If tree) counts = (refl, refl)
+    counted_parts Else counts = absurd (let e : false ≡ true = counts in cc)
+    counted_parts EndIf counts = absurd (let e : false ≡ true = counts in cc)
+    counted_parts (While tree end) counts = absurd (let e : false ≡ true = counts in cc)
+    counted_parts (EndWhile begin) counts = absurd (let e : false ≡ true = counts in cc)
+    counted_parts (For nest first last up end) counts =
+        absurd (let e : false ≡ true = counts in cc)
+    counted_parts (EndFor begin) counts = absurd (let e : false ≡ true = counts in cc)
 
     pub record FirstLine : Type 0 where
       pub line_is : Line
@@ -124,18 +143,24 @@ module _ (program : ProgramData) where
     last_counts : length (pieces_of program line) ≡ 0 →
         is_counted (last_line program line).statement ≡ true
     last_counts none =
-        rest_counts (length program.privates) line.statement counted (fits line.statement) none
+        let same = (counted_parts line.statement counted).0 in
+        ap (λ (p : List Tree × Statement). is_counted (moved_statement program p.1)) same
+        ∙ rest_counts line.statement counted (fits line.statement)
+        (sym (ap (λ (p : List Tree × Statement). length p.0) same) ∙ none)
 
     pub first_line : FirstLine
     first_line = ⊎_elim
         (λ (some : 0 < length (pieces_of program line)).
-        let there = hidden_is line (length program.privates) (pieces_of program line) 0 some in
+        let end = last_of program 0 in
+        let there = hidden_is end line (base_of program line.statement) (pieces_of program line) 0
+        some in
         let e : first_flat_of program j + 0 ≡ first_flat_of program j = omega arith in record {
-          line_is = record line { statement = Assign (Private there.0) there.1 };
+          line_is = record line { statement = giving (is_common line.statement) end there.0 there.1 };
           found = ap (slice_get (flat program).lines) (sym e)
               ∙ hidden_stands program j line is 0 some ∙ there.2;
           depth = refl;
-          counts = refl;
+          counts = ap (λ common. is_counted (giving common end there.0 there.1))
+              (counted_parts line.statement counted).1;
         })
         (λ (none : length (pieces_of program line) ≤ 0).
         let zero_is : length (pieces_of program line) ≡ 0 = omega arith in

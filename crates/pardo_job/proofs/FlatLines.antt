@@ -14,12 +14,10 @@ use Rattle.std.proofs.lemmas.List.Sums.{sum_by-cons}
 use mathlib.Core.Path.{fun_ext}
 use Rattle.std.proofs.lemmas.Option.{none-some, same_Some}
 use Rattle.pardo_text.specs.declared.statement.Line.{Line}
-use Rattle.pardo_text.specs.declared.statement.Statement.TheVariants.{Assign}
-use Rattle.pardo_text.specs.declared.statement.Target.TheVariants.{Private}
 use Rattle.pardo_text.specs.Expression.{Tree}
 use Rattle.pardo_text.specs.Program.{ProgramData}
-use Rattle.pardo_job.specs.Flat.{first_flat_of, flat, hidden, last_line, last_of, lines_for, pieces_of}
-use Rattle.pardo_job.specs.Flat.{flat_size}
+use Rattle.pardo_job.specs.Flat.{base_of, first_flat_of, flat, giving, hidden, is_common}
+use Rattle.pardo_job.specs.Flat.{flat_size, last_line, last_of, lines_for, pieces_of}
 
 -- ---- places in lists
 
@@ -88,29 +86,33 @@ module _ (f : Line → List Line) (size : Line → ℕ) (long : (x : Line) → l
 
 -- ---- the lines for a line
 
-pub length-hidden : (line : Line) (t : ℕ) (pieces : List Tree) →
-    length (hidden line t pieces) ≡ length pieces
-length-hidden line t [] = refl
-length-hidden line t (piece ∷ pieces) = ap suc (length-hidden line (t + 1) pieces)
+pub length-hidden : (end : ℕ) (line : Line) (t : ℕ) (pieces : List Tree) →
+    length (hidden end line t pieces) ≡ length pieces
+length-hidden end line t [] = refl
+length-hidden end line t (piece ∷ pieces) = ap suc (length-hidden end line (t + 1) pieces)
 
--- each hidden line gives a private variable a value
-pub hidden_is : (line : Line) (t : ℕ) (pieces : List Tree) (k : ℕ) → k < length pieces →
-    (x : ℕ) × (tree : Tree) × (slice_get (hidden line t pieces) k
-    ≡ Some (record line { statement = Assign (Private x) tree }))
-hidden_is line t [] k lt = absurd (omega (arith, lt))
-hidden_is line t (piece ∷ pieces) zero lt = (t, piece, refl)
-hidden_is line t (piece ∷ pieces) (suc k) lt =
-    hidden_is line (t + 1) pieces k (omega (arith, lt))
+-- each hidden line gives a piece to a variable
+pub hidden_is : (end : ℕ) (line : Line) (t : ℕ) (pieces : List Tree) (k : ℕ) → k < length pieces →
+    (x : ℕ) × (tree : Tree) × (slice_get (hidden end line t pieces) k
+    ≡ Some (record line { statement = giving (is_common line.statement) end x tree }))
+hidden_is end line t [] k lt = absurd (omega (arith, lt))
+hidden_is end line t (piece ∷ pieces) zero lt = (t, piece, refl)
+hidden_is end line t (piece ∷ pieces) (suc k) lt =
+    hidden_is end line (t + 1) pieces k (omega (arith, lt))
 
 module _ (program : ProgramData) where
-  abbrev base : ℕ
-  base = length program.privates
+  abbrev pub hidden_for : Line → List Line
+  hidden_for line =
+      hidden (last_of program 0) line (base_of program line.statement) (pieces_of program line)
+
+  abbrev long : (line : Line) → length (hidden_for line) ≡ length (pieces_of program line)
+  long line = length-hidden (last_of program 0) line (base_of program line.statement)
+      (pieces_of program line)
 
   pub size_is : (line : Line) → length (lines_for program line) ≡ flat_size program line
   unfolding lines_for
-  size_is line = length-append (hidden line base (pieces_of program line))
-      (last_line program line ∷ [])
-      ∙ ap (λ n. n + 1) (length-hidden line base (pieces_of program line))
+  size_is line = length-append (hidden_for line) (last_line program line ∷ [])
+      ∙ ap (λ n. n + 1) (long line)
 
   -- the last line of the text is the last flat line
   pub flat_end : length (flat program).lines ≡ first_flat_of program (length program.lines)
@@ -122,25 +124,24 @@ module _ (program : ProgramData) where
   module _ (j : ℕ) (line : Line) (is : slice_get program.lines j ≡ Some line) where
     pub hidden_stands : (k : ℕ) → k < length (pieces_of program line) →
         slice_get (flat program).lines (first_flat_of program j + k)
-        ≡ slice_get (hidden line base (pieces_of program line)) k
+        ≡ slice_get (hidden_for line) k
     unfolding first_flat_of lines_for
     hidden_stands k lt =
-        let long = length-hidden line base (pieces_of program line) in
+        let e = long line in
         found_in (lines_for program) (flat_size program) size_is program.lines j
         (first_flat_of program j + k) k line is refl (omega (arith, lt))
-        ∙ get_front (hidden line base (pieces_of program line)) (last_line program line ∷ []) k
-        (omega (arith, lt, long))
+        ∙ get_front (hidden_for line) (last_line program line ∷ []) k (omega (arith, lt, e))
 
     pub last_stands : slice_get (flat program).lines
         (first_flat_of program j + length (pieces_of program line)) ≡ Some (last_line program line)
     unfolding first_flat_of lines_for
     last_stands =
-        let long = length-hidden line base (pieces_of program line) in
+        let e = long line in
         found_in (lines_for program) (flat_size program) size_is program.lines j
         (first_flat_of program j + length (pieces_of program line)) (length (pieces_of program line))
         line is refl (omega arith)
-        ∙ get_back (hidden line base (pieces_of program line)) (last_line program line ∷ [])
-        (length (pieces_of program line)) 0 (omega (arith, long))
+        ∙ get_back (hidden_for line) (last_line program line ∷ [])
+        (length (pieces_of program line)) 0 (omega (arith, e))
 
     -- each of the lines for a line has its number
     pub flat_at : (k : ℕ) → k ≤ length (pieces_of program line) → (found : Line) ×
@@ -148,8 +149,10 @@ module _ (program : ProgramData) where
         × (found.number ≡ line.number)
     flat_at k le = ⊎_elim
         (λ (low : k < length (pieces_of program line)).
-        let there = hidden_is line base (pieces_of program line) k low in (
-          record line { statement = Assign (Private there.0) there.1 },
+        let end = last_of program 0 in
+        let there = hidden_is end line (base_of program line.statement) (pieces_of program line) k
+        low in (
+          record line { statement = giving (is_common line.statement) end there.0 there.1 },
           hidden_stands k low ∙ there.2,
           refl,
         ))

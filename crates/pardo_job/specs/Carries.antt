@@ -19,10 +19,10 @@ abbrev pub ShowsAfter : ProgramData → JobData → Source → ℕ → Type 0
 ShowsAfter program job at_line t = IsReached job t
     × Represents program job at_line (state_after job t)
 
--- Shared cells, masks, loops, and the private variables of the text are the same.
+-- Shared cells, masks, and the loops and private variables of the text are the same.
 pub record Shares (program : ProgramData) (source flat_source : Source) : Type 0 where
   pub cells : flat_source.cells ≡ source.cells
-  pub loops : flat_source.loops ≡ source.loops
+  pub loops : (nest : ℕ) → nest < program.loops → flat_source.loops nest ≡ source.loops nest
   pub masks : flat_source.masks ≡ source.masks
   pub privates : (x i : ℕ) → x < length program.privates →
       flat_source.privates x i ≡ source.privates x i

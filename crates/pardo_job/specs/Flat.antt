@@ -1,6 +1,7 @@
 -- The flat program. Where three registers are too few for a line, hidden lines come before it, with
--- its number and depth. They give parts of its expressions to private variables without a name,
--- which follow those of the text.
+-- its number and depth. They give parts of its expressions to variables without a name, which
+-- follow those of the text: to private ones; but in a line of a loop, which all processors go by, to
+-- variables of loops.
 use Rattle.std.specs.Prelude.{◌≡◌, ℕ, ◌+◌, ◌-◌, ◌*◌, ◌<◌, Some, slice_get, Bool}
 use Rattle.std.specs.Prelude.{true, false, not, ◌&&◌, ◌||◌, nat_le}
 use Rattle.std.specs.Prelude.{if◌then◌else◌, max, min}
@@ -17,6 +18,7 @@ use Rattle.pardo_text.specs.declared.statement.Target.TheVariants.{Private, Arra
 use Rattle.pardo_text.specs.Expression.{Tree, number, own, loop, private, place, apply}
 use Rattle.pardo_text.specs.declared.limits.TheConstants.{MAX_CELLS}
 use Rattle.pardo_text.specs.Program.{ProgramData, PrivateData, shared_cells}
+use Rattle.pardo_job.specs.Meaning.{statement_at}
 use Rattle.pardo_job.specs.Operations.{gives_truth}
 
 -- ---- registers
@@ -80,15 +82,20 @@ has_room at shape = nat_le (at + shape.need) 3
 
 -- ---- expressions
 
+-- what a piece is given to: a variable of a loop where it is common to all processors
+abbrev pub variable : Bool → ℕ → Tree
+variable true t = loop t
+variable false t = private t
+
 -- The pieces of two expressions, and what is left of these. The second one is the last piece where
--- it has no room beside the first. Pieces are given to private variables from the number t on.
-abbrev pub beside : ℕ → Bool → List Tree × Tree → List Tree × Tree → List Tree × Tree × Tree
-beside t room first second =
+-- it has no room beside the first. Pieces are given to the variables from the number t on.
+abbrev pub beside : Bool → ℕ → Bool → List Tree × Tree → List Tree × Tree → List Tree × Tree × Tree
+beside common t room first second =
     if room then (first.0 ++ second.0, first.1, second.1)
     else (
       first.0 ++ (second.0 ++ second.1 ∷ []),
       first.1,
-      private (t + length first.0 + length second.0),
+      variable common (t + length first.0 + length second.0),
     )
 
 -- where the first is computed, the second one needs room beside it
@@ -96,32 +103,53 @@ abbrev pub is_beside : Op → ShapeData → ShapeData → Bool
 is_beside op first second = not first.is_computed || has_room 0 (applied_shape op first second)
 
 -- the pieces of an expression, and what is left of it
-abbrev pub split : ℕ → Tree → List Tree × Tree
-split t (place array index) = let inner = split t index in (inner.0, place array inner.1)
-split t (apply op first second) =
-    let left = split t first in
-    let parts = beside t (is_beside op (shape_of left.1) (shape_of second)) left
-    (split (t + length left.0) second) in
+abbrev pub split : Bool → ℕ → Tree → List Tree × Tree
+split common t (place array index) =
+    let inner = split common t index in (inner.0, place array inner.1)
+split common t (apply op first second) =
+    let left = split common t first in
+    let parts = beside common t (is_beside op (shape_of left.1) (shape_of second)) left
+    (split common (t + length left.0) second) in
     (parts.0, apply op parts.1 parts.2)
-split t tree = ([], tree)
+split common t tree = ([], tree)
 
 -- ---- lines
 
 -- the pieces of the value and of the index, and what is left of these
 abbrev pub split_store : ℕ → Tree → Tree → List Tree × Tree × Tree
 split_store t tree index =
-    let value = split t tree in
-    beside t (has_room (taken (shape_of value.1)) (shape_of index)) value
-    (split (t + length value.0) index)
+    let value = split false t tree in
+    beside false t (has_room (taken (shape_of value.1)) (shape_of index)) value
+    (split false (t + length value.0) index)
+
+-- those of the last bound of a `for`, which has a register less
+abbrev pub split_last : ℕ → Tree → List Tree × Tree
+split_last t tree =
+    let last = split true t tree in
+    if has_room 1 (shape_of last.1) then last
+    else (last.0 ++ last.1 ∷ [], loop (t + length last.0))
+
+-- and of both bounds, those of the last one first
+abbrev pub split_bounds : ℕ → Tree → Tree → List Tree × Tree × Tree
+split_bounds t first last =
+    let high = split_last t last in
+    let low = split true (t + length high.0) first in (high.0 ++ low.0, low.1, high.1)
 
 -- the pieces of a line, and what is left of it
-abbrev pub split_statement : ℕ → Statement → List Tree × Statement
-split_statement t (Assign (Private x) tree) =
-    let parts = split t tree in (parts.0, Assign (Private x) parts.1)
-split_statement t (Assign (Shared array index) tree) =
-    let parts = split_store t tree index in (parts.0, Assign (Shared array parts.2) parts.1)
-split_statement t (If tree) = let parts = split t tree in (parts.0, If parts.1)
-split_statement t statement = ([], statement)
+abbrev pub split_statement : ProgramData → Statement → List Tree × Statement
+split_statement program (Assign (Private x) tree) =
+    let parts = split false (length program.privates) tree in (parts.0, Assign (Private x) parts.1)
+split_statement program (Assign (Shared array index) tree) =
+    let parts = split_store (length program.privates) tree index in
+    (parts.0, Assign (Shared array parts.2) parts.1)
+split_statement program (If tree) =
+    let parts = split false (length program.privates) tree in (parts.0, If parts.1)
+split_statement program (While tree end) =
+    let parts = split true program.loops tree in (parts.0, While parts.1 end)
+split_statement program (For nest first last up end) =
+    let parts = split_bounds program.loops first last in
+    (parts.0, For nest parts.1 parts.2 up end)
+split_statement program statement = ([], statement)
 
 -- three registers are enough for it
 abbrev pub fits : Statement → Bool
@@ -129,16 +157,46 @@ fits (Assign (Private x) tree) = has_room 0 (shape_of tree)
 fits (Assign (Shared array index) tree) =
     has_room 0 (shape_of tree) && has_room (taken (shape_of tree)) (shape_of index)
 fits (If tree) = has_room 0 (shape_of tree)
+fits (While tree end) = has_room 0 (shape_of tree)
+fits (For nest first last up end) = has_room 0 (shape_of first) && has_room 1 (shape_of last)
 fits statement = true
 
 -- then nothing is split off
+abbrev pub parts_of : ProgramData → Statement → List Tree × Statement
+parts_of program statement =
+    if fits statement then ([], statement) else split_statement program statement
+
+-- the pieces of the last bound of a `for`
+abbrev pub last_pieces : ProgramData → Statement → List Tree
+last_pieces program (For nest first last up end) = (split_last program.loops last).0
+last_pieces program statement = []
+
+-- its `end` asks for them again, if it has some
+abbrev pub bound_pieces : ProgramData → Statement → List Tree
+bound_pieces program opener = if fits opener then [] else last_pieces program opener
+
+abbrev pub statement_parts : ProgramData → Statement → List Tree × Statement
+statement_parts program (EndFor begin) =
+    (bound_pieces program (statement_at program begin), EndFor begin)
+statement_parts program statement = parts_of program statement
+
 abbrev pub line_parts : ProgramData → Line → List Tree × Statement
-line_parts program line =
-    if fits line.statement then ([], line.statement)
-    else split_statement (length program.privates) line.statement
+line_parts program line = statement_parts program line.statement
 
 abbrev pub pieces_of : ProgramData → Line → List Tree
 pieces_of program line = (line_parts program line).0
+
+-- whether its pieces are common to all processors
+abbrev pub is_common : Statement → Bool
+is_common (While tree end) = true
+is_common (For nest first last up end) = true
+is_common (EndFor begin) = true
+is_common statement = false
+
+-- the number of the variable of its first piece
+abbrev pub base_of : ProgramData → Statement → ℕ
+base_of program statement =
+    if is_common statement then program.loops else length program.privates
 
 -- how many lines there are for it
 abbrev pub flat_size : ProgramData → Line → ℕ
@@ -159,27 +217,42 @@ moved_statement program (For nest first last up end) = For nest first last up (l
 moved_statement program (EndFor begin) = EndFor (last_of program begin)
 moved_statement program statement = statement
 
+-- The line that gives a piece to a variable. To that of a loop it is given by the first line of one
+-- that counts down to 0: so this loop has a turn, and its `end` is never gone to.
+abbrev pub giving : Bool → ℕ → ℕ → Tree → Statement
+giving true end t piece = For t piece (number 0) false end
+giving false end t piece = Assign (Private t) piece
+
 -- the hidden lines of these pieces
-abbrev pub hidden : Line → ℕ → List Tree → List Line
-hidden line t [] = []
-hidden line t (piece ∷ pieces) =
-    record line { statement = Assign (Private t) piece } ∷ hidden line (t + 1) pieces
+abbrev pub hidden : ℕ → Line → ℕ → List Tree → List Line
+hidden end line t [] = []
+hidden end line t (piece ∷ pieces) =
+    record line { statement = giving (is_common line.statement) end t piece }
+    ∷ hidden end line (t + 1) pieces
 
 abbrev pub last_line : ProgramData → Line → Line
 last_line program line =
     record line { statement = moved_statement program (line_parts program line).1 }
 
 unfoldable pub lines_for : ProgramData → Line → List Line
-lines_for program line = hidden line (length program.privates) (pieces_of program line)
+lines_for program line =
+    hidden (last_of program 0) line (base_of program line.statement) (pieces_of program line)
     ++ last_line program line ∷ []
 
 -- ---- programs
 
--- as many variables as the line with most pieces has
-abbrev pub most_pieces : ProgramData → List Line → ℕ
-most_pieces program [] = 0
-most_pieces program (line ∷ lines) =
-    max (length (pieces_of program line)) (most_pieces program lines)
+-- how many private variables, and how many variables of loops, its pieces have
+abbrev pub pieces_count : Bool → ProgramData → Line → ℕ
+pieces_count true program line =
+    if is_common line.statement then length (pieces_of program line) else 0
+pieces_count false program line =
+    if is_common line.statement then 0 else length (pieces_of program line)
+
+-- as many as the line with most has
+abbrev pub most_pieces : Bool → ProgramData → List Line → ℕ
+most_pieces common program [] = 0
+most_pieces common program (line ∷ lines) =
+    max (pieces_count common program line) (most_pieces common program lines)
 
 abbrev pub nameless : ProgramData → PrivateData
 nameless program = record { name = []; start = replicate program.procs 0 }
@@ -187,7 +260,8 @@ nameless program = record { name = []; start = replicate program.procs 0 }
 abbrev pub flat : ProgramData → ProgramData
 flat program = record program {
   privates = program.privates
-      ++ replicate (most_pieces program program.lines) (nameless program);
+      ++ replicate (most_pieces false program program.lines) (nameless program);
+  loops = program.loops + most_pieces true program program.lines;
   lines = flat_map (lines_for program) program.lines;
 }
 
@@ -202,8 +276,8 @@ pub record IsFirstSplit (program : ProgramData) (number n : ℕ) : Type 0 where
   pub before : (k : ℕ) (other : Line) → k < j → slice_get program.lines k ≡ Some other →
       length (pieces_of program other) ≡ 0
 
--- with a private variable for each piece of the line that has most there are too many cells
+-- with variables for the pieces of the lines that have most there are too many cells
 pub record IsTooWide (program : ProgramData) (number : ℕ) : Type 0 where
   pub first : IsFirstSplit program number (length program.lines)
   pub cells : MAX_CELLS < shared_cells program.arrays + program.procs
-      * (length (flat program).privates + program.loops + program.choices)
+      * (length (flat program).privates + (flat program).loops + program.choices)

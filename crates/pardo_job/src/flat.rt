@@ -2,9 +2,11 @@
 ghost use Rattle.std.specs.Prelude.{◌≡◌, ◌+◌, ◌-◌, ◌≤◌, ◌==◌, ◌++◌, ◌∷◌, [], IfOk, OnOk, true};
 ghost use Rattle.std.specs.Prelude.{if◌then◌else◌, length, map, max, slice_index};
 ghost use Rattle.pardo_text.specs.Lawful.{IsProgram};
-ghost use Rattle.pardo_job.specs.Flat.{hidden, split_statement};
+ghost use Rattle.pardo_job.specs.Flat.{base_of, bound_pieces, giving, hidden, is_common};
+ghost use Rattle.pardo_job.specs.Flat.{last_pieces, parts_of, split_statement, statement_parts};
 ghost use Rattle.pardo_job.specs.Inner.Flats.{AreFlat, DoAllFit, IsFlattened, moved_by, moved_line};
-ghost use Rattle.pardo_job.specs.Inner.Flats.{parted_line, parts_from};
+ghost use Rattle.pardo_job.specs.Inner.Flats.{parted_line};
+ghost use Rattle.pardo_job.specs.Meaning.{statement_at};
 
 use crate::layout::Layout;
 use crate::needs::{Shape, fits};
@@ -42,13 +44,14 @@ pub(crate) fn flatten(alloc: Global, program: &Program) -> Result<Flattened, All
         lines,
         firsts,
         most,
+        loops,
         split,
     } = flat_lines(alloc, program)?;
-    if !Layout::of(alloc, program)?.has_rows(most) {
+    if !Layout::of(alloc, program)?.has_rows(most, loops) {
         return Ok(Flattened::TooWide(split));
     }
     let lines = moved_lines(lines, &firsts);
-    let program = program.with_lines(alloc, most, lines)?;
+    let program = program.with_lines(alloc, most, program.loops() + loops, lines)?;
     Ok(Flattened::Flat(Flat { program, firsts }))
 }
 
@@ -72,8 +75,10 @@ struct FlatLines {
     lines: Vec<Line>,
     /// Where the first of the lines for each line stands.
     firsts: Vec<usize>,
-    /// How many pieces the line with most has.
+    /// How many pieces are given to private variables in the line with most, and how many to those
+    /// of loops.
     most: usize,
+    loops: usize,
     /// The number of the first line with pieces, if one has some.
     split: u64,
 }
@@ -92,19 +97,23 @@ impl FlatLines {
             ++ parted_line base line.now parts.pieces.items parts.rest) }
         ensures firsts { OnOk result (self.new.firsts.items
             ≡ self.old.firsts.items ++ length self.old.lines.items ∷ []) }
-        ensures most { OnOk result (self.new.most
-            ≡ max self.old.most (length parts.pieces.items)) }
-        ensures split { OnOk result (self.new.split
-            ≡ (if self.old.most == 0 then line.now.number else self.old.split)) }
+        ensures most { OnOk result (self.new.most ≡ max self.old.most
+            (if is_common line.now.statement then 0 else length parts.pieces.items)) }
+        ensures loops { OnOk result (self.new.loops ≡ max self.old.loops
+            (if is_common line.now.statement then length parts.pieces.items else 0)) }
+        ensures split { OnOk result (self.new.split ≡ (if max self.old.most self.old.loops == 0
+            then line.now.number else self.old.split)) }
     {
         let Parts { pieces, rest } = parts;
         self.firsts.push(self.lines.len())?;
-        self.split = if self.most == 0 {
+        self.split = if self.most.max(self.loops) == 0 {
             line.number
         } else {
             self.split
         };
-        self.most = self.most.max(pieces.len());
+        let common = is_common(&line.statement);
+        self.most = self.most.max(if common { 0 } else { pieces.len() });
+        self.loops = self.loops.max(if common { pieces.len() } else { 0 });
         push_hidden(&mut self.lines, alloc, line, base, &pieces)?;
         self.lines.push(Line {
             statement: rest,
@@ -120,23 +129,23 @@ fn flat_lines(alloc: Global, program: &Program) -> Result<FlatLines, AllocError>
     requires { IsProgram program.now }
     ensures { IfOk result (AreFlat program.now) }
 {
-    let base = program.privates().len();
     let mut shapes = Vec::new(alloc);
     let mut flat = FlatLines {
         lines: Vec::new(alloc),
         firsts: Vec::new(alloc),
         most: 0,
+        loops: 0,
         split: 0,
     };
     for line in program.lines() {
-        let parts = parts_of(alloc, &mut shapes, base, &line.statement)?;
-        flat.push(alloc, base, line, parts)?;
+        let parts = statement_parts(alloc, &mut shapes, program, &line.statement)?;
+        flat.push(alloc, base_of(program, &line.statement), line, parts)?;
     }
     flat.firsts.push(flat.lines.len())?;
     Ok(flat)
 }
 
-// The hidden lines of these pieces, which are given to the private variables from this one on.
+// The hidden lines of these pieces, which are given to the variables from this one on.
 fn push_hidden(
     lines: &mut Vec<Line>,
     alloc: Global,
@@ -145,18 +154,60 @@ fn push_hidden(
     pieces: &[Expr],
 ) -> Result<(), AllocError>
     requires { base ≤ 65536 }
-    ensures { OnOk result (lines.new.items ≡ lines.old.items ++ hidden line.now base pieces.now) }
+    ensures { OnOk result (lines.new.items
+        ≡ lines.old.items ++ hidden 0 line.now base pieces.now) }
 {
     let depth = line.depth;
+    let common = is_common(&line.statement);
     for (index, piece) in pieces.iter().enumerate() {
         let value = piece.copied(alloc)?;
         lines.push(Line {
-            statement: Statement::Assign(Target::Private(base + index), value),
+            statement: giving(alloc, common, base + index, value)?,
             depth,
             number: line.number,
         })?;
     }
     Ok(())
+}
+
+// The line that gives a piece to a variable: to that of a loop, by the first line of one that
+// counts down to 0, and so has a turn.
+fn giving(
+    alloc: Global,
+    common: bool,
+    variable: usize,
+    piece: Expr,
+) -> Result<Statement, AllocError>
+    ensures { IfOk result (λ statement. statement ≡ giving common 0 variable piece) }
+{
+    if !common {
+        return Ok(Statement::Assign(Target::Private(variable), piece));
+    }
+    let none = Expr::number(alloc, 0)?;
+    Ok(Statement::For(variable, piece, none, false, 0))
+}
+
+// Whether pieces of a line are common to all processors.
+fn is_common(statement: &Statement) -> bool
+    ensures { result ≡ is_common statement.now }
+{
+    matches!(
+        statement,
+        Statement::While(_, _) | Statement::For(_, _, _, _, _) | Statement::EndFor(_)
+    )
+}
+
+// The number of the variable of the first piece of a line.
+fn base_of(program: &Program, statement: &Statement) -> usize
+    requires { IsProgram program.now }
+    ensures base { result ≡ base_of program.now statement.now }
+    ensures few { result ≤ 65536 }
+{
+    if is_common(statement) {
+        program.loops()
+    } else {
+        program.privates().len()
+    }
 }
 
 // ---- parts of a line
@@ -168,37 +219,98 @@ struct Parts {
     rest: Statement,
 }
 
-// Those of a line, by a stack that is empty before and after. The pieces are given to the private
-// variables from `base` on.
+// Those of a line, by a stack that is empty before and after.
+fn statement_parts(
+    alloc: Global,
+    shapes: &mut Vec<Shape>,
+    program: &Program,
+    statement: &Statement,
+) -> Result<Parts, AllocError>
+    requires lawful { IsProgram program.now }
+    requires none { shapes.old.items ≡ [] }
+    ensures none { OnOk result (shapes.new.items ≡ []) }
+    ensures parts { IfOk result (λ parts.
+        (parts.pieces.items, parts.rest) ≡ statement_parts program.now statement.now) }
+{
+    if let Statement::EndFor(begin) = statement {
+        let pieces = bound_pieces(alloc, shapes, program, *begin)?;
+        let rest = Statement::EndFor(*begin);
+        return Ok(Parts { pieces, rest });
+    }
+    parts_of(alloc, shapes, program, statement)
+}
+
+// Those of a line that is not the end of a `for`.
 fn parts_of(
     alloc: Global,
     shapes: &mut Vec<Shape>,
-    base: usize,
+    program: &Program,
     statement: &Statement,
 ) -> Result<Parts, AllocError>
-    requires base { base ≤ 65536 }
+    requires lawful { IsProgram program.now }
     requires none { shapes.old.items ≡ [] }
     ensures none { OnOk result (shapes.new.items ≡ []) }
-    ensures pieces { IfOk result (λ parts.
-        parts.pieces.items ≡ (parts_from base statement.now).0) }
-    ensures rest { IfOk result (λ parts. parts.rest ≡ (parts_from base statement.now).1) }
+    ensures parts { IfOk result (λ parts.
+        (parts.pieces.items, parts.rest) ≡ parts_of program.now statement.now) }
 {
     if fits(shapes, statement)? {
         let rest = copied(alloc, statement)?;
         let pieces = Vec::new(alloc);
         return Ok(Parts { pieces, rest });
     }
-    split_statement(alloc, base, statement)
+    split_statement(alloc, program, statement)
+}
+
+// The pieces of the last bound of the `for` in this line, if it has too few registers.
+fn bound_pieces(
+    alloc: Global,
+    shapes: &mut Vec<Shape>,
+    program: &Program,
+    begin: usize,
+) -> Result<Vec<Expr>, AllocError>
+    requires lawful { IsProgram program.now }
+    requires none { shapes.old.items ≡ [] }
+    ensures none { OnOk result (shapes.new.items ≡ []) }
+    ensures pieces { IfOk result (λ pieces.
+        pieces.items ≡ bound_pieces program.now (statement_at program.now begin)) }
+{
+    let Some(line) = program.lines().get(begin) else {
+        return Ok(Vec::new(alloc));
+    };
+    if fits(shapes, &line.statement)? {
+        return Ok(Vec::new(alloc));
+    }
+    last_pieces(alloc, program, &line.statement)
+}
+
+fn last_pieces(
+    alloc: Global,
+    program: &Program,
+    opener: &Statement,
+) -> Result<Vec<Expr>, AllocError>
+    requires { IsProgram program.now }
+    ensures { IfOk result (λ pieces. pieces.items ≡ last_pieces program.now opener.now) }
+{
+    let Statement::For(_, _, last, _, _) = opener else {
+        return Ok(Vec::new(alloc));
+    };
+    let mut splitter = Splitter::above(alloc, true, program.loops());
+    let _rest = splitter.split_last(alloc, last)?;
+    Ok(splitter.into_pieces())
 }
 
 // Those of a line for which three registers are too few.
-fn split_statement(alloc: Global, base: usize, statement: &Statement) -> Result<Parts, AllocError>
-    requires { base ≤ 65536 }
-    ensures pieces { IfOk result (λ parts.
-        parts.pieces.items ≡ (split_statement base statement.now).0) }
-    ensures rest { IfOk result (λ parts. parts.rest ≡ (split_statement base statement.now).1) }
+fn split_statement(
+    alloc: Global,
+    program: &Program,
+    statement: &Statement,
+) -> Result<Parts, AllocError>
+    requires { IsProgram program.now }
+    ensures { IfOk result (λ parts.
+        (parts.pieces.items, parts.rest) ≡ split_statement program.now statement.now) }
 {
-    let mut splitter = Splitter::above(alloc, base);
+    let base = base_of(program, statement);
+    let mut splitter = Splitter::above(alloc, is_common(statement), base);
     let rest = match statement {
         Statement::Assign(Target::Private(variable), value) => {
             let value = splitter.split(alloc, value)?.rest;
@@ -209,6 +321,13 @@ fn split_statement(alloc: Global, base: usize, statement: &Statement) -> Result<
             Statement::Assign(Target::Array(*array, index), value)
         }
         Statement::If(condition) => Statement::If(splitter.split(alloc, condition)?.rest),
+        Statement::While(condition, end) => {
+            Statement::While(splitter.split(alloc, condition)?.rest, *end)
+        }
+        Statement::For(nest, first, last, up, end) => {
+            let (first, last) = splitter.split_bounds(alloc, first, last)?;
+            Statement::For(*nest, first, last, *up, *end)
+        }
         _ => copied(alloc, statement)?,
     };
     let pieces = splitter.into_pieces();

@@ -122,14 +122,16 @@ impl Layout {
         self.row(self.privates + self.loops + depth as u32)
     }
 
-    /// Whether there are cells enough for so many rows more.
-    pub(crate) fn has_rows(&self, more: usize) -> bool
+    /// Whether there are cells enough for so many private variables and loops more.
+    pub(crate) fn has_rows(&self, privates: usize, loops: usize) -> bool
         ensures { result ≡ nat_le (self.now.shared
             + (self.now.privates + self.now.loops + self.now.choices) * self.now.procs
-            + more * self.now.procs) MAX_CELLS }
+            + privates * self.now.procs + loops * self.now.procs) MAX_CELLS }
     {
+        let procs = self.procs as usize;
         let end = self.row(self.privates + self.loops + self.choices).base as usize;
-        more.saturating_mul(self.procs as usize).saturating_add(end) <= MAX_CELLS as usize
+        let end = privates.saturating_mul(procs).saturating_add(end);
+        loops.saturating_mul(procs).saturating_add(end) <= MAX_CELLS as usize
     }
 
     // The cells of a row.

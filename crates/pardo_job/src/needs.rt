@@ -181,13 +181,18 @@ pub(crate) fn fits(shapes: &mut Vec<Shape>, statement: &Statement) -> Result<boo
     ensures fits { IfOk result (λ enough. enough ≡ fits statement.now) }
 {
     match statement {
-        Statement::Assign(Target::Private(_), expr) | Statement::If(expr) => {
-            Ok(shape_of(shapes, expr)?.has_room(0))
-        }
+        Statement::Assign(Target::Private(_), expr)
+        | Statement::If(expr)
+        | Statement::While(expr, _) => Ok(shape_of(shapes, expr)?.has_room(0)),
         Statement::Assign(Target::Array(_, index), value) => {
             let value = shape_of(shapes, value)?;
             let index = shape_of(shapes, index)?;
             Ok(value.has_room(0) && index.has_room(value.taken()))
+        }
+        Statement::For(_, first, last, _, _) => {
+            let first = shape_of(shapes, first)?;
+            let last = shape_of(shapes, last)?;
+            Ok(first.has_room(0) && last.has_room(1))
         }
         _ => Ok(true),
     }

@@ -1,8 +1,7 @@
 //! Expressions for which three registers are too few, by pieces.
 ghost use Rattle.std.specs.Prelude.{◌≡◌, ◌+◌, ◌≤◌, ◌<◌, ◌++◌, ◌∷◌, [], length, vec_len};
-ghost use Rattle.std.specs.Prelude.{IfOk, OnOk};
-ghost use Rattle.pardo_text.specs.Expression.{private};
-ghost use Rattle.pardo_job.specs.Flat.{split, split_store};
+ghost use Rattle.std.specs.Prelude.{IfOk, OnOk, false, true};
+ghost use Rattle.pardo_job.specs.Flat.{split, split_bounds, split_last, split_store, variable};
 ghost use Rattle.pardo_job.specs.Inner.Splits.{CanSplit, JoinsTo, TakesNode, split_part};
 
 use crate::needs::{Shape, is_beside, place_shape};
@@ -20,7 +19,9 @@ pub(crate) struct Part {
 /// Expressions that are being split: their pieces, and what is left of each.
 #[derive(Drop)]
 pub(crate) struct Splitter {
-    /// The first private variable that is given a piece.
+    /// Pieces are given to variables of loops, and else to private ones.
+    common: bool,
+    /// The first variable that is given a piece.
     base: usize,
     pub(crate) pieces: Vec<Expr>,
     parts: Vec<Part>,
@@ -28,14 +29,16 @@ pub(crate) struct Splitter {
 }
 
 impl Splitter {
-    /// No expression yet; pieces are given to the private variables from this one on.
-    pub(crate) fn above(alloc: Global, base: usize) -> Self
+    /// No expression yet; pieces are given to the variables of this kind from this one on.
+    pub(crate) fn above(alloc: Global, common: bool, base: usize) -> Self
         requires { base ≤ 65536 }
+        ensures common { result.common ≡ common }
         ensures base { result.base ≡ base }
         ensures pieces { result.pieces.items ≡ [] }
         ensures parts { result.parts.items ≡ [] }
     {
         Splitter {
+            common,
             base,
             pieces: Vec::new(alloc),
             parts: Vec::new(alloc),
@@ -44,6 +47,7 @@ impl Splitter {
 
     // One expression more, of which nothing is split off.
     fn push(&mut self, rest: Expr, shape: Shape, whole: Shape) -> Result<(), AllocError>
+        ensures common { self.new.common ≡ self.old.common }
         ensures base { self.new.base ≡ self.old.base }
         ensures pieces { self.new.pieces.items ≡ self.old.pieces.items }
         ensures parts { OnOk result (self.new.parts.items ≡ self.old.parts.items
@@ -56,6 +60,7 @@ impl Splitter {
     // The expression that came last.
     fn pop(&mut self) -> Part
         requires { 0 < vec_len self.old.parts }
+        ensures common { self.new.common ≡ self.old.common }
         ensures base { self.new.base ≡ self.old.base }
         ensures pieces { self.new.pieces.items ≡ self.old.pieces.items }
         ensures parts { self.old.parts.items ≡ self.new.parts.items ++ result ∷ [] }
@@ -66,26 +71,33 @@ impl Splitter {
         part
     }
 
-    // The next piece becomes a private variable.
+    // The next piece becomes a variable.
     fn give(&mut self, alloc: Global, piece: Expr) -> Result<Expr, AllocError>
+        ensures common { self.new.common ≡ self.old.common }
         ensures base { self.new.base ≡ self.old.base }
         ensures parts { self.new.parts.items ≡ self.old.parts.items }
         ensures given { IfOk result (λ expr. expr
-            ≡ private (self.old.base + length self.old.pieces.items)) }
+            ≡ variable self.old.common (self.old.base + length self.old.pieces.items)) }
         ensures pieces { OnOk result (self.new.pieces.items
             ≡ self.old.pieces.items ++ piece ∷ []) }
     {
         let variable = self.base + self.pieces.len();
         self.pieces.push(piece)?;
+        if self.common {
+            return Expr::loop_variable(alloc, variable);
+        }
         Expr::private(alloc, variable)
     }
 
     // One node more, whose operands are there.
     fn take(&mut self, alloc: Global, node: Node) -> Result<(), AllocError>
-        requires { CanSplit self.old.base node self.old.pieces.items self.old.parts.items }
+        requires { CanSplit self.old.common self.old.base node self.old.pieces.items
+            self.old.parts.items }
+        ensures common { self.new.common ≡ self.old.common }
         ensures base { self.new.base ≡ self.old.base }
-        ensures taken { OnOk result (TakesNode self.old.base node self.old.pieces.items
-            self.old.parts.items self.new.pieces.items self.new.parts.items) }
+        ensures taken { OnOk result (TakesNode self.old.common self.old.base node
+            self.old.pieces.items self.old.parts.items self.new.pieces.items
+            self.new.parts.items) }
     {
         match node {
             Node::Number(value) => {
@@ -120,9 +132,11 @@ impl Splitter {
     // Two expressions become an operation; the second one is a piece where it has no room beside
     // the first.
     fn join(&mut self, alloc: Global, op: Op, first: Part, second: Part) -> Result<(), AllocError>
+        ensures common { self.new.common ≡ self.old.common }
         ensures base { self.new.base ≡ self.old.base }
-        ensures joined { OnOk result (JoinsTo self.old.base op first second self.old.pieces.items
-            self.old.parts.items self.new.pieces.items self.new.parts.items) }
+        ensures joined { OnOk result (JoinsTo self.old.common self.old.base op first second
+            self.old.pieces.items self.old.parts.items self.new.pieces.items
+            self.new.parts.items) }
     {
         let whole = Shape::applied(op, first.whole, second.whole);
         if is_beside(op, first.shape, second.whole) {
@@ -137,12 +151,14 @@ impl Splitter {
     /// One expression more: its pieces come after those so far. What is left of it.
     pub(crate) fn split(&mut self, alloc: Global, expr: &Expr) -> Result<Part, AllocError>
         requires { self.old.parts.items ≡ [] }
+        ensures common { self.new.common ≡ self.old.common }
         ensures base { self.new.base ≡ self.old.base }
         ensures none { OnOk result (self.new.parts.items ≡ []) }
-        ensures part { IfOk result (λ part. part
-            ≡ split_part (self.old.base + length self.old.pieces.items) expr.now) }
+        ensures part { IfOk result (λ part. part ≡ split_part self.old.common
+            (self.old.base + length self.old.pieces.items) expr.now) }
         ensures pieces { OnOk result (self.new.pieces.items ≡ self.old.pieces.items
-            ++ (split (self.old.base + length self.old.pieces.items) expr.now).0) }
+            ++ (split self.old.common (self.old.base + length self.old.pieces.items)
+            expr.now).0) }
     {
         for node in expr.nodes() {
             self.take(alloc, *node)?;
@@ -158,6 +174,7 @@ impl Splitter {
         value: &Expr,
         index: &Expr,
     ) -> Result<(Expr, Expr), AllocError>
+        requires private { self.old.common ≡ false }
         requires pieces { self.old.pieces.items ≡ [] }
         requires parts { self.old.parts.items ≡ [] }
         ensures left { IfOk result (λ both.
@@ -170,6 +187,43 @@ impl Splitter {
             return Ok((value.rest, index.rest));
         }
         Ok((value.rest, self.give(alloc, index.rest)?))
+    }
+
+    /// The last bound of a loop, which has a register less. What is left of it.
+    pub(crate) fn split_last(&mut self, alloc: Global, last: &Expr) -> Result<Expr, AllocError>
+        requires common { self.old.common ≡ true }
+        requires pieces { self.old.pieces.items ≡ [] }
+        requires parts { self.old.parts.items ≡ [] }
+        ensures common { self.new.common ≡ true }
+        ensures base { self.new.base ≡ self.old.base }
+        ensures none { OnOk result (self.new.parts.items ≡ []) }
+        ensures left { IfOk result (λ rest.
+            (self.new.pieces.items, rest) ≡ split_last self.old.base last.now) }
+    {
+        let Part { rest, shape, .. } = self.split(alloc, last)?;
+        if shape.has_room(1) {
+            return Ok(rest);
+        }
+        self.give(alloc, rest)
+    }
+
+    /// Both bounds of a loop; the pieces of the last one come first. What is left of both.
+    pub(crate) fn split_bounds(
+        &mut self,
+        alloc: Global,
+        first: &Expr,
+        last: &Expr,
+    ) -> Result<(Expr, Expr), AllocError>
+        requires common { self.old.common ≡ true }
+        requires pieces { self.old.pieces.items ≡ [] }
+        requires parts { self.old.parts.items ≡ [] }
+        ensures left { IfOk result (λ both.
+            (self.new.pieces.items, both.0, both.1)
+            ≡ split_bounds self.old.base first.now last.now) }
+    {
+        let last = self.split_last(alloc, last)?;
+        let first = self.split(alloc, first)?.rest;
+        Ok((first, last))
     }
 
     /// The pieces.

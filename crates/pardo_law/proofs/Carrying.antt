@@ -1,7 +1,7 @@
 -- All lines of a run, one after the other.
 use Rattle.std.proofs.Common.{◌≡◌, ℕ, zero, suc, ◌+◌, ◌<◌, ◌≤◌, Bool, true, List, [], ◌∷◌, ◌++◌}
 use Rattle.std.proofs.Common.{Option, Some, None}
-use Rattle.std.proofs.Common.{refl, sym, ap, ◌∙◌, subst, inl, arith, length, length-append}
+use Rattle.std.proofs.Common.{◌⊎◌, refl, sym, ap, ◌∙◌, subst, inl, inr, arith, length, length-append}
 use Rattle.std.proofs.Common.{append_assoc}
 use Rattle.std.specs.Prelude.{slice_get, is_some}
 use Rattle.std.proofs.lemmas.Option.{slice_get_within}
@@ -368,10 +368,46 @@ pub time_next : (program : ProgramData) (n : ℕ) (line : Line) →
 unfolding step_cost
 time_next program n line is = ap (λ o. time_of program n + step_cost program (after program n) o) is
 
--- the lines so far are there, and agree with the rule
+-- where no line is next, nothing is done, and no time passes
+pub next_none : (program : ProgramData) (source : Source) →
+    slice_get program.lines source.at ≡ None → next program source ≡ source
+unfolding next
+next_none program source none =
+    ap (λ (o : Option Line). elim o as (λ (x : Option Line). Source) [
+      | None ↦ source
+      | Some line ↦ after_statement program line.number line.depth line.statement source
+    ]) none
+
+pub time_same : (program : ProgramData) (n : ℕ) →
+    slice_get program.lines (after program n).at ≡ None →
+    time_of program (suc n) ≡ time_of program n
+unfolding step_cost
+time_same program n none =
+    ap (λ o. time_of program n + step_cost program (after program n) o) none ∙ omega arith
+
+-- the lines so far agree with the rule, as far as there are some
+abbrev pub IsMade : ProgramData → ℕ → Type 0
+IsMade program n =
+    (((after program n).at < length program.lines) × LineAgrees program (after program n))
+    ⊎ (slice_get program.lines (after program n).at ≡ None)
+
 abbrev pub AreMade : ProgramData → ℕ → Type 0
-AreMade program n = (earlier : ℕ) → earlier < n →
-    ((after program earlier).at < length program.lines) × LineAgrees program (after program earlier)
+AreMade program n = (earlier : ℕ) → earlier < n → IsMade program earlier
+
+made_next : (program : ProgramData) (job : JobData) → IsOf program job → (n : ℕ) →
+    Carried program job (after program n) (time_of program n) → IsMade program n →
+    Carried program job (next program (after program n)) (time_of program (suc n))
+made_next program job of n before (inl here) =
+    let line = some_line program (after program n).at here.0 in
+    subst (λ u. Carried program job (next program (after program n)) u)
+    (sym (time_next program n line.0 line.1))
+    (line_carried program job of (after program n) (time_of program n) before line.0 line.1
+    here.1).carried
+made_next program job of n before (inr none) =
+    subst (λ u. Carried program job (next program (after program n)) u)
+    (sym (time_same program n none))
+    (subst (λ (s : Source). Carried program job s (time_of program n))
+    (sym (next_none program (after program n) none)) before)
 
 pub carried_made : (program : ProgramData) (job : JobData) → IsOf program job → (n : ℕ) →
     AreMade program n →
@@ -379,14 +415,9 @@ pub carried_made : (program : ProgramData) (job : JobData) → IsOf program job 
 unfolding after
 carried_made program job of zero made = starts_carried program job of
 carried_made program job of (suc n) made =
-    let before : Carried program job (after program n) (time_of program n) =
-    carried_made program job of n (λ earlier lt. made earlier (omega arith)) in
-    let here = made n (omega arith) in
-    let line = some_line program (after program n).at here.0 in
-    subst (λ u. Carried program job (next program (after program n)) u)
-    (sym (time_next program n line.0 line.1))
-    (line_carried program job of (after program n) (time_of program n) before line.0 line.1
-    here.1).carried
+    made_next program job of n
+    (carried_made program job of n (λ earlier lt. made earlier (omega arith)))
+    (made n (omega arith))
 
 pub carried_after : (program : ProgramData) (job : JobData) → IsOf program job → (n : ℕ) →
     IsLineReached program n →
@@ -408,7 +439,8 @@ pub made_so_far : (program : ProgramData) (job : JobData) → IsOf program job �
     IsLineReached program n → AreMade program n
 made_so_far program job of n reached earlier lt =
     let c = carried_after program job of earlier (λ before less. reached before (omega arith)) in
-    let line = line_next program (after program earlier) c.pictured.within (reached earlier lt).0 in (
+    let line = line_next program (after program earlier) c.pictured.within (reached earlier lt).0 in
+    inl (
       slice_get_within program.lines (after program earlier).at line.0 line.1,
       (reached earlier lt).1,
     )

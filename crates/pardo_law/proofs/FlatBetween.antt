@@ -1,5 +1,5 @@
 -- The job of the flat program in the midst of lines of the program.
-use Rattle.std.proofs.Common.{◌≡◌, ℕ, zero, suc, ◌+◌, ◌<◌, ◌≤◌, ◌⊎◌, Option}
+use Rattle.std.proofs.Common.{◌≡◌, ℕ, zero, suc, ◌+◌, ◌<◌, ◌≤◌, ◌⊎◌, false, Option}
 use Rattle.std.proofs.Common.{Some, None, refl, sym, ap, ◌∙◌, subst, inl, inr, ⊎_elim, arith}
 use Rattle.std.proofs.Common.{length, length-append}
 use Rattle.std.specs.Prelude.{replicate, slice_get}
@@ -41,6 +41,10 @@ no_number : (program : ProgramData) (source : Source) → slice_get program.line
     line_number program source ≡ 0
 no_number program source none = ap (λ (o : Option Line). elim o as (λ (x : Option Line). ℕ)
     [ None ↦ 0 | Some line ↦ line.number ]) none
+
+start_there : (program : ProgramData) (i : ℕ) → (after program 0).gone i ≡ None
+unfolding after
+start_there program i = refl
 
 nothing_asked : (program : ProgramData) (source : Source) (i : ℕ) →
     slice_get program.lines source.at ≡ None → asked program source i ≡ None
@@ -170,11 +174,15 @@ module _ (program : ProgramData) (lawful : IsProgram program) (job : JobData) (l
       let same = next_is w.n in
       let less = rises (m + 1) (count (suc w.n)) (omega (arith, is, few, more)) in
       stands_in t m w made (inr (omega (arith, same, less, early)))
-  by_end t m made w line e (inl (inl ends)) =
-      let few = few_in program lawful job line_of of whole numbers m w (Some line) e in
-      let lt = at_line program lawful w.n w.k line e few in
+  by_end t m made w line e (inl (inl ends)) = ⊎_elim
+      (λ (lt : (after other (count w.n + w.k)).at < length other.lines).
       let same = ap (λ j. (after other j).at) w.is_at in
-      absurd (omega (arith, lt, same, ends))
+      absurd (omega (arith, lt, same, ends)))
+      (λ (all : AllGone other (after other (count w.n + w.k))).
+      by_gone t m made w line e
+      (subst (λ j. AllGone other (after other j)) (sym w.is_at) all) (cases_lt 0 w.k))
+      (at_line program lawful w.n w.k line e
+      (few_in program lawful job line_of of whole numbers m w (Some line) e))
   by_end t m made w line e (inl (inr all)) = by_gone t m made w line e all (cases_lt 0 w.k)
 
   by_line : (t m : ℕ) → FlatMade t m → (w : Found m) → (o : Option Line) →
@@ -234,13 +242,17 @@ module _ (program : ProgramData) (lawful : IsProgram program) (job : JobData) (l
       ∙ ap (slice_get other.lines) (stands program lawful n).at
       ∙ none_stands program (after program n).at e
 
+  -- the line has the number of the next one, or all are gone
+  abbrev HasNumber : ℕ → ℕ → Type 0
+  HasNumber n m = (line_number other (after other m) ≡ line_number program (after program n))
+      ⊎ AllGone other (after other m)
+
   number_in : (t n : ℕ) (i : InMidst t n) → (o : Option Line) → next_line n ≡ o →
-      line_number other (after other i.m) ≡ line_number program (after program n)
-  number_in t n i None e = no_number other (after other i.m) (flat_none t n i e)
-      ∙ sym (no_number program (after program n) e)
-  number_in t n i (Some line) e =
-      ap (λ j. line_number other (after other j)) i.is_at
-      ∙ same_number program lawful n i.k line e (some_few t n i line e)
+      HasNumber n i.m
+  number_in t n i None e = inl (no_number other (after other i.m) (flat_none t n i e)
+      ∙ sym (no_number program (after program n) e))
+  number_in t n i (Some line) e = subst (HasNumber n) (sym i.is_at)
+      (same_number program lawful n i.k line e (some_few t n i line e))
 
   private_same : (x : ℕ) → private_cells (program_layout other) x
       ≡ private_cells (program_layout program) x
@@ -256,7 +268,7 @@ module _ (program : ProgramData) (lawful : IsProgram program) (job : JobData) (l
   unfolding program_layout
   privates_more x lt =
       let long = length-append program.privates
-      (replicate (most_pieces program program.lines) (nameless program)) in
+      (replicate (most_pieces false program program.lines) (nameless program)) in
       (omega (arith, lt, long), lt)
 
   holds_as : (source flat_source : Source) (state : State) → Shares program source flat_source →
@@ -301,38 +313,46 @@ module _ (program : ProgramData) (lawful : IsProgram program) (job : JobData) (l
 
   -- ---- where the processors stand
 
+  -- where all are gone nobody is there
+  nobody_there : (t n i : ℕ) (at : InMidst t n) → i < program.procs →
+      (counter job (state_after job t) i ≡ out_of_range job → ⊥) →
+      AllGone other (after other at.m) → ⊥
+  nobody_there t n i at lt there all =
+      let gone = is_gone ((after other at.m).gone i) (all i lt) in ⊎_elim
+      (λ (none : at.m ≡ 0). none-some gone.0
+      (sym (ap (λ j. (after other j).gone i) none ∙ start_there other i) ∙ gone.1))
+      (λ (late : flat_time at.m ≤ t). none-some gone.0
+      (sym (there_before other job of line_of numbers whole t at.m i late at.made.reached lt there)
+      ∙ gone.1))
+      at.made.made
+
   -- where one runs, and the flat program is over, the program is
   over_in : (t n i : ℕ) (at : InMidst t n) → i < program.procs →
       counter job (state_after job t) i < halted job → (o : Option Line) → next_line n ≡ o →
       IsProgramOver other (after other at.m) → IsProgramOver program (after program n)
   over_in t n i at lt runs None e over = inl (at_end program lawful n e)
-  over_in t n i at lt runs (Some line) e (inl ends) =
-      let few = some_few t n at line e in
-      let less = at_line program lawful n at.k line e few in
+  over_in t n i at lt runs (Some line) e (inl ends) = ⊎_elim
+      (λ (less : (after other (count n + at.k)).at < length other.lines).
       let same = ap (λ j. (after other j).at) at.is_at in
-      absurd (omega (arith, less, same, ends))
-  over_in t n i at lt runs (Some line) e (inr all) = ⊎_elim
-      (λ (some : 0 < at.k).
-      let is = at.is_at in
-      let begun : flat_time at.m ≤ t = ⊎_elim
-      (λ (none : at.m ≡ 0). absurd (omega (arith, none, is, some)))
-      (λ (late : flat_time at.m ≤ t). late) at.made.made in
-      let there = there_before other job of line_of numbers whole t at.m i begun at.made.reached lt
-      (λ out. omega (arith, out, runs)) in
-      let gone = is_gone ((after other at.m).gone i) (all i lt) in
-      absurd (none-some gone.0 (sym there ∙ gone.1)))
-      (λ (none : at.k ≤ 0).
-      let is = at.is_at in
-      let same : at.m ≡ count n = omega (arith, is, none) in
-      inr (all_back program lawful n (subst (λ j. AllGone other (after other j)) same all)))
-      (cases_lt 0 at.k)
+      absurd (omega (arith, less, same, ends)))
+      (λ (all : AllGone other (after other (count n + at.k))).
+      absurd (nobody_there t n i at lt (λ out. omega (arith, out, runs))
+      (subst (λ j. AllGone other (after other j)) (sym at.is_at) all)))
+      (at_line program lawful n at.k line e (some_few t n at line e))
+  over_in t n i at lt runs (Some line) e (inr all) =
+      absurd (nobody_there t n i at lt (λ out. omega (arith, out, runs)) all)
 
   lines_flat : (t n i : ℕ) → machine.IsReached job t → Made t n → i < program.procs →
       counter job (state_after job t) i < halted job →
       IsInLine program job line_of t (after program n) i
   lines_flat t n i reached made lt runs = ⊎_elim
       (λ (at : InMidst t n). ⊎_elim
-      (λ comes. inl (comes ∙ number_in t n at (next_line n) refl))
+      (λ comes. ⊎_elim
+      (λ (same : line_number other (after other at.m) ≡ line_number program (after program n)).
+      inl (comes ∙ same))
+      (λ (all : AllGone other (after other at.m)).
+      absurd (nobody_there t n i at lt (λ out. omega (arith, out, runs)) all))
+      (number_in t n at (next_line n) refl))
       (λ rest. ⊎_elim
       (λ first. inr (inl first))
       (λ (last : IsProgramOver other (after other at.m) × Executes job t i Halt).
@@ -414,7 +434,12 @@ module _ (program : ProgramData) (lawful : IsProgram program) (job : JobData) (l
       (λ (at : InMidst t n).
       leaves_in t n i (line_number other (after other at.m)) at (next_line n) refl
       (leaves_at other job of line_of numbers whole t at.m i at.made reached lt leaves)
-      ∙ ap Some (number_in t n at (next_line n) refl))
+      ∙ ap Some (⊎_elim
+      (λ (same : line_number other (after other at.m) ≡ line_number program (after program n)).
+      same)
+      (λ (all : AllGone other (after other at.m)).
+      absurd (nobody_there t n i at lt leaves.was_there all))
+      (number_in t n at (next_line n) refl)))
       (λ (l : IsLater t n). absurd (leaves.was_there (later_out t n i l lt)))
       (stands_by t n (λ earlier less. reached earlier (omega (arith, less))) made)
 

@@ -31,15 +31,15 @@ use Rattle.pardo_job.specs.Meaning.{turned}
 use Rattle.pardo_job.specs.Runs.{AllGone, IsLineReached, IsProgramConflict, IsProgramEnd}
 use Rattle.pardo_job.specs.Runs.{IsProgramOver, line_number}
 use Rattle.pardo_job.proofs.Meanings.{next_at, outside_is_unchanged}
-use Rattle.pardo_job.specs.Flat.{first_flat_of, flat, last_line, pieces_of}
+use Rattle.pardo_job.specs.Flat.{first_flat_of, flat, is_common, last_line, pieces_of}
 use Rattle.pardo_job.specs.Carries.{Carries}
 use Rattle.pardo_law.specs.Theorem.{JobsCarryPrograms}
-use Rattle.pardo_law.specs.Flattening.{KeepsLine, KeepsRun}
+use Rattle.pardo_law.specs.Flattening.{IsLeft, KeepsLine, KeepsRun}
 use Rattle.pardo_job.specs.Carries.{StandsFor}
 use Rattle.pardo_law.specs.Flattening.{flat_count, size_next}
 use Rattle.pardo_law.proofs.Between.{rises_to}
 use Rattle.pardo_law.proofs.Carried.{Carried}
-use Rattle.pardo_law.proofs.Carrying.{AreMade, all_at, carried_made, line_next}
+use Rattle.pardo_law.proofs.Carrying.{AreMade, IsMade, all_at, carried_made, line_next}
 use Rattle.pardo_law.proofs.Carrying.{time_of}
 use Rattle.pardo_law.proofs.Disputing.{line_number_is}
 use Rattle.pardo_law.proofs.Ending.{done, ends_as}
@@ -48,7 +48,8 @@ use Rattle.pardo_job.proofs.FlatCompiled.{compiled_lawful}
 use Rattle.pardo_law.proofs.FlatLawful.{flat_tied}
 use Rattle.pardo_job.proofs.FlatLines.{flat_at, flat_end, last_stands}
 use Rattle.pardo_law.proofs.FlatStates.{some_at}
-use Rattle.pardo_law.proofs.Flattening.{after_next, flattening_keeps_runs, gone_later, size}
+use Rattle.pardo_law.proofs.Flattening.{after_next, flattening_keeps_runs, gone_later, no_more}
+use Rattle.pardo_law.proofs.Flattening.{none_asked, size}
 use Rattle.pardo_law.proofs.Picturing.{IsOf}
 use Rattle.pardo_law.proofs.Showing.{shows}
 use Rattle.pardo_law.proofs.Splitting.{inactive_gone}
@@ -222,16 +223,34 @@ module _ (program : ProgramData) (lawful : IsProgram program) where
   first_end : first_flat_of program (length program.lines) ≡ length other.lines
   first_end = sym (flat_end program)
 
-  -- a flat line is next in the midst of a line
-  pub at_line : (n k : ℕ) (line : Line) →
+  -- a flat line is next in the midst of a line, or all are gone
+  here_line : (n k : ℕ) (line : Line) →
       slice_get program.lines (after program n).at ≡ Some line →
-      k ≤ length (pieces_of program line) → (after other (count n + k)).at < length other.lines
-  at_line n k line is le =
-      let here = (keeps_line n line is).at k le in
+      k ≤ length (pieces_of program line) →
+      (after other (count n + k)).at ≡ first_flat_of program (after program n).at + k →
+      (after other (count n + k)).at < length other.lines
+  here_line n k line is le here =
       let last = slice_get_within other.lines
       (first_flat_of program (after program n).at + length (pieces_of program line))
       (last_line program line) (last_stands program (after program n).at line is) in
       omega (arith, here, last, le)
+
+  pub at_line : (n k : ℕ) (line : Line) →
+      slice_get program.lines (after program n).at ≡ Some line →
+      k ≤ length (pieces_of program line) →
+      ((after other (count n + k)).at < length other.lines)
+      ⊎ AllGone other (after other (count n + k))
+  at_line n k line is le = ⊎_elim
+      (λ here. inl (here_line n k line is le here))
+      (λ (left : IsTrue (is_common line.statement) × IsLeft other (after other (count n + k))).
+      inr (λ i lt. left.1.all i))
+      ((keeps_line n line is).at k le)
+
+  -- where it is left, no line is next
+  pub left_none : (source : Source) → IsLeft other source →
+      slice_get other.lines source.at ≡ None
+  left_none source left =
+      sym (ap (slice_get other.lines) left.at) ∙ no_more other.lines
 
   -- where no line is next, none is in the flat run
   pub at_end : (n : ℕ) → slice_get program.lines (after program n).at ≡ None →
@@ -275,15 +294,19 @@ module _ (program : ProgramData) (lawful : IsProgram program) where
       let same : count n + k + (p - k) ≡ count n + p = omega (arith, le) in
       let late : AllGoneIn (count n + p) = subst AllGoneIn same
       (all_later (count n + k) (p - k) all) in
-      let here : slice_get other.lines (after other (count n + p)).at
-      ≡ Some (last_line program line) =
-      ap (slice_get other.lines) (keep.at p (omega arith))
-      ∙ last_stands program (after program n).at line is in
-      agrees_from program (after program n) (after other (count n + p)) keep.asks
-      (none_clash program.rule program.procs (asked other (after other (count n + p)))
-      (λ i lt. let gone = is_gone ((after other (count n + p)).gone i) (late i lt) in
-      (outside_is_unchanged other (after other (count n + p)) (last_line program line) i here
-      (inactive_gone (after other (count n + p)) line.depth i gone.0 gone.1)).asks))
+      let now = after other (count n + p) in
+      agrees_from program (after program n) now keep.asks
+      (none_clash program.rule program.procs (asked other now)
+      (λ i lt. ⊎_elim
+      (λ (at : now.at ≡ first_flat_of program (after program n).at + p).
+      let gone = is_gone (now.gone i) (late i lt) in
+      let here : slice_get other.lines now.at ≡ Some (last_line program line) =
+      ap (slice_get other.lines) at ∙ last_stands program (after program n).at line is in
+      (outside_is_unchanged other now (last_line program line) i here
+      (inactive_gone now line.depth i gone.0 gone.1)).asks)
+      (λ (left : IsTrue (is_common line.statement) × IsLeft other now).
+      none_asked other now i (left_none now left.1))
+      (keep.at p (omega arith))))
 
   -- ---- lines that are made
 
@@ -294,8 +317,14 @@ module _ (program : ProgramData) (lawful : IsProgram program) where
       none_clash program.rule program.procs (asked other (after other (count n + k)))
       (λ i low. (keeps_line n line is).hidden k i lt)
 
-  abbrev IsMadeAt : ℕ → Type 0
-  IsMadeAt m = ((after other m).at < length other.lines) × LineAgrees other (after other m)
+  made_at : (n k : ℕ) (line : Line) → slice_get program.lines (after program n).at ≡ Some line →
+      k ≤ length (pieces_of program line) → LineAgrees other (after other (count n + k)) →
+      IsMade other (count n + k)
+  made_at n k line is le agrees = ⊎_elim
+      (λ here. inl (here_line n k line is le here, agrees))
+      (λ (left : IsTrue (is_common line.statement) × IsLeft other (after other (count n + k))).
+      inr (left_none (after other (count n + k)) left.1))
+      ((keeps_line n line is).at k le)
 
   -- hidden lines on from others
   pub made_on : (n k : ℕ) (line : Line) →
@@ -305,10 +334,9 @@ module _ (program : ProgramData) (lawful : IsProgram program) where
       (λ (low : earlier < count n). so_far earlier low)
       (λ (high : count n ≤ earlier).
       let same : count n + (earlier - count n) ≡ earlier = omega (arith, high) in
-      subst IsMadeAt same (
-        at_line n (earlier - count n) line is (omega (arith, lt, le, high)),
-        hidden_agrees n (earlier - count n) line is (omega (arith, lt, le, high)),
-      ))
+      subst (IsMade other) same
+      (made_at n (earlier - count n) line is (omega (arith, lt, le, high))
+      (hidden_agrees n (earlier - count n) line is (omega (arith, lt, le, high)))))
       (cases_lt earlier (count n))
 
   -- and the last line for this line
@@ -322,11 +350,9 @@ module _ (program : ProgramData) (lawful : IsProgram program) where
       made_on n p line is (omega arith) so_far earlier low)
       (λ (high : count n + p ≤ earlier).
       let same : count n + p ≡ earlier = omega (arith, high, lt, more) in
-      subst IsMadeAt same (
-        at_line n p line is (omega arith),
-        agrees_to program (after program n) (after other (count n + p)) (keeps_line n line is).asks
-            agrees,
-      ))
+      subst (IsMade other) same (made_at n p line is (omega arith)
+      (agrees_to program (after program n) (after other (count n + p)) (keeps_line n line is).asks
+      agrees)))
       (cases_lt earlier (count n + p))
 
   pub made_flat : (n : ℕ) → IsLineReached program n → AreMade other (count n)
@@ -340,16 +366,45 @@ module _ (program : ProgramData) (lawful : IsProgram program) where
       by_line so_far None e = subst (AreMade other) (sym (count_none n e)) so_far
       by_line so_far (Some line) e = made_line n line e (reached n (omega arith)).1 so_far
 
+  -- it has the number of the line
+  pub same_number_at : (n k : ℕ) (line : Line) →
+      slice_get program.lines (after program n).at ≡ Some line →
+      k ≤ length (pieces_of program line) →
+      (after other (count n + k)).at ≡ first_flat_of program (after program n).at + k →
+      line_number other (after other (count n + k)) ≡ line_number program (after program n)
+  same_number_at n k line is le at =
+      let found = flat_at program (after program n).at line is k le in
+      let here : slice_get other.lines (after other (count n + k)).at ≡ Some found.0 =
+      ap (slice_get other.lines) at ∙ found.1 in
+      line_number_is other (after other (count n + k)) found.0 here ∙ found.2
+      ∙ sym (line_number_is program (after program n) line is)
+
   pub same_number : (n k : ℕ) (line : Line) →
       slice_get program.lines (after program n).at ≡ Some line →
       k ≤ length (pieces_of program line) →
-      line_number other (after other (count n + k)) ≡ line_number program (after program n)
-  same_number n k line is le =
-      let found = flat_at program (after program n).at line is k le in
-      let here : slice_get other.lines (after other (count n + k)).at ≡ Some found.0 =
-      ap (slice_get other.lines) ((keeps_line n line is).at k le) ∙ found.1 in
-      line_number_is other (after other (count n + k)) found.0 here ∙ found.2
-      ∙ sym (line_number_is program (after program n) line is)
+      (line_number other (after other (count n + k)) ≡ line_number program (after program n))
+      ⊎ AllGone other (after other (count n + k))
+  same_number n k line is le = ⊎_elim
+      (λ at. inl (same_number_at n k line is le at))
+      (λ (left : IsTrue (is_common line.statement) × IsLeft other (after other (count n + k))).
+      inr (λ i lt. left.1.all i))
+      ((keeps_line n line is).at k le)
+
+  -- the last line for a line that is in conflict is there
+  pub conflict_at : (n : ℕ) (dispute : Dispute) → IsProgramConflict program n dispute →
+      (line : Line) → slice_get program.lines (after program n).at ≡ Some line →
+      (after other (count n + length (pieces_of program line))).at
+      ≡ first_flat_of program (after program n).at + length (pieces_of program line)
+  conflict_at n dispute is line here =
+      let p : ℕ = length (pieces_of program line) in
+      let now = after other (count n + p) in
+      let keep = keeps_line n line here in ⊎_elim
+      (λ at. at)
+      (λ (left : IsTrue (is_common line.statement) × IsLeft other now).
+      absurd (none_clash program.rule program.procs (asked program (after program n))
+      (λ i lt. sym (keep.asks i) ∙ none_asked other now i (left_none now left.1))
+      dispute.cell dispute.first dispute.second is.disputed.clash))
+      (keep.at p (omega arith))
 
 -- ---- the job
 
@@ -411,7 +466,7 @@ module _ (program : ProgramData) (lawful : IsProgram program) (job : JobData) (l
       (made_on program lawful n p line here (omega arith)
       (made_flat program lawful n is.reached)))
       (last_line program line)
-      (ap (slice_get (flat program).lines) (keep.at p (omega arith))
+      (ap (slice_get (flat program).lines) (conflict_at program lawful n dispute is line here)
       ∙ last_stands program (after program n).at line here) dispute
       (dispute_to program (after program n) (after (flat program) (flat_count program n + p))
       keep.asks dispute is.disputed))
@@ -554,15 +609,20 @@ module _ (program : ProgramData) (lawful : IsProgram program) (job : JobData) (l
       slice_get program.lines (after program w.n).at ≡ o → IsOverAt
   ends_by m end w None e =
       (w.n, inl (record { reached = w.reached; over = (none_next m w e).0 }))
-  ends_by m end w (Some line) e = by_over end.over
+  ends_by m end w (Some line) e = by_all (⊎_elim
+      (λ (ends : length (flat program).lines ≡ (after (flat program) m).at). ⊎_elim
+      (λ (lt : (after (flat program) (flat_count program w.n + w.k)).at
+      < length (flat program).lines).
+      let same = ap (λ j. (after (flat program) j).at) w.is_at in
+      absurd (omega (arith, lt, same, ends)))
+      (λ (all : AllGone (flat program) (after (flat program) (flat_count program w.n + w.k))).
+      subst (λ j. AllGone (flat program) (after (flat program) j)) (sym w.is_at) all)
+      (at_line program lawful w.n w.k line e (few_in m w (Some line) e)))
+      (λ (all : AllGone (flat program) (after (flat program) m)). all)
+      end.over)
     where
-      by_over : IsProgramOver (flat program) (after (flat program) m) → IsOverAt
-      by_over (inl ends) =
-          let few = few_in m w (Some line) e in
-          let lt = at_line program lawful w.n w.k line e few in
-          let same = ap (λ j. (after (flat program) j).at) w.is_at in
-          absurd (omega (arith, lt, same, ends))
-      by_over (inr all) = ⊎_elim
+      by_all : AllGone (flat program) (after (flat program) m) → IsOverAt
+      by_all all = ⊎_elim
           (λ (some : 0 < w.k). (
             suc w.n,
             inl (gone_in m w.n w.k line w.reached end.reached e
@@ -648,7 +708,8 @@ module _ (program : ProgramData) (lawful : IsProgram program) (job : JobData) (l
         let p : ℕ = length (pieces_of program line.0) in
         let m : ℕ = flat_count program n + p in
         let s = in_line n dispute is line.0 line.1 m refl in
-        let same = same_number program lawful n p line.0 line.1 (omega arith) in
+        let same = same_number_at program lawful n p line.0 line.1 (omega arith)
+        (conflict_at program lawful n dispute is line.0 line.1) in
         let e : n + 1 ≡ suc n = omega arith in (
           s.before,
           ap time e ∙ ap time_flat (count_next program lawful n line.0 line.1) ∙ s.time_is,

@@ -11,26 +11,26 @@ use Rattle.pardo_text.specs.declared.statement.Statement.{Statement}
 use Rattle.pardo_text.specs.declared.statement.Statement.TheVariants.{Assign, If, Else, EndIf}
 use Rattle.pardo_text.specs.declared.statement.Statement.TheVariants.{While, EndWhile, For, EndFor}
 use Rattle.pardo_text.specs.declared.statement.Target.TheVariants.{Private, Array as Shared}
+use Rattle.pardo_text.specs.Expression.{Tree}
 use Rattle.pardo_text.specs.Program.{ProgramData}
 use Rattle.pardo_job.specs.Meaning.{statement_at}
-use Rattle.pardo_job.specs.Flat.{fits, flat, hidden}
-use Rattle.pardo_job.specs.Flat.{last_line, last_of}
-use Rattle.pardo_job.specs.Flat.{lines_for, moved_statement, pieces_of}
-use Rattle.pardo_job.specs.Flat.{split_statement}
-use Rattle.pardo_job.proofs.FlatLines.{get_back, get_front, hidden_is, last_is}
+use Rattle.pardo_job.specs.Flat.{base_of, fits, flat, giving, is_common, last_line, last_of}
+use Rattle.pardo_job.specs.Flat.{lines_for, moved_statement, pieces_of, split_statement}
+use Rattle.pardo_job.specs.Flat.{statement_parts}
+use Rattle.pardo_job.proofs.FlatLines.{get_back, get_front, hidden_for, hidden_is, last_is}
 use Rattle.pardo_job.proofs.FlatLines.{last_stands, length-hidden}
 use Rattle.pardo_law.proofs.Picturing.{IsFor, TurnsAreTied}
 
 -- ---- loops
 
-record Located (f : Line → List Line) (lines : List Line) (found : Line) : Type 0 where
-  at : ℕ
-  line : Line
-  is : slice_get lines at ≡ Some line
-  k : ℕ
-  here : slice_get (f line) k ≡ Some found
+pub record Located (f : Line → List Line) (lines : List Line) (found : Line) : Type 0 where
+  pub at : ℕ
+  pub line : Line
+  pub is : slice_get lines at ≡ Some line
+  pub k : ℕ
+  pub here : slice_get (f line) k ≡ Some found
 
-located : (f : Line → List Line) (lines : List Line) (m : ℕ) (found : Line) →
+pub located : (f : Line → List Line) (lines : List Line) (m : ℕ) (found : Line) →
     slice_get (flat_map f lines) m ≡ Some found → Located f lines found
 located f [] m found e = absurd (none-some found e)
 located f (line ∷ lines) m found e = ⊎_elim
@@ -75,40 +75,58 @@ module _ (program : ProgramData) where
   plain_end (EndWhile line) begin e = absurd (cc)
   plain_end (For nest first last up end) begin e = absurd (cc)
 
-  end_of : (level : Bool) (statement : Statement) (begin : ℕ) →
+  level_end : (level : Bool) (statement : Statement) (begin : ℕ) →
       moved_statement program (if level then ([], statement)
-      else split_statement (length program.privates) statement).1 ≡ EndFor begin →
+      else split_statement program statement).1 ≡ EndFor begin →
       IsEnd program statement begin
-  end_of true statement begin e = plain_end statement begin e
-  end_of false (EndFor from) begin e = same_end from begin e
-  end_of false (Assign (Private x) tree) begin e = absurd (cc)
-  end_of false (Assign (Shared array index) tree) begin e = absurd (cc)
-  end_of false (If tree) begin e = absurd (cc)
-  end_of false Else begin e = absurd (cc)
-  end_of false EndIf begin e = absurd (cc)
-  end_of false (While tree end) begin e = absurd (cc)
-  end_of false (EndWhile line) begin e = absurd (cc)
-  end_of false (For nest first last up end) begin e = absurd (cc)
+  level_end true statement begin e = plain_end statement begin e
+  level_end false (EndFor from) begin e = same_end from begin e
+  level_end false (Assign (Private x) tree) begin e = absurd (cc)
+  level_end false (Assign (Shared array index) tree) begin e = absurd (cc)
+  level_end false (If tree) begin e = absurd (cc)
+  level_end false Else begin e = absurd (cc)
+  level_end false EndIf begin e = absurd (cc)
+  level_end false (While tree end) begin e = absurd (cc)
+  level_end false (EndWhile line) begin e = absurd (cc)
+  level_end false (For nest first last up end) begin e = absurd (cc)
 
-  for_of : (level : Bool) (statement : Statement) → IsFor statement →
-      IsFor (moved_statement program (if level then ([], statement)
-      else split_statement (length program.privates) statement).1)
-  for_of true (For nest first last up end) is = tt
-  for_of false (For nest first last up end) is = tt
-  for_of true (EndFor from) is = absurd is
-  for_of true (Assign target tree) is = absurd is
-  for_of true (If tree) is = absurd is
-  for_of true Else is = absurd is
-  for_of true EndIf is = absurd is
-  for_of true (While tree end) is = absurd is
-  for_of true (EndWhile line) is = absurd is
-  for_of false (EndFor from) is = absurd is
-  for_of false (Assign target tree) is = absurd is
-  for_of false (If tree) is = absurd is
-  for_of false Else is = absurd is
-  for_of false EndIf is = absurd is
-  for_of false (While tree end) is = absurd is
-  for_of false (EndWhile line) is = absurd is
+  end_of : (statement : Statement) (begin : ℕ) →
+      moved_statement program (statement_parts program statement).1 ≡ EndFor begin →
+      IsEnd program statement begin
+  end_of (EndFor from) begin e = same_end from begin e
+  end_of (Assign target tree) begin e =
+      level_end (fits (Assign target tree)) (Assign target tree) begin e
+  end_of (If tree) begin e = level_end (fits (If tree)) (If tree) begin e
+  end_of Else begin e = absurd (cc)
+  end_of EndIf begin e = absurd (cc)
+  end_of (While tree end) begin e = level_end (fits (While tree end)) (While tree end) begin e
+  end_of (EndWhile line) begin e = absurd (cc)
+  end_of (For nest first last up end) begin e =
+      level_end (fits (For nest first last up end)) (For nest first last up end) begin e
+
+  level_for : (nest : ℕ) (first last : Tree) (up : Bool) (end : ℕ) (level : Bool) →
+      IsFor (moved_statement program (if level then ([], For nest first last up end)
+      else split_statement program (For nest first last up end)).1)
+  level_for nest first last up end true = tt
+  level_for nest first last up end false = tt
+
+  for_of : (statement : Statement) → IsFor statement →
+      IsFor (moved_statement program (statement_parts program statement).1)
+  for_of (For nest first last up end) is =
+      level_for nest first last up end (fits (For nest first last up end))
+  for_of (EndFor from) is = absurd is
+  for_of (Assign target tree) is = absurd is
+  for_of (If tree) is = absurd is
+  for_of Else is = absurd is
+  for_of EndIf is = absurd is
+  for_of (While tree end) is = absurd is
+  for_of (EndWhile line) is = absurd is
+
+  -- no hidden line is the end of a loop
+  no_end : (common : Bool) (end x : ℕ) (tree : Tree) (begin : ℕ) →
+      giving common end x tree ≡ EndFor begin → ⊥
+  no_end true end x tree begin e = absurd (cc)
+  no_end false end x tree begin e = absurd (cc)
 
   -- the end of a loop among the lines for a line is the last of them
   last_end : (line : Line) (k : ℕ) (found : Line) (begin : ℕ) →
@@ -116,27 +134,28 @@ module _ (program : ProgramData) where
       IsEnd program line.statement begin
   unfolding lines_for
   last_end line k found begin here e =
-      let pieces = pieces_of program line in
+      let front = hidden_for program line in
       let rest = last_line program line ∷ [] in
       ⊎_elim
-      (λ (low : k < length (hidden line (length program.privates) pieces)).
-      let is = hidden_is line (length program.privates) pieces k (let l = length-hidden line (length program.privates) pieces in
-      omega (arith, l, low)) in
-      let same : record line { statement = Assign (Private is.0) is.1 } ≡ found =
-      same_Some _ found (sym is.2 ∙ sym (get_front (hidden line (length program.privates) pieces) rest k low) ∙ here) in
-      let no : Assign (Private is.0) is.1 ≡ EndFor begin =
-      ap (λ (l : Line). l.statement) same ∙ e in absurd (cc))
-      (λ (high : length (hidden line (length program.privates) pieces) ≤ k).
-      let j : ℕ = k - length (hidden line (length program.privates) pieces) in
+      (λ (low : k < length front).
+      let end = last_of program 0 in
+      let base = base_of program line.statement in
+      let is = hidden_is end line base (pieces_of program line) k
+      (let l = length-hidden end line base (pieces_of program line) in omega (arith, l, low)) in
+      let same : record line { statement = giving (is_common line.statement) end is.0 is.1 }
+      ≡ found = same_Some _ found (sym is.2 ∙ sym (get_front front rest k low) ∙ here) in
+      absurd (no_end (is_common line.statement) end is.0 is.1 begin
+      (ap (λ (l : Line). l.statement) same ∙ e)))
+      (λ (high : length front ≤ k).
+      let j : ℕ = k - length front in
       let there : slice_get rest j ≡ Some found =
-      sym (get_back (hidden line (length program.privates) pieces) rest k j (omega (arith, high))) ∙ here in
+      sym (get_back front rest k j (omega (arith, high))) ∙ here in
       let short = slice_get_within rest j found there in
       let none : j ≡ 0 = omega (arith, short) in
       let same : last_line program line ≡ found =
       same_Some (last_line program line) found (sym (ap (slice_get rest) none) ∙ there) in
-      end_of (fits line.statement) line.statement begin
-      (ap (λ (l : Line). l.statement) same ∙ e))
-      (cases_lt k (length (hidden line (length program.privates) pieces)))
+      end_of line.statement begin (ap (λ (l : Line). l.statement) same ∙ e))
+      (cases_lt k (length front))
 
   abbrev statement_in : Option Line → Statement
   statement_in o = elim o as (λ (x : Option Line). Statement)
@@ -150,7 +169,7 @@ module _ (program : ProgramData) where
       ≡ Some (last_line program line) =
       ap (slice_get (flat program).lines) (last_is program j line e)
       ∙ last_stands program j line e in
-      subst IsFor (sym (ap statement_in here)) (for_of (fits line.statement) line.statement is)
+      subst IsFor (sym (ap statement_in here)) (for_of line.statement is)
 
   pub flat_tied : TurnsAreTied program → TurnsAreTied (flat program)
   flat_tied tied j begin e = by_line (slice_get (flat program).lines j) refl

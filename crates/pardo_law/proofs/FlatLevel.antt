@@ -18,7 +18,7 @@ use Rattle.pardo_text.specs.declared.operation.Op.TheVariants.{Within}
 use Rattle.pardo_text.specs.Expression.{Tree, number, own, loop, private, place, apply}
 use Rattle.pardo_job.specs.Flat.{ShapeData, applied_shape, beside, computed_shape, first_need, has_room}
 use Rattle.pardo_job.specs.Flat.{is_beside}
-use Rattle.pardo_job.specs.Flat.{operation_need, shape_of, split}
+use Rattle.pardo_job.specs.Flat.{operation_need, shape_of, split, split_last, variable}
 use Rattle.pardo_job.specs.Flat.{taken}
 use Rattle.pardo_job.specs.Layouts.{ProgramLayoutData, array_cells, loop_cells}
 use Rattle.pardo_job.specs.Layouts.{private_cells}
@@ -32,6 +32,7 @@ use Rattle.pardo_job.specs.Values.{value_operand}
 use Rattle.pardo_job.proofs.Choices.{taken_none, taken_one}
 use Rattle.pardo_job.proofs.Emitting.{shallow_both}
 use Rattle.pardo_job.proofs.Shallow.{instruction_target}
+use Rattle.pardo_job.proofs.Splitters.{shape-variable}
 
 -- ---- instructions
 
@@ -558,29 +559,29 @@ computes : (shape : ShapeData) → shape.need ≤ 3 → has_room 0 shape ≡ tru
 computes shape few = le-leb (0 + shape.need) 3 (omega (arith, few))
 
 -- nothing is split off where three registers are enough
-pub split_small : (t : ℕ) (tree : Tree) → (shape_of tree).need ≤ 3 → split t tree ≡ ([], tree)
+pub split_small : (common : Bool) (t : ℕ) (tree : Tree) → (shape_of tree).need ≤ 3 → split common t tree ≡ ([], tree)
 unfolding applied_shape
-split_small t (number k) few = refl
-split_small t own few = refl
-split_small t (loop nest) few = refl
-split_small t (private x) few = refl
-split_small t (place array index) few =
-    ap (λ (s : List Tree × Tree). (s.0, place array s.1)) (split_small t index (omega (arith, few)))
-split_small t (apply op first second) few =
+split_small common t (number k) few = refl
+split_small common t own few = refl
+split_small common t (loop nest) few = refl
+split_small common t (private x) few = refl
+split_small common t (place array index) few =
+    ap (λ (s : List Tree × Tree). (s.0, place array s.1)) (split_small common t index (omega (arith, few)))
+split_small common t (apply op first second) few =
     let a = shape_of first in
     let b = shape_of second in
-    let left = split t first in
+    let left = split common t first in
     let u : ℕ = t + length left.0 in
-    let one : left ≡ ([], first) = split_small t first (omega (arith, few)) in
-    let other : split u second ≡ ([], second) = split_small u second (omega (arith, few)) in
+    let one : left ≡ ([], first) = split_small common t first (omega (arith, few)) in
+    let other : split common u second ≡ ([], second) = split_small common u second (omega (arith, few)) in
     let room : is_beside op (shape_of left.1) b ≡ true =
     ap (λ (s : List Tree × Tree). is_beside op (shape_of s.1) b) one
     ∙ ap (λ r. not a.is_computed || r) (computes (applied_shape op a b) few)
     ∙ or_true (not a.is_computed) in
     let joined : Bool → List Tree × Tree → List Tree × Tree → List Tree × Tree =
-    λ r s q. ((beside t r s q).0, apply op (beside t r s q).1 (beside t r s q).2) in
-    ap (λ r. joined r left (split u second)) room
-    ∙ ap (λ (s : List Tree × Tree). joined true s (split u second)) one
+    λ r s q. ((beside common t r s q).0, apply op (beside common t r s q).1 (beside common t r s q).2) in
+    ap (λ r. joined r left (split common u second)) room
+    ∙ ap (λ (s : List Tree × Tree). joined true s (split common u second)) one
     ∙ ap (λ (s : List Tree × Tree). joined true ([], first) s) other
   where
     or_true : (c : Bool) → (c || true) ≡ true
@@ -600,20 +601,20 @@ joins_small : (op : Op) (a b : ShapeData) → a.need ≤ 3 → taken a + b.need 
 unfolding applied_shape
 joins_small op a b one other = let e = few_need op a b in omega (arith, one, other, e)
 
-pub split_are_small : (t : ℕ) (tree : Tree) → AreSmall (split t tree)
+pub split_are_small : (common : Bool) (t : ℕ) (tree : Tree) → AreSmall (split common t tree)
 unfolding applied_shape
-split_are_small t (number k) = (All-nil IsSmall, omega arith)
-split_are_small t own = (All-nil IsSmall, omega arith)
-split_are_small t (loop nest) = (All-nil IsSmall, omega arith)
-split_are_small t (private x) = (All-nil IsSmall, omega arith)
-split_are_small t (place array index) =
-    let inner = split_are_small t index in let e = inner.1 in (inner.0, omega (arith, e))
-split_are_small t (apply op first second) =
-    let left = split t first in
+split_are_small common t (number k) = (All-nil IsSmall, omega arith)
+split_are_small common t own = (All-nil IsSmall, omega arith)
+split_are_small common t (loop nest) = (All-nil IsSmall, omega arith)
+split_are_small common t (private x) = (All-nil IsSmall, omega arith)
+split_are_small common t (place array index) =
+    let inner = split_are_small common t index in let e = inner.1 in (inner.0, omega (arith, e))
+split_are_small common t (apply op first second) =
+    let left = split common t first in
     let u : ℕ = t + length left.0 in
-    by_room left (split u second) second
-    (split_are_small t first) (split_are_small u second)
-    (split_small u second) (is_beside op (shape_of left.1) (shape_of second)) refl
+    by_room left (split common u second) second
+    (split_are_small common t first) (split_are_small common u second)
+    (split_small common u second) (is_beside op (shape_of left.1) (shape_of second)) refl
   where
     by_taken : (left right : List Tree × Tree) (second : Tree) → IsSmall left.1 →
         IsSmall right.1 → ((shape_of second).need ≤ 3 → right ≡ ([], second)) → (c : Bool) →
@@ -638,8 +639,8 @@ split_are_small t (apply op first second) =
         (not (shape_of left.1).is_computed
         || has_room 0 (applied_shape op (shape_of left.1) (shape_of second))) ≡ room →
         AreSmall (
-          (beside t room left right).0,
-          apply op (beside t room left right).1 (beside t room left right).2,
+          (beside common t room left right).0,
+          apply op (beside common t room left right).1 (beside common t room left right).2,
         )
     by_room left right second one other small true e = (
       All-append IsSmall left.0 right.0 one.0 other.0,
@@ -651,5 +652,63 @@ split_are_small t (apply op first second) =
           All-append IsSmall left.0 (right.0 ++ right.1 ∷ []) one.0
               (All-append IsSmall right.0 (right.1 ∷ []) other.0
               (All-cons IsSmall right.1 [] other.1 (All-nil IsSmall))),
-          joins_small op (shape_of left.1) (computed_shape false 1) one.1 (omega (arith, few)),
+          subst (λ (s : ShapeData). (applied_shape op (shape_of left.1) s).need ≤ 3)
+              (sym (shape-variable common (t + length left.0 + length right.0)))
+              (joins_small op (shape_of left.1) (computed_shape false 1) one.1
+              (omega (arith, few))),
         )
+
+-- the last bound of a `for` has a register less
+abbrev pub IsSmaller : Tree → Type 0
+IsSmaller tree = 1 + (shape_of tree).need ≤ 3
+
+pub last_is_small : (t : ℕ) (tree : Tree) →
+    All IsSmall (split_last t tree).0 × IsSmaller (split_last t tree).1
+last_is_small t tree =
+    by_room (split true t tree) (split_are_small true t tree)
+    (has_room 1 (shape_of (split true t tree).1)) refl
+  where
+    by_room : (last : List Tree × Tree) → AreSmall last → (room : Bool) →
+        has_room 1 (shape_of last.1) ≡ room →
+        All IsSmall (if room then last else (last.0 ++ last.1 ∷ [], loop (t + length last.0))).0
+        × IsSmaller (if room then last else (last.0 ++ last.1 ∷ [], loop (t + length last.0))).1
+    by_room last small true e = (small.0, leb-true (1 + (shape_of last.1).need) 3 e)
+    by_room last small false e = (
+      All-append IsSmall last.0 (last.1 ∷ []) small.0
+          (All-cons IsSmall last.1 [] small.1 (All-nil IsSmall)),
+      omega arith,
+    )
+
+-- two bounds are compared
+first_few : (a b : ShapeData) → first_need a b ≤ 2
+first_few a b = few (a.is_number && b.is_computed)
+  where
+    few : (c : Bool) → (if c then 2 else 1) ≤ 2
+    few true = omega arith
+    few false = omega arith
+
+pub compared_level : (up : Bool) (first last : Tree) → IsSmall first → IsSmaller last →
+    is_shallow (native 0 (if up then Gt else Lt) (value_operand 0 first)
+    (value_operand (takes first) last)) ≡ true
+compared_level up first last small smaller =
+    subst (λ n. is_shallow (native 0 (if up then Gt else Lt) (value_operand 0 first)
+    (value_operand n last)) ≡ true)
+    (let e = takes_as first in
+    let same : 0 + taken (shape_of first) ≡ takes first = omega (arith, e) in same) (by_way up)
+  where
+    one : IsOf (shape_of first) 0 (value_operand 0 first)
+    one = operand_of first 0 (omega (arith, small))
+
+    other : IsOf (shape_of last) (0 + taken (shape_of first))
+        (value_operand (0 + taken (shape_of first)) last)
+    other = let few = taken_few (shape_of first) in
+        operand_of last (0 + taken (shape_of first)) (omega (arith, few, smaller))
+
+    by_way : (up : Bool) → is_shallow (native 0 (if up then Gt else Lt) (value_operand 0 first)
+        (value_operand (0 + taken (shape_of first)) last)) ≡ true
+    by_way true = greater 0 (shape_of first) (shape_of last) (value_operand 0 first)
+        (value_operand (0 + taken (shape_of first)) last) one other
+        (let few = first_few (shape_of last) (shape_of first) in omega (arith, few))
+    by_way false = fixed 0 (shape_of first) (shape_of last) (value_operand 0 first)
+        (value_operand (0 + taken (shape_of first)) last) one other Lt (λ z. refl)
+        (let few = first_few (shape_of first) (shape_of last) in omega (arith, few))

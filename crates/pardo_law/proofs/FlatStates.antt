@@ -14,6 +14,7 @@ use Rattle.pardo_text.specs.declared.statement.Statement.TheVariants.{While, End
 use Rattle.pardo_text.specs.declared.statement.Target.TheVariants.{Private, Array as Shared}
 use Rattle.pardo_text.specs.Expression.{Tree, number, own, loop, private, place, apply}
 use Rattle.pardo_text.specs.Lawful.{Bounds, IsExpression, IsLine, IsProgram, IsStatement, bounds_of}
+use Rattle.pardo_text.specs.Operations.{worked_out}
 use Rattle.pardo_text.specs.Program.{ProgramData}
 use Rattle.pardo_job.specs.Meaning.{Source, value, array_cell, is_active, after_statement, losing}
 use Rattle.pardo_job.specs.Meaning.{asked_in, chosen, common_value, given_to, first_below, has_none}
@@ -21,16 +22,20 @@ use Rattle.pardo_job.specs.Meaning.{abandoned, by_common, is_true, loop_ended, n
 use Rattle.pardo_job.specs.Meaning.{otherwise}
 use Rattle.pardo_job.specs.Meaning.{private_assigned, shared_assigned, statement_at, turned}
 use Rattle.pardo_job.specs.Meaning.{value_written, write_of}
-use Rattle.pardo_job.specs.Flat.{flat, first_flat_of, has_room, last_line, last_of, moved_statement, line_parts}
-use Rattle.pardo_job.specs.Flat.{shape_of, split, split_statement, split_store, taken}
+use Rattle.pardo_job.specs.Flat.{first_flat_of, fits, flat, has_room, is_common}
+use Rattle.pardo_job.specs.Flat.{last_line, last_of, last_pieces, line_parts, moved_statement}
+use Rattle.pardo_job.specs.Flat.{shape_of, split, split_bounds, split_statement, split_store}
+use Rattle.pardo_job.specs.Flat.{statement_parts, taken}
 use Rattle.pardo_job.specs.Carries.{Shares, StandsFor}
 use Rattle.pardo_law.proofs.Carrying.{all_at}
+use Rattle.pardo_law.proofs.LoopPieces.{Held}
+use Rattle.pardo_law.proofs.LoopPieces.{last_held}
 use Rattle.pardo_job.proofs.FlatLines.{flat_end, last_next, last_stands, last_is}
 pub use Rattle.pardo_job.proofs.FlatLines.{some_at}
 use Rattle.pardo_law.proofs.Splitting.{NoneOf, Ran, ReadsBelow, SameBoth, active_there, after_pieces}
 use Rattle.pardo_law.proofs.Splitting.{below_kept, beside_ran, cells_kept, gone_outside}
 use Rattle.pardo_law.proofs.Splitting.{inactive_gone, loops_kept, masks_kept, reads_more}
-use Rattle.pardo_law.proofs.Splitting.{split_ran, split_reads, value_alike}
+use Rattle.pardo_law.proofs.Splitting.{split_ran, split_reads}
 
 -- an expression of a lawful program reads the private variables of the text
 pub expression_reads : (b : Bounds) (tree : Tree) → IsExpression b tree →
@@ -43,31 +48,58 @@ expression_reads b (place array index) is = expression_reads b index is.1
 expression_reads b (apply op first second) is =
     (expression_reads b first is.0, expression_reads b second is.1)
 
+-- the first line of a loop
+abbrev pub IsOpening : Statement → Type 0
+IsOpening (While tree end) = Unit {0}
+IsOpening (For nest first last up end) = Unit {0}
+IsOpening statement = ⊥
+
 if_same : {A : Type 0} (b : Bool) (x : A) → (if b then x else x) ≡ x
 if_same true x = refl
 if_same false x = refl
 
+-- an expression of the text has its value in both states
+pub value_shared : (program : ProgramData) (source flat_source : Source) (i : ℕ) →
+    Shares program source flat_source → (tree : Tree) →
+    IsExpression (bounds_of program) tree →
+    value (flat program) flat_source i tree ≡ value program source i tree
+value_shared program source flat_source i shares (number k) is = refl
+value_shared program source flat_source i shares own is = refl
+value_shared program source flat_source i shares (loop nest) is = ap Some (shares.loops nest is)
+value_shared program source flat_source i shares (private x) is =
+    ap Some (shares.privates x i is)
+value_shared program source flat_source i shares (place array index) is =
+    ap (option_and_then (λ k. option_map flat_source.cells (array_cell program array k)))
+    (value_shared program source flat_source i shares index is.1)
+    ∙ ap (λ (f : ℕ → ℕ). option_and_then (λ k. option_map f (array_cell program array k))
+    (value program source i index)) shares.cells
+value_shared program source flat_source i shares (apply op first second) is =
+    ap (λ v. option_and_then (λ a. option_and_then (worked_out op a) v)
+    (value (flat program) flat_source i first))
+    (value_shared program source flat_source i shares second is.1)
+    ∙ ap (option_and_then (λ a. option_and_then (worked_out op a) (value program source i second)))
+    (value_shared program source flat_source i shares first is.0)
+
 module _ (program : ProgramData) (source flat_source : Source)
-    (stands : StandsFor program source flat_source) (text_line depth : ℕ) where
+    (shares : Shares program source flat_source) (same_gone : flat_source.gone ≡ source.gone)
+    (text_line depth : ℕ) where
   abbrev pub other : ProgramData
   other = flat program
 
   abbrev pub base : ℕ
   base = length program.privates
 
-  same_value : (i : ℕ) (tree : Tree) → ReadsBelow base tree →
+  abbrev Reads : Tree → Type 0
+  Reads tree = IsExpression (bounds_of program) tree
+
+  same_value : (i : ℕ) (tree : Tree) → Reads tree →
       value other flat_source i tree ≡ value program source i tree
-  same_value i tree reads = value_alike program other source flat_source i base (λ array k. refl)
-      (record {
-        cells = stands.shares.cells;
-        loops = stands.shares.loops;
-        privates = λ x lt. stands.shares.privates x i lt;
-      }) tree reads
+  same_value i tree is = value_shared program source flat_source i shares tree is
 
   active_same : (i : ℕ) → is_active flat_source depth i ≡ is_active source depth i
   active_same i =
-      ap (λ (m : ℕ → ℕ → Bool). m depth i && is_none (flat_source.gone i)) stands.shares.masks
-      ∙ ap (λ (g : ℕ → Option ℕ). source.masks depth i && is_none (g i)) stands.gone
+      ap (λ (m : ℕ → ℕ → Bool). m depth i && is_none (flat_source.gone i)) shares.masks
+      ∙ ap (λ (g : ℕ → Option ℕ). source.masks depth i && is_none (g i)) same_gone
 
   -- ---- a line with pieces
 
@@ -121,7 +153,7 @@ module _ (program : ProgramData) (source flat_source : Source)
           after = ap (λ (m : ℕ → ℕ → Bool). m depth i && is_none (now.gone i))
               (masks_kept other text_line depth base pieces flat_source)
               ∙ ap (λ g. flat_source.masks depth i && is_none g) kept ∙ was;
-          same = kept ∙ ap (λ (g : ℕ → Option ℕ). g i) stands.gone;
+          same = kept ∙ ap (λ (g : ℕ → Option ℕ). g i) same_gone;
         }))
         (cases_Bool (is_active source depth i))
 
@@ -162,20 +194,21 @@ module _ (program : ProgramData) (source flat_source : Source)
 
     now_cells : now.cells ≡ source.cells
     now_cells =
-        cells_kept other text_line depth base pieces flat_source ∙ stands.shares.cells
+        cells_kept other text_line depth base pieces flat_source ∙ shares.cells
 
-    now_loops : now.loops ≡ source.loops
-    now_loops =
-        loops_kept other text_line depth base pieces flat_source ∙ stands.shares.loops
+    now_loops : (nest : ℕ) → nest < program.loops → now.loops nest ≡ source.loops nest
+    now_loops nest lt =
+        ap (λ (l : ℕ → ℕ). l nest) (loops_kept other text_line depth base pieces flat_source)
+        ∙ shares.loops nest lt
 
     now_masks : now.masks ≡ source.masks
     now_masks =
-        masks_kept other text_line depth base pieces flat_source ∙ stands.shares.masks
+        masks_kept other text_line depth base pieces flat_source ∙ shares.masks
 
     now_privates : (x i : ℕ) → x < base → now.privates x i ≡ source.privates x i
     now_privates x i lt =
         below_kept other text_line depth base pieces flat_source x i lt
-        ∙ stands.shares.privates x i lt
+        ∙ shares.privates x i lt
 
     pub now_shares : Shares program source now
     now_shares = record {
@@ -192,7 +225,7 @@ module _ (program : ProgramData) (source flat_source : Source)
         (λ s. value other s i rest ≡ value other flat_source i tree)
         (value other flat_source i tree ≡ None)
 
-    case_value : (tree rest : Tree) → ReadsBelow base tree → Runs tree rest → (i : ℕ) →
+    case_value : (tree rest : Tree) → Reads tree → Runs tree rest → (i : ℕ) →
         Case i (value other now i rest ≡ value program source i tree)
         (value program source i tree ≡ None)
     case_value tree rest reads runs i = case_of i
@@ -201,14 +234,14 @@ module _ (program : ProgramData) (source flat_source : Source)
         (value other flat_source i tree ≡ None) (value program source i tree ≡ None)
         (λ e. e ∙ same_value i tree reads) (λ e. sym (same_value i tree reads) ∙ e) (runs i)
 
-    lost_same : (tree rest : Tree) → ReadsBelow base tree → Runs tree rest →
+    lost_same : (tree rest : Tree) → Reads tree → Runs tree rest →
         ◌≡◌ {A = ℕ → Option ℕ}
         (λ i. losing text_line depth (λ j. is_some (value other now j rest)) now i)
         (λ i. losing text_line depth (λ j. is_some (value program source j tree)) source i)
     lost_same tree rest reads runs = fun_ext (λ i. loses ℕ (λ j. value other now j rest)
         (λ j. value program source j tree) i (case_value tree rest reads runs i))
 
-    private_stands : (x : ℕ) (tree rest : Tree) → ReadsBelow base tree → Runs tree rest →
+    private_stands : (x : ℕ) (tree rest : Tree) → Reads tree → Runs tree rest →
         now.at + 1 ≡ first_flat_of program (source.at + 1) →
         StandsFor program
         (on_to (source.at + 1) (private_assigned program text_line depth x tree source))
@@ -233,7 +266,7 @@ module _ (program : ProgramData) (source flat_source : Source)
       at = leads;
     }
 
-    choice_stands : (tree rest : Tree) → ReadsBelow base tree → Runs tree rest →
+    choice_stands : (tree rest : Tree) → Reads tree → Runs tree rest →
         now.at + 1 ≡ first_flat_of program (source.at + 1) →
         StandsFor program (on_to (source.at + 1) (chosen program text_line depth tree source))
         (on_to (now.at + 1) (chosen other text_line depth rest now))
@@ -261,8 +294,8 @@ module _ (program : ProgramData) (source flat_source : Source)
         (SameBoth other text_line depth i rest rest_index tree index flat_source)
         (NoneOf other text_line depth i tree index flat_source)
 
-    write_same : (array i : ℕ) (tree index rest rest_index : Tree) → ReadsBelow base tree →
-        ReadsBelow base index →
+    write_same : (array i : ℕ) (tree index rest rest_index : Tree) → Reads tree →
+        Reads index →
         SameBoth other text_line depth i rest rest_index tree index flat_source now →
         write_of other now array i rest_index rest ≡ write_of program source array i index tree
     write_same array i tree index rest rest_index reads reads_index same =
@@ -279,8 +312,8 @@ module _ (program : ProgramData) (source flat_source : Source)
     never None = refl
     never (Some w) = refl
 
-    write_none : (array i : ℕ) (tree index : Tree) → ReadsBelow base tree →
-        ReadsBelow base index → NoneOf other text_line depth i tree index flat_source →
+    write_none : (array i : ℕ) (tree index : Tree) → Reads tree →
+        Reads index → NoneOf other text_line depth i tree index flat_source →
         write_of program source array i index tree ≡ None
     write_none array i tree index reads reads_index (inl none) =
         ap (λ v. option_and_then (λ w. option_map {U = ℕ × ℕ} (λ cell. (cell, w))
@@ -291,8 +324,8 @@ module _ (program : ProgramData) (source flat_source : Source)
         (option_and_then (array_cell program array) v)) (value program source i tree))
         (sym (same_value i index reads_index) ∙ none) ∙ never (value program source i tree)
 
-    case_write : (array : ℕ) (tree index rest rest_index : Tree) → ReadsBelow base tree →
-        ReadsBelow base index → RunBoth tree index rest rest_index → (i : ℕ) →
+    case_write : (array : ℕ) (tree index rest rest_index : Tree) → Reads tree →
+        Reads index → RunBoth tree index rest rest_index → (i : ℕ) →
         Case i (write_of other now array i rest_index rest
         ≡ write_of program source array i index tree)
         (write_of program source array i index tree ≡ None)
@@ -304,8 +337,8 @@ module _ (program : ProgramData) (source flat_source : Source)
         (write_same array i tree index rest rest_index reads reads_index)
         (write_none array i tree index reads reads_index) (runs i)
 
-    asked_same : (array : ℕ) (tree index rest rest_index : Tree) → ReadsBelow base tree →
-        ReadsBelow base index → RunBoth tree index rest rest_index → (i : ℕ) →
+    asked_same : (array : ℕ) (tree index rest rest_index : Tree) → Reads tree →
+        Reads index → RunBoth tree index rest rest_index → (i : ℕ) →
         asked_in other now depth (Assign (Shared array rest_index) rest) i
         ≡ asked_in program source depth (Assign (Shared array index) tree) i
     asked_same array tree index rest rest_index reads reads_index runs i =
@@ -313,8 +346,8 @@ module _ (program : ProgramData) (source flat_source : Source)
         (write_of program source array i index tree) i (λ a v. if a then v else None) None
         (λ v. refl) refl (case_write array tree index rest rest_index reads reads_index runs i)
 
-    shared_stands : (array : ℕ) (tree index rest rest_index : Tree) → ReadsBelow base tree →
-        ReadsBelow base index → RunBoth tree index rest rest_index →
+    shared_stands : (array : ℕ) (tree index rest rest_index : Tree) → Reads tree →
+        Reads index → RunBoth tree index rest rest_index →
         now.at + 1 ≡ first_flat_of program (source.at + 1) →
         StandsFor program
         (on_to (source.at + 1) (shared_assigned program text_line depth array index tree source))
@@ -342,12 +375,12 @@ module _ (program : ProgramData) (source flat_source : Source)
       StandsFor program (on_to a source) (on_to b flat_source)
   jump a b leads = record {
     shares = record {
-      cells = stands.shares.cells;
-      loops = stands.shares.loops;
-      masks = stands.shares.masks;
-      privates = stands.shares.privates;
+      cells = shares.cells;
+      loops = shares.loops;
+      masks = shares.masks;
+      privates = shares.privates;
     };
-    gone = stands.gone;
+    gone = same_gone;
     at = leads;
   }
 
@@ -355,13 +388,13 @@ module _ (program : ProgramData) (source flat_source : Source)
       StandsFor program (on_to a (turned nest v source)) (on_to b (turned nest w flat_source))
   turn nest v w a b same leads = record {
     shares = record {
-      cells = stands.shares.cells;
-      loops = ap (λ u. λ n. if n == nest then u else flat_source.loops n) same
-          ∙ ap (λ (l : ℕ → ℕ). λ n. if n == nest then v else l n) stands.shares.loops;
-      masks = stands.shares.masks;
-      privates = stands.shares.privates;
+      cells = shares.cells;
+      loops = λ n lt. ap (λ u. if n == nest then u else flat_source.loops n) same
+          ∙ ap (λ u. if n == nest then v else u) (shares.loops n lt);
+      masks = shares.masks;
+      privates = shares.privates;
     };
-    gone = stands.gone;
+    gone = same_gone;
     at = leads;
   }
 
@@ -370,13 +403,13 @@ module _ (program : ProgramData) (source flat_source : Source)
       (on_to (flat_source.at + 1) (otherwise depth flat_source))
   else_stands leads = record {
     shares = record {
-      cells = stands.shares.cells;
-      loops = stands.shares.loops;
+      cells = shares.cells;
+      loops = shares.loops;
       masks = ap (λ (m : ℕ → ℕ → Bool). λ d i. if d == depth + 1
-          then m depth i && not (m d i) else m d i) stands.shares.masks;
-      privates = stands.shares.privates;
+          then m depth i && not (m d i) else m d i) shares.masks;
+      privates = shares.privates;
     };
-    gone = stands.gone;
+    gone = same_gone;
     at = leads;
   }
 
@@ -387,33 +420,31 @@ module _ (program : ProgramData) (source flat_source : Source)
   either false c x y z w same first second =
       subst (λ b. StandsFor program y (if b then z else w)) (sym same) second
 
-  same_common : (tree : Tree) → ReadsBelow base tree →
+  same_common : (tree : Tree) → Reads tree →
       common_value other flat_source tree ≡ common_value program source tree
-  same_common tree reads = same_value 0 tree reads
+  same_common tree is = same_value 0 tree is
 
   -- where all are gone both programs are over
-  over_stands : StandsFor program (abandoned program text_line source)
+  pub over_stands : StandsFor program (abandoned program text_line source)
       (abandoned other text_line flat_source)
   over_stands = record {
     shares = record {
-      cells = stands.shares.cells;
-      loops = stands.shares.loops;
-      masks = stands.shares.masks;
-      privates = stands.shares.privates;
+      cells = shares.cells;
+      loops = shares.loops;
+      masks = shares.masks;
+      privates = shares.privates;
     };
-    gone = ap (λ (g : ℕ → Option ℕ). λ i. option_or (g i) (Some text_line)) stands.gone;
+    gone = ap (λ (g : ℕ → Option ℕ). λ i. option_or (g i) (Some text_line)) same_gone;
     at = flat_end program;
   }
 
-  common_stands : (tree : Tree) → ReadsBelow base tree → (goes other_goes : ℕ → Source) →
+  common_stands : (mine others : Option ℕ) → others ≡ mine → (goes other_goes : ℕ → Source) →
       ((v : ℕ) → StandsFor program (goes v) (other_goes v)) →
-      StandsFor program (by_common program text_line source (common_value program source tree) goes)
-      (by_common other text_line flat_source (common_value other flat_source tree) other_goes)
-  common_stands tree reads goes other_goes each =
-      subst (λ o. StandsFor program
-      (by_common program text_line source (common_value program source tree) goes)
-      (by_common other text_line flat_source o other_goes)) (sym (same_common tree reads))
-      (by_value (common_value program source tree))
+      StandsFor program (by_common program text_line source mine goes)
+      (by_common other text_line flat_source others other_goes)
+  common_stands mine others same goes other_goes each =
+      subst (λ o. StandsFor program (by_common program text_line source mine goes)
+      (by_common other text_line flat_source o other_goes)) (sym same) (by_value mine)
     where
       by_value : (o : Option ℕ) → StandsFor program (by_common program text_line source o goes)
           (by_common other text_line flat_source o other_goes)
@@ -425,22 +456,54 @@ module _ (program : ProgramData) (source flat_source : Source)
   after_last end lt =
       let line = some_at program.lines end lt in last_next program end line.0 line.1
 
-  reads_of : (tree : Tree) → IsExpression (bounds_of program) tree → ReadsBelow base tree
-  reads_of tree is = expression_reads (bounds_of program) tree is
+  -- ---- lines of loops, of which these are left
+
+  pub while_stands : (tree rest : Tree) (end : ℕ) → end < length program.lines →
+      common_value other flat_source rest ≡ common_value program source tree →
+      flat_source.at + 1 ≡ first_flat_of program (source.at + 1) →
+      StandsFor program (after_statement program text_line depth (While tree end) source)
+      (after_statement other text_line depth (While rest (last_of program end)) flat_source)
+  while_stands tree rest end lt same leads =
+      common_stands (common_value program source tree) (common_value other flat_source rest) same
+      _ _ (λ v. either (v == 0) (v == 0)
+      (on_to (end + 1) source) (on_to (source.at + 1) source)
+      (on_to (last_of program end + 1) flat_source) (on_to (flat_source.at + 1) flat_source)
+      refl (jump (end + 1) (last_of program end + 1) (after_last end lt))
+      (jump (source.at + 1) (flat_source.at + 1) leads))
+
+  pub for_stands : (nest : ℕ) (first last low high : Tree) (up : Bool) (end : ℕ) →
+      end < length program.lines →
+      common_value other flat_source low ≡ common_value program source first →
+      common_value other flat_source high ≡ common_value program source last →
+      flat_source.at + 1 ≡ first_flat_of program (source.at + 1) →
+      StandsFor program
+      (after_statement program text_line depth (For nest first last up end) source)
+      (after_statement other text_line depth (For nest low high up (last_of program end))
+      flat_source)
+  for_stands nest first last low high up end lt same same_too leads =
+      common_stands (common_value program source first) (common_value other flat_source low) same
+      _ _ (λ a.
+      common_stands (common_value program source last) (common_value other flat_source high)
+      same_too _ _ (λ b.
+      either (has_none up a b) (has_none up a b)
+      (on_to (end + 1) source) (on_to (source.at + 1) (turned nest a source))
+      (on_to (last_of program end + 1) flat_source)
+      (on_to (flat_source.at + 1) (turned nest a flat_source)) refl
+      (jump (end + 1) (last_of program end + 1) (after_last end lt))
+      (turn nest a a (source.at + 1) (flat_source.at + 1) refl leads)))
 
   -- the end of a loop, by its first line
-  abbrev LoopStands : ℕ → Statement → Statement → Type 0
-  LoopStands begin opener rest =
-      StandsFor program (loop_ended program text_line begin opener source)
-      (loop_ended other text_line (last_of program begin) (moved_statement program rest) flat_source)
-
-  for_ended : (begin nest : ℕ) (first last : Tree) (up : Bool) (end : ℕ) →
-      begin < length program.lines → end < length program.lines → ReadsBelow base last →
-      LoopStands begin (For nest first last up end) (For nest first last up end)
-  for_ended begin nest first last up end low lt reads =
-      let same : flat_source.loops nest ≡ source.loops nest =
-      ap (λ (l : ℕ → ℕ). l nest) stands.shares.loops in
-      common_stands last reads _ _ (λ b.
+  for_ended : (begin nest : ℕ) (first last low high : Tree) (up : Bool) (end : ℕ) →
+      begin < length program.lines → end < length program.lines → nest < program.loops →
+      common_value other flat_source high ≡ common_value program source last →
+      StandsFor program
+      (loop_ended program text_line begin (For nest first last up end) source)
+      (loop_ended other text_line (last_of program begin)
+      (For nest low high up (last_of program end)) flat_source)
+  for_ended begin nest first last low high up end before lt within same_last =
+      let same : flat_source.loops nest ≡ source.loops nest = shares.loops nest within in
+      common_stands (common_value program source last) (common_value other flat_source high)
+      same_last _ _ (λ b.
       either (source.loops nest == b) (flat_source.loops nest == b)
       (on_to (end + 1) source)
       (on_to (begin + 1) (turned nest (next_turn up (source.loops nest)) source))
@@ -450,31 +513,110 @@ module _ (program : ProgramData) (source flat_source : Source)
       (ap (λ n. n == b) same)
       (jump (end + 1) (last_of program end + 1) (after_last end lt))
       (turn nest (next_turn up (source.loops nest)) (next_turn up (flat_source.loops nest))
-      (begin + 1) (last_of program begin + 1) (ap (next_turn up) same) (after_last begin low)))
+      (begin + 1) (last_of program begin + 1) (ap (next_turn up) same)
+      (after_last begin before)))
 
-  loop_stands : (begin : ℕ) (level : Bool) (opener : Statement) → begin < length program.lines →
-      IsStatement (bounds_of program) opener →
+  stays : (k : ℕ) → k ≡ 0 → flat_source.at ≡ first_flat_of program source.at + k →
+      StandsFor program source flat_source
+  stays k none at = record {
+    shares = record {
+      cells = shares.cells;
+      loops = shares.loops;
+      masks = shares.masks;
+      privates = shares.privates;
+    };
+    gone = same_gone;
+    at = omega (arith, none, at);
+  }
+
+  abbrev LoopStands : ℕ → Statement → Statement → Type 0
+  LoopStands begin opener rest =
+      StandsFor program (loop_ended program text_line begin opener source)
+      (loop_ended other text_line (last_of program begin) (moved_statement program rest) flat_source)
+
+  -- the pieces of its last bound have their values
+  abbrev BoundHeld : Statement → Bool → Type 0
+  BoundHeld opener level = Held other flat_source program.loops
+      (if level then [] else last_pieces program opener)
+
+  -- and it stands after them
+  abbrev BoundAt : Statement → Bool → Type 0
+  BoundAt opener level = flat_source.at ≡ first_flat_of program source.at
+      + length (if level then [] else last_pieces program opener)
+
+  by_level : (begin : ℕ) (level : Bool) (opener : Statement) → begin < length program.lines →
+      IsStatement (bounds_of program) opener → BoundHeld opener level → BoundAt opener level →
       LoopStands begin opener
-      (if level then ([], opener) else split_statement base opener).1
-  loop_stands begin true (For nest first last up end) low is =
-      for_ended begin nest first last up end low is.3 (reads_of last is.2.0)
-  loop_stands begin false (For nest first last up end) low is =
-      for_ended begin nest first last up end low is.3 (reads_of last is.2.0)
-  loop_stands begin true (Assign target tree) low is = stands
-  loop_stands begin true (If tree) low is = stands
-  loop_stands begin true Else low is = stands
-  loop_stands begin true EndIf low is = stands
-  loop_stands begin true (While tree end) low is = stands
-  loop_stands begin true (EndWhile line) low is = stands
-  loop_stands begin true (EndFor line) low is = stands
-  loop_stands begin false (Assign (Private x) tree) low is = stands
-  loop_stands begin false (Assign (Shared array index) tree) low is = stands
-  loop_stands begin false (If tree) low is = stands
-  loop_stands begin false Else low is = stands
-  loop_stands begin false EndIf low is = stands
-  loop_stands begin false (While tree end) low is = stands
-  loop_stands begin false (EndWhile line) low is = stands
-  loop_stands begin false (EndFor line) low is = stands
+      (if level then ([], opener) else split_statement program opener).1
+  by_level begin true (For nest first last up end) before is held at =
+      for_ended begin nest first last first last up end before is.3 is.0 (same_common last is.2.0)
+  by_level begin false (For nest first last up end) before is held at =
+      let parts = split_bounds program.loops first last in
+      for_ended begin nest first last parts.1 parts.2 up end before is.3 is.0
+      (last_held other flat_source program.loops last held ∙ same_common last is.2.0)
+  by_level begin true (Assign target tree) before is held at = stays 0 refl at
+  by_level begin true (If tree) before is held at = stays 0 refl at
+  by_level begin true Else before is held at = stays 0 refl at
+  by_level begin true EndIf before is held at = stays 0 refl at
+  by_level begin true (While tree end) before is held at = stays 0 refl at
+  by_level begin true (EndWhile line) before is held at = stays 0 refl at
+  by_level begin true (EndFor line) before is held at = stays 0 refl at
+  by_level begin false (Assign (Private x) tree) before is held at = stays 0 refl at
+  by_level begin false (Assign (Shared array index) tree) before is held at = stays 0 refl at
+  by_level begin false (If tree) before is held at = stays 0 refl at
+  by_level begin false Else before is held at = stays 0 refl at
+  by_level begin false EndIf before is held at = stays 0 refl at
+  by_level begin false (While tree end) before is held at = stays 0 refl at
+  by_level begin false (EndWhile line) before is held at = stays 0 refl at
+  by_level begin false (EndFor line) before is held at = stays 0 refl at
+
+  loop_stands : (begin : ℕ) (opener : Statement) → begin < length program.lines →
+      IsStatement (bounds_of program) opener → BoundHeld opener (fits opener) →
+      BoundAt opener (fits opener) →
+      LoopStands begin opener (statement_parts program opener).1
+  loop_stands begin (For nest first last up end) before is held at =
+      by_level begin (fits (For nest first last up end)) (For nest first last up end) before is held
+      at
+  loop_stands begin (Assign target tree) before is held at =
+      by_level begin (fits (Assign target tree)) (Assign target tree) before is held at
+  loop_stands begin (If tree) before is held at =
+      by_level begin (fits (If tree)) (If tree) before is held at
+  loop_stands begin (While tree end) before is held at =
+      by_level begin (fits (While tree end)) (While tree end) before is held at
+  loop_stands begin Else before is held at = stays 0 refl at
+  loop_stands begin EndIf before is held at = stays 0 refl at
+  loop_stands begin (EndWhile line) before is held at = stays 0 refl at
+  loop_stands begin (EndFor line) before is held at = stays 0 refl at
+
+  -- the end of a loop
+  pub turns_stand : (begin : ℕ) → begin < length program.lines → IsProgram program →
+      BoundHeld (statement_at program begin) (fits (statement_at program begin)) →
+      BoundAt (statement_at program begin) (fits (statement_at program begin)) →
+      StandsFor program (after_statement program text_line depth (EndFor begin) source)
+      (after_statement other text_line depth (EndFor (last_of program begin)) flat_source)
+  turns_stand begin before lawful held at =
+      let line = some_at program.lines begin before in
+      let is : IsLine (bounds_of program) line.0 =
+      all_at (IsLine (bounds_of program)) program.lines begin line.0 lawful.lines line.1 in
+      let was : statement_at program begin ≡ line.0.statement =
+      ap (λ (o : Option Line). elim o as (λ (x : Option Line). Statement)
+      [ None ↦ EndIf | Some l ↦ l.statement ]) line.1 in
+      let here : slice_get other.lines (last_of program begin)
+      ≡ Some (last_line program line.0) =
+      ap (slice_get other.lines) (last_is program begin line.0 line.1)
+      ∙ last_stands program begin line.0 line.1 in
+      let same : statement_at other (last_of program begin)
+      ≡ moved_statement program (line_parts program line.0).1 =
+      ap (λ (o : Option Line). elim o as (λ (x : Option Line). Statement)
+      [ None ↦ EndIf | Some l ↦ l.statement ]) here in
+      subst (λ s. StandsFor program (loop_ended program text_line begin s source)
+      (loop_ended other text_line (last_of program begin)
+      (statement_at other (last_of program begin)) flat_source)) (sym was)
+      (subst (λ s. StandsFor program
+      (loop_ended program text_line begin line.0.statement source)
+      (loop_ended other text_line (last_of program begin) s flat_source)) (sym same)
+      (loop_stands begin line.0.statement before is.0
+      (subst (λ s. BoundHeld s (fits s)) was held) (subst (λ s. BoundAt s (fits s)) was at)))
 
   -- ---- all lines
 
@@ -488,93 +630,49 @@ module _ (program : ProgramData) (source flat_source : Source)
       × ((i : ℕ) → asked_in other (after_pieces other text_line depth base parts.0 flat_source) depth
       (moved_statement program parts.1) i ≡ asked_in program source depth statement i)
 
-  turns_stand : (begin : ℕ) → begin < length program.lines → IsProgram program →
-      LineStands (EndFor begin) ([], EndFor begin)
-  turns_stand begin low lawful leads =
-      let line = some_at program.lines begin low in
-      let is : IsLine (bounds_of program) line.0 =
-      all_at (IsLine (bounds_of program)) program.lines begin line.0 lawful.lines line.1 in
-      let was : statement_at program begin ≡ line.0.statement =
-      ap (λ (o : Option Line). elim o as (λ (x : Option Line). Statement)
-      [ None ↦ EndIf | Some l ↦ l.statement ]) line.1 in
-      let here : slice_get other.lines (last_of program begin)
-      ≡ Some (last_line program line.0) =
-      ap (slice_get other.lines) (last_is program begin line.0 line.1)
-      ∙ last_stands program begin line.0 line.1 in
-      let same : statement_at other (last_of program begin)
-      ≡ moved_statement program (line_parts program line.0).1 =
-      ap (λ (o : Option Line). elim o as (λ (x : Option Line). Statement)
-      [ None ↦ EndIf | Some l ↦ l.statement ]) here in (
-        subst (λ s. StandsFor program (loop_ended program text_line begin s source)
-            (loop_ended other text_line (last_of program begin)
-            (statement_at other (last_of program begin)) flat_source)) (sym was)
-            (subst (λ s. StandsFor program
-            (loop_ended program text_line begin line.0.statement source)
-            (loop_ended other text_line (last_of program begin) s flat_source)) (sym same)
-            (loop_stands begin _ line.0.statement low is.0)),
-        λ i. refl,
-      )
-
-  plain_stands : IsProgram program → (statement : Statement) →
+  plain_stands : (statement : Statement) → is_common statement ≡ false →
       IsStatement (bounds_of program) statement → LineStands statement ([], statement)
-  plain_stands lawful (Assign (Private x) tree) is leads = (
-    private_stands [] x tree tree (reads_of tree is.1) (λ i active. inl (active, refl)) leads,
+  plain_stands (Assign (Private x) tree) plain is leads = (
+    private_stands [] x tree tree is.1 (λ i active. inl (active, refl)) leads,
     λ i. refl,
   )
-  plain_stands lawful (Assign (Shared array index) tree) is leads =
+  plain_stands (Assign (Shared array index) tree) plain is leads =
       let runs : RunBoth [] tree index tree index = λ i active. inl (active, (refl, refl)) in (
-        shared_stands [] array tree index tree index (reads_of tree is.1)
-            (reads_of index is.0.1) runs leads,
-        asked_same [] array tree index tree index (reads_of tree is.1) (reads_of index is.0.1)
-            runs,
+        shared_stands [] array tree index tree index is.1 is.0.1 runs leads,
+        asked_same [] array tree index tree index is.1 is.0.1 runs,
       )
-  plain_stands lawful (If tree) is leads = (
-    choice_stands [] tree tree (reads_of tree is) (λ i active. inl (active, refl)) leads,
+  plain_stands (If tree) plain is leads = (
+    choice_stands [] tree tree is (λ i active. inl (active, refl)) leads,
     λ i. refl,
   )
-  plain_stands lawful Else is leads = (else_stands leads, λ i. refl)
-  plain_stands lawful EndIf is leads =
+  plain_stands Else plain is leads = (else_stands leads, λ i. refl)
+  plain_stands EndIf plain is leads =
       (jump (source.at + 1) (flat_source.at + 1) leads, λ i. refl)
-  plain_stands lawful (While tree end) is leads = (
-    common_stands tree (reads_of tree is.0.0) _ _ (λ v. either (v == 0) (v == 0)
-        (on_to (end + 1) source) (on_to (source.at + 1) source)
-        (on_to (last_of program end + 1) flat_source) (on_to (flat_source.at + 1) flat_source)
-        refl (jump (end + 1) (last_of program end + 1) (after_last end is.1))
-        (jump (source.at + 1) (flat_source.at + 1) leads)),
-    λ i. refl,
-  )
-  plain_stands lawful (EndWhile begin) is leads =
+  plain_stands (EndWhile begin) plain is leads =
       (jump begin (first_flat_of program begin) refl, λ i. refl)
-  plain_stands lawful (For nest first last up end) is leads = (
-    common_stands first (reads_of first is.1.0) _ _ (λ a.
-        common_stands last (reads_of last is.2.0) _ _ (λ b.
-        either (has_none up a b) (has_none up a b)
-        (on_to (end + 1) source) (on_to (source.at + 1) (turned nest a source))
-        (on_to (last_of program end + 1) flat_source)
-        (on_to (flat_source.at + 1) (turned nest a flat_source)) refl
-        (jump (end + 1) (last_of program end + 1) (after_last end is.3))
-        (turn nest a a (source.at + 1) (flat_source.at + 1) refl leads))),
-    λ i. refl,
-  )
-  plain_stands lawful (EndFor begin) is leads = turns_stand begin is lawful leads
+  plain_stands (While tree end) plain is leads =
+      absurd (let no : true ≡ false = plain in cc)
+  plain_stands (For nest first last up end) plain is leads =
+      absurd (let no : true ≡ false = plain in cc)
+  plain_stands (EndFor begin) plain is leads = absurd (let no : true ≡ false = plain in cc)
 
-  pub line_stands : IsProgram program → (level : Bool) (statement : Statement) →
+  reads_of : (tree : Tree) → Reads tree → ReadsBelow base tree
+  reads_of tree is = expression_reads (bounds_of program) tree is
+
+  split_stands : (statement : Statement) → is_common statement ≡ false →
       IsStatement (bounds_of program) statement →
-      LineStands statement
-      (if level then ([], statement) else split_statement base statement)
-  line_stands lawful true statement is leads = plain_stands lawful statement is leads
-  line_stands lawful false (Assign (Private x) tree) is leads =
-      let parts = split base tree in
-      let reads = reads_of tree is.1 in (
-        private_stands parts.0 x tree parts.1 reads
-            (λ i active. split_ran other text_line depth i base tree reads flat_source active)
-            leads,
+      LineStands statement (split_statement program statement)
+  split_stands (Assign (Private x) tree) plain is leads =
+      let parts = split false base tree in (
+        private_stands parts.0 x tree parts.1 is.1
+            (λ i active. split_ran other text_line depth i base tree (reads_of tree is.1)
+            flat_source active) leads,
         λ i. refl,
       )
-  line_stands lawful false (Assign (Shared array index) tree) is leads =
-      let value_parts = split base tree in
+  split_stands (Assign (Shared array index) tree) plain is leads =
+      let value_parts = split false base tree in
       let u = base + length value_parts.0 in
-      let index_parts = split u index in
+      let index_parts = split false u index in
       let room = has_room (taken (shape_of value_parts.1)) (shape_of index) in
       let parts = split_store base tree index in
       let reads = reads_of tree is.1 in
@@ -585,24 +683,43 @@ module _ (program : ProgramData) (source flat_source : Source)
       (split_ran other text_line depth i base tree reads flat_source active)
       (λ mid still. split_ran other text_line depth i u index
       (reads_more base u index (omega arith) reads_index) mid still) in (
-        shared_stands parts.0 array tree index parts.1 parts.2 reads reads_index runs leads,
-        asked_same parts.0 array tree index parts.1 parts.2 reads reads_index runs,
+        shared_stands parts.0 array tree index parts.1 parts.2 is.1 is.0.1 runs leads,
+        asked_same parts.0 array tree index parts.1 parts.2 is.1 is.0.1 runs,
       )
-  line_stands lawful false (If tree) is leads =
-      let parts = split base tree in
-      let reads = reads_of tree is in (
-        choice_stands parts.0 tree parts.1 reads
-            (λ i active. split_ran other text_line depth i base tree reads flat_source active)
-            leads,
+  split_stands (If tree) plain is leads =
+      let parts = split false base tree in (
+        choice_stands parts.0 tree parts.1 is
+            (λ i active. split_ran other text_line depth i base tree (reads_of tree is) flat_source
+            active) leads,
         λ i. refl,
       )
-  line_stands lawful false Else is leads = plain_stands lawful Else is leads
-  line_stands lawful false EndIf is leads = plain_stands lawful EndIf is leads
-  line_stands lawful false (While tree end) is leads =
-      plain_stands lawful (While tree end) is leads
-  line_stands lawful false (EndWhile begin) is leads =
-      plain_stands lawful (EndWhile begin) is leads
-  line_stands lawful false (For nest first last up end) is leads =
-      plain_stands lawful (For nest first last up end) is leads
-  line_stands lawful false (EndFor begin) is leads =
-      plain_stands lawful (EndFor begin) is leads
+  split_stands Else plain is leads = plain_stands Else plain is leads
+  split_stands EndIf plain is leads = plain_stands EndIf plain is leads
+  split_stands (EndWhile begin) plain is leads = plain_stands (EndWhile begin) plain is leads
+  split_stands (While tree end) plain is leads =
+      absurd (let no : true ≡ false = plain in cc)
+  split_stands (For nest first last up end) plain is leads =
+      absurd (let no : true ≡ false = plain in cc)
+  split_stands (EndFor begin) plain is leads = absurd (let no : true ≡ false = plain in cc)
+
+  level_stands : (level : Bool) (statement : Statement) → is_common statement ≡ false →
+      IsStatement (bounds_of program) statement →
+      LineStands statement
+      (if level then ([], statement) else split_statement program statement)
+  level_stands true statement plain is = plain_stands statement plain is
+  level_stands false statement plain is = split_stands statement plain is
+
+  -- a line that is not one of a loop
+  pub line_stands : (statement : Statement) → is_common statement ≡ false →
+      IsStatement (bounds_of program) statement →
+      LineStands statement (statement_parts program statement)
+  line_stands (Assign target tree) plain is =
+      level_stands (fits (Assign target tree)) (Assign target tree) plain is
+  line_stands (If tree) plain is = level_stands (fits (If tree)) (If tree) plain is
+  line_stands Else plain is = plain_stands Else plain is
+  line_stands EndIf plain is = plain_stands EndIf plain is
+  line_stands (EndWhile begin) plain is = plain_stands (EndWhile begin) plain is
+  line_stands (While tree end) plain is = absurd (let no : true ≡ false = plain in cc)
+  line_stands (For nest first last up end) plain is =
+      absurd (let no : true ≡ false = plain in cc)
+  line_stands (EndFor begin) plain is = absurd (let no : true ≡ false = plain in cc)

@@ -5,7 +5,7 @@ use Rattle.std.proofs.Common.{◌++◌, ◌&&◌, length-append}
 use Rattle.std.proofs.Common.{refl, sym, ap, ◌∙◌, subst, inl, inr, ⊎_elim, arith}
 use Rattle.std.specs.Option.{is_none}
 use Rattle.std.proofs.lemmas.Option.{slice_get_within}
-use Rattle.std.specs.Prelude.{count_by, max, slice_get}
+use Rattle.std.specs.Prelude.{IsTrue, count_by, max, slice_get}
 use Rattle.std.specs.List.{range_with_len}
 use Rattle.std.proofs.lemmas.Bool.{cases_eq, cases_lt, eq-eqb, ne_eqb}
 use Rattle.pram_job.specs.Job.{JobData}
@@ -24,8 +24,7 @@ use Rattle.pardo_text.specs.Lawful.{IsProgram}
 use Rattle.pardo_text.specs.Operations.{bit}
 use Rattle.pardo_text.specs.Program.{ProgramData}
 use Rattle.pardo_job.specs.Compiled.{AreLineNumbers, IsWhole}
-use Rattle.pardo_job.specs.Flat.{beside, first_flat_of, fits, flat, is_beside, last_line, moved_statement}
-use Rattle.pardo_job.specs.Flat.{pieces_of, shape_of, flat_size, split, split_statement}
+use Rattle.pardo_job.specs.Flat.{first_flat_of, flat, is_common, pieces_of}
 use Rattle.pardo_job.specs.Lines.{place_of}
 use Rattle.pardo_job.specs.Meaning.{after}
 use Rattle.pardo_job.specs.Runs.{IsLineReached, IsProgramConflict, IsProgramOver}
@@ -33,11 +32,11 @@ use Rattle.pardo_job.specs.Times.{AreAllLines, behind_mask, is_counted, line_mos
 use Rattle.pardo_job.specs.Times.{line_operations, line_time, line_times, reads_shared}
 use Rattle.pardo_job.specs.Times.{taking_part}
 use Rattle.pardo_law.specs.Counted.{JobsTellLines, TellsLine}
-use Rattle.pardo_law.specs.Flattening.{flat_count}
-use Rattle.pardo_law.proofs.Carrying.{carried_made, time_of}
+use Rattle.pardo_law.specs.Flattening.{IsLeft, flat_count}
+use Rattle.pardo_law.proofs.Carrying.{carried_made, time_of, time_same}
 use Rattle.pardo_law.proofs.Counting.{taking_by}
 use Rattle.pardo_law.proofs.FlatCarrying.{all_back, count_next, ends_flat, in_line, keeps_line}
-use Rattle.pardo_law.proofs.FlatCarrying.{line_next_in}
+use Rattle.pardo_law.proofs.FlatCarrying.{left_none, line_next_in}
 use Rattle.pardo_law.proofs.FlatCarrying.{made_flat, made_on, of_flat, over_to, stands}
 use Rattle.pardo_job.proofs.FlatLines.{first_next, flat_at, hidden_is, hidden_stands, last_stands}
 use Rattle.pardo_job.proofs.FlatFirsts.{FirstLine, first_line, first_only}
@@ -124,16 +123,23 @@ module _ (program : ProgramData) (lawful : IsProgram program) (job : JobData) (l
       hidden_none n found reached at (suc k) le =
           let e : count n + 1 + suc k ≡ suc (count n + suc k) = omega arith in
           let f : count n + suc k ≡ count n + 1 + k = omega arith in
-          let here = (keeps_line program lawful n found at).at (suc k) le in
-          let line_there = flat_at program (after program n).at found at (suc k) le in
           ap (λ m. gathered (time_of other m)) e
-          ∙ in_other other job the place_in its_line its.found its.counts p from to combine part
+          ∙ ⊎_elim
+          (λ (here : (after other (count n + suc k)).at
+          ≡ first_flat_of program (after program n).at + suc k).
+          let line_there = flat_at program (after program n).at found at (suc k) le in
+          in_other other job the place_in its_line its.found its.counts p from to combine part
           empty gathered grows (count n + suc k)
           (carried_made other job the (count n + suc k)
           (made_on program lawful n (suc k) found at le (made_flat program lawful n reached)))
           line_there.0 (ap (slice_get other.lines) here ∙ line_there.1)
           (λ same. let only = first_only program (after program n).at j (suc k) found line at is le
-          (sym here ∙ same) in let none = only.1 in absurd (omega (arith, none)))
+          (sym here ∙ same) in let none = only.1 in absurd (omega (arith, none))))
+          (λ (left : IsTrue (is_common found.statement)
+          × IsLeft other (after other (count n + suc k))).
+          ap gathered (time_same other (count n + suc k)
+          (left_none program lawful (after other (count n + suc k)) left.1)))
+          ((keeps_line program lawful n found at).at (suc k) le)
           ∙ ap (λ m. gathered (time_of other m)) f
           ∙ hidden_none n found reached at k (omega (arith, le))
 

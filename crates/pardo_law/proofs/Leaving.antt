@@ -24,7 +24,8 @@ use Rattle.pardo_job.specs.Meaning.{asked_in, by_common, common_value, has_none,
 use Rattle.pardo_job.specs.Meaning.{value, write_of}
 use Rattle.pardo_job.proofs.Meanings.{next_at, gone_for_good}
 use Rattle.pardo_law.proofs.Carried.{Carried, Advance, cost, place_low}
-use Rattle.pardo_law.proofs.Carrying.{AreMade, carried_made, line_carried, some_line, time_next}
+use Rattle.pardo_law.proofs.Carrying.{AreMade, IsMade, carried_made, line_carried, next_none, some_line}
+use Rattle.pardo_law.proofs.Carrying.{time_next, time_same}
 use Rattle.pardo_law.proofs.Carrying.{time_of}
 use Rattle.pardo_law.proofs.Cutting.{is_inside}
 use Rattle.pardo_law.proofs.Disputing.{number_at}
@@ -199,18 +200,8 @@ module _ (program : ProgramData) (job : JobData) (of : IsOf program job) (line_o
   left_after zero reached i lt number gone = absurd (none-some number gone)
   left_after (suc n) reached i lt number gone =
       let so_far : AreMade program n = λ earlier low. reached earlier (omega arith) in
-      let here = reached n (omega arith) in
-      let c : Carried program job (after program n) (time_of program n) =
-      carried_made program job of n so_far in
-      let line = some_line program (after program n).at here.0 in
-      let t : ℕ = time_of program n in
-      let later : t + cost program (after program n) line.0.depth line.0.statement ≡
-      time_of program (suc n) =
-      sym (time_next program n line.0 line.1) in
-      by_gone n i number gone ((after program n).gone i) refl later
-      (λ m e. left_after n so_far i lt m e)
-      (λ there. newly (after program n) t i line.0 c line.1
-      (line_carried program job of (after program n) t c line.0 line.1 here.1) lt there number gone)
+      by_made n so_far i lt number gone (λ m e. left_after n so_far i lt m e)
+      (reached n (omega arith))
     where
       by_gone : (n i number : ℕ) → (next program (after program n)).gone i ≡ Some number →
           (g : Option ℕ) → (after program n).gone i ≡ g → {u : ℕ} → u ≡ time_of program (suc n) →
@@ -226,3 +217,25 @@ module _ (program : ProgramData) (job : JobData) (of : IsOf program job) (line_o
           leaves_more job line_of (time_of program n) (time_of program (suc n)) i number
           (omega arith)
           (earlier number (e ∙ ap Some same))
+
+      by_made : (n : ℕ) → AreMade program n → (i : ℕ) → i < program.procs → (number : ℕ) →
+          (next program (after program n)).gone i ≡ Some number →
+          ((m : ℕ) → (after program n).gone i ≡ Some m →
+          Leaves job line_of (time_of program n) i m) → IsMade program n →
+          Leaves job line_of (time_of program (suc n)) i number
+      by_made n so_far i lt number gone before (inl here) =
+          let c : Carried program job (after program n) (time_of program n) =
+          carried_made program job of n so_far in
+          let line = some_line program (after program n).at here.0 in
+          let t : ℕ = time_of program n in
+          let later : t + cost program (after program n) line.0.depth line.0.statement ≡
+          time_of program (suc n) =
+          sym (time_next program n line.0 line.1) in
+          by_gone n i number gone ((after program n).gone i) refl later before
+          (λ there. newly (after program n) t i line.0 c line.1
+          (line_carried program job of (after program n) t c line.0 line.1 here.1) lt there number
+          gone)
+      by_made n so_far i lt number gone before (inr none) =
+          subst (λ u. Leaves job line_of u i number) (sym (time_same program n none))
+          (before number (sym (ap (λ (s : Source). s.gone i)
+          (next_none program (after program n) none)) ∙ gone))

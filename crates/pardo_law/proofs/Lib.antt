@@ -30,7 +30,9 @@ pub mod Ruling
 pub mod Answering
 pub mod Between
 pub mod Splitting
+pub mod LoopPieces
 pub mod FlatStates
+pub mod LoopLines
 pub mod FlatLawful
 pub mod Flattening
 pub mod FlatCarrying

@@ -71,8 +71,8 @@ value_alike program other source now i n arrays alike (apply op first second) re
 beside_reads : (t : ℕ) (room : Bool) (first second : List Tree × Tree) →
     ReadsBelow (t + length first.0) first.1 →
     ReadsBelow (t + length first.0 + length second.0) second.1 →
-    ReadsBelow (t + length (beside t room first second).0) (beside t room first second).1
-    × ReadsBelow (t + length (beside t room first second).0) (beside t room first second).2
+    ReadsBelow (t + length (beside false t room first second).0) (beside false t room first second).1
+    × ReadsBelow (t + length (beside false t room first second).0) (beside false t room first second).2
 beside_reads t true first second reads too =
     let long = length-append first.0 second.0 in (
       reads_more (t + length first.0) (t + length (first.0 ++ second.0)) first.1 (omega arith)
@@ -89,15 +89,15 @@ beside_reads t false first second reads too =
     )
 
 pub split_reads : (t : ℕ) (tree : Tree) → ReadsBelow t tree →
-    ReadsBelow (t + length (split t tree).0) (split t tree).1
+    ReadsBelow (t + length (split false t tree).0) (split false t tree).1
 split_reads t (number k) reads = tt
 split_reads t own reads = tt
 split_reads t (loop nest) reads = tt
 split_reads t (private x) reads = omega (arith, reads)
 split_reads t (place array index) reads = split_reads t index reads
 split_reads t (apply op first second) reads =
-    let left = split t first in
-    let right = split (t + length left.0) second in
+    let left = split false t first in
+    let right = split false (t + length left.0) second in
     let room = is_beside op (shape_of left.1) (shape_of second) in
     beside_reads t room left right (split_reads t first reads.0)
     (split_reads (t + length left.0) second
@@ -265,8 +265,8 @@ module _ (program : ProgramData) (text_line depth : ℕ) where
       Ran i t left.0 source (Same i left.1 first source) (value program source i first ≡ None) →
       ((now : Source) → is_active now depth i ≡ true → Ran i (t + length left.0) right.0 now
       (Same i right.1 second now) (value program now i second ≡ None)) →
-      Ran i t (beside t room left right).0 source
-      (SameBoth i (beside t room left right).1 (beside t room left right).2 first second source)
+      Ran i t (beside false t room left right).0 source
+      (SameBoth i (beside false t room left right).1 (beside false t room left right).2 first second source)
       (NoneOf i first second source)
   beside_ran i t true left right first second source reads too one other =
       let mid = ran t left.0 source in
@@ -338,14 +338,14 @@ module _ (program : ProgramData) (text_line depth : ℕ) where
 
   pub split_ran : (i t : ℕ) (tree : Tree) → ReadsBelow t tree →
       (source : Source) → is_active source depth i ≡ true →
-      Ran i t (split t tree).0 source (Same i (split t tree).1 tree source)
+      Ran i t (split false t tree).0 source (Same i (split false t tree).1 tree source)
       (value program source i tree ≡ None)
   split_ran i t (number k) reads source active = inl (active, refl)
   split_ran i t own reads source active = inl (active, refl)
   split_ran i t (loop nest) reads source active = inl (active, refl)
   split_ran i t (private x) reads source active = inl (active, refl)
   split_ran i t (place array index) reads source active =
-      let s = split t index in
+      let s = split false t index in
       let now = ran t s.0 source in
       ⊎_elim
       (λ (on : (is_active now depth i ≡ true) × Same i s.1 index source now). inl (
@@ -361,10 +361,10 @@ module _ (program : ProgramData) (text_line depth : ℕ) where
       ))
       (split_ran i t index reads source active)
   split_ran i t (apply op first second) reads source active =
-      let left = split t first in
-      let right = split (t + length left.0) second in
+      let left = split false t first in
+      let right = split false (t + length left.0) second in
       let room = is_beside op (shape_of left.1) (shape_of second) in
-      let parts = beside t room left right in
+      let parts = beside false t room left right in
       let now = ran t parts.0 source in
       ⊎_elim
       (λ (on : (is_active now depth i ≡ true)

@@ -1,16 +1,14 @@
 -- Three registers are enough for what is left of an expression, and for its pieces.
-use Rattle.std.specs.Prelude.{◌≡◌, ℕ, ◌+◌, ◌≤◌, true, [], slice_get, Some}
+use Rattle.std.specs.Prelude.{◌≡◌, ℕ, ◌+◌, ◌≤◌, Bool, true, [], slice_get, Some}
 use Rattle.std.specs.List.{All}
 use Rattle.pardo_text.specs.declared.statement.Line.{Line}
-use Rattle.pardo_text.specs.declared.statement.Statement.{Statement}
-use Rattle.pardo_text.specs.declared.statement.Statement.TheVariants.{Assign, If}
 use Rattle.pardo_text.specs.Expression.{Tree}
 use Rattle.pardo_text.specs.Lawful.{IsProgram}
 use Rattle.pardo_text.specs.Program.{ProgramData}
-use Rattle.pardo_job.specs.Flat.{fits, flat, lines_for, shape_of, split}
+use Rattle.pardo_job.specs.Compiled.{AreLevel}
+use Rattle.pardo_job.specs.Flat.{fits, flat, shape_of, split}
 use Rattle.pardo_job.specs.Layouts.{ProgramLayoutData}
 use Rattle.pardo_job.specs.Operations.{is_shallow}
-use Rattle.pardo_job.specs.Refusals.{is_level}
 use Rattle.pardo_job.specs.Values.{value_code}
 
 -- three registers are enough for the code of an expression that needs no more
@@ -20,24 +18,18 @@ RoomIsEnough = (layout : ProgramLayoutData) (tree : Tree) (at : ℕ) →
 
 -- they are enough for all pieces of an expression, and for what is left of it
 abbrev pub PiecesAreSmall : Type 0
-PiecesAreSmall = (t : ℕ) (tree : Tree) →
-    All (λ piece. (shape_of piece).need ≤ 3) (split t tree).0
-    × ((shape_of (split t tree).1).need ≤ 3)
+PiecesAreSmall = (common : Bool) (t : ℕ) (tree : Tree) →
+    All (λ piece. (shape_of piece).need ≤ 3) (split common t tree).0
+    × ((shape_of (split common t tree).1).need ≤ 3)
 
 -- Where they are enough for the expression, nothing is split off.
 abbrev pub SmallIsWhole : Type 0
-SmallIsWhole = (t : ℕ) (tree : Tree) → (shape_of tree).need ≤ 3 → split t tree ≡ ([], tree)
+SmallIsWhole = (common : Bool) (t : ℕ) (tree : Tree) → (shape_of tree).need ≤ 3 →
+    split common t tree ≡ ([], tree)
 
--- an assignment or an `if`
-abbrev pub IsPlain : Statement → Type 0
-IsPlain (Assign target tree) = Unit {0}
-IsPlain (If tree) = Unit {0}
-IsPlain _ = ⊥
-
--- They are enough for each of the lines for such a line.
+-- They are enough for each line of the flat program.
 abbrev pub FlatLinesAreLevel : Type 0
-FlatLinesAreLevel = (program : ProgramData) (line : Line) → IsPlain line.statement →
-    All (λ one. is_level (flat program) one ≡ true) (lines_for program line)
+FlatLinesAreLevel = (program : ProgramData) → AreLevel (flat program)
 
 -- A program of which each line fits is flat already.
 abbrev pub FittingIsFlat : Type 0

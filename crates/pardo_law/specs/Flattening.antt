@@ -1,24 +1,13 @@
 -- Flattening keeps runs, and the job of the flat program carries that of the program.
 use Rattle.std.specs.Prelude.{◌≡◌, ℕ, zero, suc, ◌+◌, ◌<◌, ◌≤◌, ◌⊎◌, length, slice_get}
-use Rattle.std.specs.Prelude.{Option, Some, None}
-use Rattle.pram_job.specs.Job.{JobData, IsJob}
-use Rattle.pram_step.specs.declared.answer.Dispute.{Dispute}
-use Rattle.pram_machine.specs.Machine.{counter, halted}
-use Rattle.pram_step.specs.Runs.{IsFault, state_after}
-use Rattle.pram_step.specs.Runs as machine
+use Rattle.std.specs.Prelude.{Option, Some, None, IsTrue, is_some}
 use Rattle.pardo_text.specs.declared.statement.Line.{Line}
 use Rattle.pardo_text.specs.Lawful.{IsProgram}
-use Rattle.pardo_text.specs.Nested.{IsNested}
 use Rattle.pardo_text.specs.Program.{ProgramData}
 use Rattle.pardo_job.specs.Carries.{Shares, StandsFor}
-use Rattle.pardo_job.specs.Compiled.{IsCompiled}
-use Rattle.pardo_job.specs.Conflicts.{Assigns, asked}
-use Rattle.pardo_job.specs.Layouts.{program_layout}
+use Rattle.pardo_job.specs.Conflicts.{asked}
 use Rattle.pardo_job.specs.Meaning.{Source, after}
-use Rattle.pardo_job.specs.Runs.{IsProgramConflict, IsProgramEnd, line_number}
-use Rattle.pardo_job.specs.Runs as source
-use Rattle.pardo_law.specs.Between.{AreLinesMade, HoldsVariables, IsInLine, LeavesIn, PutsTo}
-use Rattle.pardo_job.specs.Flat.{flat, first_flat_of, pieces_of, flat_size}
+use Rattle.pardo_job.specs.Flat.{flat, first_flat_of, is_common, pieces_of, flat_size}
 
 -- how many flat lines are made for the line that is next
 abbrev pub size_next : ProgramData → Option Line → ℕ
@@ -31,14 +20,22 @@ flat_count program zero = 0
 flat_count program (suc n) = flat_count program n
     + size_next program (slice_get program.lines (after program n).at)
 
+-- no line is next, and all processors are gone
+pub record IsLeft (program : ProgramData) (source : Source) : Type 0 where
+  pub at : length program.lines ≡ source.at
+  pub all : (i : ℕ) → IsTrue (is_some (source.gone i))
+
 -- The line after n lines, of which the flat program makes so many lines: hidden ones, which ask for
--- nothing, and the last one, in which each processor asks for what it asks for in the line.
+-- nothing, and the last one, in which each processor asks for what it asks for in the line. Where a
+-- piece in a line of a loop has no value, the flat program is left.
 pub record KeepsLine (program : ProgramData) (n : ℕ) (line : Line) : Type 0 where
   pub shares : (k : ℕ) → k ≤ length (pieces_of program line) →
       Shares program (after program n) (after (flat program) (flat_count program n + k))
   pub at : (k : ℕ) → k ≤ length (pieces_of program line) →
-      (after (flat program) (flat_count program n + k)).at
-      ≡ first_flat_of program (after program n).at + k
+      ((after (flat program) (flat_count program n + k)).at
+      ≡ first_flat_of program (after program n).at + k)
+      ⊎ (IsTrue (is_common line.statement)
+      × IsLeft (flat program) (after (flat program) (flat_count program n + k)))
   pub gone : (k i number : ℕ) → k ≤ length (pieces_of program line) →
       (after (flat program) (flat_count program n + k)).gone i ≡ Some number →
       (after program (n + 1)).gone i ≡ Some number

@@ -129,7 +129,7 @@ pub fn small_is_whole()
     ensures { SmallIsWhole }
 {}
 
-/// Three registers are enough for each of the flat lines of an assignment or an `if`.
+/// Three registers are enough for each line of the flat program: no expression is too deep.
 pub fn flat_lines_are_level()
     ensures { FlatLinesAreLevel }
 {}

@@ -135,17 +135,19 @@ impl Program {
         self.lines.as_slice()
     }
 
-    /// The same program with these lines, and with so many private variables more, which have no
-    /// name and start with 0.
+    /// The same program with these lines, with so many loops, and with so many private variables
+    /// more, which have no name and start with 0.
     pub fn with_lines(
         &self,
         alloc: Global,
         more: usize,
+        loops: usize,
         lines: Vec<Line>,
     ) -> Result<Self, AllocError>
         ensures { IfOk result (λ program. program ≡ record self.now {
           privates = self.now.privates
               ++ replicate more (record { name = []; start = replicate self.now.procs 0 });
+          loops = loops;
           lines = lines.items;
         }) }
     {
@@ -156,7 +158,7 @@ impl Program {
             procs: self.procs,
             arrays: copied_arrays(alloc, self.arrays())?,
             privates,
-            loops: self.loops,
+            loops,
             choices: self.choices,
             lines,
         })

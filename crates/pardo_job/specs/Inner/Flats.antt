@@ -1,6 +1,6 @@
 -- The flat program, line by line.
 use Rattle.std.specs.Prelude.{◌≡◌, ℕ, ◌+◌, ◌-◌, ◌<◌, ◌≤◌, List, [], ◌∷◌, ◌++◌, length, take}
-use Rattle.std.specs.Prelude.{if◌then◌else◌, slice_get, slice_index, Some, true}
+use Rattle.std.specs.Prelude.{max, slice_get, slice_index, Some, true, false}
 use Rattle.std.specs.List.{flat_map}
 use Rattle.pardo_text.specs.declared.statement.Line.{Line}
 use Rattle.pardo_text.specs.declared.statement.Statement.{Statement}
@@ -14,23 +14,17 @@ use Rattle.pardo_job.specs.declared.flat.Flat.{Flat}
 use Rattle.pardo_job.specs.declared.flat.FlatLines.{FlatLines}
 use Rattle.pardo_job.specs.declared.flat.Flattened.{Flattened}
 use Rattle.pardo_job.specs.declared.flat.Flattened.TheVariants as flattened
-use Rattle.pardo_job.specs.Flat.{first_flat_of, fits, hidden, line_parts, most_pieces}
-use Rattle.pardo_job.specs.Flat.{split_statement}
+use Rattle.pardo_job.specs.Flat.{base_of, first_flat_of, fits, hidden, line_parts, most_pieces}
 use Rattle.pardo_job.specs.Flat.{IsFirstSplit, IsTooWide, flat}
-
--- the pieces of a line and what is left of it; `line_parts` by the number of private variables
-abbrev pub parts_from : ℕ → Statement → List Tree × Statement
-parts_from base statement =
-    if fits statement then ([], statement) else split_statement base statement
 
 -- the lines for a line with these pieces, of which this is left
 abbrev pub parted_line : ℕ → Line → List Tree → Statement → List Line
 parted_line base line pieces rest =
-    hidden line base pieces ++ record line { statement = rest } ∷ []
+    hidden 0 line base pieces ++ record line { statement = rest } ∷ []
 
 abbrev pub unmoved_lines : ProgramData → Line → List Line
-unmoved_lines program line = parted_line (length program.privates) line (line_parts program line).0
-    (line_parts program line).1
+unmoved_lines program line = parted_line (base_of program line.statement) line
+    (line_parts program line).0 (line_parts program line).1
 
 -- the lines that loops name, where these are the first of the lines for each
 abbrev pub moved_by : (ℕ → ℕ) → Statement → Statement
@@ -45,12 +39,13 @@ moved_line first line = record line { statement = moved_by first line.statement 
 
 -- the lines for the first n lines of the program
 pub record AreFlatSoFar (program : ProgramData) (n : ℕ) (lines : List Line) (firsts : List ℕ)
-    (most split : ℕ) : Type 0 where
+    (most loops split : ℕ) : Type 0 where
   pub lines_are : lines ≡ flat_map (unmoved_lines program) (take n program.lines)
   pub count : length firsts ≡ n
   pub firsts_are : (j : ℕ) → j < n → slice_index firsts j ≡ first_flat_of program j
-  pub most_is : most ≡ most_pieces program (take n program.lines)
-  pub split_is : 0 < most → IsFirstSplit program split n
+  pub most_is : most ≡ most_pieces false program (take n program.lines)
+  pub loops_is : loops ≡ most_pieces true program (take n program.lines)
+  pub split_is : 0 < max most loops → IsFirstSplit program split n
 
 -- where the first of the lines for each line stands, and their end
 abbrev pub AreFirsts : ProgramData → List ℕ → Type 0
@@ -62,8 +57,10 @@ pub record AreFlat (program : ProgramData) (flat : FlatLines) : Type 0 where
   pub lines_are : flat.lines.items ≡ flat_map (unmoved_lines program) program.lines
   pub count : length flat.firsts.items ≡ length program.lines + 1
   pub firsts_are : AreFirsts program flat.firsts.items
-  pub most_is : flat.most ≡ most_pieces program program.lines
-  pub split_is : 0 < flat.most → IsFirstSplit program flat.split (length program.lines)
+  pub most_is : flat.most ≡ most_pieces false program program.lines
+  pub loops_is : flat.loops ≡ most_pieces true program program.lines
+  pub split_is : 0 < max flat.most flat.loops →
+      IsFirstSplit program flat.split (length program.lines)
 
 -- the flat program, which is lawful, and where the first lines stand
 pub record IsFlatProgram (program : ProgramData) (given : Flat) : Type 0 where

@@ -5,52 +5,54 @@ use Rattle.pardo_text.specs.declared.operation.Op.{Op}
 use Rattle.pardo_text.specs.declared.expression.Node.{Node}
 use Rattle.pardo_text.specs.declared.expression.Node.TheVariants.{Number, Own, Loop}
 use Rattle.pardo_text.specs.declared.expression.Node.TheVariants.{Private, Place, Apply}
-use Rattle.pardo_text.specs.Expression.{Tree, apply, private, with_node}
+use Rattle.pardo_text.specs.Expression.{Tree, apply, with_node}
 use Rattle.pardo_text.specs.Inner.Postfixes.{HasOperands}
 use Rattle.pardo_job.specs.declared.splitter.Part.{Part}
 use Rattle.pardo_job.specs.Flat.{ShapeData, applied_shape, computed_shape, is_beside}
-use Rattle.pardo_job.specs.Flat.{shape_of, split}
+use Rattle.pardo_job.specs.Flat.{shape_of, split, variable}
 
 -- what is left of an expression, with its shape and that of the whole expression
-abbrev pub split_part : ℕ → Tree → Part
-split_part t tree = record {
-  rest = (split t tree).1;
-  shape = shape_of (split t tree).1;
+abbrev pub split_part : Bool → ℕ → Tree → Part
+split_part common t tree = record {
+  rest = (split common t tree).1;
+  shape = shape_of (split common t tree).1;
   whole = shape_of tree;
 }
 
 -- the pieces after these expressions, the last one first, and what is left of each
-abbrev pub pieces_after : ℕ → List Tree → List Tree → List Tree
-pieces_after t before [] = before
-pieces_after t before (tree ∷ trees) = pieces_after t before trees
-    ++ (split (t + length (pieces_after t before trees)) tree).0
+abbrev pub pieces_after : Bool → ℕ → List Tree → List Tree → List Tree
+pieces_after common t before [] = before
+pieces_after common t before (tree ∷ trees) = pieces_after common t before trees
+    ++ (split common (t + length (pieces_after common t before trees)) tree).0
 
-abbrev pub parts_after : ℕ → List Tree → List Tree → List Part
-parts_after t before [] = []
-parts_after t before (tree ∷ trees) = parts_after t before trees
-    ++ split_part (t + length (pieces_after t before trees)) tree ∷ []
+abbrev pub parts_after : Bool → ℕ → List Tree → List Tree → List Part
+parts_after common t before [] = []
+parts_after common t before (tree ∷ trees) = parts_after common t before trees
+    ++ split_part common (t + length (pieces_after common t before trees)) tree ∷ []
 
 -- these pieces and parts are those of these expressions
-pub record AreSplit (t : ℕ) (before trees pieces : List Tree) (parts : List Part) : Type 0 where
-  pub pieces_are : pieces ≡ pieces_after t before trees
-  pub parts_are : parts ≡ parts_after t before trees
+pub record AreSplit (common : Bool) (t : ℕ) (before trees pieces : List Tree) (parts : List Part) :
+    Type 0 where
+  pub pieces_are : pieces ≡ pieces_after common t before trees
+  pub parts_are : parts ≡ parts_after common t before trees
 
 -- with one node more, whatever came before
-abbrev pub TakesNode : ℕ → Node → List Tree → List Part → List Tree → List Part → Type 0
-TakesNode t node pieces parts new_pieces new_parts = (before trees : List Tree) →
-    AreSplit t before trees pieces parts → HasOperands trees node →
-    AreSplit t before (with_node trees node) new_pieces new_parts
+abbrev pub TakesNode : Bool → ℕ → Node → List Tree → List Part → List Tree → List Part → Type 0
+TakesNode common t node pieces parts new_pieces new_parts = (before trees : List Tree) →
+    AreSplit common t before trees pieces parts → HasOperands trees node →
+    AreSplit common t before (with_node trees node) new_pieces new_parts
 
 -- the operands of the node are there
-pub record CanSplit (t : ℕ) (node : Node) (pieces : List Tree) (parts : List Part) : Type 0 where
+pub record CanSplit (common : Bool) (t : ℕ) (node : Node) (pieces : List Tree)
+    (parts : List Part) : Type 0 where
   pub before : List Tree
   pub trees : List Tree
-  pub are : AreSplit t before trees pieces parts
+  pub are : AreSplit common t before trees pieces parts
   pub ready : HasOperands trees node
 
 -- an operation of two parts: the second one is the last piece where it has no room beside the first
-abbrev pub joined : ℕ → Op → Bool → Part → Part → List Tree → List Tree × Part
-joined t op room first second pieces =
+abbrev pub joined : Bool → ℕ → Op → Bool → Part → Part → List Tree → List Tree × Part
+joined common t op room first second pieces =
     if room then (
       pieces,
       record {
@@ -62,15 +64,16 @@ joined t op room first second pieces =
     else (
       pieces ++ second.rest ∷ [],
       record {
-        rest = apply op first.rest (private (t + length pieces));
+        rest = apply op first.rest (variable common (t + length pieces));
         shape = applied_shape op first.shape (computed_shape false 1);
         whole = applied_shape op first.whole second.whole;
       },
     )
 
-abbrev pub JoinsTo : ℕ → Op → Part → Part → List Tree → List Part → List Tree → List Part → Type 0
-JoinsTo t op first second pieces parts new_pieces new_parts =
-    let to = joined t op (is_beside op first.shape second.whole) first second pieces in
+abbrev pub JoinsTo : Bool → ℕ → Op → Part → Part → List Tree → List Part → List Tree →
+    List Part → Type 0
+JoinsTo common t op first second pieces parts new_pieces new_parts =
+    let to = joined common t op (is_beside op first.shape second.whole) first second pieces in
     (new_pieces ≡ to.0) × (new_parts ≡ parts ++ to.1 ∷ [])
 
 -- ---- shapes alone

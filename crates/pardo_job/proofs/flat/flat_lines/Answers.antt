@@ -11,11 +11,11 @@ loop-line-preserved c =
     let there = line_there program.lines c.lines-line-items.result.now c.loop-line.line-index
     c.line-item.result c.lines-line-items.ensures c.loop-line-test.true c.line-item.is in record {
       none = c.in_ok-parts.ensures.none;
-      flat = flat_more program c.loop-line.line-index c.line-item.result _ _ _ _ there
-          c.loop-line.invariant.flat (length c.privates-base.result.now) _ _ _ _ _ _
-          (ap (λ (l : List PrivateData). length l) c.privates-base.ensures)
-          c.in_ok-parts.ensures.pieces c.in_ok-parts.ensures.rest c.in_ok-push.ensures.lines
-          c.in_ok-push.ensures.firsts c.in_ok-push.ensures.most c.in_ok-push.ensures.split;
+      flat = flat_more program c.loop-line.line-index c.line-item.result _ _ _ _ _ there
+          c.loop-line.invariant.flat _ _ _ _ _ _ _ _ c.base_of.ensures.base
+          c.in_ok-parts.ensures.parts c.in_ok-push.ensures.lines
+          c.in_ok-push.ensures.firsts c.in_ok-push.ensures.most c.in_ok-push.ensures.loops
+          c.in_ok-push.ensures.split;
     }
 
 pub returns : goal.returns
@@ -25,6 +25,6 @@ returns c =
     first_of (search rules, omega (arith, flat.lines.ok), omega (arith, c.len.ensures)) in
     let lines = ap (λ (l : List Line). length l) c.lines-line-items.ensures in
     all_flat c.args.program.now c.loop-line.line-index _ flat.lines.items flat.firsts.items
-    flat.most flat.split (omega (arith, lines, c.loop-line-test.false))
+    flat.most flat.loops flat.split (omega (arith, lines, c.loop-line-test.false))
     (omega (arith, lines, c.loop-line.auto.line-index-end)) c.loop-line.invariant.flat refl
-    (c.in_ok-push-2.ensures.items ∙ ap (λ n. flat.firsts.items ++ n ∷ []) count) refl refl
+    (c.in_ok-push-2.ensures.items ∙ ap (λ n. flat.firsts.items ++ n ∷ []) count) refl refl refl

@@ -6,5 +6,5 @@ abbrev pub invariant-loop-line : goal.invariant-loop-line
 invariant-loop-line l = record {
   none : l.shapes.items ≡ [];
   flat : AreFlatSoFar l.program l.line-index l.flat.lines.items l.flat.firsts.items l.flat.most
-      l.flat.split;
+      l.flat.loops l.flat.split;
 }
