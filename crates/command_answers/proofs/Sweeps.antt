@@ -2,13 +2,15 @@
 use Rattle.std.proofs.Common.{◌≡◌, ◌∙◌, ◌+◌, ◌<◌, ◌≤◌, ◌⊎◌, ℕ, List, [], ◌∷◌, ◌++◌, max, take}
 use Rattle.std.proofs.Common.{Bool, true, false, Option, Some, ap, append_assoc, arith, get_or, inl}
 use Rattle.std.proofs.Common.{inr, length, refl, subst, sym}
-use Rattle.std.specs.Prelude.{MatchBool}
+use Rattle.std.specs.Prelude.{MatchBool, codes, decimal}
 use Rattle.std.proofs.lemmas.List.{append-nil, take_all, take_more}
 use Rattle.std.proofs.lemmas.Option.{slice_get-get_or, some_pair_parts}
 use Rattle.clap.specs.Words.{Text}
 use Rattle.pardo_text.specs.Settings.{SettingData, first_in, text_as_set, with_first}
 use Rattle.pardo_text.specs.declared.settings.SetKind.{SetKind}
 use Rattle.pram_commands.specs.Inputs.{IsBad, IsBadOrMemory}
+use Rattle.pram_commands.specs.Sweeps.{IsRunRecord}
+use Rattle.pram_commands.specs.declared.sweeps.RunRecord.{RunRecord}
 use Rattle.refusals.specs.Faults.{fault_status}
 use Rattle.refusals.specs.declared.fault.CommandFault.{CommandFault}
 use Rattle.refusals.specs.declared.fault.CommandFault.TheVariants as fault
@@ -109,6 +111,39 @@ size_as settings other text value bytes status same is = record {
   prints = is.prints;
   ends = is.ends;
 }
+
+-- the text as the first name is set to a value: its record, and what is refused
+module _ (settings now : List SettingData) (text set given : List ℕ) (value : ℕ)
+    (same : now ≡ with_first settings value) (is_set : set ≡ text_as_set now text)
+    (shown : given ≡ set) where
+  pub size_made : (size : RunRecord) → AllMet now text set → IsRunRecord given size →
+      IsSizeOf settings text value (decimal value ++ codes "," ++ size.bytes.items) size.status
+  size_made size met is = record {
+    set = set;
+    size = size;
+    is_set = is_set ∙ ap (λ (all : List SettingData). text_as_set all text) same;
+    met = subst (λ (all : List SettingData). AllMet all text set) same met;
+    is = subst (λ (t : List ℕ). IsRunRecord t size) shown is;
+    prints = refl;
+    ends = refl;
+  }
+
+  pub fault_refused : (f : CommandFault) → IsBadOrMemory given f → fault_status f ≡ REFUSED →
+      RefusesSize settings text value
+  fault_refused f bad refused =
+      let whole = shown ∙ is_set ∙ ap (λ (all : List SettingData). text_as_set all text) same in
+      inr (f, subst (λ (t : List ℕ). IsBad t f) whole (bad_of given f bad refused))
+
+pub unfit_refused : (settings now : List SettingData) (text : List ℕ) (value : ℕ)
+    (refused : Refusal) → now ≡ with_first settings value →
+    BySetting (IsUnfitBy now text) refused →
+    BySetting (λ kind. RefusesSize settings text value) refused
+unfit_refused settings now text value refused same says =
+    by_weaker {P = IsUnfitBy now text} {Q = λ kind. RefusesSize settings text value}
+    (λ kind unfit. inl (
+      kind,
+      subst (λ (all : List SettingData). IsUnfitBy all text kind) same unfit,
+    )) refused says
 
 -- what is refused as the first name is set to a value
 abbrev pub IsRefusedAs : List ℕ → List SettingData → Type 0

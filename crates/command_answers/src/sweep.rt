@@ -1,5 +1,6 @@
 //! A sweep: what the runs of a program cost in which a name is set to one value after the other.
-ghost use Rattle.std.specs.Prelude.{◌≡◌, ◌⊎◌, ◌≤◌, ◌++◌, [], false, map, max, IfErr, IfOk, OnOk};
+ghost use Rattle.std.specs.Prelude.{◌≡◌, ◌⊎◌, ◌≤◌, ◌++◌, ℕ, List, [], false, map, max};
+ghost use Rattle.std.specs.Prelude.{IfErr, IfOk, OnOk};
 ghost use Rattle.std.specs.Io.KnownBytes.{Appends};
 ghost use Rattle.pardo_text.specs.Settings.{with_first};
 ghost use Rattle.pram_commands.specs.Did.{writing};
@@ -31,7 +32,7 @@ pub(crate) enum Unswept<'a> {
 
 impl<'a> From<AllocError> for Unswept<'a> {
     ghost use Rattle.std.specs.Prelude.{◌≡◌};
-    ghost use Rattle.pram_streams.specs.declared.reason.Reason.TheVariants.{Unknown};
+    ghost use Rattle.pram_streams.specs.declared.device.Reason.TheVariants.{Unknown};
     ghost use Rattle.refusals.specs.declared.refusal.Refusal.TheVariants.{Memory};
     ghost use Rattle.command_answers.specs.declared.sweep.Unswept.TheVariants.{Unset};
 

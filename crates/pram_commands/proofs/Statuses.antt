@@ -143,7 +143,8 @@ ends_cost true job_text job plan text given comes three =
 -- nor does it under a model
 ends_under : (model : Option Pram) (command : Command) → EndsAlone command →
     EndsAlone (under_model model command)
-ends_under None command ends = ends
+ends_under None command ends job_text job plan text given comes three =
+    ends job_text job plan text given comes three
 ends_under (Some pram) command ends job_text job plan text given (inl both) three =
     ends job_text job no_plan text given both.1 three
 ends_under (Some pram) command ends job_text job plan text given (inr beyond) three =

@@ -1,8 +1,12 @@
 use Rattle.pram_commands.proofs.Doing.{ended_did}
 use Rattle.pram_commands.proofs.commands.do_alone.Goals as goal
 
-pub returns-in-Plain-None : goal.returns-in-Plain-None
-returns-in-Plain-None g c = rw c.in-Plain-None.is (ended_did _ _ _ _ c.plain.ensures _ c.ended.ensures)
+pub returns-in-Plain-default-None : goal.returns-in-Plain-default-None
+returns-in-Plain-default-None g c =
+    rw c.in-Plain-default-None.is (ended_did _ _ _ _ c.plain.ensures _ c.ended.ensures)
+
+pub returns-in-Plain-default-Some : goal.returns-in-Plain-default-Some
+returns-in-Plain-default-Some g c = rw c.in-Plain-default-Some.is c.under_model.ensures
 
 pub returns-in-Steps : goal.returns-in-Steps
 returns-in-Steps g c =

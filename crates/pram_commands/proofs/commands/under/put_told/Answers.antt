@@ -16,9 +16,9 @@ returns-in-Answer g c = rw c.in-Answer.is
 pub returns-in-Costs-false : goal.returns-in-Costs-false
 returns-in-Costs-false g c = rw c.in-Costs-false.is
     (puts_status _ _ _ _ (λ told given is. sym (ap ends_with is)) _ c.put_cost.ensures _
-    c.costed.ensures)
+    c.costed-in-Costs-false.ensures)
 
 pub returns-in-Costs-true : goal.returns-in-Costs-true
 returns-in-Costs-true g c = rw c.in-Costs-true.is
     (puts_status _ _ _ _ (λ told given is. sym (ap ends_with is)) _ c.put_records.ensures _
-    c.costed-2.ensures)
+    c.costed.ensures)
