@@ -231,11 +231,11 @@ fn push_size<'a>(
 }
 
 // Adds the record of a value.
-fn push_record(bytes: &mut Vec<u8>, value: u32, record: &[u8]) -> Result<(), AllocError>
+fn push_record(bytes: &mut Vec<u8>, value: u32, told: &[u8]) -> Result<(), AllocError>
     ensures { OnOk result (bytes.new.items ≡ bytes.old.items
-        ++ (decimal value ++ codes "," ++ record.now)) }
+        ++ (decimal value ++ codes "," ++ told.now)) }
 {
     push_labelled(bytes, b"", u64::from(value))?;
     bytes.extend_from_slice(b",")?;
-    bytes.extend_from_slice(record)
+    bytes.extend_from_slice(told)
 }
