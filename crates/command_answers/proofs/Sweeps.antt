@@ -8,7 +8,7 @@ use Rattle.std.proofs.lemmas.Option.{slice_get-get_or, some_pair_parts}
 use Rattle.clap.specs.Words.{Text}
 use Rattle.pardo_text.specs.Settings.{SettingData, first_in, text_as_set, with_first}
 use Rattle.pardo_text.specs.declared.settings.SetKind.{SetKind}
-use Rattle.pram_commands.specs.Inputs.{IsBad, IsBadOrMemory}
+use Rattle.pram_commands.specs.Inputs.{IsBad}
 use Rattle.pram_commands.specs.Sweeps.{IsRunRecord}
 use Rattle.pram_commands.specs.declared.sweeps.RunRecord.{RunRecord}
 use Rattle.refusals.specs.Faults.{fault_status}
@@ -16,8 +16,7 @@ use Rattle.refusals.specs.declared.fault.CommandFault.{CommandFault}
 use Rattle.refusals.specs.declared.fault.CommandFault.TheVariants as fault
 use Rattle.refusals.specs.declared.refusal.Refusal.{Refusal}
 use Rattle.refusals.specs.declared.refusal.TheConstants.{FAILED, MEMORY, REFUSED}
-use Rattle.command_answers.specs.Setting.{AllMet, BySetting, FileGives, IsUnfitBy, RefuseNames}
-use Rattle.command_answers.specs.Setting.{SetNames}
+use Rattle.command_answers.specs.Setting.{AllMet, BySetting, FileGives, IsUnfitBy, SetNames}
 use Rattle.command_answers.specs.Sweeping.{AreSizes, ByRefusal, IsRefusedSweep, IsSizeOf, IsSweep}
 use Rattle.command_answers.specs.Sweeping.{RefusesSize, RefusesSizes, sweep_text}
 use Rattle.command_answers.specs.declared.sweep.Unswept.{Unswept}
@@ -46,22 +45,6 @@ refused_by fault.OutDevice status (inr same) = inr (inl same)
 refused_by fault.JobTooLarge status (inr same) = inr (inl same)
 refused_by fault.PlanTooLarge status (inr same) = inr (inl same)
 refused_by fault.Memory status (inr same) = inr (inr same)
-
--- a fault of a text that is told with a refusal's status is in the text
-pub bad_of : (text : List ℕ) (f : CommandFault) → IsBadOrMemory text f →
-    fault_status f ≡ REFUSED → IsBad text f
-bad_of text (fault.Text line kind) bad refused = bad
-bad_of text (fault.Program refusal) bad refused = bad
-bad_of text (fault.Plan row kind) bad refused = bad
-bad_of text (fault.OutsideCell cell) bad refused = bad
-bad_of text (fault.OutsidePlace at) bad refused = bad
-bad_of text (fault.OutsideStep step) bad refused = bad
-bad_of text fault.JobDevice bad refused = bad
-bad_of text fault.PlanDevice bad refused = bad
-bad_of text fault.OutDevice bad refused = bad
-bad_of text fault.JobTooLarge bad refused = bad
-bad_of text fault.PlanTooLarge bad refused = bad
-bad_of text fault.Memory bad refused = cc refused
 
 -- what is said of a refusal, and what follows from it
 pub by_so : {P Q : Type 0} → (P → Q) → (unswept : Unswept) → ByRefusal P unswept →
@@ -94,7 +77,7 @@ sizes_next settings text (first ∷ values) value bytes size status ends
       max later ends,
       one,
       more,
-      ap (λ b. b ++ size) same ∙ append_assoc {a = head} {b = rest} {c = size},
+      ap (λ b. b ++ size) same ∙ append_assoc head rest size,
       (let e : max status ends ≡ max now (max later ends) = rw most (omega arith) in e),
     )
 
@@ -127,12 +110,6 @@ module _ (settings now : List SettingData) (text set given : List ℕ) (value : 
     prints = refl;
     ends = refl;
   }
-
-  pub fault_refused : (f : CommandFault) → IsBadOrMemory given f → fault_status f ≡ REFUSED →
-      RefusesSize settings text value
-  fault_refused f bad refused =
-      let whole = shown ∙ is_set ∙ ap (λ (all : List SettingData). text_as_set all text) same in
-      inr (f, subst (λ (t : List ℕ). IsBad t f) whole (bad_of given f bad refused))
 
 pub unfit_refused : (settings now : List SettingData) (text : List ℕ) (value : ℕ)
     (refused : Refusal) → now ≡ with_first settings value →
@@ -185,46 +162,43 @@ module _ (settings : List SettingData) (text values : List ℕ) (d : ℕ) where
 
 -- what the words set, where they set a name
 module _ (Holds : List ℕ → Option (List ℕ) → Type 0) (file : List ℕ) (words : List Text)
-    (text name values : List ℕ) (gives : FileGives Holds file text) where
+    (text name values shown given : List ℕ) (gives : FileGives Holds file text)
+    (same_text : shown ≡ text) (same_values : given ≡ values) where
   pub sweep_made : (settings : List SettingData) → SetNames Holds [] words settings →
       Some (name, values) ≡ first_in settings → (records bytes : List ℕ) (status : ℕ) →
-      AreSizes settings text values records status → bytes ≡ sweep_text name records →
+      AreSizes settings shown given records status → bytes ≡ sweep_text name records →
       IsSweep Holds file words bytes status
   sweep_made [] names is records bytes status sizes prints = cc is
   sweep_made (swept ∷ others) names is records bytes status sizes prints =
-      let parts = some_pair_parts name swept.name values swept.values is in record {
+      let parts = some_pair_parts name swept.name values swept.values is in
+      let whole = same_values ∙ parts.1 in record {
         text = text;
         gives = gives;
         swept = swept;
         others = others;
         names = names;
         records = records;
-        sizes = subst (λ (l : List ℕ). AreSizes (swept ∷ others) text l records status) parts.1
-            sizes;
+        sizes = subst (λ (t : List ℕ). AreSizes (swept ∷ others) t swept.values records status)
+            same_text
+            (subst (λ (l : List ℕ). AreSizes (swept ∷ others) shown l records status) whole sizes);
         prints = prints ∙ ap (λ (l : List ℕ). sweep_text l records) parts.0;
       }
 
   pub sweep_refused : (settings : List SettingData) → SetNames Holds [] words settings →
-      Some (name, values) ≡ first_in settings → RefusesSizes settings text values →
+      Some (name, values) ≡ first_in settings → RefusesSizes settings shown given →
       IsRefusedSweep Holds file words
   sweep_refused [] names is refuses = cc is
-  sweep_refused (swept ∷ others) names is refuses = inr (record {
-    text = text;
-    gives = gives;
-    swept = swept;
-    others = others;
-    names = names;
-    refuses = subst (λ (l : List ℕ). RefusesSizes (swept ∷ others) text l)
-        (some_pair_parts name swept.name values swept.values is).1 refuses;
-  })
-
--- a word that is refused, and a file that fails
-pub word_refused : (Holds : List ℕ → Option (List ℕ) → Type 0) (file : List ℕ) (words : List Text)
-    (refused : Refusal) → BySetting (RefuseNames Holds [] words) refused →
-    BySetting (λ kind. IsRefusedSweep Holds file words) refused
-word_refused Holds file words refused says =
-    by_weaker {P = RefuseNames Holds [] words} {Q = λ kind. IsRefusedSweep Holds file words}
-    (λ kind refuses. inl (kind, refuses)) refused says
+  sweep_refused (swept ∷ others) names is refuses =
+      let parts = some_pair_parts name swept.name values swept.values is in
+      let whole = same_values ∙ parts.1 in inr (record {
+        text = text;
+        gives = gives;
+        swept = swept;
+        others = others;
+        names = names;
+        refuses = subst (λ (t : List ℕ). RefusesSizes (swept ∷ others) t swept.values) same_text
+            (subst (λ (l : List ℕ). RefusesSizes (swept ∷ others) shown l) whole refuses);
+      })
 
 -- a line that asks for a sweep, and another one
 pub swept_so : (S L : Type 0) (b : Bool) → b ≡ true → S → MatchBool b S L

@@ -1,6 +1,6 @@
 //! A sweep: what the runs of a program cost in which a name is set to one value after the other.
 ghost use Rattle.std.specs.Prelude.{◌≡◌, ◌⊎◌, ◌≤◌, ◌++◌, ℕ, List, [], false, map, max};
-ghost use Rattle.std.specs.Prelude.{IfErr, IfOk, OnOk};
+ghost use Rattle.std.specs.Prelude.{IfErr, IfOk, OnOk, codes, decimal};
 ghost use Rattle.std.specs.Io.KnownBytes.{Appends};
 ghost use Rattle.pardo_text.specs.Settings.{with_first};
 ghost use Rattle.pram_commands.specs.Did.{writing};
@@ -39,7 +39,10 @@ impl<'a> From<AllocError> for Unswept<'a> {
     ghost from_gives = { λ _ made. made ≡ Unset (record { refusal = Memory; reason = Unknown }) };
 
     fn from(_error: AllocError) -> Unswept<'a> {
-        Unswept::Unset(unset(Refusal::Memory))
+        Unswept::Unset(Unset {
+            refusal: Refusal::Memory,
+            reason: Reason::Unknown,
+        })
     }
 }
 
@@ -220,11 +223,19 @@ fn push_size<'a>(
     let set = fitted(alloc, settings, text, words)?;
     match run_record(alloc, set.as_slice()) {
         Ok(size) => {
-            push_labelled(bytes, b"", u64::from(value))?;
-            bytes.extend_from_slice(b",")?;
-            bytes.extend_from_slice(size.bytes.as_slice())?;
+            push_record(bytes, value, size.bytes.as_slice())?;
             Ok(size.status)
         }
         Err(fault) => Err(Unswept::Fault { fault, text: set }),
     }
+}
+
+// Adds the record of a value.
+fn push_record(bytes: &mut Vec<u8>, value: u32, told: &[u8]) -> Result<(), AllocError>
+    ensures { OnOk result (bytes.new.items ≡ bytes.old.items
+        ++ (decimal value ++ codes "," ++ told.now)) }
+{
+    push_labelled(bytes, b"", u64::from(value))?;
+    bytes.extend_from_slice(b",")?;
+    bytes.extend_from_slice(told)
 }

@@ -8,7 +8,7 @@ pub loop-value-preserved : goal.loop-value-preserved
 loop-value-preserved c =
     let made = c.in_ok-ends.ensures.record in
     let so_far = c.loop-value.invariant in (
-      rw (made.2, c.greater.ensures) (sizes_more c.args.settings.now c.args.text.now
+      rw (made.2, c.greater-status.ensures) (sizes_more c.args.settings.now c.args.text.now
           c.args.values.now 0 c.loop-value.value-index c.loop-value.settings
           c.loop-value.bytes.items made.0 c.loop-value.status _ c.loop-value-test.true so_far.0
           (so_far.1 _) made.1),
