@@ -11,11 +11,8 @@ use Rattle.pardo_text.specs.declared.settings.SetKind.{SetKind}
 use Rattle.pram_commands.specs.Inputs.{IsBad}
 use Rattle.pram_commands.specs.Sweeps.{IsRunRecord}
 use Rattle.pram_commands.specs.declared.sweeps.RunRecord.{RunRecord}
-use Rattle.refusals.specs.Faults.{fault_status}
 use Rattle.refusals.specs.declared.fault.CommandFault.{CommandFault}
-use Rattle.refusals.specs.declared.fault.CommandFault.TheVariants as fault
 use Rattle.refusals.specs.declared.refusal.Refusal.{Refusal}
-use Rattle.refusals.specs.declared.refusal.TheConstants.{FAILED, MEMORY, REFUSED}
 use Rattle.command_answers.specs.Setting.{AllMet, BySetting, FileGives, IsUnfitBy, SetNames}
 use Rattle.command_answers.specs.Sweeping.{AreSizes, ByRefusal, IsRefusedSweep, IsSizeOf, IsSweep}
 use Rattle.command_answers.specs.Sweeping.{RefusesSize, RefusesSizes, sweep_text}
@@ -28,23 +25,6 @@ pub set_again : (settings : List SettingData) (value other : ℕ) →
     with_first (with_first settings value) other ≡ with_first settings other
 set_again [] value other = refl
 set_again (first ∷ others) value other = refl
-
--- a fault's status is one of a refusal
-pub refused_by : (f : CommandFault) (status : ℕ) → (status ≡ MEMORY) ⊎ (status ≡ fault_status f) →
-    (status ≡ REFUSED) ⊎ ((status ≡ FAILED) ⊎ (status ≡ MEMORY))
-refused_by f status (inl memory) = inr (inr memory)
-refused_by (fault.Text line kind) status (inr same) = inl same
-refused_by (fault.Program refusal) status (inr same) = inl same
-refused_by (fault.Plan row kind) status (inr same) = inl same
-refused_by (fault.OutsideCell cell) status (inr same) = inl same
-refused_by (fault.OutsidePlace at) status (inr same) = inl same
-refused_by (fault.OutsideStep step) status (inr same) = inl same
-refused_by fault.JobDevice status (inr same) = inr (inl same)
-refused_by fault.PlanDevice status (inr same) = inr (inl same)
-refused_by fault.OutDevice status (inr same) = inr (inl same)
-refused_by fault.JobTooLarge status (inr same) = inr (inl same)
-refused_by fault.PlanTooLarge status (inr same) = inr (inl same)
-refused_by fault.Memory status (inr same) = inr (inr same)
 
 -- what is said of a refusal, and what follows from it
 pub by_so : {P Q : Type 0} → (P → Q) → (unswept : Unswept) → ByRefusal P unswept →
@@ -200,11 +180,7 @@ module _ (Holds : List ℕ → Option (List ℕ) → Type 0) (file : List ℕ) (
             (subst (λ (l : List ℕ). RefusesSizes (swept ∷ others) shown l) whole refuses);
       })
 
--- a line that asks for a sweep, and another one
-pub swept_so : (S L : Type 0) (b : Bool) → b ≡ true → S → MatchBool b S L
-swept_so S L true is swept = swept
-swept_so S L false is swept = absurd (let never : false ≡ true = is in cc never)
-
+-- a line that asks for no sweep
 pub served_so : (S L : Type 0) (b : Bool) → b ≡ false → L → MatchBool b S L
 served_so S L true is served = absurd (let never : true ≡ false = is in cc never)
 served_so S L false is served = served
