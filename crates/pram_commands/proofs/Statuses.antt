@@ -196,7 +196,7 @@ module _ (taken : Taking) (w : Writing) where
       absurd (ends_under model checking ends_summary _ _ _ _ _ prints.work.comes
       (sym prints.is ∙ three))
   stops_alone alone.Compile status prints three =
-      let none = ap ends_with prints.work.comes.1 in absurd (omega (arith, prints.is, three, none))
+      let none = ap ends_with prints.work.comes.gives in absurd (omega (arith, prints.is, three, none))
   stops_alone (alone.Plain style model) status prints three =
       absurd (ends_under model (plainly style) (ends_plain style) _ _ _ _ _ prints.work.comes
       (sym prints.is ∙ three))

@@ -9,4 +9,4 @@ returns g c =
     (record { job_text = _; a_job = c.in_ok-spelled.ensures.ok; a_plan = tt }) tt refl
     (λ f. ok_not_err _ _ (c.in_ok-spelled.ensures.failed.0 f))
     (well _ c.requires.plan) c.in_ok-spelled.ensures.reads (gives_none _)
-    _ c.put_job.ensures _ c.printed.ensures
+    _ c.put_job-told.ensures _ c.printed.ensures
