@@ -1,4 +1,4 @@
-use Rattle.std.proofs.Common.{ap, sym}
+use Rattle.std.proofs.Common.{◌≡◌, ap, false, rules, sym, true}
 use Rattle.pram_commands.specs.Did.{ends_with}
 use Rattle.pram_commands.proofs.Judged.{puts_status}
 use Rattle.pram_commands.proofs.commands.under.put_told.Goals as goal
@@ -14,11 +14,13 @@ returns-in-Answer g c = rw c.in-Answer.is
     c.answered.ensures)
 
 pub returns-in-Costs-false : goal.returns-in-Costs-false
-returns-in-Costs-false g c = rw c.in-Costs-false.is
+returns-in-Costs-false g c =
+    let e : c.in-Costs-false.lines ≡ false = search rules in rw (c.in-Costs-false.is, e)
     (puts_status _ _ _ _ (λ told given is. sym (ap ends_with is)) _ c.put_cost.ensures _
     c.costed-in-Costs-false.ensures)
 
 pub returns-in-Costs-true : goal.returns-in-Costs-true
-returns-in-Costs-true g c = rw c.in-Costs-true.is
+returns-in-Costs-true g c =
+    let e : c.in-Costs-true.lines ≡ true = search rules in rw (c.in-Costs-true.is, e)
     (puts_status _ _ _ _ (λ told given is. sym (ap ends_with is)) _ c.put_records.ensures _
     c.costed.ensures)
