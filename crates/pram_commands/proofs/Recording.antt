@@ -1,5 +1,5 @@
 -- The record of what a run costs, by what was read.
-use Rattle.std.proofs.Common.{◌≡◌, ◌∙◌, ℕ, List, Option, ap, ap₂, refl}
+use Rattle.std.proofs.Common.{◌≡◌, ◌∙◌, ℕ, List, Option, ap₂, refl}
 use Rattle.pram_job.specs.Job.{JobData}
 use Rattle.pram_cost.specs.Models.{IsWeakestModel}
 use Rattle.pram_cost.specs.declared.pram.Pram.{Pram}

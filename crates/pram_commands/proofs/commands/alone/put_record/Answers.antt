@@ -1,4 +1,4 @@
-use Rattle.std.proofs.Common.{◌≡◌, ◌∙◌, List, ℕ, ap, refl}
+use Rattle.std.proofs.Common.{◌≡◌, ◌∙◌, refl}
 use Rattle.pram_streams.specs.declared.print.PrintFault.TheVariants.{Device, Memory}
 use Rattle.pram_commands.proofs.Doing.{err_is, ok_not_err, put_failed, well}
 use Rattle.pram_commands.proofs.Recording.{told_record}

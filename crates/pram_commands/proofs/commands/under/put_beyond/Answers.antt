@@ -1,4 +1,4 @@
-use Rattle.std.proofs.Common.{ap, refl, sym}
+use Rattle.std.proofs.Common.{ap, sym}
 use Rattle.pram_commands.specs.Did.{ends_with}
 use Rattle.pram_commands.proofs.Judged.{answer_put, puts_status, told_beyond}
 use Rattle.pram_commands.proofs.commands.under.put_beyond.Goals as goal
