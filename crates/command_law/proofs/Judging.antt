@@ -1,5 +1,5 @@
 -- What is told of a program under a model.
-use Rattle.std.proofs.Common.{◌≡◌, ◌∙◌, true, List, ℕ, [], Option, Some, None, ap, inl, inr, refl}
+use Rattle.std.proofs.Common.{◌≡◌, ◌∙◌, true, List, ℕ, Option, Some, None, ap, refl}
 use Rattle.pram_job.specs.Job.{JobData}
 use Rattle.pram_step.specs.declared.answer.RunAnswer.{RunAnswer}
 use Rattle.pram_cost.specs.Beyond.{beyond_line}
@@ -35,7 +35,5 @@ beyond_by_names pram text job bytes answer one (Some naming) names tells same =
     }
 
 pub models_judge : ModelsJudgeTheProgram
-models_judge text job pram command bytes answer one (inl both) = inl both
-models_judge text job pram command bytes answer one (inr beyond) =
-    inr (beyond_by_names pram text job bytes answer one beyond.names beyond.are_names beyond
-    refl)
+models_judge text job pram bytes answer one beyond =
+    beyond_by_names pram text job bytes answer one beyond.names beyond.are_names beyond refl

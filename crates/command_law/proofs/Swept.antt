@@ -1,6 +1,6 @@
 -- What the record of a run tells of a program.
-use Rattle.std.proofs.Common.{◌≡◌, ◌∙◌, ◌+◌, ◌<◌, ◌≤◌, ◌||◌, ℕ, zero, suc, Bool, true, List}
-use Rattle.std.proofs.Common.{Option, Some, None, ap, ap₂, arith, codes, inl, inr, refl, subst, sym}
+use Rattle.std.proofs.Common.{◌≡◌, ◌∙◌, ◌+◌, ◌<◌, ◌||◌, ℕ, zero, suc, Bool, true, List}
+use Rattle.std.proofs.Common.{Option, Some, None, ap, ap₂, arith, codes, inl, inr, refl}
 use Rattle.std.specs.List.{list_any, range_with_len}
 use Rattle.std.specs.Prelude.{if◌then◌else◌, is_some, slice_index}
 use Rattle.pram_job.specs.Job.{JobData}
@@ -8,7 +8,6 @@ use Rattle.pram_step.specs.declared.answer.Fault.{Fault}
 use Rattle.pram_step.specs.declared.answer.RunAnswer.{RunAnswer}
 use Rattle.pram_step.proofs.LawAnswer.{conflict_ends}
 use Rattle.pram_cost.specs.Costs.{IsLength}
-use Rattle.pardo_job.specs.Ends.{gone_in}
 use Rattle.pardo_job.specs.Meaning.{after}
 use Rattle.pardo_job.specs.Runs.{IsProgramEnd}
 use Rattle.pardo_answers.specs.Language.{is_program}

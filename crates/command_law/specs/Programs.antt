@@ -55,7 +55,6 @@ use Rattle.pardo_answers.specs.Language.{is_program}
 use Rattle.pram_commands.specs.CellLists.{AreCellsOf}
 use Rattle.pram_commands.specs.declared.line_costs.LineCost.{LineCost}
 use Rattle.pram_commands.specs.Costs.{cost_words, costing, place_or_cell, spot_in}
-use Rattle.pram_commands.specs.Did.{Command}
 use Rattle.pram_commands.specs.LineRecords.{costing_by, records_text}
 use Rattle.pram_commands.specs.Names.{Means, NamingData}
 use Rattle.pram_commands.specs.Plain.{checking, no_plan, plainly}
@@ -64,7 +63,7 @@ use Rattle.pram_commands.specs.Sweeps.{TellsRecord, end_word, fields_text}
 use Rattle.pram_commands.specs.Steps.{row_words, stepping}
 use Rattle.pram_commands.specs.Threads.{cell_words, running, watching}
 use Rattle.pram_commands.specs.Traced.{all_steps, traced, tracing}
-use Rattle.pram_commands.specs.Under.{AcceptsRun, under_model}
+use Rattle.pram_commands.specs.Under.{TellsBeyond}
 use Rattle.pram_commands.specs.Why.{in_lines}
 use Rattle.command_law.specs.Laws.{IsCutOff, IsProgramsAnswer}
 
@@ -346,14 +345,12 @@ pub record IsProgramsBeyond (pram : Pram) (text : List ℕ) (job : JobData) (byt
   pub meets : IsMeetingOf beyond.sharing naming is.goes.carries.time beyond.meeting
   pub prints : bytes ≡ beyond_line (cost_words (Some naming) []) pram beyond
 
--- Under a model a command tells of a program what it tells without one, and the model accepts the
--- run; or where the run goes beyond it.
+-- Under a model a command tells what it tells without one, or where the run goes beyond the model
+-- (`under_model`): of a program then by its line and place.
 abbrev pub ModelsJudgeTheProgram : Type 0
-ModelsJudgeTheProgram = (text : List ℕ) (job : JobData) (pram : Pram) (command : Command)
-    (bytes : List ℕ) (answer : Option RunAnswer) → is_program text ≡ true →
-    (under_model (Some pram) command).Comes text job no_plan bytes answer →
-    (AcceptsRun pram job × command.Comes text job no_plan bytes answer)
-    ⊎ IsProgramsBeyond pram text job bytes
+ModelsJudgeTheProgram = (text : List ℕ) (job : JobData) (pram : Pram) (bytes : List ℕ)
+    (answer : Option RunAnswer) → is_program text ≡ true →
+    TellsBeyond pram text job bytes answer → IsProgramsBeyond pram text job bytes
 
 -- ---- `sweep`
 

@@ -84,8 +84,8 @@ pub fn records_tell_the_programs_lines()
     ensures { RecordsTellTheProgramsLines }
 {}
 
-/// Under a model a command prints of a program what it prints without one, and the model accepts the
-/// run; or it prints where the run goes beyond the model, by the line of the program and the place.
+/// Where the run of a program goes beyond a model, what is printed says where: by the line of the
+/// program and the place.
 pub fn models_judge_the_program()
     ensures { ModelsJudgeTheProgram }
 {}
