@@ -1,5 +1,6 @@
 -- What is said of words whose line waited for threads.
-use Rattle.std.proofs.Common.{◌≡◌, ◌≤◌, ℕ, Bool, List, [], Option, None, Some, ap, inl, inr, subst}
+use Rattle.std.proofs.Common.{◌≡◌, ◌∙◌, ◌≤◌, ◌⊎◌, ℕ, Bool, true, false, List, [], ◌∷◌, Option, None}
+use Rattle.std.proofs.Common.{Some, ap, arith, inl, inr, subst}
 use Rattle.std.specs.Prelude.{MatchBool}
 use Rattle.std.specs.Borrow.{Bor}
 use Rattle.std.specs.Global.{Vec}
@@ -10,11 +11,17 @@ use Rattle.command_data.specs.declared.line.AskOnThreads.{AskOnThreads}
 use Rattle.command_data.specs.declared.line.Line.{Line}
 use Rattle.command_line.specs.CommandLine.{HasSettings, IsAskedLine, pramx}
 use Rattle.command_line.specs.declared.line.Asked.{Asked}
-use Rattle.pram_commands.specs.Did.{Writing}
+use Rattle.pardo_text.specs.Settings.{SettingData}
+use Rattle.pardo_text.specs.declared.settings.SetKind.{SetKind}
+use Rattle.pram_step.specs.declared.answer.RunAnswer.{RunAnswer}
+use Rattle.pram_step.specs.declared.answer.RunAnswer.TheVariants as answer
+use Rattle.pram_commands.specs.Did.{Writing, ends_with}
 use Rattle.pram_commands.specs.Files.{ServesFiles, ServesText}
 use Rattle.refusals.specs.declared.refusal.TheConstants.{MEMORY}
-use Rattle.command_answers.specs.Answering.{AnswersWords, IsTextIfSet, ServesLineSet}
+use Rattle.command_answers.specs.Answering.{AnswersWords, IsTextIfSet, RefusesSet, ServesLineSet}
 use Rattle.command_answers.specs.Answering.{ServesOrRefusesSet, ServesWaiting, is_sweep}
+use Rattle.command_answers.specs.Setting.{IsRefusedSet}
+use Rattle.command_answers.specs.Sweeping.{AreSizes, IsRefusedSweep, ServesSweep}
 use Rattle.command_answers.proofs.Sweeps.{served_so}
 use Rattle.command_answers.proofs.Texts.{texts_of}
 
@@ -60,3 +67,54 @@ pub none_set : (matches : Option (Text × List Row)) (words : List (Bor Text)) �
     HasSettings matches (texts_of words) → HasSettings matches []
 none_set matches words none sets =
     subst (λ (all : List (Bor Text)). HasSettings matches (texts_of all)) none sets
+
+-- the status of a run, and of the runs of a sweep
+answer_most : (given : Option RunAnswer) → ends_with given ≤ MEMORY
+answer_most None = omega arith
+answer_most (Some (answer.Final cells)) = omega arith
+answer_most (Some (answer.Conflict fault)) = omega arith
+answer_most (Some (answer.Unfinished step)) = omega arith
+
+sizes_most : (settings : List SettingData) (text values bytes : List ℕ) (status : ℕ) →
+    AreSizes settings text values bytes status → status ≤ MEMORY
+sizes_most settings text [] bytes status sizes = let done = sizes.1 in omega (arith, done)
+sizes_most settings text (value ∷ values) bytes status
+    (size, ends, rest, later, is, others, same, most) =
+    let one = answer_most is.is.answer in
+    let now = is.ends ∙ is.is.ends in
+    let after = sizes_most settings text values rest later others in
+    omega (arith, one, now, after, most)
+
+refused_most : (Reason : Type 0) (writes : Writing) (status : ℕ) →
+    RefusesSet Reason writes status → status ≤ MEMORY
+refused_most Reason writes status refuses = elim refuses.told [
+  | inl two ↦ omega (arith, two)
+  | inr (inl four) ↦ omega (arith, four)
+  | inr (inr five) ↦ omega (arith, five)
+]
+
+-- a line with names that are set ends with one of the statuses
+set_most_as : (Holds : List ℕ → Option (List ℕ) → Type 0) (Fails : Type 0) (line : Line)
+    (given : List Text) (writes : Writing) (status : ℕ) (b : Bool) →
+    MatchBool b (ServesSweep Holds line given writes status
+    ⊎ RefusesSet (IsRefusedSweep Holds line.file.now given) writes status)
+    (ServesLineSet Holds Fails line given writes status
+    ⊎ RefusesSet ((kind : SetKind) × IsRefusedSet Holds line.file.now given kind) writes status) →
+    status ≤ MEMORY
+set_most_as Holds Fails line given writes status true (inl swept) = elim swept.wrote [
+  | inl took ↦
+      let most = sizes_most _ _ _ _ _ swept.sweep.sizes in
+      let same = took.0 in omega (arith, most, same)
+  | inr began ↦ began.1
+]
+set_most_as Holds Fails line given writes status true (inr refused) =
+    refused_most _ writes status refused
+set_most_as Holds Fails line given writes status false (inl served) = served.serves.served.most
+set_most_as Holds Fails line given writes status false (inr refused) =
+    refused_most _ writes status refused
+
+pub set_most : (Holds : List ℕ → Option (List ℕ) → Type 0) (Fails : Type 0) (line : Line)
+    (given : List Text) (writes : Writing) (status : ℕ) →
+    ServesOrRefusesSet Holds Fails line given writes status → status ≤ MEMORY
+set_most Holds Fails line given writes status serves =
+    set_most_as Holds Fails line given writes status (is_sweep line.ask) serves

@@ -1,13 +1,15 @@
-use Rattle.std.proofs.Common.{◌≡◌, ◌≢◌, ◌⊎◌, ◌<◌, List, [], ◌∷◌, Err, ap, arith, inl, inr, length, refl, sym}
+use Rattle.std.proofs.Common.{◌≡◌, ◌≢◌, ◌⊎◌, ◌<◌, List, [], ◌∷◌, Err, ap, arith, inl, inr, length, refl, subst, sym}
+use Rattle.std.proofs.lemmas.Result.{IfErr-weaker, IfOk-weaker}
 use Rattle.std.specs.Borrow.{Bor}
 use Rattle.clap.specs.Kinds.{HasKind}
-use Rattle.clap.specs.Words.{IsAmong, Text, kind_of}
+use Rattle.clap.specs.Words.{IsAmong, Text, kind_of, subcommand_of}
 use Rattle.clap.specs.declared.error.Error.{Error}
 use Rattle.clap.specs.declared.error.kind.ErrorKind.{ErrorKind}
 use Rattle.clap.specs.declared.error.kind.ErrorKind.TheVariants.{OutOfMemory}
-use Rattle.command_line.specs.CommandLine.{FailsByWords, MeanNoLine}
+use Rattle.command_line.specs.CommandLine.{FailsByWords, HasSettings, MeanNoLine, pramx}
 use Rattle.command_line.specs.declared.line.Asked.{Asked}
 use Rattle.command_answers.proofs.Texts.{texts_of}
+use Rattle.command_answers.proofs.Waited.{set_most}
 use Rattle.command_answers.proofs.answer.answer_alone.Goals as goal
 
 -- memory ran out, or it did not
@@ -62,3 +64,36 @@ returns-in-empty-clause-line g c =
         threads = c.in-OnThreads.is;
       };
     }
+
+pub returns-clause-status : goal.returns-clause-status
+returns-clause-status g c = IfOk-weaker c.answer_set.result _ _
+    (λ status serves. set_most _ _ _ _ _ status serves) c.answer_set.ensures.served
+
+pub returns-clause-words : goal.returns-clause-words
+returns-clause-words g c = IfOk-weaker c.answer_set.result _ _
+    (λ status serves means. absurd (c.in-Ok.ensures.taken means)) c.answer_set.ensures.served
+
+pub returns-clause-answers : goal.returns-clause-answers
+returns-clause-answers g c = IfOk-weaker c.answer_set.result _ _
+    (λ status serves. inr (inl (record {
+      asked = c.in-Ok.given.0;
+      met = c.in-Ok.ensures.met;
+      given = texts_of c.as_slice.result.now;
+      sets = subst (λ (all : List (Bor Text)). HasSettings (subcommand_of pramx
+          (texts_of c.args.words.now)) (texts_of all)) (sym c.as_slice.ensures.value)
+          c.in-Ok.ensures.settings;
+      serves = serves;
+    }))) c.answer_set.ensures.served
+
+pub returns-clause-line : goal.returns-clause-line
+returns-clause-line g c = IfErr-weaker c.answer_set.result _ _
+    (λ waiting waits. record {
+      asked = c.in-Ok.given.0;
+      met = c.in-Ok.ensures.met;
+      given = texts_of c.as_slice.result.now;
+      sets = subst (λ (all : List (Bor Text)). HasSettings (subcommand_of pramx
+          (texts_of c.args.words.now)) (texts_of all)) (sym c.as_slice.ensures.value)
+          c.in-Ok.ensures.settings;
+      taken = c.in-Ok.ensures.taken;
+      waits = waits;
+    }) c.answer_set.ensures.waiting
