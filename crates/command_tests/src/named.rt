@@ -183,10 +183,6 @@ $ pramx check job --explain
 @end~ \
     | 2 text line=8 kind=BadBlock~\
     job:8:1: no block is open here: one `end` is too many~    end~    ^~
-@while s + (s + (s + (s + s)))~end~ \
-    | 2 text line=8 kind=TooDeep~\
-    job:8:1: three registers are too few for an expression of a loop: use a scalar~    while s + \
-    (s + (s + (s + s)))~    ^~
 @if i~x := 1~ \
     | 2 text line=10 kind=OpenBlock~\
     job:10:1: the `if` of line 8 has no `end`~    ~    ^~
