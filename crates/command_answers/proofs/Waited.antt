@@ -5,7 +5,6 @@ use Rattle.std.specs.Prelude.{MatchBool}
 use Rattle.std.specs.Borrow.{Bor}
 use Rattle.std.specs.Global.{Vec}
 use Rattle.clap.specs.Words.{Row, Text, subcommand_of}
-use Rattle.command_data.specs.declared.line.Ask.{Ask}
 use Rattle.command_data.specs.declared.line.Ask.TheVariants.{OnThreads}
 use Rattle.command_data.specs.declared.line.AskOnThreads.{AskOnThreads}
 use Rattle.command_data.specs.declared.line.Line.{Line}

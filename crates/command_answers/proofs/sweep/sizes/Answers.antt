@@ -1,6 +1,6 @@
 use Rattle.std.proofs.Common.{◌≡◌, ◌∙◌, List, Err, ap, rules}
 use Rattle.pardo_text.specs.Settings.{SettingData, with_first}
-use Rattle.command_answers.specs.Sweeping.{RefusesSize, RefusesSizes}
+use Rattle.command_answers.specs.Sweeping.{RefusesSizes}
 use Rattle.command_answers.proofs.Sweeps.{by_so, set_again, size_refused, sizes_all, sizes_more}
 use Rattle.command_answers.proofs.sweep.sizes.Goals as goal
 
