@@ -5,6 +5,7 @@ import { shortened } from './numbers.js';
 import { instructionsOf } from './text_lines.js';
 
 const SHARED = [CELLS.SCALAR, CELLS.ARRAY];
+const KEPT = 'kept';
 
 const MOST_LETTERS = 60;
 
@@ -20,6 +21,26 @@ function namedRows({ cells, names }) {
     const word = decoder.decode(bytes.subarray(at - name, at));
     return { base, len, width, kind, name: shortened(word, MOST_LETTERS) };
   });
+}
+
+// Hidden lines give parts of long expressions to rows without a name, which follow the private
+// variables, or the variables of loops: the cells of the job's text tell that there are some, and
+// not how many of each. Then all rows between those with a name and the masks, which are the last
+// ones, are called kept.
+function withHiddenRows(rows, text) {
+  const sizeOf = (word) => Number(new RegExp(`^${word} (\\d+)$`, 'm').exec(text)[1]);
+  const cellsOf = (list) => list.reduce((sum, { len }) => sum + len, 0);
+  const more = sizeOf('cells') - cellsOf(rows);
+  if (rows.length === 0 || more === 0) return rows;
+  const procs = sizeOf('procs');
+  const masks = rows.filter(({ kind }) => kind === CELLS.MASK)
+    .map((row) => ({ ...row, base: row.base + more }));
+  const named = rows.filter(({ kind }) => kind !== CELLS.LOOP && kind !== CELLS.MASK);
+  const from = cellsOf(named);
+  const count = (sizeOf('cells') - from - cellsOf(masks)) / procs;
+  const kept = Array.from({ length: count }, (_, index) => (
+    { base: from + index * procs, len: procs, width: 0, kind: KEPT, name: `kept ${index + 1}` }));
+  return [...named, ...kept, ...masks];
 }
 
 // The index of a place, or both indices where it has two.
@@ -51,7 +72,7 @@ export class Source {
   // `lines` are the lines of code, `made` is what the core made of the program.
   constructor(lines, made) {
     this.text = made.text;
-    this.rows = namedRows(made);
+    this.rows = withHiddenRows(namedRows(made), made.text);
     this.lineOf = made.lineOf;
     this.depths = depthsOf(lines);
     this.masks = this.rows.filter(({ kind }) => kind === CELLS.MASK);
