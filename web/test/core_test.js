@@ -292,6 +292,18 @@ const PARDO_REFUSED = [
     undefined],
 ];
 
+// Hidden lines have rows of their own, between those with a name and the masks.
+function testHiddenRows(core) {
+  const source = sourceOf(core, 'pardo 1\nrule crew\nprocs i < 2\nshared s\nprivate x\ncode\n' +
+    'for k = 1 to 2\nif i\nx := x * (x + (x * (x + (x * (x + i)))))\nend\nend');
+  const { cells } = core.judge(source.text);
+  const last = source.rows.at(-1);
+  is('hidden rows: the last one is a mask', [source.nameOf(last), last.base + last.len].join(),
+    ['mask 1', cells].join());
+  is('hidden rows: the first ones have names', source.rows.slice(0, 3).map(({ name }) => name).join(),
+    's,x,kept 1');
+}
+
 function testPardoRefusals(core) {
   for (const [text, fault, line] of PARDO_REFUSED) {
     const told = core.compile(text);
