@@ -528,6 +528,7 @@ const programs = readdirSync(folder).filter((name) => name.endsWith('.pardo')).s
 for (const name of programs) testPardo(core, name.replace(/\.pardo$/, ''));
 testFile();
 testNames(core);
+testHiddenRows(core);
 testPardoRefusals(core);
 testLoopsInWords(core);
 testActs();
