@@ -76,7 +76,7 @@ pub struct StepRow<'a> {
     /// The instruction; `halted` or `out_of_range` where the processor has stopped.
     pub instruction: &'a str,
     /// Where it writes, if it does.
-    pub writes: Option<Target>,
+    pub writes: Option<Target<'a>>,
     /// What it writes there.
     pub value: Option<u32>,
     /// The index of its next instruction.
@@ -87,16 +87,18 @@ pub struct StepRow<'a> {
 
 /// Where a processor writes.
 #[derive(Clone, Copy, Debug, PartialEq, Eq, Hash)]
-pub enum Target {
+pub enum Target<'a> {
     /// A cell of the job.
     Cell(u32),
     /// One of its own registers, 0 to 3.
     Register(u32),
+    /// A place of a program, as `A[3]`.
+    Place(&'a str),
 }
 
 impl<'a> StepRow<'a> {
     fn of_record(record: &'a str) -> Option<StepRow<'a>> {
-        let mut fields = record.split(',');
+        let mut fields = Fields(Some(record));
         Some(StepRow {
             step: number(fields.next()?)?,
             processor: number(fields.next()?)?,
@@ -110,12 +112,40 @@ impl<'a> StepRow<'a> {
     }
 }
 
-impl Target {
-    fn of_field(field: &str) -> Option<Target> {
-        match field.strip_prefix("cell ") {
-            Some(cell) => number(cell).map(Target::Cell),
-            None => number(field.strip_prefix('r')?).map(Target::Register),
+impl<'a> Target<'a> {
+    // No place of a program is named `r0` to `r3`.
+    fn of_field(field: &'a str) -> Option<Target<'a>> {
+        if let Some(cell) = field.strip_prefix("cell ") {
+            return number(cell).map(Target::Cell);
         }
+        match field {
+            "" => None,
+            "r0" => Some(Target::Register(0)),
+            "r1" => Some(Target::Register(1)),
+            "r2" => Some(Target::Register(2)),
+            "r3" => Some(Target::Register(3)),
+            place => Some(Target::Place(place)),
+        }
+    }
+}
+
+// The fields of a record that are left. One with a comma stands in quotes, and none has a quote.
+struct Fields<'a>(Option<&'a str>);
+
+impl<'a> Iterator for Fields<'a> {
+    type Item = &'a str;
+
+    fn next(&mut self) -> Option<&'a str> {
+        let left = self.0?;
+        let (field, rest) = match left.strip_prefix('"').and_then(|it| it.split_once('"')) {
+            Some((field, rest)) => (field, rest.strip_prefix(',')),
+            None => match left.split_once(',') {
+                Some((field, rest)) => (field, Some(rest)),
+                None => (left, None),
+            },
+        };
+        self.0 = rest;
+        Some(field)
     }
 }
 
@@ -134,6 +164,7 @@ mod tests {
 
     const TEXT: &str = "step,processor,place,instruction,writes,value,next,line\n\
         5,0,4,st 4..4 0 r0,cell 4,13,5,12\n5,1,6,halted,,,6,\n5,2,0,pid r3,r3,2,1,\n\
+        5,3,4,st A r1 r0,\"A[1,2]\",7,5,12\n\
         conflict line=12 place=sum processors=0,1\n";
 
     #[test]
@@ -156,7 +187,9 @@ mod tests {
             (None, None, None)
         );
         assert_eq!(rows[2].writes, Some(Target::Register(3)));
-        assert_eq!(rows.len(), 3);
+        assert_eq!(rows[3].writes, Some(Target::Place("A[1,2]")));
+        assert_eq!((rows[3].value, rows[3].next), (Some(7), 5));
+        assert_eq!(rows.len(), 4);
         assert_eq!(
             steps.answer(),
             "conflict line=12 place=sum processors=0,1\n"

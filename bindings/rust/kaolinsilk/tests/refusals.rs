@@ -21,7 +21,7 @@ fn a_text() {
     assert_eq!(told(&error), (Subject::Text, Some(4), "BadNumber"));
     assert_eq!(
         error.to_string(),
-        "line 4: a number must stand here, in digits alone"
+        "line 4, column 7: a number must stand here, in digits alone"
     );
     assert!(error.source().is_none());
     let error = Job::parse(b"\xff").unwrap_err();
