@@ -81,7 +81,8 @@ async function testGallery() {
   for (const file of files) {
     await page.choose('#example', file.replace(/\.pram$/, ''));
     const out = readFileSync(join(examples, outOf(file)), 'utf8');
-    const [, steps] = /^done steps=(\d+)/.exec(out) ?? [];
+    const [, told] = /^done steps=(\d+)/.exec(out) ?? [];
+    const steps = told && Number(told).toLocaleString('en-US');
     await has(file, '#answer', steps ? `done after ${steps} steps` : 'a conflict in ');
     await page.click('#tab-workers');
     await page.choose('#worker-count', '2');
