@@ -5,7 +5,6 @@ import { shortened } from './numbers.js';
 import { instructionsOf } from './text_lines.js';
 
 const SHARED = [CELLS.SCALAR, CELLS.ARRAY];
-const KEPT = 'kept';
 
 const MOST_LETTERS = 60;
 
@@ -21,26 +20,6 @@ function namedRows({ cells, names }) {
     const word = decoder.decode(bytes.subarray(at - name, at));
     return { base, len, width, kind, name: shortened(word, MOST_LETTERS) };
   });
-}
-
-// Hidden lines give parts of long expressions to rows without a name, which follow the private
-// variables, or the variables of loops: the cells of the job's text tell that there are some, and
-// not how many of each. Then all rows between those with a name and the masks, which are the last
-// ones, are called kept.
-function withHiddenRows(rows, text) {
-  const sizeOf = (word) => Number(new RegExp(`^${word} (\\d+)$`, 'm').exec(text)[1]);
-  const cellsOf = (list) => list.reduce((sum, { len }) => sum + len, 0);
-  const more = sizeOf('cells') - cellsOf(rows);
-  if (rows.length === 0 || more === 0) return rows;
-  const procs = sizeOf('procs');
-  const masks = rows.filter(({ kind }) => kind === CELLS.MASK)
-    .map((row) => ({ ...row, base: row.base + more }));
-  const named = rows.filter(({ kind }) => kind !== CELLS.LOOP && kind !== CELLS.MASK);
-  const from = cellsOf(named);
-  const count = (sizeOf('cells') - from - cellsOf(masks)) / procs;
-  const kept = Array.from({ length: count }, (_, index) => (
-    { base: from + index * procs, len: procs, width: 0, kind: KEPT, name: `kept ${index + 1}` }));
-  return [...named, ...kept, ...masks];
 }
 
 // The index of a place, or both indices where it has two.
@@ -72,11 +51,12 @@ export class Source {
   // `lines` are the lines of code, `made` is what the core made of the program.
   constructor(lines, made) {
     this.text = made.text;
-    this.rows = withHiddenRows(namedRows(made), made.text);
+    this.rows = namedRows(made);
     this.lineOf = made.lineOf;
     this.depths = depthsOf(lines);
     this.masks = this.rows.filter(({ kind }) => kind === CELLS.MASK);
     this.loops = this.rows.filter(({ kind }) => kind === CELLS.LOOP);
+    this.kept = this.rows.filter(({ kind }) => kind === CELLS.KEPT);
     this.privates = this.rows.filter(({ kind }) => kind === CELLS.PRIVATE);
     this.arrays = this.rows.filter(({ kind }) => SHARED.includes(kind));
   }
@@ -126,11 +106,13 @@ export class Source {
     return row.kind !== CELLS.SCALAR || this.rows[at - 1]?.kind !== CELLS.SCALAR;
   }
 
-  // Loops and masks have no name in the text: they are counted by their depth.
+  // Loops and masks have no name in the text: they are counted by their depth. What hidden lines
+  // keep of a long line is counted in its order.
   nameOf(row) {
     switch (row.kind) {
       case CELLS.LOOP: return `loop ${this.loops.indexOf(row) + 1}`;
       case CELLS.MASK: return `mask ${this.masks.indexOf(row) + 1}`;
+      case CELLS.KEPT: return `kept ${this.kept.indexOf(row) + 1}`;
       default: return row.name;
     }
   }

@@ -292,7 +292,7 @@ const PARDO_REFUSED = [
     undefined],
 ];
 
-// Hidden lines have rows of their own, between those with a name and the masks.
+// Hidden lines have rows of their own, after those of private variables and of loops.
 function testHiddenRows(core) {
   const source = sourceOf(core, 'pardo 1\nrule crew\nprocs i < 2\nshared s\nprivate x\ncode\n' +
     'for k = 1 to 2\nif i\nx := x * (x + (x * (x + (x * (x + i)))))\nend\nend');
@@ -300,8 +300,8 @@ function testHiddenRows(core) {
   const last = source.rows.at(-1);
   is('hidden rows: the last one is a mask', [source.nameOf(last), last.base + last.len].join(),
     ['mask 1', cells].join());
-  is('hidden rows: the first ones have names', source.rows.slice(0, 3).map(({ name }) => name).join(),
-    's,x,kept 1');
+  is('hidden rows: each has its name', source.rows.map((row) => source.nameOf(row)).join(),
+    's,x,kept 1,kept 2,kept 3,loop 1,mask 1');
 }
 
 function testPardoRefusals(core) {

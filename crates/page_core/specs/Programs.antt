@@ -1,5 +1,5 @@
 -- What is told of programs of `pardo`.
-use Rattle.std.specs.Prelude.{◌≡◌, ◌⊎◌, ℕ, ◌+◌, ◌<◌, ◌==◌, false, nat_lt, if◌then◌else◌}
+use Rattle.std.specs.Prelude.{◌≡◌, ◌⊎◌, ℕ, ◌+◌, ◌-◌, ◌<◌, ◌==◌, false, nat_lt, if◌then◌else◌}
 use Rattle.std.specs.Prelude.{List, [], ◌++◌, length, map, take, slice_get, slice_index}
 use Rattle.std.specs.Prelude.{Some, None, Ok, unwrap_or}
 use Rattle.std.specs.List.{flat_map, range_with_len}
@@ -23,12 +23,14 @@ use Rattle.pardo_job.specs.declared.fault.JobKind.TheVariants.{TooLong, Endless}
 use Rattle.pardo_job.specs.declared.fault.JobKind.TheVariants as job_kind
 use Rattle.pardo_job.specs.declared.fault.Refusal.TheVariants.{Text, Job}
 use Rattle.pardo_job.specs.Compiled.{IsCompiled}
+use Rattle.pardo_job.specs.Flat.{flat}
 use Rattle.pardo_job.specs.Layouts.{cells_of_array, program_layout, row}
 use Rattle.pardo_job.specs.Refusals.{IsProgramRefusal}
 use Rattle.pardo_answers.specs.Language.{is_program}
 use Rattle.page_core.specs.declared.codes.TheConstants.{DONE, NO_JOB, MEMORY, TEXT_TOO_LONG}
 use Rattle.page_core.specs.declared.codes.TheConstants.{NO_ROOM, OTHER_LANGUAGE, TEXT_MOST}
 use Rattle.page_core.specs.declared.codes.TheConstants.{SCALAR, ARRAY, PRIVATE, LOOP, MASK}
+use Rattle.page_core.specs.declared.codes.TheConstants.{KEPT}
 use Rattle.page_core.specs.declared.names.CellsRow.{CellsRow}
 use Rattle.page_core.specs.declared.program.LineRow.{LineRow}
 use Rattle.page_core.specs.declared.program.NoProgram.{NoProgram}
@@ -176,25 +178,29 @@ own_name privates which = elim (slice_get privates which) [
   | Some variable ↦ variable.name
 ]
 
-abbrev pub own_kind : ProgramData → ℕ → ℕ
-own_kind program which = if nat_lt which (length program.privates) then PRIVATE
-    else if nat_lt which (length program.privates + program.loops) then LOOP else MASK
+-- what a row of a flat program is for, where the text has so many variables of loops
+abbrev pub own_kind : ProgramData → ℕ → ℕ → ℕ
+own_kind program loops which = if nat_lt which (length program.privates)
+    then (if length (own_name program.privates which) == 0 then KEPT else PRIVATE)
+    else if nat_lt (which - length program.privates) loops then LOOP
+    else if nat_lt which (length program.privates + program.loops) then KEPT else MASK
 
-abbrev pub own_row : ProgramData → ℕ → CellsRow
-own_row program which =
+abbrev pub own_row : ProgramData → ℕ → ℕ → CellsRow
+own_row program loops which =
     cells_row (row (program_layout program) which) (length (own_name program.privates which)) 0
-    (own_kind program which)
+    (own_kind program loops which)
 
 -- the shared arrays, the private variables, the variables of loops, the masks
-abbrev pub all_rows : ProgramData → List CellsRow
-all_rows program = map shared_row program.arrays
-    ++ map (own_row program) (range_with_len 0 (own_count program))
+abbrev pub all_rows : ProgramData → ℕ → List CellsRow
+all_rows program loops = map shared_row program.arrays
+    ++ map (own_row program loops) (range_with_len 0 (own_count program))
 
 -- the names, one after the other
 abbrev pub all_names : ProgramData → List ℕ
 all_names program = flat_map (λ array. array.name) program.arrays
     ++ flat_map (λ variable. variable.name) program.privates
 
+-- those of the program that is compiled, which has a variable for each part of a long line
 abbrev pub AreNamesOf : List ℕ → List ℕ → List CellsRow → Type 0
 AreNamesOf text names rows = (program : ProgramData) × (program_of text ≡ Ok program)
-    × (names ≡ all_names program) × (rows ≡ all_rows program)
+    × (names ≡ all_names (flat program)) × (rows ≡ all_rows (flat program) program.loops)

@@ -87,3 +87,6 @@ pub const LOOP: u64 = 3;
 
 /// Which processors are in an `if`.
 pub const MASK: u64 = 4;
+
+/// A part of a long line.
+pub const KEPT: u64 = 5;

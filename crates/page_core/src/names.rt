@@ -1,4 +1,4 @@
-//! The names of a program's cells.
+//! The names of the cells of a program's job.
 ghost use Rattle.std.specs.Prelude.{◌≡◌, ◌<◌, ◌≤◌, ◌++◌, IfErr, IfOk, OnOk, length, map};
 ghost use Rattle.std.specs.List.{flat_map, range_with_len};
 ghost use Rattle.pardo_text.specs.Lawful.{AreArrays, IsProgram};
@@ -8,15 +8,16 @@ ghost use Rattle.page_core.specs.Programs.{AreNamesOf, IsNoProgram, all_names, a
 ghost use Rattle.page_core.specs.Programs.{own_count, own_kind, own_name, own_row};
 ghost use Rattle.page_core.specs.Programs.{shared_row};
 
-use crate::codes::{ARRAY, LOOP, MASK, PRIVATE, SCALAR};
+use crate::codes::{ARRAY, KEPT, LOOP, MASK, PRIVATE, SCALAR};
 use crate::program::{NoProgram, take_program};
+use pardo_job::{Refusal, flat_program};
 use pardo_text::{Array, Private, Program};
 use std::alloc::{AllocError, Global};
 
 /// Cells of a program's job: `len` of them, the first of which is `base`. Their name has so many
 /// bytes. They have so many columns, if they are an array of two indices, and else 0. Their kind is
 /// that of the codes: a shared scalar, a shared array, and then rows with a cell for each processor,
-/// of a private variable, of the variable of a loop, or of a mask.
+/// of a private variable, of the variable of a loop, of a mask, or of a part of a long line.
 #[repr(C)]
 #[derive(Clone, Copy)]
 pub struct CellsRow {
@@ -34,28 +35,33 @@ pub struct Named {
     pub rows: Vec<CellsRow>,
 }
 
-/// The names of the cells of the program that a text spells: a row for each array and for each row
-/// of cells, in their order.
+/// The names of the cells of the job of the program that a text spells: a row for each array and for
+/// each row of cells, in their order.
 pub fn take_names(alloc: Global, text: &[u8]) -> Result<Named, NoProgram>
     ensures names { IfOk result (λ named. AreNamesOf text.now named.names.items named.rows.items) }
     ensures none { IfErr result (IsNoProgram text.now) }
 {
     let program = take_program(alloc, text)?;
-    match names_of(alloc, &program) {
-        Ok(named) => Ok(named),
-        Err(_) => Err(NoProgram::Memory),
+    let loops = program.loops();
+    match flat_program(alloc, program) {
+        Err(fault) => Err(NoProgram::Refused(Refusal::Job(fault))),
+        Ok(flat) => match names_of(alloc, &flat, loops) {
+            Ok(named) => Ok(named),
+            Err(_) => Err(NoProgram::Memory),
+        },
     }
 }
 
-fn names_of(alloc: Global, program: &Program) -> Result<Named, AllocError>
+// Those of a flat program, where the text has so many variables of loops.
+fn names_of(alloc: Global, program: &Program, loops: usize) -> Result<Named, AllocError>
     requires { IsProgram program.now }
     ensures names { IfOk result (λ named. named.names.items ≡ all_names program.now) }
-    ensures rows { IfOk result (λ named. named.rows.items ≡ all_rows program.now) }
+    ensures rows { IfOk result (λ named. named.rows.items ≡ all_rows program.now loops) }
 {
     let names = name_bytes(alloc, program.arrays(), program.privates())?;
     let mut rows = Vec::new(alloc);
     push_shared_rows(&mut rows, program.arrays())?;
-    push_own_rows(&mut rows, program)?;
+    push_own_rows(&mut rows, program, loops)?;
     Ok(Named { names, rows })
 }
 
@@ -101,25 +107,29 @@ fn shared_row(array: &Array) -> CellsRow
 }
 
 // The rows of private variables, of loops and of masks.
-fn push_own_rows(rows: &mut Vec<CellsRow>, program: &Program) -> Result<(), AllocError>
+fn push_own_rows(
+    rows: &mut Vec<CellsRow>,
+    program: &Program,
+    loops: usize,
+) -> Result<(), AllocError>
     requires { IsProgram program.now }
     ensures { OnOk result (rows.new.items ≡ rows.old.items
-        ++ map (own_row program.now) (range_with_len 0 (own_count program.now))) }
+        ++ map (own_row program.now loops) (range_with_len 0 (own_count program.now))) }
 {
     let shared = shared_cells(program.arrays());
     let count = program.privates().len() + program.loops() + program.choices();
     for which in 0..count {
-        rows.push(own_row(program, shared, which))?;
+        rows.push(own_row(program, loops, shared, which))?;
     }
     Ok(())
 }
 
 #[tactic(auto, unfolding(pardo_job::specs::Layouts::program_layout))]
-fn own_row(program: &Program, shared: usize, which: usize) -> CellsRow
+fn own_row(program: &Program, loops: usize, shared: usize, which: usize) -> CellsRow
     requires lawful { IsProgram program.now }
     requires shared { shared ≡ shared_cells program.now.arrays }
     requires which { which < own_count program.now }
-    ensures { result ≡ own_row program.now which }
+    ensures { result ≡ own_row program.now loops which }
 {
     let procs = program.procs() as usize;
     CellsRow {
@@ -127,7 +137,7 @@ fn own_row(program: &Program, shared: usize, which: usize) -> CellsRow
         len: procs as u64,
         name: name_len(program.privates(), which) as u64,
         width: 0,
-        kind: own_kind(program, which),
+        kind: own_kind(program, loops, which),
     }
 }
 
@@ -141,15 +151,21 @@ fn name_len(privates: &[Private], which: usize) -> usize
     }
 }
 
-fn own_kind(program: &Program, which: usize) -> u64
+fn own_kind(program: &Program, loops: usize, which: usize) -> u64
     requires { IsProgram program.now }
-    ensures { result ≡ own_kind program.now which }
+    ensures { result ≡ own_kind program.now loops which }
 {
     let privates = program.privates().len();
     if which < privates {
-        PRIVATE
-    } else if which < privates + program.loops() {
+        if name_len(program.privates(), which) == 0 {
+            KEPT
+        } else {
+            PRIVATE
+        }
+    } else if which - privates < loops {
         LOOP
+    } else if which < privates + program.loops() {
+        KEPT
     } else {
         MASK
     }

@@ -1,6 +1,6 @@
 //! What is told of programs of `pardo`.
 use crate::plain::{DONE, NO_JOB, NO_ROOM, SWAP, TEXT_TOO_LONG, are, is, numbers};
-use page_core::codes::{ARRAY, LOOP, MASK, OTHER_LANGUAGE, PRIVATE, SCALAR, TEXT_MOST};
+use page_core::codes::{ARRAY, KEPT, LOOP, MASK, OTHER_LANGUAGE, PRIVATE, SCALAR, TEXT_MOST};
 use page_core::names::take_names;
 use page_core::program::{
     LineRow, NoProgram, ProgramTold, compiled, lines_of, put, put_rows, tell_none,
@@ -94,6 +94,21 @@ fn names_of_cells_are_told(rt: HostRuntime) {
     ];
     for (row, wanted) in named.rows.iter().zip(wanted) {
         is(&rt, &[row.base, row.len, row.name, row.kind], &wanted);
+    }
+}
+
+#[test]
+fn parts_of_long_lines_are_told(rt: HostRuntime) {
+    let text = b"pardo 1\nrule crew\nprocs i < 2\nshared A[2]\nprivate x\ncode\nfor k = 1 to 1\n\
+        x := A[0] + (A[1] + (A[0] + A[i]))\nfor l = k to k + (1 * (k + (k * k)))\nend\nend\n";
+    let Ok(named) = take_names(rt.alloc(), text) else {
+        panic!(rt; "the program is refused");
+    };
+    assert!(rt; named.names.as_slice() == &b"Ax"[..]);
+    let kinds = [ARRAY, PRIVATE, KEPT, LOOP, LOOP, KEPT];
+    assert!(rt; named.rows.len() == kinds.len());
+    for (at, (row, kind)) in named.rows.iter().zip(kinds).enumerate() {
+        is(&rt, &[row.base, row.len, row.kind], &[2 * at as u64, 2, kind]);
     }
 }
 

@@ -1,13 +1,15 @@
 //! The flat program: hidden lines come before those for which three registers are too few.
-ghost use Rattle.std.specs.Prelude.{◌≡◌, ◌+◌, ◌-◌, ◌≤◌, ◌==◌, ◌++◌, ◌∷◌, [], IfOk, OnOk, true};
-ghost use Rattle.std.specs.Prelude.{if◌then◌else◌, length, map, max, slice_index};
+ghost use Rattle.std.specs.Prelude.{◌≡◌, ◌+◌, ◌-◌, ◌≤◌, ◌==◌, ◌++◌, ◌∷◌, [], IfErr, IfOk, OnOk};
+ghost use Rattle.std.specs.Prelude.{if◌then◌else◌, length, map, max, slice_index, true};
 ghost use Rattle.pardo_text.specs.Lawful.{IsProgram};
-ghost use Rattle.pardo_job.specs.Flat.{base_of, bound_pieces, giving, hidden, is_common};
+ghost use Rattle.pardo_job.specs.Flat.{base_of, bound_pieces, flat, giving, hidden, is_common};
 ghost use Rattle.pardo_job.specs.Flat.{last_pieces, parts_of, split_statement, statement_parts};
 ghost use Rattle.pardo_job.specs.Inner.Flats.{AreFlat, DoAllFit, IsFlattened, moved_by, moved_line};
 ghost use Rattle.pardo_job.specs.Inner.Flats.{parted_line};
 ghost use Rattle.pardo_job.specs.Meaning.{statement_at};
+ghost use Rattle.pardo_job.specs.Refusals.{IsProgramFault};
 
+use crate::fault::{JobFault, JobKind};
 use crate::layout::Layout;
 use crate::needs::{Shape, fits};
 use crate::splitter::Splitter;
@@ -29,6 +31,24 @@ pub(crate) enum Flattened {
     Same,
     Flat(Flat),
     TooWide(u64),
+}
+
+/// The program that is compiled in place of one: lines with more parts than registers have hidden
+/// lines before them, which give the parts to variables without a name.
+pub fn flat_program(alloc: Global, program: Program) -> Result<Program, JobFault>
+    requires { IsProgram program }
+    ensures flat { IfOk result (λ given. given ≡ flat program) }
+    ensures lawful { IfOk result IsProgram }
+    ensures refused { IfErr result (λ fault. IsProgramFault program fault.line fault.kind) }
+{
+    match flatten(alloc, &program)? {
+        Flattened::Same => Ok(program),
+        Flattened::Flat(flat) => Ok(flat.program),
+        Flattened::TooWide(line) => Err(JobFault {
+            line,
+            kind: JobKind::TooManyCells,
+        }),
+    }
 }
 
 /// The flat program of a program, unless it has too many cells.

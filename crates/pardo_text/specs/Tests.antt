@@ -1,12 +1,13 @@
 -- Tests of indices that cannot fail are left out of a program.
-use Rattle.std.specs.Prelude.{ℕ, Bool, false, nat_le, nat_lt, if◌then◌else◌, max, List, [], ◌∷◌}
-use Rattle.std.specs.Prelude.{map, replicate, slice_get, slice_set, Option, Some, None, unwrap_or}
+use Rattle.std.specs.Prelude.{ℕ, ◌-◌, Bool, false, nat_le, nat_lt, if◌then◌else◌, max}
+use Rattle.std.specs.Prelude.{List, [], ◌∷◌, ◌++◌, length, map, slice_get, slice_set, take}
+use Rattle.std.specs.Prelude.{Option, Some, None, unwrap_or}
 use Rattle.std.specs.List.{fold}
 use Rattle.pardo_text.specs.declared.operation.Op.{Op}
 use Rattle.pardo_text.specs.declared.operation.Op.TheVariants as op
 use Rattle.pardo_text.specs.declared.statement.Line.{Line}
 use Rattle.pardo_text.specs.declared.statement.Statement.{Statement}
-use Rattle.pardo_text.specs.declared.statement.Statement.TheVariants.{Assign, If, For}
+use Rattle.pardo_text.specs.declared.statement.Statement.TheVariants.{Assign, If, For, EndFor}
 use Rattle.pardo_text.specs.declared.statement.Target.{Target}
 use Rattle.pardo_text.specs.declared.statement.Target.TheVariants as target
 use Rattle.pardo_text.specs.Expression.{Tree, own, loop, private, place, apply}
@@ -15,7 +16,7 @@ use Rattle.pardo_text.specs.Program.{PrivateData, ProgramData}
 use Rattle.pardo_text.specs.Values.{greatest_value}
 
 -- what is known of values: how many processors there are, and what each private variable, and the
--- variable of each open loop, is at most
+-- variable of each open loop, the innermost last, is at most
 pub record Known : Type 0 where
   pub procs : ℕ
   pub privates : List ℕ
@@ -70,10 +71,12 @@ statement_untested known statement = statement
 abbrev pub loop_most : Bool → Tree → Tree → ℕ
 loop_most up first last = unwrap_or (constant_of (if up then last else first)) greatest_value
 
--- what is known after the first line of a loop
+-- what is known after a line: the first line of a loop opens it, and its end closes the innermost
 abbrev pub known_after : Known → Statement → Known
 known_after known (For nest first last up end) =
-    record known { loops = slice_set known.loops nest (loop_most up first last) }
+    record known { loops = known.loops ++ loop_most up first last ∷ [] }
+known_after known (EndFor begin) =
+    record known { loops = take (length known.loops - 1) known.loops }
 known_after known statement = known
 
 abbrev pub lines_untested : Known → List Line → List Line
@@ -101,7 +104,7 @@ abbrev pub known_of : ProgramData → Known
 known_of program = record {
   procs = program.procs;
   privates = widened_by (map greatest_start program.privates) program.lines;
-  loops = replicate program.loops greatest_value;
+  loops = [];
 }
 
 abbrev pub program_untested : ProgramData → ProgramData

@@ -1,5 +1,5 @@
 //! Tests of indices that cannot fail are left out.
-ghost use Rattle.std.specs.Prelude.{◌≡◌, map, max, nat_le, slice_get, IfOk};
+ghost use Rattle.std.specs.Prelude.{◌≡◌, map, max, nat_le, slice_get, IfOk, OnOk};
 ghost use Rattle.std.specs.List.{fold};
 ghost use Rattle.pardo_text.specs.Tests.{greatest_start, is_most_below, known_after, known_of};
 ghost use Rattle.pardo_text.specs.Tests.{lines_untested, loop_most, program_untested};
@@ -17,7 +17,7 @@ pub(crate) struct Known {
     procs: u32,
     /// What each private variable is at most.
     privates: Vec<u32>,
-    /// What the variable of each open loop is at most.
+    /// What the variable of each open loop is at most, the innermost last.
     loops: Vec<u32>,
 }
 
@@ -40,24 +40,25 @@ impl Known {
     {
         let mut privates = greatest_starts(alloc, program.privates())?;
         widen_by(privates.as_mut_slice(), program.lines());
-        let loops = vec![in alloc; u32::MAX; program.loops()]?;
         Ok(Known {
             procs: program.procs(),
             privates,
-            loops,
+            loops: Vec::new(alloc),
         })
     }
 
-    // What is known after the first line of a loop.
-    fn take(&mut self, statement: &Statement)
-        ensures { self.new ≡ known_after self.old statement.now }
+    // What is known after a line.
+    fn take(&mut self, statement: &Statement) -> Result<(), AllocError>
+        ensures { OnOk result (self.new ≡ known_after self.old statement.now) }
     {
-        if let Statement::For(nest, first, last, up, _) = statement {
-            let most = loop_most(*up, first, last);
-            if *nest < self.loops.len() {
-                self.loops[*nest] = most;
+        match statement {
+            Statement::For(_, first, last, up, _) => {
+                self.loops.push(loop_most(*up, first, last))?;
             }
+            Statement::EndFor(_) => self.loops.truncate(self.loops.len().saturating_sub(1)),
+            _ => (),
         }
+        Ok(())
     }
 
     /// Whether own numbers are below a bound.
@@ -151,7 +152,7 @@ fn leave_out_of_lines(known: Known, lines: &mut [Line]) -> Result<(), AllocError
     let mut so_far = known;
     for line in lines.iter_mut() {
         leave_out_of_statement(&so_far, &mut line.statement)?;
-        so_far.take(&line.statement);
+        so_far.take(&line.statement)?;
     }
     Ok(())
 }
