@@ -19,8 +19,8 @@ use Rattle.command_answers.specs.Setting.{IsRefusedSet, IsSetText}
 use Rattle.command_answers.specs.Sweeping.{IsRefusedSweep, ServesSweep}
 use Rattle.command_answers.specs.declared.answer.Waiting.{Waiting}
 
--- The words mean a line, on such a device, and set no name, and it was served from the files that it
--- names.
+-- The words mean a line, on such a device, and set no name, and it was served from the files that
+-- it names.
 pub record ServesWords (Holds : List ℕ → Option (List ℕ) → Type 0) (Fails : Type 0)
     (words : List Text) (on_terminal : Bool) (writes : Writing) (status : ℕ) : Type 0 where
   pub asked : Asked

@@ -1,8 +1,8 @@
 //! Cells as a word of the command line names them.
 ghost use Rattle.std.specs.Prelude.{◌≡◌, ◌↔◌, ◌∷◌, None, IfSome, IsTrue, MatchOption, drop, false};
 ghost use Rattle.command_data.specs.CellLists.{SpellsCell, SpellsCells, SpellsPart, begins_place};
-ghost use Rattle.command_data.specs.CellLists.{cell_listed, open_after, part_at, part_len, parts_left};
-ghost use Rattle.command_data.specs.CellLists.{parts_of};
+ghost use Rattle.command_data.specs.CellLists.{cell_listed, open_after, part_at, part_len};
+ghost use Rattle.command_data.specs.CellLists.{parts_left, parts_of};
 
 /// Cells by their numbers, or as places of a program, which a text parts by commas. The numbers are
 /// below 2^32; a cell may stand there several times.

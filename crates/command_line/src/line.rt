@@ -105,8 +105,8 @@ pub struct Asked<'a> {
 }
 
 /// What the words ask, of which the first is the program's name, where standard error is a terminal
-/// or not, and what they set names to. A call for help or for the version is an error too, as `clap`
-/// has it.
+/// or not, and what they set names to. A call for help or for the version is an error too, as
+/// `clap` has it.
 // What clap needs of the stack is given back before a line is served.
 #[inline(never)]
 pub fn read_line<'a>(

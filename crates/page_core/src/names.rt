@@ -16,8 +16,9 @@ use std::alloc::{AllocError, Global};
 
 /// Cells of a program's job: `len` of them, the first of which is `base`. Their name has so many
 /// bytes. They have so many columns, if they are an array of two indices, and else 0. Their kind is
-/// that of the codes: a shared scalar, a shared array, and then rows with a cell for each processor,
-/// of a private variable, of the variable of a loop, of a mask, or of a part of a long line.
+/// that of the codes: a shared scalar, a shared array, and then rows with a cell for each
+/// processor, of a private variable, of the variable of a loop, of a mask, or of a part of a long
+/// line.
 #[repr(C)]
 #[derive(Clone, Copy)]
 pub struct CellsRow {
@@ -35,8 +36,8 @@ pub struct Named {
     pub rows: Vec<CellsRow>,
 }
 
-/// The names of the cells of the job of the program that a text spells: a row for each array and for
-/// each row of cells, in their order.
+/// The names of the cells of the job of the program that a text spells: a row for each array and
+/// for each row of cells, in their order.
 pub fn take_names(alloc: Global, text: &[u8]) -> Result<Named, NoProgram>
     ensures names { IfOk result (λ named. AreNamesOf text.now named.names.items named.rows.items) }
     ensures none { IfErr result (IsNoProgram text.now) }

@@ -115,4 +115,5 @@ counted_line first j line =
 abbrev pub counted_from : ProgramData → ℕ → List Line → List CountedLine
 counted_from program j [] = []
 counted_from program j (line ∷ lines) =
-    counted_line (place_of (flat program) (first_flat_of program j)) j line ++ counted_from program (j + 1) lines
+    counted_line (place_of (flat program) (first_flat_of program j)) j line
+    ++ counted_from program (j + 1) lines

@@ -1,6 +1,6 @@
 //! The laws of the meaning: each function does nothing, and says to a proof that its law holds.
-ghost use Rattle.pardo_job.specs.Laws.{GoneForGood, IndicesAreTested, LoopsAreCommon, OutsideIsUnchanged};
-ghost use Rattle.pardo_job.specs.Laws.{LeftOutTestsPass, TreesAreLawful};
+ghost use Rattle.pardo_job.specs.Laws.{GoneForGood, IndicesAreTested, LoopsAreCommon};
+ghost use Rattle.pardo_job.specs.Laws.{LeftOutTestsPass, OutsideIsUnchanged, TreesAreLawful};
 ghost use Rattle.pardo_job.specs.Leaves.{ConditionsDecide, ExpressionsAreEvaluated};
 
 /// The value of an expression without the own number and private variables is one for all

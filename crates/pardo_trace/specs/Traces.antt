@@ -1,5 +1,5 @@
--- The run of a program line by line, told by the steps of its job: a record where a line begins, and
--- one for each place that is written.
+-- The run of a program line by line, told by the steps of its job: a record where a line begins,
+-- and one for each place that is written.
 use Rattle.std.specs.Prelude.{ℕ, ◌+◌, ◌-◌, ◌*◌, ◌/◌, Bool, true, false, not, ◌&&◌, ◌||◌, ◌==◌}
 use Rattle.std.specs.Prelude.{nat_le, nat_lt, if◌then◌else◌, count_by, length, List, [], ◌∷◌, ◌++◌}
 use Rattle.std.specs.Prelude.{slice_get, slice_index, Option, None, Some, codes, decimal}

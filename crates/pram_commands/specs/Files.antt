@@ -17,8 +17,8 @@ abbrev pub ArePlanBytes : (List ℕ → Option (List ℕ) → Type 0) → Option
 ArePlanBytes Holds None bytes = bytes ≡ Some []
 ArePlanBytes Holds (Some name) bytes = Holds name bytes
 
--- The line was served, with this status: its job was this text, and its plan came from the file that
--- it names for that, or there was none.
+-- The line was served, with this status: its job was this text, and its plan came from the file
+-- that it names for that, or there was none.
 pub record ServesText (text : List ℕ) (Holds : List ℕ → Option (List ℕ) → Type 0) (Fails : Type 0)
     (line : Line) (writes : Writing) (status : ℕ) : Type 0 where
   pub reads : InputsRead

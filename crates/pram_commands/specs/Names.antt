@@ -16,9 +16,9 @@ use Rattle.pardo_answers.specs.Records.{recorded_answer}
 use Rattle.pram_rows.specs.Cells.{answer_records}
 use Rattle.pardo_job.specs.declared.ended.Ended.{Ended}
 
--- What the answers of a program are told by: the program, where the code of each of its lines begins,
--- the numbers of the lines that its job's instructions came from, and how the job ends, and in which
--- lines.
+-- What the answers of a program are told by: the program, where the code of each of its lines
+-- begins, the numbers of the lines that its job's instructions came from, and how the job ends, and
+-- in which lines.
 pub record NamingData : Type 0 where
   pub program : ProgramData
   pub places : List ℕ

@@ -31,8 +31,8 @@ abbrev pub in_records : Style
 in_records = record { csv = true; why = false }
 
 -- What a command comes to that tells an answer in a style: the answer, and what follows it.
-pub record Explaining (style : Style) (Ends : RunAnswer → Type 0) (job_text : List ℕ) (job : JobData)
-    (text : List ℕ) (answer : Option RunAnswer) : Type 0 where
+pub record Explaining (style : Style) (Ends : RunAnswer → Type 0) (job_text : List ℕ)
+    (job : JobData) (text : List ℕ) (answer : Option RunAnswer) : Type 0 where
   pub ended : RunAnswer
   pub back : List ℕ
   pub names : Option NamingData

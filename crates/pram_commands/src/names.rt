@@ -46,8 +46,8 @@ use std::alloc::{AllocError, Global};
 use std::marker::Model;
 
 /// What the answers of a program are told by: the program, where the code of each of its lines
-/// begins, the numbers of the lines that its job's instructions came from, and how the job ends, and
-/// in which lines.
+/// begins, the numbers of the lines that its job's instructions came from, and how the job ends,
+/// and in which lines.
 #[derive(Drop)]
 pub struct Naming {
     program: Program,
@@ -432,8 +432,8 @@ fn print_by<O: Sink>(
     }
 }
 
-/// Prints an answer as records, or as it is told without, or a beginning of it where the sink fails.
-/// Nothing is printed before memory for all of it was found.
+/// Prints an answer as records, or as it is told without, or a beginning of it where the sink
+/// fails. Nothing is printed before memory for all of it was found.
 pub(crate) fn print_styled<O: Sink>(
     alloc: Global,
     out: &mut O,
@@ -460,7 +460,8 @@ fn print_recorded<O: Sink>(
     answer: &RunAnswer,
 ) -> Result<(), PrintFault>
     requires { O.has_failed out.old ≡ false }
-    ensures { PutText (writing O.Sink out.old out.new) (recorded names.now answer.now steps) result }
+    ensures { PutText (writing O.Sink out.old out.new) (recorded names.now answer.now steps)
+        result }
 {
     match names {
         None => print_cells(alloc, out, answer, steps),

@@ -186,8 +186,8 @@ fn diagnosis_of(
     locate(alloc, explanation.fault, explanation.text)
 }
 
-/// Where a text is wrong, if that is the fault. A text that begins neither as one of the machine nor
-/// as a program is looked at as a program.
+/// Where a text is wrong, if that is the fault. A text that begins neither as one of the machine
+/// nor as a program is looked at as a program.
 pub fn locate(
     alloc: Global,
     fault: CommandFault,

@@ -46,7 +46,8 @@ pub(crate) fn start_of(kind: TextKind, line: &[u8], text: &[u8]) -> usize {
     }
 }
 
-// How many bytes of the line stand before the sought word; where there is none, before the last one.
+// How many bytes of the line stand before the sought word; where there is none, before the last
+// one.
 fn sought_in(line: &[u8], sought: Sought, text: &[u8]) -> Result<usize, usize> {
     let mut left = line;
     let mut last = 0;

@@ -250,9 +250,9 @@ fn put_record<O: Sink>(
 }
 
 /// Reads a job, and prints the steps of the window as they are made, of a program with the lines of
-/// its text and by its names, and then the answer unless they are to stand alone. A window that begins after the
-/// job's last step is refused, but for one that begins with step 1. Where memory runs out, a
-/// beginning of it may stand printed. It costs what `print_steps` does.
+/// its text and by its names, and then the answer unless they are to stand alone. A window that
+/// begins after the job's last step is refused, but for one that begins with step 1. Where memory
+/// runs out, a beginning of it may stand printed. It costs what `print_steps` does.
 pub fn steps<J: Source, P: Source, O: Sink>(
     alloc: Global,
     window: Window,
