@@ -14,6 +14,4 @@ pub mod Reading
 pub mod Settings
 pub mod Lawful
 pub mod Nested
-pub mod Variables
-pub mod Laws
 pub mod Inner

@@ -11,7 +11,6 @@ mod exchange;
 mod expression;
 mod fault;
 mod header;
-pub mod laws;
 pub mod limits;
 mod names;
 mod operation;
