@@ -13,7 +13,7 @@ use Rattle.pardo_text.specs.Operations.{is_division, lacks, operation_value, wor
 use Rattle.pardo_text.specs.Program.{ProgramData}
 use Rattle.pardo_text.specs.Tests.{Known, is_below, is_most_below, is_rest_below, untested}
 use Rattle.pardo_text.specs.Tests.{without_tests}
-use Rattle.pardo_job.specs.Laws.{IsKnown, LeftOutTestsPass}
+use Rattle.pardo_job.specs.Laws.{KnownIsTrue, LeftOutTestsPass}
 use Rattle.pardo_job.specs.Meaning.{Source, array_cell, value}
 use Rattle.pardo_job.proofs.Tables.{worked_within}
 
@@ -50,7 +50,7 @@ within_passes k n lt =
     worked_within k n ∙ ap (λ t. if t then Some k else None) (lt-ltb k n lt)
 
 module _ (program : ProgramData) (known : Known) (source : Source) (i : ℕ)
-    (is : IsKnown known source i) where
+    (is : KnownIsTrue known source i) where
   abbrev of : Tree → Option ℕ
   of tree = value program source i tree
 

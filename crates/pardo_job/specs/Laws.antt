@@ -92,7 +92,7 @@ IndicesAreTested = (program : ProgramData) (source : Source) (i h w r c : ℕ)
     ≡ (if nat_lt r h && nat_lt c w then Some (r * w + c) else None)
 
 -- what is known of variables is true of those of processor i
-pub record IsKnown (known : Known) (source : Source) (i : ℕ) : Type 0 where
+pub record KnownIsTrue (known : Known) (source : Source) (i : ℕ) : Type 0 where
   pub own : i < known.procs
   pub privates : (x most : ℕ) → slice_get known.privates x ≡ Some most →
       source.privates x i ≤ most
@@ -101,5 +101,5 @@ pub record IsKnown (known : Known) (source : Source) (i : ℕ) : Type 0 where
 -- A test that is left out would have passed: no expression has another value without it.
 abbrev pub LeftOutTestsPass : Type 0
 LeftOutTestsPass = (program : ProgramData) (known : Known) (source : Source) (i : ℕ) (tree : Tree) →
-    IsKnown known source i →
+    KnownIsTrue known source i →
     value program source i (without_tests known tree) ≡ value program source i tree
