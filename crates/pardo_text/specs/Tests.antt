@@ -68,8 +68,8 @@ statement_untested known (Assign to value) =
 statement_untested known (If condition) = If (without_tests known condition)
 statement_untested known statement = statement
 
--- What a loop's variable is at most: its greater bound, where that is a number. One that counts down
--- to what is no number may come by it, and from 0 to the greatest number.
+-- What a loop's variable is at most: its greater bound, where that is a number. Of one that counts
+-- down to what is no number nothing is known.
 abbrev pub loop_most : Bool → Tree → Tree → ℕ
 loop_most up first last =
     let greater = if up || is_none (constant_of last) then last else first in

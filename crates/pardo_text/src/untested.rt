@@ -130,8 +130,8 @@ fn widen(mosts: &mut [u32], statement: &Statement)
     }
 }
 
-// What a loop's variable is at most: its greater bound, where that is a number. One that counts
-// down to what is no number may come by it, and from 0 to the greatest number.
+// What a loop's variable is at most: its greater bound, where that is a number. Of one that counts
+// down to what is no number nothing is known.
 fn loop_most(up: bool, first: &Expr, last: &Expr) -> u32
     ensures { result ≡ loop_most up first.now last.now }
 {
