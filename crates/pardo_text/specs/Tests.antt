@@ -1,8 +1,9 @@
 -- Tests of indices that cannot fail are left out of a program.
-use Rattle.std.specs.Prelude.{ℕ, ◌-◌, Bool, false, nat_le, nat_lt, if◌then◌else◌, max}
+use Rattle.std.specs.Prelude.{ℕ, ◌-◌, Bool, false, ◌||◌, nat_le, nat_lt, if◌then◌else◌, max}
 use Rattle.std.specs.Prelude.{List, [], ◌∷◌, ◌++◌, length, map, slice_get, slice_set, take}
 use Rattle.std.specs.Prelude.{Option, Some, None, unwrap_or}
 use Rattle.std.specs.List.{fold}
+use Rattle.std.specs.Option.{is_none}
 use Rattle.pardo_text.specs.declared.operation.Op.{Op}
 use Rattle.pardo_text.specs.declared.operation.Op.TheVariants as op
 use Rattle.pardo_text.specs.declared.statement.Line.{Line}
@@ -67,9 +68,12 @@ statement_untested known (Assign to value) =
 statement_untested known (If condition) = If (without_tests known condition)
 statement_untested known statement = statement
 
--- what a loop's variable is at most: its greater bound, where that is a number
+-- What a loop's variable is at most: its greater bound, where that is a number. One that counts down
+-- to what is no number may come by it, and from 0 to the greatest number.
 abbrev pub loop_most : Bool → Tree → Tree → ℕ
-loop_most up first last = unwrap_or (constant_of (if up then last else first)) greatest_value
+loop_most up first last =
+    let greater = if up || is_none (constant_of last) then last else first in
+    unwrap_or (constant_of greater) greatest_value
 
 -- what is known after a line: the first line of a loop opens it, and its end closes the innermost
 abbrev pub known_after : Known → Statement → Known

@@ -130,11 +130,16 @@ fn widen(mosts: &mut [u32], statement: &Statement)
     }
 }
 
-// What a loop's variable is at most: its greater bound, where that is a number.
+// What a loop's variable is at most: its greater bound, where that is a number. One that counts
+// down to what is no number may come by it, and from 0 to the greatest number.
 fn loop_most(up: bool, first: &Expr, last: &Expr) -> u32
     ensures { result ≡ loop_most up first.now last.now }
 {
-    let greater = if up { last } else { first };
+    let greater = if up || last.constant().is_none() {
+        last
+    } else {
+        first
+    };
     greater.constant().unwrap_or(u32::MAX)
 }
 
