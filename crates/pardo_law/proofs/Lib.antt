@@ -44,3 +44,5 @@ pub mod FlatLevel
 pub mod FlatLineLevels
 pub mod Summing
 pub mod FlatTelling
+pub mod UntestedLines
+pub mod Untested

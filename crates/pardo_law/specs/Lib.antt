@@ -4,3 +4,4 @@ pub mod Between
 pub mod Flattening
 pub mod Counted
 pub mod FlatLevels
+pub mod Untested

@@ -11,6 +11,7 @@ ghost use Rattle.pardo_law.specs.Locals.{EachByItself, ExpressionsAreStraight, I
 ghost use Rattle.pardo_law.specs.Locals.{StoresAreMade, StraightCodeRuns};
 ghost use Rattle.pardo_law.specs.Theorem.{AnswersAreThePrograms, JobsCarryPrograms};
 ghost use Rattle.pardo_law.specs.Theorem.{RuleChangesNoRun, RunsEndOnce};
+ghost use Rattle.pardo_law.specs.Untested.{LeftOutTestsChangeNothing};
 
 /// What the compiler makes of a program carries its run: the job's states show those of the
 /// program line by line, and it ends as the program does, or in its first conflict.
@@ -137,4 +138,10 @@ pub fn flat_lines_are_level()
 /// A program of which each line fits three registers is flat already.
 pub fn fitting_is_flat()
     ensures { FittingIsFlat }
+{}
+
+/// The tests of indices that the reader leaves out change no run: without them a program has the
+/// same states line by line, and its processors ask for the same.
+pub fn left_out_tests_change_nothing()
+    ensures { LeftOutTestsChangeNothing }
 {}
