@@ -14,8 +14,8 @@ use Rattle.pardo_text.specs.declared.fault.PardoFault.{PardoFault}
 use Rattle.pardo_text.specs.Lawful.{IsProgram}
 use Rattle.pardo_text.specs.Nested.{IsNested}
 use Rattle.pardo_text.specs.Program.{ProgramData}
-use Rattle.pardo_text_law.proofs.LawLawful.{programs_are_lawful}
-use Rattle.pardo_text_law.proofs.LawNesting.{programs_are_nested}
+use Rattle.pardo_text.proofs.LawLawful.{programs_are_lawful}
+use Rattle.pardo_text.proofs.LawNesting.{programs_are_nested}
 use Rattle.pardo_law.proofs.FlatCarrying.{jobs_carry_programs}
 use Rattle.pardo_answers.specs.Language.{is_program}
 use Rattle.pardo_answers.proofs.LawAnswers.{printed_answers_are_the_programs}

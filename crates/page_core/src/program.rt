@@ -18,8 +18,8 @@ use job_text::laws::{array_words_are_lawful, printed_is_read_back};
 use job_text::{Dotted, spell};
 use pardo_answers::is_program;
 use pardo_job::{Compiled, JobKind, Refusal, compile};
+use pardo_text::laws::programs_are_lawful;
 use pardo_text::{Line, PardoKind, Program, read_program};
-use pardo_text_law::programs_are_lawful;
 use std::alloc::{AllocError, Global};
 
 /// What is told of a program: how many bytes and how many rows were written, or (without room) how

@@ -10,7 +10,7 @@ use Rattle.pardo_text.specs.Expression.{Tree, number, own, loop, private, place,
 use Rattle.pardo_text.specs.Expressions.{applied, constant_of, tested}
 use Rattle.pardo_text.specs.Operations.{is_division, lacks, operation_value, worked_out}
 use Rattle.pardo_text.specs.Program.{ProgramData}
-use Rattle.pardo_text_law.proofs.LawBounds.{applied_keeps}
+use Rattle.pardo_text.proofs.LawBounds.{applied_keeps}
 use Rattle.pardo_job.specs.Laws.{IndicesAreTested, row_by_row}
 use Rattle.pardo_job.specs.Meaning.{Source, value}
 

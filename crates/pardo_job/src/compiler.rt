@@ -20,8 +20,7 @@ use crate::flat::{Flat, Flattened, flatten};
 use crate::layout::Layout;
 use crate::lines::Listing;
 use crate::run::{Rest, Run, disputed_line, gone_lines, line_at, run_of};
-use pardo_text::{Program, read_program};
-use pardo_text_law::programs_are_lawful;
+use pardo_text::{Program, laws, read_program};
 use pram_job::Job;
 use pram_step::{Fault, LastRow, Nobody, Observer, RunAnswer};
 use std::alloc::{AllocError, Global};
@@ -126,7 +125,7 @@ pub fn draft_in(alloc: Global, text: &[u8]) -> Result<Draft, Refusal>
     ensures places { IfOk result (λ draft. ArePlacesOf draft.program draft.places.items) }
     ensures refused { IfErr result (IsProgramRefusal text.now) }
 {
-    programs_are_lawful();
+    laws::programs_are_lawful();
     let program = read_program(alloc, text)?;
     let (job, numbers, places) = draft_of(alloc, &program)?;
     Ok(Draft {

@@ -7,7 +7,7 @@ use Rattle.pardo_text.specs.declared.statement.Line.{Line}
 use Rattle.pardo_text.specs.Lawful.{IsProgram}
 use Rattle.pardo_text.specs.Nested.{IsNested}
 use Rattle.pardo_text.specs.Program.{ProgramData}
-use Rattle.pardo_text_law.proofs.LawFors.{turns_tied}
+use Rattle.pardo_text.proofs.LawFors.{turns_tied}
 use Rattle.pardo_job.specs.Carries.{Carries, ComesFrom}
 use Rattle.pardo_job.specs.Compiled.{AreLineNumbers, IsCompiled, IsWhole}
 use Rattle.pardo_job.specs.Conflicts.{IsLineDispute}

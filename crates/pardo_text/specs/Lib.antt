@@ -14,4 +14,6 @@ pub mod Reading
 pub mod Settings
 pub mod Lawful
 pub mod Nested
+pub mod Variables
+pub mod Laws
 pub mod Inner

@@ -11,6 +11,7 @@ mod exchange;
 mod expression;
 mod fault;
 mod header;
+pub mod laws;
 pub mod limits;
 mod names;
 mod operation;

@@ -10,7 +10,7 @@ use Rattle.pardo_text.specs.Lawful.{AreArrays, IsProgram}
 use Rattle.pardo_text.specs.Program.{ArrayData, ProgramData}
 use Rattle.pardo_text.specs.Reading.{program_of}
 use Rattle.pardo_text.specs.declared.fault.PardoFault.{PardoFault}
-use Rattle.pardo_text_law.proofs.LawLawful.{programs_are_lawful}
+use Rattle.pardo_text.proofs.LawLawful.{programs_are_lawful}
 use Rattle.pardo_job.specs.Printed.{cell_text, has_cell, place_text}
 
 not_past : (array : ArrayData) (cell : ℕ) → array.base + length array.start ≤ cell →

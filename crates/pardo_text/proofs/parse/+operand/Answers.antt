@@ -4,7 +4,7 @@ use Rattle.pardo_text.proofs.Added.{adds_below, below_is, joined_under, kept_bel
 use Rattle.pardo_text.proofs.Chains.{within_at_none, within_at_more, level_at_zero, level_at_more}
 use Rattle.pardo_text.proofs.Chains.{chained_ends, chained_operand, chained_join, chained_more}
 use Rattle.pardo_text.proofs.Chains.{chained_begins, chained_over, before_is_no_division}
-use Rattle.pardo_text.proofs.Constants.{is_no_other}
+use Rattle.pardo_text.proofs.LawConstants.{is_no_other}
 use Rattle.pardo_text.proofs.Postfix.{top_is}
 use Rattle.pardo_text.proofs.parse.+operand.Goals as goal
 

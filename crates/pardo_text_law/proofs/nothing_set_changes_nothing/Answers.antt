@@ -1,5 +1,0 @@
-use Rattle.pardo_text_law.proofs.SetLines.{nothing_set_changes_nothing}
-use Rattle.pardo_text_law.proofs.nothing_set_changes_nothing.Goals as goal
-
-pub returns : goal.returns
-returns c = nothing_set_changes_nothing

@@ -1,5 +1,0 @@
-use Rattle.pardo_text_law.proofs.SetInPlace.{set_lines_stay}
-use Rattle.pardo_text_law.proofs.set_lines_stay.Goals as goal
-
-pub returns : goal.returns
-returns c = set_lines_stay
