@@ -1,6 +1,6 @@
 -- The variables of open loops are at most what is known of them.
 use Rattle.std.proofs.Common.{◌≡◌, ◌≢◌, ℕ, zero, suc, ◌+◌, ◌-◌, ◌^◌, ◌<◌, ◌≤◌, ◌==◌, Bool}
-use Rattle.std.proofs.Common.{true, false, List, [], ◌∷◌, ◌++◌, Option, Some, None, refl, sym, ap}
+use Rattle.std.proofs.Common.{true, false, List, [], ◌∷◌, Option, Some, None, refl, sym, ap}
 use Rattle.std.proofs.Common.{◌∙◌, subst, ⊎_elim, arith, if◌then◌else◌, length, unwrap_or}
 use Rattle.std.specs.Prelude.{drop, slice_get}
 use Rattle.std.proofs.lemmas.Bool.{cases_lt, eq-eqb, eqb-false, ltb-false, ne_eqb}
@@ -20,7 +20,7 @@ use Rattle.pardo_text.specs.Tests.{Known, known_of, loop_most, without_tests}
 use Rattle.pardo_text.specs.Values.{greatest_value}
 use Rattle.pardo_job.specs.Meaning.{Source, abandoned, after, after_statement, by_common}
 use Rattle.pardo_job.specs.Meaning.{common_value, has_none, loop_ended, next, next_turn, on_to}
-use Rattle.pardo_job.specs.Meaning.{program_start, statement_at, turned, value}
+use Rattle.pardo_job.specs.Meaning.{statement_at, turned, value}
 use Rattle.pardo_job.proofs.FlatLines.{all_at, get_back, get_front}
 use Rattle.pardo_job.proofs.Meanings.{next_at}
 use Rattle.pardo_job.proofs.Untested.{left_out_tests_pass}
