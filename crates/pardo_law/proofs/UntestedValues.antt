@@ -189,6 +189,7 @@ module _ (program : ProgramData) (lawful : IsProgram program) where
       by_cell : (o : Option ℕ) → IsSmall (option_map source.cells o)
       by_cell None = tt
       by_cell (Some cell) = fit.each_cell cell
+
       by_index : (o : Option ℕ) → IsSmall
           (option_and_then (λ k. option_map source.cells (array_cell program array k)) o)
       by_index None = tt
