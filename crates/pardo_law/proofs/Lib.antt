@@ -45,4 +45,7 @@ pub mod FlatLineLevels
 pub mod Summing
 pub mod FlatTelling
 pub mod UntestedLines
+pub mod UntestedValues
+pub mod UntestedLoops
+pub mod UntestedSteps
 pub mod Untested

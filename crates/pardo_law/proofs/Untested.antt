@@ -24,7 +24,8 @@ asked_none program source i e =
       | Some line ↦ asked_in program source line.depth line.statement i
     ]) e
 
-module _ (program : ProgramData) (lawful : IsProgram program) (nested : IsNested program.lines) where
+module _ (program : ProgramData) (lawful : IsProgram program)
+    (nested : IsNested program.lines) where
   abbrev bare : ProgramData
   bare = program_untested program
 
@@ -32,8 +33,10 @@ module _ (program : ProgramData) (lawful : IsProgram program) (nested : IsNested
       (sound : IsSound program lawful nested two) where
     -- the line that is next, without tests
     bare_line : (line : Line) → slice_get program.lines two.at ≡ Some line →
-        slice_get bare.lines one.at ≡ Some (record line { statement =
-        statement_untested (known_here program lawful nested two.at) line.statement })
+        slice_get bare.lines one.at ≡ Some (record line {
+          statement =
+              statement_untested (known_here program lawful nested two.at) line.statement;
+        })
     bare_line line is = ap (slice_get bare.lines) same.at
         ∙ untested_at (known_of program) program.lines two.at line is
 

@@ -1,6 +1,6 @@
 -- The variables of open loops are at most what is known of them.
 use Rattle.std.proofs.Common.{◌≡◌, ◌≢◌, ℕ, zero, suc, ◌+◌, ◌-◌, ◌^◌, ◌<◌, ◌≤◌, ◌==◌, Bool}
-use Rattle.std.proofs.Common.{true, false, List, [], ◌∷◌, ◌++◌, Option, Some, None, refl, sym, ap}
+use Rattle.std.proofs.Common.{true, false, List, [], ◌∷◌, Option, Some, None, refl, sym, ap}
 use Rattle.std.proofs.Common.{◌∙◌, subst, ⊎_elim, arith, if◌then◌else◌, length, unwrap_or}
 use Rattle.std.specs.Prelude.{drop, slice_get}
 use Rattle.std.proofs.lemmas.Bool.{cases_lt, eq-eqb, eqb-false, ltb-false, ne_eqb}
@@ -20,7 +20,7 @@ use Rattle.pardo_text.specs.Tests.{Known, known_of, loop_most, without_tests}
 use Rattle.pardo_text.specs.Values.{greatest_value}
 use Rattle.pardo_job.specs.Meaning.{Source, abandoned, after, after_statement, by_common}
 use Rattle.pardo_job.specs.Meaning.{common_value, has_none, loop_ended, next, next_turn, on_to}
-use Rattle.pardo_job.specs.Meaning.{program_start, statement_at, turned, value}
+use Rattle.pardo_job.specs.Meaning.{statement_at, turned, value}
 use Rattle.pardo_job.proofs.FlatLines.{all_at, get_back, get_front}
 use Rattle.pardo_job.proofs.Meanings.{next_at}
 use Rattle.pardo_job.proofs.Untested.{left_out_tests_pass}
@@ -226,7 +226,8 @@ next_none program source e = ap (λ (o : Option Line). elim o as (λ (x : Option
   | Some line ↦ after_statement program line.number line.depth line.statement source
 ]) e
 
-module _ (program : ProgramData) (lawful : IsProgram program) (nested : IsNested program.lines) where
+module _ (program : ProgramData) (lawful : IsProgram program)
+    (nested : IsNested program.lines) where
   abbrev open_here : ℕ → List Open
   open_here j = open_at program j
 
@@ -240,7 +241,8 @@ module _ (program : ProgramData) (lawful : IsProgram program) (nested : IsNested
       line.statement ≡ EndWhile begin → Closes j begin (turning begin)
   closing_while j begin line is e =
       let closed = closes_while (open_here j) begin
-      (subst (Belongs (blocks_of (open_here j))) e (belongs_at program nested j line is)) in record {
+      (subst (Belongs (blocks_of (open_here j))) e (belongs_at program nested j line is)) in
+      record {
         outer = closed.0;
         is = closed.1;
         around = (subst (Each (StandsAround program)) closed.1 (stand_around program j)).0;
@@ -250,7 +252,8 @@ module _ (program : ProgramData) (lawful : IsProgram program) (nested : IsNested
       line.statement ≡ EndFor begin → Closes j begin (counting begin)
   closing_for j begin line is e =
       let closed = closes_for (open_here j) begin
-      (subst (Belongs (blocks_of (open_here j))) e (belongs_at program nested j line is)) in record {
+      (subst (Belongs (blocks_of (open_here j))) e (belongs_at program nested j line is)) in
+      record {
         outer = closed.0;
         is = closed.1;
         around = (subst (Each (StandsAround program)) closed.1 (stand_around program j)).0;
@@ -385,6 +388,7 @@ module _ (program : ProgramData) (lawful : IsProgram program) (nested : IsNested
             λ next there. passes (For nest first last up end) end e refl
         by_test false a b some few f g = λ next there. turned_held nest a b end first last up e
             (starts program source up first last a b few f g some)
+
         by_last : (a : ℕ) → a < 2 ^ 32 → common_value program source first ≡ Some a →
             (o : Option ℕ) → common_value program source last ≡ o →
             Held (by_common program text_line source o (λ b.
@@ -392,6 +396,7 @@ module _ (program : ProgramData) (lawful : IsProgram program) (nested : IsNested
             else on_to (source.at + 1) (turned nest a source)))
         by_last a few f None g = held_end text_line source
         by_last a few f (Some b) g = by_test (has_none up a b) a b refl few f g
+
         by_first : (o : Option ℕ) → common_value program source first ≡ o → IsSmall o →
             Held (by_common program text_line source o (λ a.
             by_common program text_line source (common_value program source last) (λ b.
@@ -454,6 +459,7 @@ module _ (program : ProgramData) (lawful : IsProgram program) (nested : IsNested
               (around_here begin (counting begin) closed)
           by_test false b more g = λ next at. again_held nest end b first last up opener there f g
               (eqb-false (source.loops nest) b more)
+
           by_last : (o : Option ℕ) → common_value program source last ≡ o →
               Held (by_common program text_line source o (λ b.
               if source.loops nest == b then on_to (end + 1) source

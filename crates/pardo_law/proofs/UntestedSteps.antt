@@ -1,7 +1,7 @@
 -- A line without tests does to the same state what the line does.
 use Rattle.std.proofs.Common.{◌≡◌, ℕ, zero, suc, ◌+◌, ◌<◌, ◌==◌, Bool, true, false, ◌&&◌, not}
 use Rattle.std.proofs.Common.{Option, Some, None, refl, sym, ap, ◌∙◌, subst, arith}
-use Rattle.std.proofs.Common.{if◌then◌else◌, length, unwrap_or}
+use Rattle.std.proofs.Common.{if◌then◌else◌, unwrap_or}
 use Rattle.std.specs.Prelude.{is_some, slice_get}
 use Rattle.std.specs.Option.{option_map, option_and_then, option_or, is_none}
 use mathlib.Core.Path.{fun_ext}
@@ -18,7 +18,7 @@ use Rattle.pardo_text.specs.Tests.{without_tests}
 use Rattle.pardo_job.specs.Meaning.{Source, abandoned, after_statement, array_cell, asked_in}
 use Rattle.pardo_job.specs.Meaning.{by_common, common_value, first_below, given_to}
 use Rattle.pardo_job.specs.Meaning.{has_none, is_active, is_true, loop_ended, losing, next_turn}
-use Rattle.pardo_job.specs.Meaning.{on_to, statement_at, turned, value, value_written, write_of}
+use Rattle.pardo_job.specs.Meaning.{on_to, statement_at, turned, value, write_of}
 use Rattle.pardo_law.specs.Untested.{AreSame}
 use Rattle.pardo_law.proofs.UntestedLines.{as_many, known_at, untested_at, untested_past}
 

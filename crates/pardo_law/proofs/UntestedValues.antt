@@ -1,7 +1,7 @@
 -- Values of a program have 32 bits, and private variables are at most what is known of them.
-use Rattle.std.proofs.Common.{◌≡◌, ◌≢◌, ℕ, zero, suc, ◌+◌, ◌^◌, ◌<◌, ◌≤◌, ◌==◌, Bool, true, false}
+use Rattle.std.proofs.Common.{◌≡◌, ℕ, zero, suc, ◌+◌, ◌^◌, ◌<◌, ◌≤◌, ◌==◌, Bool, true, false}
 use Rattle.std.proofs.Common.{◌&&◌, List, [], ◌∷◌, Option, Some, None, refl, sym, ap, ◌∙◌, subst}
-use Rattle.std.proofs.Common.{⊎_elim, arith, if◌then◌else◌, length, unwrap_or, map, get_or}
+use Rattle.std.proofs.Common.{⊎_elim, arith, if◌then◌else◌, length, unwrap_or, map}
 use Rattle.std.specs.Prelude.{max, slice_get, slice_index, slice_set}
 use Rattle.std.specs.List.{All, flat_map, fold}
 use Rattle.std.specs.Option.{option_map, option_and_then, option_or}
@@ -23,7 +23,7 @@ use Rattle.pardo_text.specs.Operations.{lacks, operation_value, worked_out}
 use Rattle.pardo_text.specs.Program.{ArrayData, PrivateData, ProgramData}
 use Rattle.pardo_text.specs.Tests.{greatest_start, known_of, widened, widened_by}
 use Rattle.pardo_text.specs.Values.{greatest_value}
-use Rattle.pardo_job.specs.Meaning.{Source, abandoned, after_statement, array_cell, asked_in}
+use Rattle.pardo_job.specs.Meaning.{Source, after_statement, array_cell, asked_in}
 use Rattle.pardo_job.specs.Meaning.{by_common, common_value, first_below, given_to, has_none}
 use Rattle.pardo_job.specs.Meaning.{is_active, loop_ended, next_turn, on_to, private_at_start}
 use Rattle.pardo_job.specs.Meaning.{program_start, statement_at, turned, value, write_of}
@@ -189,6 +189,7 @@ module _ (program : ProgramData) (lawful : IsProgram program) where
       by_cell : (o : Option ℕ) → IsSmall (option_map source.cells o)
       by_cell None = tt
       by_cell (Some cell) = fit.each_cell cell
+
       by_index : (o : Option ℕ) → IsSmall
           (option_and_then (λ k. option_map source.cells (array_cell program array k)) o)
       by_index None = tt
