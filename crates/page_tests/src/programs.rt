@@ -108,7 +108,11 @@ fn parts_of_long_lines_are_told(rt: HostRuntime) {
     let kinds = [ARRAY, PRIVATE, KEPT, LOOP, LOOP, KEPT];
     assert!(rt; named.rows.len() == kinds.len());
     for (at, (row, kind)) in named.rows.iter().zip(kinds).enumerate() {
-        is(&rt, &[row.base, row.len, row.kind], &[2 * at as u64, 2, kind]);
+        is(
+            &rt,
+            &[row.base, row.len, row.kind],
+            &[2 * at as u64, 2, kind],
+        );
     }
 }
 
