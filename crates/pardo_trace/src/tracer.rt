@@ -4,7 +4,7 @@ ghost use Rattle.std.specs.List.{flat_map, range_with_len};
 ghost use Rattle.std.specs.Option.{option_copied};
 ghost use Rattle.pram_machine.specs.Machine.{counter as counter_of};
 ghost use Rattle.pardo_trace.specs.Traces.{array_with, behind, count_active, first_standing};
-ghost use Rattle.pardo_trace.specs.Traces.{goes_in, gone_row, takes_steps, heading, heading_of};
+ghost use Rattle.pardo_trace.specs.Traces.{gone_row, takes_steps, heading, heading_of};
 ghost use Rattle.pardo_trace.specs.Traces.{line_begun, begun_row, line_standing, mask_cell};
 ghost use Rattle.pardo_trace.specs.Traces.{mask_depth, private_row, private_with, processor_rows};
 ghost use Rattle.pardo_trace.specs.Traces.{put_row, row_head, takes_part, trace_rows};
