@@ -30,12 +30,12 @@ use Rattle.pram_cost.specs.declared.meeting.Sharing.TheVariants.{SameRead, SameW
 use Rattle.pram_cost.proofs.Accessing.{idle_access}
 use Rattle.pardo_text.specs.declared.statement.Line.{Line}
 use Rattle.pardo_text.specs.Program.{ProgramData}
-use Rattle.pardo_job.specs.Layouts.{program_layout}
+use Rattle.pardo_flat.specs.Layouts.{program_layout}
+use Rattle.pardo_flat.specs.Flat.{first_flat_of, flat}
 use Rattle.pardo_job.specs.Meaning.{after}
 use Rattle.pardo_job.specs.Printed.{IsConflictText, cell_text}
 use Rattle.pardo_job.specs.Runs.{IsProgramConflict, IsProgramEnd, line_number}
 use Rattle.pardo_job.specs.declared.times.CountedLine.{CountedLine}
-use Rattle.pardo_job.specs.Flat.{first_flat_of, flat}
 use Rattle.pardo_job.specs.Lines.{place_of}
 use Rattle.pardo_job.specs.Times.{AreAllLines, counted_from, counted_line, counted_place}
 use Rattle.pardo_job.specs.Times.{is_counted}

@@ -17,7 +17,7 @@ use Rattle.pardo_text.specs.Nested.{IsNested}
 use Rattle.pardo_text.specs.Program.{ProgramData}
 use Rattle.pardo_text.proofs.LawLawful.{programs_are_lawful}
 use Rattle.pardo_text.proofs.LawNesting.{programs_are_nested}
-use Rattle.pardo_job.specs.Flat.{flat}
+use Rattle.pardo_flat.specs.Flat.{flat}
 use Rattle.pardo_job.specs.Lines.{job_of}
 use Rattle.pardo_law.proofs.FlatBetween.{jobs_go_through}
 use Rattle.pardo_answers.specs.Language.{is_program}

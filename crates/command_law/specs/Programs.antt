@@ -38,10 +38,10 @@ use Rattle.pram_run.specs.Printed.{sights_text, trace_text}
 use Rattle.pram_run.specs.Replays.{IsReplay}
 use Rattle.pardo_text.specs.Program.{ProgramData}
 use Rattle.pardo_text.specs.Reading.{program_of}
+use Rattle.pardo_flat.specs.Layouts.{program_layout, private_cells}
+use Rattle.pardo_flat.specs.Flat.{flat}
 use Rattle.pardo_job.specs.Conflicts.{Assigns}
 use Rattle.pardo_job.specs.Drafts.{ArePlacesOf}
-use Rattle.pardo_job.specs.Layouts.{program_layout, private_cells}
-use Rattle.pardo_job.specs.Flat.{flat}
 use Rattle.pardo_job.specs.Lines.{job_of}
 use Rattle.pardo_job.specs.Meaning.{after}
 use Rattle.pardo_job.specs.Printed.{IsConflictText, cell_text}

@@ -18,13 +18,13 @@ use Rattle.pardo_text.specs.declared.fault.PardoKind.TheVariants as text_kind
 use Rattle.pardo_text.specs.declared.statement.Line.{Line}
 use Rattle.pardo_text.specs.Program.{ArrayData, PrivateData, ProgramData}
 use Rattle.pardo_text.specs.Reading.{program_of}
+use Rattle.pardo_flat.specs.Flat.{flat}
+use Rattle.pardo_flat.specs.Layouts.{cells_of_array, program_layout, row}
 use Rattle.pardo_job.specs.declared.fault.JobKind.{JobKind}
 use Rattle.pardo_job.specs.declared.fault.JobKind.TheVariants.{TooLong, Endless}
 use Rattle.pardo_job.specs.declared.fault.JobKind.TheVariants as job_kind
 use Rattle.pardo_job.specs.declared.fault.Refusal.TheVariants.{Text, Job}
 use Rattle.pardo_job.specs.Compiled.{IsCompiled}
-use Rattle.pardo_job.specs.Flat.{flat}
-use Rattle.pardo_job.specs.Layouts.{cells_of_array, program_layout, row}
 use Rattle.pardo_job.specs.Refusals.{IsProgramRefusal}
 use Rattle.pardo_answers.specs.Language.{is_program}
 use Rattle.page_core.specs.declared.codes.TheConstants.{DONE, NO_JOB, MEMORY, TEXT_TOO_LONG}

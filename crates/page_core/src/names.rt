@@ -125,7 +125,7 @@ fn push_own_rows(
     Ok(())
 }
 
-#[tactic(auto, unfolding(pardo_job::specs::Layouts::program_layout))]
+#[tactic(auto, unfolding(pardo_flat::specs::Layouts::program_layout))]
 fn own_row(program: &Program, loops: usize, shared: usize, which: usize) -> CellsRow
     requires lawful { IsProgram program.now }
     requires shared { shared ≡ shared_cells program.now.arrays }

@@ -13,10 +13,10 @@ use Rattle.pram_job.specs.Job.{JobData}
 use Rattle.pardo_text.specs.declared.statement.Line.{Line}
 use Rattle.pardo_text.specs.Lawful.{IsLine, IsProgram, bounds_of}
 use Rattle.pardo_text.specs.Program.{ProgramData}
+use Rattle.pardo_flat.specs.Flat.{flat}
+use Rattle.pardo_flat.specs.Layouts.{cell_count, program_layout}
 use Rattle.pardo_job.specs.Compiled.{IsCompiled, IsLinesJob}
-use Rattle.pardo_job.specs.Flat.{flat}
 use Rattle.pardo_job.proofs.FlatCompiled.{compiled_lawful}
-use Rattle.pardo_job.specs.Layouts.{cell_count, program_layout}
 use Rattle.pardo_job.specs.Lines.{code_from, code_of, job_of, length_of_line, line_code, place_of}
 use Rattle.pardo_job.specs.Operations.{is_shallow}
 use Rattle.pardo_job.specs.Refusals.{is_level}

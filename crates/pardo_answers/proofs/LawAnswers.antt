@@ -18,9 +18,9 @@ use Rattle.pram_step.proofs.LawAnswer.{conflict_ends, one_conflict}
 use Rattle.pardo_text.specs.Lawful.{AreArrays}
 use Rattle.pardo_text.specs.Program.{ArrayData, ProgramData, shared_cells}
 use Rattle.pram_step.specs.declared.answer.Dispute.{Dispute}
-use Rattle.pardo_job.specs.Layouts.{cell_count, program_layout}
+use Rattle.pardo_flat.specs.Layouts.{cell_count, program_layout}
+use Rattle.pardo_flat.specs.Flat.{flat}
 use Rattle.pardo_job.specs.Leaving.{GoneIn, Leaves}
-use Rattle.pardo_job.specs.Flat.{flat}
 use Rattle.pardo_job.specs.Lines.{job_of}
 use Rattle.pardo_job.specs.Meaning.{after}
 use Rattle.pardo_job.specs.Printed.{array_lines, conflict_text, end_text, gone_line}

@@ -10,7 +10,7 @@ use Rattle.pardo_text.specs.declared.operation.Op.TheVariants as op
 use Rattle.pardo_text.specs.Expression.{Tree, number, own, loop, private, place, apply}
 use Rattle.pardo_text.specs.Operations.{bit, operation_value}
 use Rattle.pardo_text.specs.Program.{ProgramData}
-use Rattle.pardo_job.specs.Layouts.{ProgramLayoutData}
+use Rattle.pardo_flat.specs.Layouts.{ProgramLayoutData}
 use Rattle.pardo_job.specs.Lawful.{IsLawfulTree}
 use Rattle.pardo_job.specs.Lines.{none_code, while_code}
 use Rattle.pardo_job.specs.Meaning.{Source, value, has_none}

@@ -12,7 +12,7 @@ use Rattle.pardo_text.specs.declared.operation.Op.TheVariants.{BitAnd, BitOr, Bi
 use Rattle.pardo_text.specs.declared.operation.Op.TheVariants.{Lt, Le, Gt, Ge, And, Or, Min, Max}
 use Rattle.pardo_text.specs.declared.operation.Op.TheVariants.{Within}
 use Rattle.pardo_text.specs.Expression.{Tree, number, own, loop, private, place, apply}
-use Rattle.pardo_job.specs.Layouts.{ProgramLayoutData, private_cells, loop_cells, array_cells}
+use Rattle.pardo_flat.specs.Layouts.{ProgramLayoutData, private_cells, loop_cells, array_cells}
 use Rattle.pardo_job.specs.Operations.{native, in_order, is_turned, choice, conjunction}
 use Rattle.pardo_job.specs.Operations.{operation_code, within_code, index_code, test_register}
 use Rattle.pardo_job.specs.Operations.{taken_by, is_shallow, negation, register_code}

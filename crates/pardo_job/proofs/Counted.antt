@@ -20,9 +20,10 @@ use Rattle.pardo_text.specs.declared.expression.Node.{Node}
 use Rattle.pardo_text.specs.declared.expression.Node.TheVariants.{Apply, Place}
 use Rattle.pardo_text.specs.Expression.{Tree, number, own, loop, private, place, apply, postfix}
 use Rattle.pardo_text.specs.Program.{ProgramData}
+use Rattle.pardo_flat.specs.Flat.{first_flat_of, flat, flat_size}
+use Rattle.pardo_flat.specs.Layouts.{ProgramLayoutData, array_cells, mask_cells, program_layout}
+use Rattle.pardo_flat.proofs.FlatLines.{first_next, some_at}
 use Rattle.pardo_job.specs.declared.times.CountedLine.{CountedLine}
-use Rattle.pardo_job.specs.Flat.{first_flat_of, flat, flat_size}
-use Rattle.pardo_job.specs.Layouts.{ProgramLayoutData, array_cells, mask_cells, program_layout}
 use Rattle.pardo_job.specs.Lines.{assignment_code, choosing, code_of, condition_code, idle}
 use Rattle.pardo_job.specs.Lines.{length_of_line, line_code, masked, own_store, place_of}
 use Rattle.pardo_job.specs.Times.{behind_mask, counted_from, counted_line, counted_place}
@@ -30,7 +31,6 @@ use Rattle.pardo_job.specs.Times.{is_counted, is_place, reads_shared}
 use Rattle.pardo_job.specs.Values.{own_load, takes, value_code, value_operand}
 use Rattle.pardo_job.proofs.JobFits.{code_length}
 use Rattle.pardo_job.proofs.FlatFirsts.{first_line, place_some, places_rise}
-use Rattle.pardo_job.proofs.FlatLines.{first_next, some_at}
 use Rattle.pardo_job.proofs.Placed.{place_below, place_more}
 
 -- ---- how long the code of counted lines is

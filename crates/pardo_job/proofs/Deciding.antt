@@ -8,7 +8,7 @@ use Rattle.pram_job.specs.declared.instr.Operand.TheVariants.{Register, Number}
 use Rattle.pardo_text.specs.declared.operation.Op.TheVariants as op
 use Rattle.pardo_text.specs.Expression.{Tree, number, own, loop, private, place, apply}
 use Rattle.pardo_text.specs.Operations.{bit, operation_value}
-use Rattle.pardo_job.specs.Layouts.{ProgramLayoutData}
+use Rattle.pardo_flat.specs.Layouts.{ProgramLayoutData}
 use Rattle.pardo_job.specs.Leaves.{Decides, DecidesTo, ConditionsDecide}
 use Rattle.pardo_job.specs.Lines.{condition_code}
 use Rattle.pardo_job.specs.Meaning.{value}

@@ -6,17 +6,18 @@ use Rattle.pram_job.specs.Job.{JobData}
 use Rattle.pram_job.specs.declared.limits.TheConstants.{MAX_CODE}
 use Rattle.pardo_text.specs.Lawful.{IsProgram}
 use Rattle.pardo_text.specs.Program.{ProgramData}
+use Rattle.pardo_flat.specs.declared.flat.Flat.{Flat}
+use Rattle.pardo_flat.specs.Flat.{first_flat_of, flat}
+use Rattle.pardo_flat.specs.Inner.Flats.{DoAllFit, IsFlatProgram}
+use Rattle.pardo_flat.proofs.FlatLawful.{first_within}
+use Rattle.pardo_flat.proofs.FlatWhole.{first_same, whole}
 use Rattle.pardo_job.specs.declared.fault.JobKind.{JobKind}
 use Rattle.pardo_job.specs.declared.fault.JobKind.TheVariants.{TooDeep, TooLong, Endless, Memory}
 use Rattle.pardo_job.specs.declared.fault.JobKind.TheVariants.{TooManyCells}
-use Rattle.pardo_job.specs.declared.flat.Flat.{Flat}
 use Rattle.pardo_job.specs.Drafts.{AreLinePlaces, ArePlacesOf, IsDraft, IsLinesDraft}
-use Rattle.pardo_job.specs.Flat.{first_flat_of, flat}
-use Rattle.pardo_job.specs.Inner.Flats.{AreFirstPlaces, DoAllFit, IsFlatProgram}
+use Rattle.pardo_job.specs.Inner.Listings.{AreFirstPlaces}
 use Rattle.pardo_job.specs.Lines.{place_of}
 use Rattle.pardo_job.specs.Refusals.{IsLinesFault, IsProgramFault}
-use Rattle.pardo_job.proofs.FlatLawful.{first_within}
-use Rattle.pardo_job.proofs.FlatWhole.{first_same, whole}
 
 pub err_weaker : {X Y : Type 0} (r : Result X Y) (P Q : Y → Type 0) → ((y : Y) → P y → Q y) →
     IfErr r P → IfErr r Q

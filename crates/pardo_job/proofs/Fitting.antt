@@ -16,9 +16,9 @@ use Rattle.pardo_text.specs.declared.operation.Op.TheVariants.{BitAnd, BitOr, Bi
 use Rattle.pardo_text.specs.declared.operation.Op.TheVariants.{Lt, Le, Gt, Ge, And, Or, Min, Max}
 use Rattle.pardo_text.specs.declared.operation.Op.TheVariants.{Within}
 use Rattle.pardo_text.specs.Expression.{Tree, number, own, loop, private, place, apply}
-use Rattle.pardo_job.specs.Layouts.{ProgramLayoutData, array_cells, loop_cells, mask_cells}
-use Rattle.pardo_job.specs.Layouts.{private_cells}
-use Rattle.pardo_job.specs.Layouts.{row}
+use Rattle.pardo_flat.specs.Layouts.{ProgramLayoutData, array_cells, loop_cells, mask_cells}
+use Rattle.pardo_flat.specs.Layouts.{private_cells}
+use Rattle.pardo_flat.specs.Layouts.{row}
 use Rattle.pardo_job.specs.Lawful.{IsLawfulTree}
 use Rattle.pardo_job.specs.Operations.{chosen_of, choice, conjunction, copy_code, first_chosen}
 use Rattle.pardo_job.specs.Operations.{second_chosen}

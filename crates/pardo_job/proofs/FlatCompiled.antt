@@ -4,11 +4,11 @@ use Rattle.std.proofs.Math.Nat.{mul_comm}
 use Rattle.pram_job.specs.Job.{JobData}
 use Rattle.pardo_text.specs.Lawful.{IsProgram}
 use Rattle.pardo_text.specs.Program.{ProgramData, shared_cells}
+use Rattle.pardo_flat.specs.Flat.{flat}
+use Rattle.pardo_flat.specs.Layouts.{cell_count, program_layout}
+use Rattle.pardo_flat.proofs.FlatLawful.{flat_lawful}
 use Rattle.pardo_job.specs.Compiled.{IsCompiled}
-use Rattle.pardo_job.specs.Flat.{flat}
-use Rattle.pardo_job.specs.Layouts.{cell_count, program_layout}
 use Rattle.pardo_job.specs.Lines.{job_of}
-use Rattle.pardo_job.proofs.FlatLawful.{flat_lawful}
 
 cells_within : (a b c d e : ℕ) → max 1 (a + (b + c + d) * e) ≤ 65536 →
     a + e * (b + c + d) ≤ 65536

@@ -14,12 +14,13 @@ use Rattle.pardo_text.specs.declared.statement.Target.TheVariants.{Private, Arra
 use Rattle.pardo_text.specs.Expression.{Tree, number, own as own_number, loop, private, place}
 use Rattle.pardo_text.specs.Expression.{apply}
 use Rattle.pardo_text.specs.Program.{ProgramData}
-use Rattle.pardo_job.specs.Flat.{base_of, beside, first_flat_of, fits, flat, flat_size, giving}
-use Rattle.pardo_job.specs.Flat.{is_beside, is_common, last_line, last_of, moved_statement, parts_of}
-use Rattle.pardo_job.specs.Flat.{pieces_of, shape_of, split, split_statement, statement_parts}
+use Rattle.pardo_flat.specs.Flat.{base_of, beside, first_flat_of, fits, flat, flat_size, giving}
+use Rattle.pardo_flat.specs.Flat.{is_beside, is_common, last_line, last_of, moved_statement}
+use Rattle.pardo_flat.specs.Flat.{parts_of}
+use Rattle.pardo_flat.specs.Flat.{pieces_of, shape_of, split, split_statement, statement_parts}
+use Rattle.pardo_flat.proofs.FlatLines.{first_next, hidden_is, hidden_stands, last_stands}
 use Rattle.pardo_job.specs.Lines.{length_of_line, place_of}
 use Rattle.pardo_job.specs.Times.{is_counted, reads_shared}
-use Rattle.pardo_job.proofs.FlatLines.{first_next, hidden_is, hidden_stands, last_stands}
 
 -- ---- sums
 

@@ -17,14 +17,14 @@ use Rattle.pardo_text.specs.declared.statement.Statement.TheVariants.{Assign, If
 use Rattle.pardo_text.specs.declared.statement.Target.TheVariants.{Private, Array as Shared}
 use Rattle.pardo_text.specs.Expression.{Tree, number, own, loop, private, place, apply, postfix}
 use Rattle.pardo_text.specs.Program.{ProgramData}
+use Rattle.pardo_flat.specs.Layouts.{ProgramLayoutData, program_layout, array_cells, loop_cells}
+use Rattle.pardo_flat.specs.Layouts.{mask_cells}
+use Rattle.pardo_flat.specs.Layouts.{private_cells}
 use Rattle.pardo_job.specs.declared.fault.JobKind.{JobKind}
 use Rattle.pardo_job.specs.declared.fault.JobKind.TheVariants.{TooDeep, TooLong, Endless, Memory}
 use Rattle.pardo_job.specs.declared.fault.JobKind.TheVariants.{TooManyCells}
 use Rattle.pardo_job.specs.Inner.Emitting.{IsCodeFault}
 use Rattle.pardo_job.specs.Inner.Pieces.{IsLineFault, PutsLine, bounds_code, choice_code, under}
-use Rattle.pardo_job.specs.Layouts.{ProgramLayoutData, program_layout, array_cells, loop_cells}
-use Rattle.pardo_job.specs.Layouts.{mask_cells}
-use Rattle.pardo_job.specs.Layouts.{private_cells}
 use Rattle.pardo_job.specs.Lines.{assignment_code, choosing, condition_code, first_code, idle}
 use Rattle.pardo_job.specs.Lines.{line_code, masked, none_code, own_store, while_code}
 use Rattle.pardo_job.specs.Operations.{chosen_of, conjunction, choice, copy_code, first_chosen}

@@ -5,12 +5,13 @@ use Rattle.pram_job.specs.declared.instr.Instr.TheVariants.{Ld}
 use Rattle.pram_job.specs.declared.instr.Place.TheVariants.{Named}
 use Rattle.pardo_text.specs.declared.expression.Node.TheVariants.{Place, Apply}
 use Rattle.pardo_text.specs.Expression.{with_node}
+use Rattle.pardo_flat.specs.Layouts.{ProgramLayoutData, array_cells}
+use Rattle.pardo_flat.specs.Flat.{gives_truth}
 use Rattle.pardo_job.specs.declared.fault.JobKind.{JobKind}
 use Rattle.pardo_job.specs.Inner.Emitting.{PutsCode, IsCodeFault}
 use Rattle.pardo_job.proofs.Emitting.{puts_none}
 use Rattle.pardo_job.specs.declared.fault.JobKind.TheVariants.{Memory}
 use Rattle.pardo_job.specs.Inner.Nodes.{TakesOne, IsReady, node_code}
-use Rattle.pardo_job.specs.Layouts.{ProgramLayoutData, array_cells}
 use Rattle.std.proofs.Common.{◌≡◌, ℕ, ◌+◌, ◌<◌, ◌≤◌, true, ◌&&◌, List, [], ◌∷◌, ◌++◌, length, drop}
 use Rattle.std.proofs.Common.{refl, ap, sym, ◌∙◌, append_assoc, arith}
 use Rattle.std.proofs.Common.{if◌then◌else◌, Bool, false}
@@ -25,7 +26,7 @@ use Rattle.pardo_text.specs.declared.operation.Op.TheVariants as op
 use Rattle.pardo_text.specs.Expression.{Tree, number, own, loop, private, place, apply}
 use Rattle.pardo_job.specs.declared.held.Held.{Held}
 use Rattle.pardo_job.specs.declared.held.Stack.{Stack}
-use Rattle.pardo_job.specs.Operations.{taken_by, gives_truth, chosen_of, is_shallow, native}
+use Rattle.pardo_job.specs.Operations.{taken_by, chosen_of, is_shallow, native}
 use Rattle.pardo_job.specs.Operations.{in_order, negation, conjunction, choice, operation_code}
 use Rattle.pardo_job.specs.Operations.{register_code, register_or_spare, instruction_of, zero_test}
 use Rattle.pardo_job.specs.Operations.{tested_in, copy_code, first_chosen, second_chosen, is_max}

@@ -5,7 +5,7 @@ use Rattle.std.specs.List.{flat_map}
 use Rattle.std.proofs.lemmas.List.{take_all}
 use Rattle.pardo_text.specs.Lawful.{IsProgram}
 use Rattle.pardo_text.specs.Program.{ProgramData}
-use Rattle.pardo_job.specs.Layouts.{cell_count, given_values, program_layout, start_values}
+use Rattle.pardo_flat.specs.Layouts.{cell_count, given_values, program_layout, start_values}
 use Rattle.pardo_job.proofs.JobFits.{given_fits}
 
 -- those of all things, where the loop is past the last of them

@@ -17,7 +17,6 @@ pub mod Loads
 pub mod Deciding
 pub mod Assigning
 pub mod Meanings
-pub mod Sharing
 pub mod Trees
 pub mod Holding
 pub mod Putting
@@ -33,11 +32,6 @@ pub mod Counted
 pub mod Initial
 pub mod Starts
 pub mod Great
-pub mod Splitters
-pub mod FlatLines
-pub mod FlatLawful
-pub mod Flats
-pub mod FlatWhole
 pub mod FlatFirsts
 pub mod Drafting
 pub mod FlatCompiled

@@ -24,15 +24,15 @@ use Rattle.pardo_text.specs.Lawful.{IsLine, IsStatement, IsTarget, IsExpression,
 use Rattle.pardo_text.specs.Lawful.{masks_of}
 use Rattle.pardo_text.specs.declared.statement.Line.{Line}
 use Rattle.pardo_text.specs.Program.{ProgramData}
+use Rattle.pardo_flat.specs.Layouts.{ProgramLayoutData, array_cells, cells_of_array, program_layout}
+use Rattle.pardo_flat.specs.Layouts.{loop_cells}
+use Rattle.pardo_flat.specs.Layouts.{mask_cells, private_cells}
+use Rattle.pardo_flat.specs.Statements.{statement_at}
 use Rattle.pardo_job.specs.Inner.Pieces.{IsLawfulTarget}
-use Rattle.pardo_job.specs.Layouts.{ProgramLayoutData, array_cells, cells_of_array, program_layout}
-use Rattle.pardo_job.specs.Layouts.{loop_cells}
-use Rattle.pardo_job.specs.Layouts.{mask_cells, private_cells}
 use Rattle.pardo_job.specs.Lawful.{IsLawfulTree}
 use Rattle.pardo_job.specs.Lines.{assignment_code, choosing, condition_code, first_code, idle}
 use Rattle.pardo_job.specs.Lines.{line_code, loop_end, masked}
 use Rattle.pardo_job.specs.Lines.{next_value, none_code, others, own_store, turn_code, while_code}
-use Rattle.pardo_job.specs.Meaning.{statement_at}
 use Rattle.pardo_job.specs.Operations.{is_shallow, native, register_code, register_or_spare}
 use Rattle.pardo_job.specs.Values.{is_truth, value_operand, own_load, own_place, takes, value_code}
 use Rattle.pardo_job.proofs.Fitting.{Fit, IsLaid, fit_both, loop_fits, mask_fits, native_fits}

@@ -10,16 +10,16 @@ use Rattle.pardo_text.specs.declared.statement.Statement.TheVariants.{While, End
 use Rattle.pardo_text.specs.declared.statement.Target.{Target}
 use Rattle.pardo_text.specs.Expression.{Tree}
 use Rattle.pardo_text.specs.Program.{ProgramData}
+use Rattle.pardo_flat.specs.Layouts.{ProgramLayoutData, program_layout}
+use Rattle.pardo_flat.specs.Statements.{statement_at}
 use Rattle.pardo_job.specs.declared.fault.JobKind.{JobKind}
 use Rattle.pardo_job.specs.declared.fault.JobKind.TheVariants.{TooDeep, TooLong, Endless, Memory}
 use Rattle.pardo_job.specs.declared.fault.JobKind.TheVariants.{TooManyCells}
 use Rattle.pardo_job.specs.Inner.Emitting.{PutsCode, IsCodeFault}
 use Rattle.pardo_job.specs.Inner.Pieces.{IsLineFault, PutsLine}
-use Rattle.pardo_job.specs.Layouts.{ProgramLayoutData, program_layout}
 use Rattle.pardo_job.specs.Lines.{assignment_code, choosing, condition_code, first_code, line_code}
 use Rattle.pardo_job.specs.Lines.{loop_end, masked}
 use Rattle.pardo_job.specs.Lines.{none_code, others, while_code}
-use Rattle.pardo_job.specs.Meaning.{statement_at}
 use Rattle.pardo_job.specs.Operations.{is_shallow, register_or_spare}
 use Rattle.pardo_job.specs.Values.{value_operand}
 use Rattle.pardo_job.proofs.Emitting.{puts_none, puts_then}

@@ -13,12 +13,13 @@ use Rattle.pardo_text.specs.declared.statement.Target.TheVariants.{Private, Arra
 use Rattle.pardo_text.specs.Expression.{Tree, number, own, loop, private, place, apply}
 use Rattle.pardo_text.specs.Operations.{worked_out}
 use Rattle.pardo_text.specs.Program.{ProgramData}
+use Rattle.pardo_flat.specs.Statements.{statement_at}
 use Rattle.pardo_job.specs.Conflicts.{asked}
 use Rattle.pardo_job.specs.Laws.{LoopsAreCommon, OutsideIsUnchanged, GoneForGood}
 use Rattle.pardo_job.specs.Meaning.{Source, value, array_cell, is_active, asked_in, write_of}
 use Rattle.pardo_job.specs.Meaning.{losing}
 use Rattle.pardo_job.specs.Meaning.{next}
-use Rattle.pardo_job.specs.Meaning.{after_statement, on_to, loop_ended, statement_at, has_none}
+use Rattle.pardo_job.specs.Meaning.{after_statement, on_to, loop_ended, has_none}
 use Rattle.pardo_job.specs.Meaning.{by_common, common_value}
 use Rattle.pardo_job.specs.Meaning.{private_assigned, shared_assigned, chosen, otherwise, turned}
 use Rattle.pardo_job.specs.Meaning.{next_turn}

@@ -8,7 +8,7 @@ use Rattle.pram_job.specs.declared.instr.Place.TheVariants.{Named}
 use Rattle.pardo_text.specs.declared.expression.Node.{Node}
 use Rattle.pardo_text.specs.declared.expression.Node.TheVariants.{Place, Apply}
 use Rattle.pardo_text.specs.Expression.{Tree, number, own, loop, private, place, apply, postfix}
-use Rattle.pardo_job.specs.Layouts.{ProgramLayoutData, array_cells}
+use Rattle.pardo_flat.specs.Layouts.{ProgramLayoutData, array_cells}
 use Rattle.pardo_job.specs.Operations.{operation_code}
 use Rattle.pardo_job.specs.Values.{value_code, value_operand, takes, is_truth}
 use Rattle.pardo_job.specs.Inner.Nodes.{free_after, nodes_code, AreReadyNodes}

@@ -12,7 +12,7 @@ use Rattle.std.proofs.lemmas.List.{take_more, take_all}
 use Rattle.std.proofs.lemmas.List.Sums.{sum_by-append, sum_by-cons, sum_by-take-le}
 use Rattle.std.proofs.Common.{below_more}
 use Rattle.std.proofs.lemmas.Bool.{le-leb, lt-leb}
-use Rattle.std.proofs.lemmas.Option.{get_or_from_slice_get, slice_get_read, slice_get_within}
+use Rattle.std.proofs.lemmas.Option.{get_or_from_slice_get, slice_get_within}
 use Rattle.pram_job.specs.declared.instr.Instr.{Instr}
 use Rattle.pram_job.specs.declared.instr.Instr.TheVariants.{Halt, Jmp, Jz, Pid}
 use Rattle.pram_job.specs.declared.limits.TheConstants.{MAX_CODE}
@@ -22,6 +22,8 @@ use Rattle.pardo_text.specs.declared.statement.Statement.TheVariants.{Assign, If
 use Rattle.pardo_text.specs.declared.statement.Statement.TheVariants.{While, EndWhile, For, EndFor}
 use Rattle.pardo_text.specs.Lawful.{IsLine, IsStatement, bounds_of}
 use Rattle.pardo_text.specs.Program.{ProgramData}
+use Rattle.pardo_flat.specs.Layouts.{program_layout, loop_cells}
+use Rattle.pardo_flat.specs.Statements.{statement_at}
 use Rattle.pardo_job.specs.declared.fault.JobFault.{JobFault}
 use Rattle.pardo_job.specs.declared.fault.JobKind.{JobKind}
 use Rattle.pardo_job.specs.declared.fault.JobKind.TheVariants.{TooDeep, TooLong, Endless, Memory}
@@ -29,12 +31,10 @@ use Rattle.pardo_job.specs.declared.fault.JobKind.TheVariants.{TooManyCells}
 use Rattle.pardo_job.specs.Compiled.{AreLevel, AreLineNumbers}
 use Rattle.pardo_job.specs.Inner.Listings.{AreAllPlaces, ArePlaces, IsFaultAt, IsPlaceAfter}
 use Rattle.pardo_job.specs.Inner.Pieces.{IsLineFault}
-use Rattle.pardo_job.specs.Layouts.{program_layout, loop_cells}
 use Rattle.pardo_job.specs.Lines.{code_from, code_of, first_code, length_of_line, line_code}
 use Rattle.pardo_job.specs.Lines.{loop_end}
 use Rattle.pardo_job.specs.Lines.{next_value, none_code, own_store, place_of}
 use Rattle.pardo_job.specs.Lines.{turn_code, while_code}
-use Rattle.pardo_job.specs.Meaning.{statement_at}
 use Rattle.pardo_job.specs.Operations.{is_shallow, register_or_spare}
 use Rattle.pardo_job.specs.Values.{value_operand}
 use Rattle.pardo_job.specs.Refusals.{IsLinesFault, is_level, is_short, line_numbers, numbers_from}
@@ -42,13 +42,6 @@ use Rattle.pardo_job.proofs.LineFits.{statement_is}
 use Rattle.pardo_job.proofs.Shapes.{line_length, line_shallow}
 
 -- ---- lines
-
-pub line_there : (lines items : List Line) (k : ℕ) (line : Line) → items ≡ lines →
-    k < length items → line ≡ get_or items k line →
-    slice_get lines k ≡ Some line
-line_there lines items k line e lt is =
-    subst (λ (l : List Line). slice_get l k ≡ Some line) e
-    (slice_get_read items (length items) k line refl lt is)
 
 pub statement_there : (program : ProgramData) (begin : ℕ) (line : Line) →
     slice_get program.lines begin ≡ Some line →

@@ -6,10 +6,10 @@ use Rattle.std.proofs.lemmas.List.{at_drop_all, drop_more}
 use Rattle.pram_job.specs.declared.instr.Instr.{Instr}
 use Rattle.pardo_text.specs.declared.expression.Node.{Node}
 use Rattle.pardo_text.specs.Expression.{Tree, postfix, trees_of, trees_of-postfix, with_node}
+use Rattle.pardo_flat.specs.Layouts.{ProgramLayoutData}
 use Rattle.pardo_job.specs.declared.fault.JobKind.{JobKind}
 use Rattle.pardo_job.specs.declared.held.Held.{Held}
 use Rattle.pardo_job.specs.declared.held.Stack.{Stack}
-use Rattle.pardo_job.specs.Layouts.{ProgramLayoutData}
 use Rattle.pardo_job.specs.Lawful.{IsLawfulTree}
 use Rattle.pardo_job.specs.Operations.{is_shallow, taken_by}
 use Rattle.pardo_job.specs.Values.{takes, value_code}

@@ -9,11 +9,11 @@ use Rattle.pardo_text.specs.declared.statement.Statement.{Statement}
 use Rattle.pardo_text.specs.declared.statement.Statement.TheVariants.{Assign, If, Else, EndIf}
 use Rattle.pardo_text.specs.declared.statement.Statement.TheVariants.{While, EndWhile, For, EndFor}
 use Rattle.pardo_text.specs.Program.{ProgramData}
-use Rattle.pardo_job.specs.Layouts.{ProgramLayoutData, program_layout, loop_cells, mask_cells}
+use Rattle.pardo_flat.specs.Layouts.{ProgramLayoutData, program_layout, loop_cells, mask_cells}
+use Rattle.pardo_flat.specs.Statements.{statement_at}
 use Rattle.pardo_job.specs.Lines.{idle, masked, choosing, loop_end, line_code, next_value}
 use Rattle.pardo_job.specs.Lines.{assignment_code, condition_code, while_code, none_code}
 use Rattle.pardo_job.specs.Lines.{first_code, turn_code, own_store}
-use Rattle.pardo_job.specs.Meaning.{statement_at}
 use Rattle.pardo_job.specs.Operations.{is_shallow, target_of, register_or_spare}
 use Rattle.pardo_job.specs.Values.{own_load, value_operand}
 

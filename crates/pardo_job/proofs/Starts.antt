@@ -8,6 +8,8 @@ use Rattle.pram_job.specs.Job.{IsJob, JobData, job_data}
 use Rattle.pram_step.specs.Runs.{IsReached, state_after}
 use Rattle.pardo_text.specs.Lawful.{IsProgram}
 use Rattle.pardo_text.specs.Program.{ProgramData}
+use Rattle.pardo_flat.specs.Layouts.{cell_count, program_layout, start_values}
+use Rattle.pardo_flat.specs.Flat.{flat}
 use Rattle.pardo_job.specs.declared.fault.JobKind.{JobKind}
 use Rattle.pardo_job.specs.declared.fault.JobKind.TheVariants.{TooDeep, TooLong, Endless, Memory}
 use Rattle.pardo_job.specs.declared.fault.JobKind.TheVariants.{TooManyCells}
@@ -17,8 +19,6 @@ use Rattle.pardo_job.specs.Drafts.{IsDraft, IsComplete}
 use Rattle.pardo_job.specs.Ends.{HasEnded}
 use Rattle.pardo_job.specs.Inner.Endings.{IsFinished, EndsTooLate}
 use Rattle.pardo_job.specs.Inner.Listings.{AreAllPlaces}
-use Rattle.pardo_job.specs.Layouts.{cell_count, program_layout, start_values}
-use Rattle.pardo_job.specs.Flat.{flat}
 use Rattle.pardo_job.specs.Lines.{code_of, job_of}
 use Rattle.pardo_job.specs.Refusals.{IsProgramFault, FirstRunningStandsAt}
 use Rattle.pardo_job.proofs.JobFits.{job_is, start_length}

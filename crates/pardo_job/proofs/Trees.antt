@@ -4,7 +4,7 @@ use Rattle.std.proofs.lemmas.List.{length-map}
 use Rattle.pardo_text.specs.Expression.{Tree, number, own, loop, private, place, apply}
 use Rattle.pardo_text.specs.Lawful.{IsExpression, bounds_of}
 use Rattle.pardo_text.specs.Program.{ProgramData}
-use Rattle.pardo_job.specs.Layouts.{cells_of_array, program_layout}
+use Rattle.pardo_flat.specs.Layouts.{cells_of_array, program_layout}
 use Rattle.pardo_job.specs.Lawful.{IsLawfulTree}
 
 pub lawful_tree : (program : ProgramData) (tree : Tree) → IsExpression (bounds_of program) tree →

@@ -8,7 +8,7 @@ use Rattle.pardo_text.specs.declared.operation.Op.TheVariants.{BitAnd, BitOr, Bi
 use Rattle.pardo_text.specs.declared.operation.Op.TheVariants.{Lt, Le, Gt, Ge, And, Or, Min, Max}
 use Rattle.pardo_text.specs.declared.operation.Op.TheVariants.{Within}
 use Rattle.pardo_text.specs.Operations.{operation_value}
-use Rattle.pardo_job.specs.Operations.{gives_truth}
+use Rattle.pardo_flat.specs.Flat.{gives_truth}
 use Rattle.pardo_job.proofs.Applying.{IsTruth, bit_truth}
 
 joined_and : (a b : ℕ) → IsTruth a → IsTruth b → IsTruth (bit_and a b)

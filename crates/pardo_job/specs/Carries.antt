@@ -6,8 +6,8 @@ use Rattle.pram_machine.specs.Machine.{counter}
 use Rattle.pram_step.specs.Runs.{state_after, IsReached, IsFault}
 use Rattle.pardo_text.specs.Program.{ProgramData}
 use Rattle.pram_step.specs.declared.answer.Dispute.{Dispute}
-use Rattle.pardo_job.specs.Flat.{first_flat_of, flat}
-use Rattle.pardo_job.specs.Layouts.{program_layout}
+use Rattle.pardo_flat.specs.Flat.{first_flat_of, flat}
+use Rattle.pardo_flat.specs.Layouts.{program_layout}
 use Rattle.pardo_job.specs.Leaving.{GoneIn}
 use Rattle.pardo_job.specs.Meaning.{Source, after}
 use Rattle.pardo_job.specs.Runs.{IsProgramEnd, IsProgramConflict, line_number}

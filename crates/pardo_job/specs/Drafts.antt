@@ -4,9 +4,9 @@ use Rattle.pram_job.specs.declared.limits.TheConstants.{MAX_CODE}
 use Rattle.pram_job.specs.Job.{JobData}
 use Rattle.pardo_text.specs.Lawful.{IsProgram}
 use Rattle.pardo_text.specs.Program.{ProgramData}
+use Rattle.pardo_flat.specs.Flat.{first_flat_of, flat}
 use Rattle.pardo_job.specs.Compiled.{AreLevel, CompiledData, IsCompiled}
 use Rattle.pardo_job.specs.Ends.{HasEnded}
-use Rattle.pardo_job.specs.Flat.{first_flat_of, flat}
 use Rattle.pardo_job.specs.Lines.{job_of, place_of}
 use Rattle.pardo_job.specs.Refusals.{line_numbers}
 

@@ -12,8 +12,8 @@ use Rattle.pardo_text.specs.Lawful.{IsCommon, IsExpression, bounds_of}
 use Rattle.pardo_text.specs.Program.{ProgramData}
 use Rattle.pardo_text.specs.Tests.{Known, without_tests}
 use Rattle.pram_step.specs.declared.answer.Dispute.{Dispute}
+use Rattle.pardo_flat.specs.Layouts.{program_layout}
 use Rattle.pardo_job.specs.Conflicts.{LineAgrees, IsLineDispute, Assigns, asked}
-use Rattle.pardo_job.specs.Layouts.{program_layout}
 use Rattle.pardo_job.specs.Lawful.{IsLawfulTree}
 use Rattle.pardo_job.specs.Meaning.{Source, is_active, next, value}
 use Rattle.pardo_job.specs.Runs.{AllGone, IsLineReached}

@@ -1,13 +1,11 @@
 pub mod Meaning
 pub mod Conflicts
 pub mod Runs
-pub mod Layouts
 pub mod Operations
 pub mod Values
 pub mod Sees
 pub mod Lawful
 pub mod Straight
-pub mod Flat
 pub mod Lines
 pub mod Leaves
 pub mod Shows

@@ -19,9 +19,9 @@ use Rattle.pardo_text.specs.declared.statement.Target.{Target}
 use Rattle.pardo_text.specs.declared.statement.Target.TheVariants.{Private, Array as Shared}
 use Rattle.pardo_text.specs.Expression.{Tree}
 use Rattle.pardo_text.specs.Program.{ProgramData}
-use Rattle.pardo_job.specs.Layouts.{ProgramLayoutData, program_layout, start_values, cell_count}
-use Rattle.pardo_job.specs.Layouts.{private_cells, loop_cells, mask_cells, array_cells}
-use Rattle.pardo_job.specs.Meaning.{statement_at}
+use Rattle.pardo_flat.specs.Layouts.{ProgramLayoutData, program_layout, start_values, cell_count}
+use Rattle.pardo_flat.specs.Layouts.{private_cells, loop_cells, mask_cells, array_cells}
+use Rattle.pardo_flat.specs.Statements.{statement_at}
 use Rattle.pardo_job.specs.Operations.{native, register_code, register_or_spare}
 use Rattle.pardo_job.specs.Values.{own_place, own_load, value_operand, takes, is_truth, value_code}
 

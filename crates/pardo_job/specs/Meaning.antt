@@ -13,6 +13,7 @@ use Rattle.pardo_text.specs.declared.statement.Target.TheVariants.{Private, Arra
 use Rattle.pardo_text.specs.Expression.{Tree, number, own, loop, private, place, apply}
 use Rattle.pardo_text.specs.Operations.{operation_value, worked_out}
 use Rattle.pardo_text.specs.Program.{ProgramData}
+use Rattle.pardo_flat.specs.Statements.{statement_at}
 
 -- ---- states
 
@@ -192,12 +193,6 @@ loop_ended program text_line begin (For nest first last up end) source =
     if source.loops nest == b then on_to (end + 1) source
     else on_to (begin + 1) (turned nest (next_turn up (source.loops nest)) source))
 loop_ended program text_line begin _ source = source
-
-abbrev pub statement_at : ProgramData → ℕ → Statement
-statement_at program at = elim (slice_get program.lines at) [
-  | None ↦ EndIf
-  | Some line ↦ line.statement
-]
 
 -- The state after a line, the next one being that after it where nothing else is said.
 abbrev pub after_statement : ProgramData → ℕ → ℕ → Statement → Source → Source

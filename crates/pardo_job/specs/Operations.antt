@@ -178,17 +178,3 @@ operation_code at Min are_truths a b = choice at Min a b
 operation_code at Max are_truths a b = choice at Max a b
 operation_code at Within are_truths a b = within_code at a b
 operation_code at op are_truths a b = native at op a b
-
--- The value of the operation is 0 or 1.
-unfoldable pub gives_truth : Op → Bool → Bool
-gives_truth Eq are_truths = true
-gives_truth Ne are_truths = true
-gives_truth Lt are_truths = true
-gives_truth Le are_truths = true
-gives_truth Gt are_truths = true
-gives_truth Ge are_truths = true
-gives_truth And are_truths = true
-gives_truth Or are_truths = true
-gives_truth BitAnd are_truths = are_truths
-gives_truth BitOr are_truths = are_truths
-gives_truth _ are_truths = false

@@ -8,13 +8,13 @@ use Rattle.pram_step.specs.Runs.{state_after, IsReached}
 use Rattle.pardo_text.specs.declared.statement.Line.{Line}
 use Rattle.pardo_text.specs.Program.{ProgramData}
 use Rattle.pardo_text.specs.Reading.{program_of, IsReaderRefusal as IsTextRefusal}
+use Rattle.pardo_flat.specs.Flat.{IsTooWide, flat}
 use Rattle.pardo_job.specs.declared.fault.JobKind.{JobKind}
 use Rattle.pardo_job.specs.declared.fault.JobKind.TheVariants.{TooDeep, TooLong, Endless, Memory}
 use Rattle.pardo_job.specs.declared.fault.JobKind.TheVariants.{TooManyCells}
 use Rattle.pardo_job.specs.declared.fault.Refusal.{Refusal}
 use Rattle.pardo_job.specs.declared.fault.Refusal.TheVariants.{Text, Job}
 use Rattle.pardo_job.specs.declared.limits.TheConstants.{MAX_STEPS}
-use Rattle.pardo_job.specs.Flat.{IsTooWide, flat}
 use Rattle.pardo_job.specs.Lines.{job_of, length_of_line, line_code, place_of}
 use Rattle.pardo_job.specs.Operations.{is_shallow}
 

@@ -13,8 +13,8 @@ use Rattle.pardo_text.specs.declared.expression.Node.TheVariants.{Place}
 use Rattle.pardo_text.specs.Expression.{Tree, place, apply}
 use Rattle.pardo_text.specs.Operations.{bit}
 use Rattle.pardo_text.specs.Program.{ProgramData}
+use Rattle.pardo_flat.specs.Flat.{first_flat_of, flat}
 use Rattle.pardo_job.specs.declared.times.CountedLine.{CountedLine}
-use Rattle.pardo_job.specs.Flat.{first_flat_of, flat}
 use Rattle.pardo_job.specs.Lines.{place_of}
 use Rattle.pardo_job.specs.Meaning.{Source, after, is_active}
 use Rattle.pardo_job.specs.Runs.{IsProgramConflict, IsProgramEnd}

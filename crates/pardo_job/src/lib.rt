@@ -7,16 +7,13 @@ mod fault;
 mod flat;
 mod held;
 pub mod laws;
-mod layout;
 pub mod limits;
 mod lines;
 mod long;
-mod needs;
 mod operations;
 mod pieces;
 mod places;
 mod run;
-mod splitter;
 mod times;
 mod values;
 

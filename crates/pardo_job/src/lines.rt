@@ -4,21 +4,21 @@ ghost use Rattle.std.specs.Prelude.{slice_index, vec_len};
 ghost use Rattle.pram_job.specs.declared.limits.TheConstants.{MAX_CODE as MOST};
 ghost use Rattle.pram_job.specs.declared.instr.Instr.TheVariants.{Jz as JzTo, Jmp as JmpTo};
 ghost use Rattle.pardo_text.specs.Lawful.{IsLine, IsProgram, IsStatement, bounds_of};
+ghost use Rattle.pardo_flat.specs.Layouts.{program_layout};
 ghost use Rattle.pardo_job.specs.Inner.Emitting.{PutsCode};
 ghost use Rattle.pardo_job.specs.Inner.Pieces.{PutsLine, choice_code, rest_code, under};
-ghost use Rattle.pardo_job.specs.Layouts.{program_layout};
 ghost use Rattle.pardo_job.specs.Lines.{choosing, idle, line_code, loop_end, masked, next_value};
 ghost use Rattle.pardo_job.specs.Lines.{others};
 ghost use Rattle.pardo_job.specs.Operations.{is_shallow};
 
 use crate::fault::JobKind;
-use crate::layout::Layout;
 use crate::operations::put;
 use crate::pieces::{
     none_test, put_all, put_assignment, put_condition, put_first_value, put_load, put_store,
     put_while_test,
 };
 use crate::values::put_value;
+use pardo_flat::Layout;
 use pardo_text::{Line, Program, Statement};
 use pram_job::limits::MAX_CODE;
 use pram_job::{Instr, Operand};

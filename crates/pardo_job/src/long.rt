@@ -4,20 +4,20 @@ ghost use Rattle.std.specs.Prelude.{◌≡◌, ◌<◌, ◌≤◌, ℕ, length, 
 ghost use Rattle.std.specs.Prelude.{slice_index};
 ghost use Rattle.pram_job.specs.declared.limits.TheConstants.{MAX_CODE as MOST};
 ghost use Rattle.pardo_text.specs.Lawful.{IsLine, IsProgram, bounds_of};
+ghost use Rattle.pardo_flat.specs.Layouts.{ProgramLayoutData};
 ghost use Rattle.pardo_job.specs.Inner.Emitting.{IsCodeFault};
 ghost use Rattle.pardo_job.specs.Inner.Nodes.{held_of};
 ghost use Rattle.pardo_job.specs.Inner.Pieces.{IsLineFault, bounds_code};
 ghost use Rattle.pardo_job.specs.Lawful.{IsLawfulTree};
-ghost use Rattle.pardo_job.specs.Layouts.{ProgramLayoutData};
 ghost use Rattle.pardo_job.specs.Lines.{line_code};
 ghost use Rattle.pardo_job.specs.Operations.{is_shallow, taken_by};
 ghost use Rattle.pardo_job.specs.Values.{takes, value_code};
 
 use crate::fault::JobKind;
 use crate::held::{Held, Stack, taken_by};
-use crate::layout::Layout;
 use crate::lines::Listing;
 use crate::values::put_node;
+use pardo_flat::Layout;
 use pardo_text::{Expr, Line, Statement, Target};
 use pram_job::limits::MAX_CODE;
 use std::alloc::Global;

@@ -6,7 +6,7 @@ ghost use Rattle.pardo_job.specs.Operations.{target_of, instruction_of, is_turne
 ghost use Rattle.pardo_job.specs.Operations.{register_or_spare, native, in_order};
 ghost use Rattle.pardo_job.specs.Operations.{negation, copy_code, choice};
 ghost use Rattle.pardo_job.specs.Operations.{zero_test, tested_in, conjunction, operation_code};
-ghost use Rattle.pardo_job.specs.Operations.{gives_truth, chosen_of, is_max, within_code};
+ghost use Rattle.pardo_job.specs.Operations.{chosen_of, is_max, within_code};
 
 use crate::fault::JobKind;
 use crate::held::{Held, OWN, taken_by};
@@ -52,18 +52,6 @@ pub(crate) fn put_operation(
         Op::Min | Op::Max => put_choice(code, at, op, a, b),
         Op::Within => put_within(code, at, a, b),
         _ => put_native(code, at, op, a, b),
-    }
-}
-
-/// Whether the value of an operation is 0 or 1 whatever its operands are, or where they are.
-#[tactic(auto, unfolding(crate::specs::Operations::gives_truth))]
-pub(crate) fn gives_truth(op: Op, are_truths: bool) -> bool
-    ensures { result ≡ gives_truth op are_truths }
-{
-    match op {
-        Op::Eq | Op::Ne | Op::Lt | Op::Le | Op::Gt | Op::Ge | Op::And | Op::Or => true,
-        Op::BitAnd | Op::BitOr => are_truths,
-        _ => false,
     }
 }
 

@@ -16,9 +16,9 @@ ghost use Rattle.pardo_job.specs.Values.{value_operand, own_load, own_place};
 
 use crate::fault::JobKind;
 use crate::held::{OWN, taken_by};
-use crate::layout::Layout;
 use crate::operations::{put, put_native, put_register};
 use crate::values::put_value;
+use pardo_flat::Layout;
 use pardo_text::{Expr, Op, Target};
 use pram_job::{Array, Instr, Operand, Place};
 use std::alloc::Global;

@@ -10,8 +10,8 @@ ghost use Rattle.pardo_job.specs.Refusals.{IsLinesFault, line_numbers};
 
 use crate::fault::{JobFault, JobKind};
 use crate::held::OWN;
-use crate::layout::Layout;
 use crate::lines::Listing;
+use pardo_flat::Layout;
 use pardo_text::{Line, Program};
 use pram_job::Instr;
 use pram_job::limits::MAX_CODE;

@@ -11,8 +11,8 @@ ghost use Rattle.pardo_job.specs.Values.{own_load, takes, value_code};
 
 use crate::fault::JobKind;
 use crate::held::{Held, OWN, Stack};
-use crate::layout::Layout;
-use crate::operations::{gives_truth, put, put_operation};
+use crate::operations::{put, put_operation};
+use pardo_flat::{Layout, gives_truth};
 use pardo_text::{Expr, Node};
 use pram_job::{Array, Instr, Operand, Place};
 use std::alloc::Global;

@@ -17,9 +17,9 @@ use Rattle.pardo_text.specs.Expression.{Tree}
 use Rattle.pardo_text.specs.Lawful.{IsExpression, bounds_of}
 use Rattle.pardo_text.specs.Operations.{bit}
 use Rattle.pardo_text.specs.Program.{ProgramData}
-use Rattle.pardo_job.specs.Layouts.{program_layout, private_cells}
-use Rattle.pardo_job.specs.Layouts.{mask_cells}
-use Rattle.pardo_job.specs.Layouts.{array_cells}
+use Rattle.pardo_flat.specs.Layouts.{program_layout, private_cells}
+use Rattle.pardo_flat.specs.Layouts.{mask_cells}
+use Rattle.pardo_flat.specs.Layouts.{array_cells}
 use Rattle.pardo_job.specs.Lines.{masked, choosing, others, own_store, place_of}
 use Rattle.pardo_job.specs.Lines.{condition_code}
 use Rattle.pardo_job.specs.Meaning.{Source, value, is_active, is_true, losing, on_to}

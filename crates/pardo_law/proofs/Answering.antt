@@ -12,10 +12,10 @@ use Rattle.pram_machine.specs.Machine.{State}
 use Rattle.pram_step.specs.Runs.{state_after, IsAnswer}
 use Rattle.pram_step.proofs.LawAnswer.{one_answer}
 use Rattle.pardo_text.specs.Program.{ProgramData}
+use Rattle.pardo_flat.specs.Flat.{flat}
+use Rattle.pardo_flat.specs.Layouts.{program_layout}
 use Rattle.pardo_job.specs.Carries.{Carries, EndsAs}
 use Rattle.pram_step.specs.declared.answer.Dispute.{Dispute}
-use Rattle.pardo_job.specs.Flat.{flat}
-use Rattle.pardo_job.specs.Layouts.{program_layout}
 use Rattle.pardo_job.specs.Meaning.{after}
 use Rattle.pardo_job.specs.Runs.{IsLineReached, IsProgramEnd, IsProgramConflict}
 use Rattle.pardo_law.specs.Theorem.{ProgramEndsIn, RunsEndOnce, IsAnswerOf, AnswersAreThePrograms}

@@ -18,11 +18,11 @@ use Rattle.pram_step.proofs.LawCounters.{stopped_processor}
 use Rattle.pram_step.proofs.LawStopped.{stopped_request}
 use Rattle.pardo_text.specs.declared.statement.Line.{Line}
 use Rattle.pardo_text.specs.Program.{ProgramData}
+use Rattle.pardo_flat.specs.Layouts.{program_layout}
 use Rattle.pardo_job.specs.Carries.{ComesFrom}
 use Rattle.pardo_job.specs.Compiled.{AreLineNumbers, IsWhole}
 use Rattle.pram_step.specs.declared.answer.Dispute.{Dispute}
 use Rattle.pardo_job.specs.Conflicts.{LineAgrees, IsLineDispute, Assigns}
-use Rattle.pardo_job.specs.Layouts.{program_layout}
 use Rattle.pardo_job.specs.Lines.{place_of}
 use Rattle.pardo_job.specs.Meaning.{Source, after, after_statement, asked_in}
 use Rattle.pardo_job.specs.Runs.{IsProgramConflict, IsProgramEnd, IsProgramOver, IsLineReached}

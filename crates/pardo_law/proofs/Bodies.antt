@@ -12,7 +12,7 @@ use Rattle.pram_job.specs.declared.instr.Instr.TheVariants.{St, Jz, Jmp}
 use Rattle.pram_job.specs.declared.instr.Operand.{Operand}
 use Rattle.pram_job.specs.declared.instr.Operand.TheVariants.{Register}
 use Rattle.pram_job.specs.Job.{JobData}
-use Rattle.pardo_job.specs.Layouts.{ProgramLayoutData, mask_cells}
+use Rattle.pardo_flat.specs.Layouts.{ProgramLayoutData, mask_cells}
 use Rattle.pardo_job.specs.Lines.{idle, own_store}
 use Rattle.pardo_job.specs.Straight.{Registers, put, operand_in, after_one, after_all}
 use Rattle.pardo_job.specs.Values.{own_place, own_load}

@@ -18,8 +18,9 @@ use Rattle.pardo_text.specs.declared.statement.Statement.TheVariants.{Assign, If
 use Rattle.pardo_text.specs.declared.statement.Statement.TheVariants.{While, EndWhile, EndFor}
 use Rattle.pardo_text.specs.declared.statement.Target.TheVariants.{Private, Array as Shared}
 use Rattle.pardo_text.specs.Program.{ProgramData}
-use Rattle.pardo_job.specs.Layouts.{ProgramLayoutData, program_layout}
-use Rattle.pardo_job.specs.Layouts.{mask_cells}
+use Rattle.pardo_flat.specs.Layouts.{ProgramLayoutData, program_layout}
+use Rattle.pardo_flat.specs.Layouts.{mask_cells}
+use Rattle.pardo_flat.specs.Statements.{statement_at}
 use Rattle.pardo_job.specs.Lines.{idle, masked, choosing, others, own_store, place_of}
 use Rattle.pardo_job.specs.Lines.{length_of_line}
 use Rattle.pardo_job.specs.Lines.{condition_code, while_code, none_code}
@@ -27,7 +28,6 @@ use Rattle.pardo_job.specs.Lines.{turn_code}
 use Rattle.pardo_job.specs.Meaning.{Source, value, common_value}
 use Rattle.pardo_job.specs.Meaning.{asked_in}
 use Rattle.pardo_job.specs.Meaning.{has_none}
-use Rattle.pardo_job.specs.Meaning.{statement_at}
 use Rattle.pardo_job.specs.Operations.{is_shallow}
 use Rattle.pardo_job.specs.Values.{value_code, own_load}
 use Rattle.pardo_job.proofs.Assigning.{both_code}

@@ -19,20 +19,21 @@ use Rattle.pardo_text.specs.Expression.{Tree}
 use Rattle.pardo_text.specs.Lawful.{IsLine, IsStatement, masks_of, bounds_of}
 use Rattle.pardo_text.specs.Program.{ProgramData}
 use Rattle.pram_step.specs.Disputes.{Forbids}
+use Rattle.pardo_flat.specs.Layouts.{ProgramLayoutData, program_layout, array_cells, loop_cells}
+use Rattle.pardo_flat.specs.Statements.{statement_at}
+pub use Rattle.pardo_flat.proofs.FlatLines.{all_at}
 use Rattle.pardo_job.specs.Conflicts.{LineAgrees}
-use Rattle.pardo_job.specs.Layouts.{ProgramLayoutData, program_layout, array_cells, loop_cells}
 use Rattle.pardo_job.specs.Lines.{line_code, loop_end, place_of, assignment_code}
 use Rattle.pardo_job.specs.Lines.{masked, none_code, turn_code, while_code}
 use Rattle.pardo_job.specs.Lines.{next_value, own_store}
 use Rattle.pardo_job.specs.Meaning.{Source, after, next, after_statement, asked_in, loop_ended}
-use Rattle.pardo_job.specs.Meaning.{statement_at, on_to, losing, write_of}
+use Rattle.pardo_job.specs.Meaning.{on_to, losing, write_of}
 use Rattle.pardo_job.specs.Operations.{is_shallow, register_or_spare}
 use Rattle.pardo_job.specs.Runs.{IsProgramOver, IsLineReached}
 use Rattle.pardo_job.specs.Values.{value_code, value_operand, takes}
 use Rattle.pardo_job.proofs.Assigning.{both_code}
 use Rattle.pardo_job.proofs.Meanings.{next_at, asked_at}
 use Rattle.pardo_job.proofs.Shallow.{shallow_front}
-pub use Rattle.pardo_job.proofs.FlatLines.{all_at}
 use Rattle.pardo_law.specs.Locals.{HasCodeAt}
 use Rattle.pardo_law.proofs.Carried.{Carried, Advance, AgreesIn, cost, loop_cost, shallow_masked}
 use Rattle.pardo_law.proofs.Carried.{shallow_choosing}

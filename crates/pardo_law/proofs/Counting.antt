@@ -19,7 +19,7 @@ use Rattle.pardo_text.specs.declared.statement.Statement.TheVariants.{While, End
 use Rattle.pardo_text.specs.declared.statement.Target.TheVariants.{Private, Array as Shared}
 use Rattle.pardo_text.specs.Operations.{bit}
 use Rattle.pardo_text.specs.Program.{ProgramData}
-use Rattle.pardo_job.specs.Layouts.{mask_cells, program_layout}
+use Rattle.pardo_flat.specs.Layouts.{mask_cells, program_layout}
 use Rattle.pardo_job.specs.Lines.{assignment_code, choosing, condition_code, line_code, masked}
 use Rattle.pardo_job.specs.Lines.{idle, own_store, place_of}
 use Rattle.pardo_job.specs.Meaning.{Source, is_active}

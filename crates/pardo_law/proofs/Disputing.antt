@@ -18,9 +18,9 @@ use Rattle.pardo_text.specs.declared.statement.Target.TheVariants.{Private, Arra
 use Rattle.pardo_text.specs.Expression.{Tree}
 use Rattle.pardo_text.specs.Lawful.{IsStatement, bounds_of}
 use Rattle.pardo_text.specs.Program.{ProgramData}
+use Rattle.pardo_flat.specs.Layouts.{program_layout}
 use Rattle.pardo_job.specs.Compiled.{AreLineNumbers}
 use Rattle.pardo_job.specs.Conflicts.{LineAgrees, LineClashes, Assigns, IsLineDispute, asked}
-use Rattle.pardo_job.specs.Layouts.{program_layout}
 use Rattle.pardo_job.specs.Lines.{line_code, place_of}
 use Rattle.pardo_job.specs.Meaning.{Source, asked_in, losing, write_of}
 use Rattle.pardo_job.specs.Operations.{is_shallow}

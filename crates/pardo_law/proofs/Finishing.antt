@@ -15,11 +15,12 @@ use Rattle.pardo_text.specs.declared.statement.Statement.TheVariants.{Assign, If
 use Rattle.pardo_text.specs.declared.statement.Statement.TheVariants.{While, EndWhile, For, EndFor}
 use Rattle.pardo_text.specs.declared.statement.Target.TheVariants.{Private, Array as Shared}
 use Rattle.pardo_text.specs.Program.{ProgramData}
+use Rattle.pardo_flat.specs.Statements.{statement_at}
 use Rattle.pardo_job.specs.Compiled.{IsWhole}
 use Rattle.pram_step.specs.declared.answer.Dispute.{Dispute}
 use Rattle.pardo_job.specs.Conflicts.{LineAgrees, IsLineDispute}
 use Rattle.pardo_job.specs.Lines.{others, place_of}
-use Rattle.pardo_job.specs.Meaning.{Source, after, after_statement, statement_at, common_value}
+use Rattle.pardo_job.specs.Meaning.{Source, after, after_statement, common_value}
 use Rattle.pardo_job.specs.Meaning.{has_none}
 use Rattle.pardo_job.specs.Runs.{IsProgramOver, AllGone, IsLineReached, IsProgramEnd}
 use Rattle.pardo_job.specs.Runs.{IsProgramConflict}

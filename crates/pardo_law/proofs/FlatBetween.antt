@@ -13,16 +13,17 @@ use Rattle.pram_step.specs.Runs as machine
 use Rattle.pardo_text.specs.declared.statement.Line.{Line}
 use Rattle.pardo_text.specs.Lawful.{IsProgram}
 use Rattle.pardo_text.specs.Program.{ProgramData}
+use Rattle.pardo_flat.specs.Layouts.{private_cells, program_layout}
+use Rattle.pardo_flat.specs.Flat.{flat, most_pieces, nameless, pieces_of}
+use Rattle.pardo_flat.proofs.FlatLines.{none_stands}
 use Rattle.pardo_job.specs.Compiled.{AreLineNumbers, IsWhole}
 use Rattle.pardo_job.specs.Conflicts.{Assigns, asked}
-use Rattle.pardo_job.specs.Layouts.{private_cells, program_layout}
 use Rattle.pardo_job.specs.Lines.{place_of}
 use Rattle.pardo_job.specs.Meaning.{Source, after, asked_in}
 use Rattle.pardo_job.specs.Runs.{AllGone, IsLineReached, IsProgramOver, line_number}
 use Rattle.pardo_job.specs.Shows.{own_cell}
 use Rattle.pardo_law.specs.Between.{AreLinesMade, Executes, HoldsVariables, IsInLine, LeavesIn}
 use Rattle.pardo_law.specs.Between.{PutsTo}
-use Rattle.pardo_job.specs.Flat.{flat, most_pieces, nameless, pieces_of}
 use Rattle.pardo_law.specs.Between.{JobsGoThrough}
 use Rattle.pardo_job.specs.Carries.{Shares}
 use Rattle.pardo_law.specs.Flattening.{flat_count}
@@ -33,7 +34,6 @@ use Rattle.pardo_law.proofs.FlatCarrying.{carries_flat, count_next, few_in, find
 use Rattle.pardo_law.proofs.FlatCarrying.{keeps_line, line_next_in}
 use Rattle.pardo_law.proofs.FlatCarrying.{no_line_after, none_next, of_flat, over_to, pieces_next}
 use Rattle.pardo_law.proofs.FlatCarrying.{same_number, stands, time, time_flat, time_rises}
-use Rattle.pardo_job.proofs.FlatLines.{none_stands}
 use Rattle.pardo_law.proofs.Picturing.{IsOf, procs_are}
 use Rattle.pardo_law.proofs.Showing.{out_shows}
 

@@ -19,19 +19,21 @@ use Rattle.pardo_text.specs.declared.statement.Target.TheVariants.{Private, Arra
 use Rattle.pardo_text.specs.Lawful.{IsLine, IsProgram, IsStatement, bounds_of}
 use Rattle.pardo_text.specs.Nested.{IsNested}
 use Rattle.pardo_text.specs.Program.{ProgramData, shared_cells}
+use Rattle.pardo_flat.specs.Layouts.{cell_count, program_layout}
+use Rattle.pardo_flat.specs.Statements.{statement_at}
+use Rattle.pardo_flat.specs.Flat.{first_flat_of, flat, is_common, last_line, pieces_of}
+use Rattle.pardo_flat.proofs.FlatLines.{flat_at, flat_end, last_stands}
 use Rattle.pardo_job.specs.Carries.{EndsAs}
 use Rattle.pardo_job.specs.Compiled.{AreLineNumbers, IsCompiled, IsWhole}
 use Rattle.pardo_job.specs.Conflicts.{LineAgrees, IsLineDispute, asked}
-use Rattle.pardo_job.specs.Layouts.{cell_count, program_layout}
 use Rattle.pardo_job.specs.Leaving.{GoneIn}
 use Rattle.pardo_job.specs.Lines.{job_of}
 use Rattle.pardo_job.specs.Meaning.{Source, after, after_statement, common_value, has_none}
-use Rattle.pardo_job.specs.Meaning.{by_common, loop_ended, next, next_turn, on_to, statement_at}
+use Rattle.pardo_job.specs.Meaning.{by_common, loop_ended, next, next_turn, on_to}
 use Rattle.pardo_job.specs.Meaning.{turned}
 use Rattle.pardo_job.specs.Runs.{AllGone, IsLineReached, IsProgramConflict, IsProgramEnd}
 use Rattle.pardo_job.specs.Runs.{IsProgramOver, line_number}
 use Rattle.pardo_job.proofs.Meanings.{next_at, outside_is_unchanged}
-use Rattle.pardo_job.specs.Flat.{first_flat_of, flat, is_common, last_line, pieces_of}
 use Rattle.pardo_job.specs.Carries.{Carries}
 use Rattle.pardo_law.specs.Theorem.{JobsCarryPrograms}
 use Rattle.pardo_law.specs.Flattening.{IsLeft, KeepsLine, KeepsRun}
@@ -46,7 +48,6 @@ use Rattle.pardo_law.proofs.Ending.{done, ends_as}
 use Rattle.pardo_law.proofs.Finishing.{finishes, reached_next}
 use Rattle.pardo_job.proofs.FlatCompiled.{compiled_lawful}
 use Rattle.pardo_law.proofs.FlatLawful.{flat_tied}
-use Rattle.pardo_job.proofs.FlatLines.{flat_at, flat_end, last_stands}
 use Rattle.pardo_law.proofs.FlatStates.{some_at}
 use Rattle.pardo_law.proofs.Flattening.{after_next, flattening_keeps_runs, gone_later, no_more}
 use Rattle.pardo_law.proofs.Flattening.{none_asked, size}

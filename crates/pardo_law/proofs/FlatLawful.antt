@@ -13,12 +13,12 @@ use Rattle.pardo_text.specs.declared.statement.Statement.TheVariants.{While, End
 use Rattle.pardo_text.specs.declared.statement.Target.TheVariants.{Private, Array as Shared}
 use Rattle.pardo_text.specs.Expression.{Tree}
 use Rattle.pardo_text.specs.Program.{ProgramData}
-use Rattle.pardo_job.specs.Meaning.{statement_at}
-use Rattle.pardo_job.specs.Flat.{base_of, fits, flat, giving, is_common, last_line, last_of}
-use Rattle.pardo_job.specs.Flat.{lines_for, moved_statement, pieces_of, split_statement}
-use Rattle.pardo_job.specs.Flat.{statement_parts}
-use Rattle.pardo_job.proofs.FlatLines.{get_back, get_front, hidden_for, hidden_is, last_is}
-use Rattle.pardo_job.proofs.FlatLines.{last_stands, length-hidden}
+use Rattle.pardo_flat.specs.Statements.{statement_at}
+use Rattle.pardo_flat.specs.Flat.{base_of, fits, flat, giving, is_common, last_line, last_of}
+use Rattle.pardo_flat.specs.Flat.{lines_for, moved_statement, pieces_of, split_statement}
+use Rattle.pardo_flat.specs.Flat.{statement_parts}
+use Rattle.pardo_flat.proofs.FlatLines.{get_back, get_front, hidden_for, hidden_is, last_is}
+use Rattle.pardo_flat.proofs.FlatLines.{last_stands, length-hidden}
 use Rattle.pardo_law.proofs.Picturing.{IsFor, TurnsAreTied}
 
 -- ---- loops

@@ -16,14 +16,17 @@ use Rattle.pardo_text.specs.declared.operation.Op.TheVariants.{BitAnd, BitOr, Bi
 use Rattle.pardo_text.specs.declared.operation.Op.TheVariants.{Lt, Le, Gt, Ge, And, Or, Min, Max}
 use Rattle.pardo_text.specs.declared.operation.Op.TheVariants.{Within}
 use Rattle.pardo_text.specs.Expression.{Tree, number, own, loop, private, place, apply}
-use Rattle.pardo_job.specs.Flat.{ShapeData, applied_shape, beside, computed_shape, first_need, has_room}
-use Rattle.pardo_job.specs.Flat.{is_beside}
-use Rattle.pardo_job.specs.Flat.{operation_need, shape_of, split, split_last, variable}
-use Rattle.pardo_job.specs.Flat.{taken}
-use Rattle.pardo_job.specs.Layouts.{ProgramLayoutData, array_cells, loop_cells}
-use Rattle.pardo_job.specs.Layouts.{private_cells}
+use Rattle.pardo_flat.specs.Flat.{ShapeData, applied_shape, beside, computed_shape, first_need}
+use Rattle.pardo_flat.specs.Flat.{has_room}
+use Rattle.pardo_flat.specs.Flat.{is_beside}
+use Rattle.pardo_flat.specs.Flat.{operation_need, shape_of, split, split_last, variable}
+use Rattle.pardo_flat.specs.Flat.{taken}
+use Rattle.pardo_flat.specs.Layouts.{ProgramLayoutData, array_cells, loop_cells}
+use Rattle.pardo_flat.specs.Layouts.{private_cells}
+use Rattle.pardo_flat.specs.Flat.{gives_truth}
+use Rattle.pardo_flat.proofs.Splitters.{shape-variable}
 use Rattle.pardo_job.specs.Operations.{choice, chosen_of, conjunction, copy_code, first_chosen}
-use Rattle.pardo_job.specs.Operations.{gives_truth, in_order, instruction_of, is_max, is_shallow}
+use Rattle.pardo_job.specs.Operations.{in_order, instruction_of, is_max, is_shallow}
 use Rattle.pardo_job.specs.Operations.{is_turned, native, negation, operation_code}
 use Rattle.pardo_job.specs.Operations.{register_or_spare, second_chosen, taken_by, target_of}
 use Rattle.pardo_job.specs.Operations.{index_code, test_register, tested_in, within_code, zero_test}
@@ -32,7 +35,6 @@ use Rattle.pardo_job.specs.Values.{value_operand}
 use Rattle.pardo_job.proofs.Choices.{taken_none, taken_one}
 use Rattle.pardo_job.proofs.Emitting.{shallow_both}
 use Rattle.pardo_job.proofs.Shallow.{instruction_target}
-use Rattle.pardo_job.proofs.Splitters.{shape-variable}
 
 -- ---- instructions
 

@@ -20,21 +20,22 @@ use Rattle.pardo_text.specs.declared.statement.Statement.TheVariants.{While, End
 use Rattle.pardo_text.specs.declared.statement.Target.TheVariants.{Private, Array as Shared}
 use Rattle.pardo_text.specs.Program.{ProgramData}
 use Rattle.pardo_text.specs.Expression.{Tree, number}
-use Rattle.pardo_job.specs.Flat.{ShapeData, base_of, beside, first_flat_of, fits, flat, giving}
-use Rattle.pardo_job.specs.Flat.{has_room, hidden, is_common, last_line, last_of, last_pieces}
-use Rattle.pardo_job.specs.Flat.{line_parts, lines_for, moved_statement, pieces_of, shape_of, split}
-use Rattle.pardo_job.specs.Flat.{split_last, split_statement, statement_parts, taken}
-use Rattle.pardo_job.specs.Layouts.{ProgramLayoutData, array_cells, loop_cells, mask_cells}
-use Rattle.pardo_job.specs.Layouts.{private_cells, program_layout}
+use Rattle.pardo_flat.specs.Flat.{ShapeData, base_of, beside, first_flat_of, fits, flat, giving}
+use Rattle.pardo_flat.specs.Flat.{has_room, hidden, is_common, last_line, last_of, last_pieces}
+use Rattle.pardo_flat.specs.Flat.{line_parts, lines_for, moved_statement, pieces_of, shape_of}
+use Rattle.pardo_flat.specs.Flat.{split}
+use Rattle.pardo_flat.specs.Flat.{split_last, split_statement, statement_parts, taken}
+use Rattle.pardo_flat.specs.Layouts.{ProgramLayoutData, array_cells, loop_cells, mask_cells}
+use Rattle.pardo_flat.specs.Layouts.{private_cells, program_layout}
+use Rattle.pardo_flat.specs.Statements.{statement_at}
+use Rattle.pardo_flat.proofs.FlatLines.{hidden_for}
 use Rattle.pardo_job.specs.Lines.{assignment_code, choosing, condition_code, first_code, idle}
 use Rattle.pardo_job.specs.Lines.{line_code, loop_end, masked, next_value, none_code, others}
 use Rattle.pardo_job.specs.Lines.{own_store, turn_code, while_code}
-use Rattle.pardo_job.specs.Meaning.{statement_at}
 use Rattle.pardo_job.specs.Operations.{is_shallow, native, register_code, register_or_spare}
 use Rattle.pardo_job.specs.Refusals.{is_level}
 use Rattle.pardo_job.specs.Values.{is_truth, own_load, own_place, takes, value_code}
 use Rattle.pardo_job.specs.Values.{value_operand}
-use Rattle.pardo_job.proofs.FlatLines.{hidden_for}
 use Rattle.pardo_law.specs.FlatLevels.{FlatLinesAreLevel}
 use Rattle.pardo_law.proofs.Carrying.{all_at}
 use Rattle.pardo_law.proofs.FlatLawful.{located}

@@ -16,22 +16,23 @@ use Rattle.pardo_text.specs.Expression.{Tree, number, own, loop, private, place,
 use Rattle.pardo_text.specs.Lawful.{Bounds, IsExpression, IsLine, IsProgram, IsStatement, bounds_of}
 use Rattle.pardo_text.specs.Operations.{worked_out}
 use Rattle.pardo_text.specs.Program.{ProgramData}
+use Rattle.pardo_flat.specs.Statements.{statement_at}
+use Rattle.pardo_flat.specs.Flat.{first_flat_of, fits, flat, has_room, is_common}
+use Rattle.pardo_flat.specs.Flat.{last_line, last_of, last_pieces, line_parts, moved_statement}
+use Rattle.pardo_flat.specs.Flat.{shape_of, split, split_bounds, split_statement, split_store}
+use Rattle.pardo_flat.specs.Flat.{statement_parts, taken}
+use Rattle.pardo_flat.proofs.FlatLines.{flat_end, last_next, last_stands, last_is}
+pub use Rattle.pardo_flat.proofs.FlatLines.{some_at}
 use Rattle.pardo_job.specs.Meaning.{Source, value, array_cell, is_active, after_statement, losing}
 use Rattle.pardo_job.specs.Meaning.{asked_in, chosen, common_value, given_to, first_below, has_none}
 use Rattle.pardo_job.specs.Meaning.{abandoned, by_common, is_true, loop_ended, next_turn, on_to}
 use Rattle.pardo_job.specs.Meaning.{otherwise}
-use Rattle.pardo_job.specs.Meaning.{private_assigned, shared_assigned, statement_at, turned}
+use Rattle.pardo_job.specs.Meaning.{private_assigned, shared_assigned, turned}
 use Rattle.pardo_job.specs.Meaning.{value_written, write_of}
-use Rattle.pardo_job.specs.Flat.{first_flat_of, fits, flat, has_room, is_common}
-use Rattle.pardo_job.specs.Flat.{last_line, last_of, last_pieces, line_parts, moved_statement}
-use Rattle.pardo_job.specs.Flat.{shape_of, split, split_bounds, split_statement, split_store}
-use Rattle.pardo_job.specs.Flat.{statement_parts, taken}
 use Rattle.pardo_job.specs.Carries.{Shares, StandsFor}
 use Rattle.pardo_law.proofs.Carrying.{all_at}
 use Rattle.pardo_law.proofs.LoopPieces.{Held}
 use Rattle.pardo_law.proofs.LoopPieces.{last_held}
-use Rattle.pardo_job.proofs.FlatLines.{flat_end, last_next, last_stands, last_is}
-pub use Rattle.pardo_job.proofs.FlatLines.{some_at}
 use Rattle.pardo_law.proofs.Splitting.{NoneOf, Ran, ReadsBelow, SameBoth, active_there, after_pieces}
 use Rattle.pardo_law.proofs.Splitting.{below_kept, beside_ran, cells_kept, gone_outside}
 use Rattle.pardo_law.proofs.Splitting.{inactive_gone, loops_kept, masks_kept, reads_more}

@@ -23,8 +23,9 @@ use Rattle.pardo_text.specs.Expression.{apply}
 use Rattle.pardo_text.specs.Lawful.{IsProgram}
 use Rattle.pardo_text.specs.Operations.{bit}
 use Rattle.pardo_text.specs.Program.{ProgramData}
+use Rattle.pardo_flat.specs.Flat.{first_flat_of, flat, is_common, pieces_of}
+use Rattle.pardo_flat.proofs.FlatLines.{first_next, flat_at, hidden_is, hidden_stands, last_stands}
 use Rattle.pardo_job.specs.Compiled.{AreLineNumbers, IsWhole}
-use Rattle.pardo_job.specs.Flat.{first_flat_of, flat, is_common, pieces_of}
 use Rattle.pardo_job.specs.Lines.{place_of}
 use Rattle.pardo_job.specs.Meaning.{after}
 use Rattle.pardo_job.specs.Runs.{IsLineReached, IsProgramConflict, IsProgramOver}
@@ -38,7 +39,6 @@ use Rattle.pardo_law.proofs.Counting.{taking_by}
 use Rattle.pardo_law.proofs.FlatCarrying.{all_back, count_next, ends_flat, in_line, keeps_line}
 use Rattle.pardo_law.proofs.FlatCarrying.{left_none, line_next_in}
 use Rattle.pardo_law.proofs.FlatCarrying.{made_flat, made_on, of_flat, over_to, stands}
-use Rattle.pardo_job.proofs.FlatLines.{first_next, flat_at, hidden_is, hidden_stands, last_stands}
 use Rattle.pardo_job.proofs.FlatFirsts.{FirstLine, first_line, first_only}
 use Rattle.pardo_law.proofs.Picturing.{IsOf}
 use Rattle.pardo_law.proofs.Telling.{CarriedAt, add_zero, all_told, at_end, at_start, begun, first}

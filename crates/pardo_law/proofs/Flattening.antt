@@ -17,19 +17,21 @@ use Rattle.pardo_text.specs.Expression.{Tree, number as numeral, own, loop, priv
 use Rattle.pardo_text.specs.Lawful.{Bounds, IsExpression, IsLine, IsProgram, IsStatement}
 use Rattle.pardo_text.specs.Lawful.{bounds_of}
 use Rattle.pardo_text.specs.Program.{PrivateData, ProgramData}
+use Rattle.pardo_flat.specs.Statements.{statement_at}
+use Rattle.pardo_flat.specs.Flat.{base_of, first_flat_of, fits, flat, giving, hidden, is_common}
+use Rattle.pardo_flat.specs.Flat.{last_line, last_of, last_pieces, line_parts, most_pieces}
+use Rattle.pardo_flat.specs.Flat.{moved_statement, nameless, pieces_of, split_statement}
+use Rattle.pardo_flat.specs.Flat.{statement_parts}
+use Rattle.pardo_flat.proofs.FlatLines.{first_next, get_front, hidden_is, hidden_stands}
+use Rattle.pardo_flat.proofs.FlatLines.{last_stands}
 use Rattle.pardo_job.specs.Conflicts.{asked}
 use Rattle.pardo_job.specs.Meaning.{Source, abandoned, after, after_statement, asked_in, by_common}
-use Rattle.pardo_job.specs.Meaning.{common_value, next, on_to, statement_at, turned}
+use Rattle.pardo_job.specs.Meaning.{common_value, next, on_to, turned}
 use Rattle.pardo_job.proofs.Meanings.{asked_at, gone_for_good, next_at}
-use Rattle.pardo_job.specs.Flat.{base_of, first_flat_of, fits, flat, giving, hidden, is_common}
-use Rattle.pardo_job.specs.Flat.{last_line, last_of, last_pieces, line_parts, most_pieces}
-use Rattle.pardo_job.specs.Flat.{moved_statement, nameless, pieces_of, split_statement}
-use Rattle.pardo_job.specs.Flat.{statement_parts}
 use Rattle.pardo_law.specs.Flattening.{FlatteningKeepsRuns, IsLeft, KeepsLine}
 use Rattle.pardo_job.specs.Carries.{Shares, StandsFor}
 use Rattle.pardo_law.specs.Flattening.{flat_count, size_next}
 use Rattle.pardo_law.proofs.Carrying.{all_at}
-use Rattle.pardo_job.proofs.FlatLines.{first_next, get_front, hidden_is, hidden_stands, last_stands}
 use Rattle.pardo_law.proofs.FlatStates.{IsOpening, line_stands, now_shares}
 use Rattle.pardo_law.proofs.LoopLines.{loop_cut, loop_line, opener_is, shares_kept}
 use Rattle.pardo_law.proofs.LoopPieces.{Cut, Let, LoopsBelow, PiecesBelow, after_lets}

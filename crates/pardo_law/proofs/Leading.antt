@@ -20,7 +20,7 @@ use Rattle.pardo_text.specs.declared.statement.Statement.TheVariants.{Assign, If
 use Rattle.pardo_text.specs.declared.statement.Statement.TheVariants.{While, EndWhile, For, EndFor}
 use Rattle.pardo_text.specs.declared.statement.Target.TheVariants.{Private, Array as Shared}
 use Rattle.pardo_text.specs.Program.{ProgramData}
-use Rattle.pardo_job.specs.Layouts.{ProgramLayoutData, program_layout, mask_cells}
+use Rattle.pardo_flat.specs.Layouts.{ProgramLayoutData, program_layout, mask_cells}
 use Rattle.pardo_job.specs.Lines.{idle, masked, choosing, own_store, line_code, assignment_code}
 use Rattle.pardo_job.specs.Lines.{condition_code}
 use Rattle.pardo_job.specs.Straight.{Registers}

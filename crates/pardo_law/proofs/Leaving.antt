@@ -15,11 +15,11 @@ use Rattle.pardo_text.specs.declared.statement.Statement.TheVariants.{Assign, If
 use Rattle.pardo_text.specs.declared.statement.Statement.TheVariants.{While, EndWhile, For, EndFor}
 use Rattle.pardo_text.specs.declared.statement.Target.TheVariants.{Private, Array as Shared}
 use Rattle.pardo_text.specs.Program.{ProgramData}
+use Rattle.pardo_flat.specs.Statements.{statement_at}
 use Rattle.pardo_job.specs.Compiled.{AreLineNumbers}
 use Rattle.pardo_job.specs.Leaving.{Leaves}
 use Rattle.pardo_job.specs.Lines.{place_of}
 use Rattle.pardo_job.specs.Meaning.{Source, after, next, after_statement, losing, loop_ended}
-use Rattle.pardo_job.specs.Meaning.{statement_at}
 use Rattle.pardo_job.specs.Meaning.{asked_in, by_common, common_value, has_none, is_active}
 use Rattle.pardo_job.specs.Meaning.{value, write_of}
 use Rattle.pardo_job.proofs.Meanings.{next_at, gone_for_good}

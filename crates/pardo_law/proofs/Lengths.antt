@@ -14,13 +14,13 @@ use Rattle.pardo_text.specs.declared.statement.Statement.{Statement}
 use Rattle.pardo_text.specs.declared.statement.Statement.TheVariants.{Assign, If, Else, EndIf}
 use Rattle.pardo_text.specs.declared.statement.Statement.TheVariants.{While, EndWhile, For, EndFor}
 use Rattle.pardo_text.specs.Program.{ProgramData}
-use Rattle.pardo_job.specs.Layouts.{ProgramLayoutData, program_layout, mask_cells, loop_cells}
+use Rattle.pardo_flat.specs.Layouts.{ProgramLayoutData, program_layout, mask_cells, loop_cells}
+use Rattle.pardo_flat.specs.Statements.{statement_at}
 use Rattle.pardo_job.specs.Lines.{idle, masked, choosing, line_code, loop_end, length_of_line}
 use Rattle.pardo_job.specs.Lines.{place_of}
 use Rattle.pardo_job.specs.Lines.{code_from, code_of, own_store, turn_code, next_value, while_code}
 use Rattle.pardo_job.specs.Lines.{none_code, first_code}
 use Rattle.pardo_job.specs.Operations.{register_or_spare}
-use Rattle.pardo_job.specs.Meaning.{statement_at}
 use Rattle.pardo_job.specs.Values.{own_load, value_operand}
 use Rattle.pardo_law.specs.Locals.{HasCodeAt}
 use Rattle.pardo_law.proofs.Placing.{stands_whole}

@@ -9,19 +9,20 @@ use Rattle.pardo_text.specs.declared.statement.Statement.TheVariants.{While, End
 use Rattle.pardo_text.specs.Expression.{Tree}
 use Rattle.pardo_text.specs.Lawful.{IsExpression, IsLine, IsProgram, IsStatement, bounds_of}
 use Rattle.pardo_text.specs.Program.{ProgramData}
+use Rattle.pardo_flat.specs.Statements.{statement_at}
+use Rattle.pardo_flat.specs.Flat.{bound_pieces, first_flat_of, fits, flat, is_common}
+use Rattle.pardo_flat.specs.Flat.{last_pieces, moved_statement}
+use Rattle.pardo_flat.specs.Flat.{split, split_bounds, split_statement}
+use Rattle.pardo_flat.specs.Flat.{statement_parts}
+use Rattle.pardo_flat.proofs.FlatLines.{some_at}
 use Rattle.pardo_job.specs.Meaning.{Source, after_statement}
 use Rattle.pardo_job.specs.Meaning.{common_value, has_none}
 use Rattle.pardo_job.specs.Meaning.{abandoned, by_common, loop_ended, next_turn, on_to}
-use Rattle.pardo_job.specs.Meaning.{statement_at, turned}
-use Rattle.pardo_job.specs.Flat.{bound_pieces, first_flat_of, fits, flat, is_common}
-use Rattle.pardo_job.specs.Flat.{last_pieces, moved_statement}
-use Rattle.pardo_job.specs.Flat.{split, split_bounds, split_statement}
-use Rattle.pardo_job.specs.Flat.{statement_parts}
+use Rattle.pardo_job.specs.Meaning.{turned}
 use Rattle.pardo_job.specs.Carries.{Shares, StandsFor}
 use Rattle.pardo_law.proofs.Carrying.{all_at}
 use Rattle.pardo_law.proofs.LoopPieces.{Cut, Fails, Kept, Whole, bounds_fail, bounds_held}
 use Rattle.pardo_law.proofs.LoopPieces.{last_fails, split_fails, split_held}
-use Rattle.pardo_job.proofs.FlatLines.{some_at}
 use Rattle.pardo_law.proofs.FlatStates.{IsOpening, for_stands, over_stands, turns_stand}
 use Rattle.pardo_law.proofs.FlatStates.{value_shared, while_stands}
 

@@ -8,8 +8,8 @@ use Rattle.pardo_text.specs.declared.operation.Op.{Op}
 use Rattle.pardo_text.specs.Expression.{Tree, number, own, loop, private, place, apply}
 use Rattle.pardo_text.specs.Operations.{worked_out}
 use Rattle.pardo_text.specs.Program.{ProgramData}
-use Rattle.pardo_job.specs.Flat.{beside, has_room, is_beside, shape_of, split, split_bounds}
-use Rattle.pardo_job.specs.Flat.{split_last}
+use Rattle.pardo_flat.specs.Flat.{beside, has_room, is_beside, shape_of, split, split_bounds}
+use Rattle.pardo_flat.specs.Flat.{split_last}
 use Rattle.pardo_job.specs.Meaning.{Source, abandoned, array_cell, by_common, common_value, on_to}
 use Rattle.pardo_job.specs.Meaning.{turned, value}
 

@@ -13,7 +13,7 @@ use Rattle.pardo_text.specs.Expression.{Tree}
 use Rattle.pardo_text.specs.Lawful.{IsCommonTree, IsProgram, bounds_of}
 use Rattle.pardo_text.specs.Operations.{bit, operation_value}
 use Rattle.pardo_text.specs.Program.{ProgramData}
-use Rattle.pardo_job.specs.Layouts.{program_layout, loop_cells}
+use Rattle.pardo_flat.specs.Layouts.{program_layout, loop_cells}
 use Rattle.pardo_job.specs.Lines.{while_code, none_code, first_code, turn_code, next_value}
 use Rattle.pardo_job.specs.Lines.{own_store, place_of}
 use Rattle.pardo_job.specs.Meaning.{Source, common_value, has_none, next_turn}

@@ -16,7 +16,7 @@ use Rattle.pardo_text.specs.Expression.{Tree}
 use Rattle.pardo_text.specs.Lawful.{IsExpression, IsProgram, bounds_of}
 use Rattle.pardo_text.specs.Operations.{bit}
 use Rattle.pardo_text.specs.Program.{ProgramData}
-use Rattle.pardo_job.specs.Layouts.{ProgramLayoutData, program_layout, mask_cells}
+use Rattle.pardo_flat.specs.Layouts.{ProgramLayoutData, program_layout, mask_cells}
 use Rattle.pardo_job.specs.Lines.{idle, masked, choosing, others, own_store, place_of}
 use Rattle.pardo_job.specs.Lines.{condition_code}
 use Rattle.pardo_job.specs.Meaning.{Source, value, is_active, losing}

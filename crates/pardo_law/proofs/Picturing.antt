@@ -13,12 +13,13 @@ use Rattle.pardo_text.specs.declared.statement.Statement.TheVariants.{For, EndFo
 use Rattle.pardo_text.specs.Lawful.{IsProgram}
 use Rattle.pardo_text.specs.Operations.{bit}
 use Rattle.pardo_text.specs.Program.{ProgramData}
+use Rattle.pardo_flat.specs.Layouts.{program_layout, private_cells, loop_cells, mask_cells}
+use Rattle.pardo_flat.specs.Layouts.{cell_count}
+use Rattle.pardo_flat.specs.Layouts.{start_values}
+use Rattle.pardo_flat.specs.Statements.{statement_at}
 use Rattle.pardo_job.specs.Compiled.{AreLevel}
-use Rattle.pardo_job.specs.Layouts.{program_layout, private_cells, loop_cells, mask_cells}
-use Rattle.pardo_job.specs.Layouts.{cell_count}
-use Rattle.pardo_job.specs.Layouts.{start_values}
 use Rattle.pardo_job.specs.Lines.{job_of, code_of, place_of}
-use Rattle.pardo_job.specs.Meaning.{Source, statement_at}
+use Rattle.pardo_job.specs.Meaning.{Source}
 use Rattle.pardo_job.specs.Sees.{Sees}
 use Rattle.pardo_law.specs.Locals.{Local, StandsAfter}
 use Rattle.pardo_law.proofs.Bodies.{IsThere}

@@ -15,10 +15,10 @@ use Rattle.pram_job.specs.Job.{JobData}
 use Rattle.pram_step.specs.Disputes.{Forbids}
 use Rattle.pardo_text.specs.Lawful.{AreArrays}
 use Rattle.pardo_text.specs.Program.{ProgramData, ArrayData, shared_cells}
-use Rattle.pardo_job.specs.Layouts.{ProgramLayoutData, row, cells_of_array, program_layout}
-use Rattle.pardo_job.specs.Layouts.{array_cells}
+use Rattle.pardo_flat.specs.Layouts.{ProgramLayoutData, row, cells_of_array, program_layout}
+use Rattle.pardo_flat.specs.Layouts.{array_cells}
+use Rattle.pardo_flat.proofs.Sharing.{shared_more}
 use Rattle.pardo_job.specs.Meaning.{array_cell, first_below, given_to}
-use Rattle.pardo_job.proofs.Sharing.{shared_more}
 use Rattle.pardo_law.specs.Locals.{StoresAgree, after_stores}
 use Rattle.pardo_law.proofs.Running.{first_none, first_some, given_of, given_none}
 

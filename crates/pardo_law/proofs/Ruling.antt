@@ -17,11 +17,12 @@ use Rattle.pardo_text.specs.declared.statement.Target.TheVariants.{Private, Arra
 use Rattle.pardo_text.specs.Program.{ProgramData}
 use Rattle.pram_step.proofs.Disputing.{one_least_clash}
 use Rattle.pram_step.specs.Disputes.{Forbids}
+use Rattle.pardo_flat.specs.Statements.{statement_at}
 use Rattle.pardo_job.specs.Conflicts.{LineAgrees, Assigns, asked}
 use Rattle.pardo_job.specs.Laws.{by_rule, RuleChangesNoState, CrewIsAccepted, AnyWriterCounts}
 use Rattle.pardo_job.specs.Laws.{UnwrittenIsKept, OneLineDispute}
 use Rattle.pardo_job.specs.Meaning.{Source, after, next, after_statement, asked_in, first_below}
-use Rattle.pardo_job.specs.Meaning.{given_to, loop_ended, statement_at}
+use Rattle.pardo_job.specs.Meaning.{given_to, loop_ended}
 use Rattle.pardo_job.specs.Meaning.{by_common, common_value, has_none}
 use Rattle.pardo_job.specs.Runs.{IsProgramOver}
 use Rattle.pardo_job.proofs.Meanings.{next_at, asked_at}

@@ -14,8 +14,8 @@ use Rattle.pardo_text.specs.declared.operation.Op.{Op}
 use Rattle.pardo_text.specs.Expression.{Tree, number, own, loop, private, place, apply}
 use Rattle.pardo_text.specs.Operations.{worked_out}
 use Rattle.pardo_text.specs.Program.{ProgramData}
+use Rattle.pardo_flat.specs.Flat.{beside, is_beside, shape_of, split}
 use Rattle.pardo_job.specs.Meaning.{Source, value, array_cell, is_active, after_statement}
-use Rattle.pardo_job.specs.Flat.{beside, is_beside, shape_of, split}
 
 -- ---- what an expression reads
 

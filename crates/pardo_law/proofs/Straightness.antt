@@ -11,7 +11,7 @@ use Rattle.pardo_text.specs.declared.operation.Op.TheVariants.{BitAnd, BitOr, Bi
 use Rattle.pardo_text.specs.declared.operation.Op.TheVariants.{Lt, Le, Gt, Ge, And, Or, Min, Max}
 use Rattle.pardo_text.specs.declared.operation.Op.TheVariants.{Within}
 use Rattle.pardo_text.specs.Expression.{Tree, number, own, loop, private, place, apply}
-use Rattle.pardo_job.specs.Layouts.{ProgramLayoutData}
+use Rattle.pardo_flat.specs.Layouts.{ProgramLayoutData}
 use Rattle.pardo_job.specs.Lines.{condition_code, while_code, none_code, turn_code}
 use Rattle.pardo_job.specs.Operations.{native, choice, conjunction, operation_code, negation}
 use Rattle.pardo_job.specs.Operations.{register_code, register_or_spare}

@@ -15,7 +15,7 @@ use Rattle.pardo_text.specs.Nested.{Belongs, IsNested, LinesLead, around, loops_
 use Rattle.pardo_text.specs.Program.{ProgramData}
 use Rattle.pardo_text.specs.Tests.{Known, known_after, known_of, lines_untested, loop_most}
 use Rattle.pardo_text.specs.Tests.{statement_untested}
-use Rattle.pardo_job.specs.Meaning.{statement_at}
+use Rattle.pardo_flat.specs.Statements.{statement_at}
 
 -- ---- what is known before the line at a place
 

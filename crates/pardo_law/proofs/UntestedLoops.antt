@@ -18,10 +18,11 @@ use Rattle.pardo_text.specs.Operations.{operation_value}
 use Rattle.pardo_text.specs.Program.{ProgramData}
 use Rattle.pardo_text.specs.Tests.{Known, known_of, loop_most, without_tests}
 use Rattle.pardo_text.specs.Values.{greatest_value}
+use Rattle.pardo_flat.specs.Statements.{statement_at}
+use Rattle.pardo_flat.proofs.FlatLines.{all_at, get_back, get_front}
 use Rattle.pardo_job.specs.Meaning.{Source, abandoned, after, after_statement, by_common}
 use Rattle.pardo_job.specs.Meaning.{common_value, has_none, loop_ended, next, next_turn, on_to}
-use Rattle.pardo_job.specs.Meaning.{statement_at, turned, value}
-use Rattle.pardo_job.proofs.FlatLines.{all_at, get_back, get_front}
+use Rattle.pardo_job.specs.Meaning.{turned, value}
 use Rattle.pardo_job.proofs.Meanings.{next_at}
 use Rattle.pardo_job.proofs.Untested.{left_out_tests_pass}
 use Rattle.pardo_law.proofs.UntestedLines.{Each, Open, Opens, StandsAround, belongs_at, blocks_of}

@@ -15,10 +15,11 @@ use Rattle.pardo_text.specs.Operations.{worked_out}
 use Rattle.pardo_text.specs.Program.{ProgramData}
 use Rattle.pardo_text.specs.Tests.{Known, known_of, program_untested, statement_untested}
 use Rattle.pardo_text.specs.Tests.{without_tests}
+use Rattle.pardo_flat.specs.Statements.{statement_at}
 use Rattle.pardo_job.specs.Meaning.{Source, abandoned, after_statement, array_cell, asked_in}
 use Rattle.pardo_job.specs.Meaning.{by_common, common_value, first_below, given_to}
 use Rattle.pardo_job.specs.Meaning.{has_none, is_active, is_true, loop_ended, losing, next_turn}
-use Rattle.pardo_job.specs.Meaning.{on_to, statement_at, turned, value, write_of}
+use Rattle.pardo_job.specs.Meaning.{on_to, turned, value, write_of}
 use Rattle.pardo_law.specs.Untested.{AreSame}
 use Rattle.pardo_law.proofs.UntestedLines.{as_many, known_at, untested_at, untested_past}
 

@@ -23,12 +23,13 @@ use Rattle.pardo_text.specs.Operations.{lacks, operation_value, worked_out}
 use Rattle.pardo_text.specs.Program.{ArrayData, PrivateData, ProgramData}
 use Rattle.pardo_text.specs.Tests.{greatest_start, known_of, widened, widened_by}
 use Rattle.pardo_text.specs.Values.{greatest_value}
+use Rattle.pardo_flat.specs.Statements.{statement_at}
+use Rattle.pardo_flat.proofs.FlatLines.{all_at}
 use Rattle.pardo_job.specs.Meaning.{Source, after_statement, array_cell, asked_in}
 use Rattle.pardo_job.specs.Meaning.{by_common, common_value, first_below, given_to, has_none}
 use Rattle.pardo_job.specs.Meaning.{is_active, loop_ended, next_turn, on_to, private_at_start}
-use Rattle.pardo_job.specs.Meaning.{program_start, statement_at, turned, value, write_of}
+use Rattle.pardo_job.specs.Meaning.{program_start, turned, value, write_of}
 use Rattle.pardo_job.proofs.Fits.{value_fits}
-use Rattle.pardo_job.proofs.FlatLines.{all_at}
 
 -- ---- values that may be there
 

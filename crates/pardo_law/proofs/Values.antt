@@ -17,7 +17,7 @@ use Rattle.pardo_text.specs.Expression.{Tree}
 use Rattle.pardo_text.specs.Lawful.{IsExpression, IsCommonTree, IsProgram, bounds_of}
 use Rattle.pardo_text.specs.Operations.{bit}
 use Rattle.pardo_text.specs.Program.{ProgramData}
-use Rattle.pardo_job.specs.Layouts.{ProgramLayoutData, program_layout, loop_cells, array_cells}
+use Rattle.pardo_flat.specs.Layouts.{ProgramLayoutData, program_layout, loop_cells, array_cells}
 use Rattle.pardo_job.specs.Leaves.{DecidesTo}
 use Rattle.pardo_job.specs.Lines.{condition_code, while_code, none_code, turn_code}
 use Rattle.pardo_job.specs.Meaning.{Source, value, common_value, array_cell, write_of, has_none}

@@ -10,10 +10,10 @@ use Rattle.pram_step.specs.Runs as machine
 use Rattle.pardo_text.specs.Lawful.{IsProgram}
 use Rattle.pardo_text.specs.Nested.{IsNested}
 use Rattle.pardo_text.specs.Program.{ProgramData}
+use Rattle.pardo_flat.specs.Layouts.{program_layout, private_cells}
 use Rattle.pardo_job.specs.Carries.{Carries, ComesFrom}
 use Rattle.pardo_job.specs.Compiled.{IsCompiled}
 use Rattle.pardo_job.specs.Conflicts.{Assigns}
-use Rattle.pardo_job.specs.Layouts.{program_layout, private_cells}
 use Rattle.pardo_job.specs.Meaning.{Source, after}
 use Rattle.pardo_job.specs.Runs.{IsProgramOver, IsLineReached, line_number}
 use Rattle.pardo_job.specs.Shows.{own_cell}

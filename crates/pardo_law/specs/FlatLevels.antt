@@ -5,9 +5,9 @@ use Rattle.pardo_text.specs.declared.statement.Line.{Line}
 use Rattle.pardo_text.specs.Expression.{Tree}
 use Rattle.pardo_text.specs.Lawful.{IsProgram}
 use Rattle.pardo_text.specs.Program.{ProgramData}
+use Rattle.pardo_flat.specs.Flat.{fits, flat, shape_of, split}
+use Rattle.pardo_flat.specs.Layouts.{ProgramLayoutData}
 use Rattle.pardo_job.specs.Compiled.{AreLevel}
-use Rattle.pardo_job.specs.Flat.{fits, flat, shape_of, split}
-use Rattle.pardo_job.specs.Layouts.{ProgramLayoutData}
 use Rattle.pardo_job.specs.Operations.{is_shallow}
 use Rattle.pardo_job.specs.Values.{value_code}
 

@@ -4,10 +4,10 @@ use Rattle.std.specs.Prelude.{Option, Some, None, IsTrue, is_some}
 use Rattle.pardo_text.specs.declared.statement.Line.{Line}
 use Rattle.pardo_text.specs.Lawful.{IsProgram}
 use Rattle.pardo_text.specs.Program.{ProgramData}
+use Rattle.pardo_flat.specs.Flat.{flat, first_flat_of, is_common, pieces_of, flat_size}
 use Rattle.pardo_job.specs.Carries.{Shares, StandsFor}
 use Rattle.pardo_job.specs.Conflicts.{asked}
 use Rattle.pardo_job.specs.Meaning.{Source, after}
-use Rattle.pardo_job.specs.Flat.{flat, first_flat_of, is_common, pieces_of, flat_size}
 
 -- how many flat lines are made for the line that is next
 abbrev pub size_next : ProgramData → Option Line → ℕ

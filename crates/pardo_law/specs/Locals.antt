@@ -17,7 +17,7 @@ use Rattle.pram_step.specs.Runs.{state_after, IsReached}
 use Rattle.pram_step.specs.Disputes.{Forbids}
 use Rattle.pram_step.specs.Steps.{next_state}
 use Rattle.pardo_text.specs.Expression.{Tree}
-use Rattle.pardo_job.specs.Layouts.{ProgramLayoutData}
+use Rattle.pardo_flat.specs.Layouts.{ProgramLayoutData}
 use Rattle.pardo_job.specs.Lines.{idle}
 use Rattle.pardo_job.specs.Meaning.{first_below, given_to}
 use Rattle.pardo_job.specs.Straight.{Registers, operand_in, registers_after, after_all}

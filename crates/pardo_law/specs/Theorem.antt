@@ -8,11 +8,11 @@ use Rattle.pram_job.specs.declared.instr.Rule.{Rule}
 use Rattle.pardo_text.specs.Lawful.{IsProgram}
 use Rattle.pardo_text.specs.Nested.{IsNested}
 use Rattle.pardo_text.specs.Program.{ProgramData}
+use Rattle.pardo_flat.specs.Layouts.{program_layout}
 use Rattle.pardo_job.specs.Carries.{Carries}
 use Rattle.pardo_job.specs.Compiled.{IsCompiled}
 use Rattle.pram_step.specs.declared.answer.Dispute.{Dispute}
 use Rattle.pardo_job.specs.Laws.{by_rule}
-use Rattle.pardo_job.specs.Layouts.{program_layout}
 use Rattle.pardo_job.specs.Meaning.{after}
 use Rattle.pardo_job.specs.Runs.{IsProgramEnd, IsProgramConflict}
 

@@ -19,7 +19,7 @@ use Rattle.pram_text.specs.Judgement.{is_name}
 use Rattle.job_text.specs.Printed.{is_same}
 use Rattle.pardo_text.specs.Lawful.{AreArrays}
 use Rattle.pardo_text.specs.Program.{ArrayData, PrivateData, ProgramData, shared_cells}
-use Rattle.pardo_job.specs.Layouts.{cells_of_array, private_cells, program_layout}
+use Rattle.pardo_flat.specs.Layouts.{cells_of_array, private_cells, program_layout}
 use Rattle.pram_commands.specs.ArrayNames.{name_if, name_of_private, private_name, row_at}
 use Rattle.pram_commands.specs.ArrayNames.{shared_name}
 use Rattle.pram_commands.proofs.Rows.{begins_after}

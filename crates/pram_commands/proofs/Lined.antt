@@ -14,10 +14,10 @@ use Rattle.pram_cost.specs.Profiles.{executed_at, steps_at}
 use Rattle.pram_cost.proofs.Tallying.{executed_few, executed_is_same, steps_few}
 use Rattle.pardo_text.specs.declared.statement.Line.{Line}
 use Rattle.pardo_text.specs.Program.{ProgramData}
+use Rattle.pardo_flat.specs.Flat.{first_flat_of, flat}
 use Rattle.pardo_job.specs.declared.times.CountedLine.{CountedLine}
 use Rattle.pardo_job.specs.Compiled.{CompiledData}
 use Rattle.pardo_job.specs.Drafts.{IsComplete}
-use Rattle.pardo_job.specs.Flat.{first_flat_of, flat}
 use Rattle.pardo_job.specs.Lines.{code_of, job_of, place_of}
 use Rattle.pardo_job.specs.Times.{counted_from, counted_line, counted_place, is_counted}
 use Rattle.pardo_job.proofs.Counted.{counted_within}

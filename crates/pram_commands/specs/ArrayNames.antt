@@ -7,7 +7,7 @@ use Rattle.text_lines.specs.Lines.{Word}
 use Rattle.pram_text.specs.Judgement.{is_name, register_of}
 use Rattle.job_text.specs.Printed.{ArrayWords, array_word, is_same}
 use Rattle.pardo_text.specs.Program.{ArrayData, PrivateData, ProgramData, shared_cells}
-use Rattle.pardo_job.specs.Layouts.{cells_of_array, private_cells, program_layout}
+use Rattle.pardo_flat.specs.Layouts.{cells_of_array, private_cells, program_layout}
 use Rattle.pram_commands.specs.Names.{NamingData}
 
 -- a name, if the cells are just those of the array

@@ -36,3 +36,9 @@ IsFaultAt program line place number TooLong =
 IsFaultAt program line place number Endless = ⊥
 IsFaultAt program line place number TooManyCells = ⊥
 IsFaultAt program line place number Memory = number ≡ 0
+
+-- where the code of these lines begins, by the places of all
+pub record AreFirstPlaces (lines : ProgramData) (firsts places : List ℕ) : Type 0 where
+  pub each : (j : ℕ) → j < length firsts → slice_index firsts j < length lines.lines →
+      slice_index places j ≡ place_of lines (slice_index firsts j)
+  pub short : place_of lines (length lines.lines) < MAX_CODE

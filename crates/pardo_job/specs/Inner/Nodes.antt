@@ -8,11 +8,11 @@ use Rattle.pardo_text.specs.declared.expression.Node.{Node}
 use Rattle.pardo_text.specs.declared.expression.Node.TheVariants.{Number, Own, Loop}
 use Rattle.pardo_text.specs.declared.expression.Node.TheVariants.{Private, Place, Apply}
 use Rattle.pardo_text.specs.Expression.{Tree, with_node}
+use Rattle.pardo_flat.specs.Layouts.{ProgramLayoutData, private_cells, loop_cells, array_cells}
 use Rattle.pardo_job.specs.declared.fault.JobKind.{JobKind}
 use Rattle.pardo_job.specs.declared.held.Held.{Held}
 use Rattle.pardo_job.specs.declared.held.Stack.{Stack}
 use Rattle.pardo_job.specs.Inner.Emitting.{PutsCode}
-use Rattle.pardo_job.specs.Layouts.{ProgramLayoutData, private_cells, loop_cells, array_cells}
 use Rattle.pardo_job.specs.Operations.{operation_code}
 use Rattle.pardo_job.specs.Values.{own_load, value_operand, takes, is_truth}
 

@@ -10,9 +10,9 @@ use Rattle.pram_job.specs.declared.limits.TheConstants.{MAX_CODE}
 use Rattle.pardo_text.specs.declared.statement.Target.{Target}
 use Rattle.pardo_text.specs.declared.statement.Target.TheVariants.{Private, Array as Shared}
 use Rattle.pardo_text.specs.Expression.{Tree}
+use Rattle.pardo_flat.specs.Layouts.{ProgramLayoutData, mask_cells}
 use Rattle.pardo_job.specs.declared.fault.JobKind.{JobKind}
 use Rattle.pardo_job.specs.declared.fault.JobKind.TheVariants.{TooDeep, TooLong, Memory}
-use Rattle.pardo_job.specs.Layouts.{ProgramLayoutData, mask_cells}
 use Rattle.pardo_job.specs.Lawful.{IsLawfulTree}
 use Rattle.pardo_job.specs.Lines.{idle}
 use Rattle.pardo_job.specs.Operations.{is_shallow}

@@ -1,6 +1,6 @@
 use Rattle.std.proofs.Common.{subst}
 use Rattle.std.proofs.lemmas.Result.{IfOk-weaker}
-use Rattle.pardo_job.specs.Inner.Flats.{DoAllFit, IsFlatProgram, IsFlattened}
+use Rattle.pardo_flat.specs.Inner.Flats.{DoAllFit, IsFlatProgram, IsFlattened}
 use Rattle.pardo_job.proofs.Drafting.{err_weaker, flat_draft, flat_fault, flat_places}
 use Rattle.pardo_job.proofs.Drafting.{same_draft, same_fault, same_places}
 use Rattle.pardo_job.proofs.compiler.draft_of.Goals as goal

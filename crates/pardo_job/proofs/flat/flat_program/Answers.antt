@@ -1,6 +1,6 @@
 use Rattle.std.proofs.Common.{sym, subst}
-use Rattle.pardo_job.specs.Inner.Flats.{DoAllFit, IsFlatProgram, IsFlattened}
-use Rattle.pardo_job.proofs.FlatWhole.{whole}
+use Rattle.pardo_flat.specs.Inner.Flats.{DoAllFit, IsFlatProgram, IsFlattened}
+use Rattle.pardo_flat.proofs.FlatWhole.{whole}
 use Rattle.pardo_job.proofs.flat.flat_program.Goals as goal
 
 pub returns-in-Same-clause-flat : goal.returns-in-Same-clause-flat

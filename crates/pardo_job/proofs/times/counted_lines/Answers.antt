@@ -1,11 +1,12 @@
 use Rattle.std.proofs.Common.{◌≡◌, ◌<◌, ◌∙◌, ◌++◌, ℕ, List, ap, arith, length}
 use Rattle.pardo_text.specs.declared.statement.Line.{Line}
+use Rattle.pardo_flat.specs.Flat.{first_flat_of, flat}
+use Rattle.pardo_flat.proofs.FlatLines.{line_there}
 use Rattle.pardo_job.specs.declared.times.CountedLine.{CountedLine}
-use Rattle.pardo_job.specs.Flat.{first_flat_of, flat}
 use Rattle.pardo_job.specs.Lines.{place_of}
 use Rattle.pardo_job.specs.Times.{counted_line}
 use Rattle.pardo_job.proofs.Counted.{all_counted, all_few, none_counted, one_more_counted}
-use Rattle.pardo_job.proofs.Placed.{line_there, place_below}
+use Rattle.pardo_job.proofs.Placed.{place_below}
 use Rattle.pardo_job.proofs.times.counted_lines.Goals as goal
 
 pub loop-at-init : goal.loop-at-init

@@ -2,12 +2,13 @@ use Rattle.std.proofs.Common.{◌≡◌, ◌∙◌, ◌∷◌, [], ◌++◌, Lis
 use Rattle.std.specs.Prelude.{slice_index}
 use Rattle.pram_job.specs.declared.instr.Instr.{Instr}
 use Rattle.pram_job.specs.declared.instr.Instr.TheVariants.{Pid}
+use Rattle.pardo_flat.proofs.FlatLines.{line_there}
 use Rattle.pardo_job.specs.declared.fault.JobKind.{JobKind}
 use Rattle.pardo_job.specs.declared.fault.JobKind.TheVariants.{Memory}
 use Rattle.pardo_job.specs.Refusals.{IsLinesFault}
 use Rattle.pardo_text.specs.Lawful.{IsLine, bounds_of}
 use Rattle.pardo_job.proofs.LineFits.{line_at}
-use Rattle.pardo_job.proofs.Placed.{code_more, code_none, line_there, only_memory, place_below}
+use Rattle.pardo_job.proofs.Placed.{code_more, code_none, only_memory, place_below}
 use Rattle.pardo_job.proofs.lines.Listing.code.Goals as goal
 
 pub loop-line-init : goal.loop-line-init

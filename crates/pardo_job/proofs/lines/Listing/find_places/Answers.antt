@@ -1,8 +1,9 @@
 use Rattle.std.proofs.Common.{◌≡◌, ◌∙◌, ◌∷◌, [], ◌++◌, ℕ, Err, List, ap, rules, subst, sym}
+use Rattle.pardo_flat.proofs.FlatLines.{line_there}
 use Rattle.pardo_job.specs.declared.fault.JobFault.{JobFault}
 use Rattle.pardo_job.specs.Inner.Listings.{IsFaultAt, IsPlaceAfter}
 use Rattle.pardo_job.proofs.LineParts.{on_err}
-use Rattle.pardo_job.proofs.Placed.{fault_is, line_there, place_more, place_start, places_more}
+use Rattle.pardo_job.proofs.Placed.{fault_is, place_more, place_start, places_more}
 use Rattle.pardo_job.proofs.Placed.{places_none}
 use Rattle.pardo_job.proofs.lines.Listing.find_places.Goals as goal
 

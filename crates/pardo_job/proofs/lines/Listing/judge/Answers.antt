@@ -5,8 +5,8 @@ use Rattle.pardo_text.specs.declared.statement.Statement.TheVariants.{Assign}
 use Rattle.pardo_text.specs.declared.statement.Target.{Target}
 use Rattle.pardo_text.specs.declared.statement.Target.TheVariants.{Private, Array as Shared}
 use Rattle.pardo_text.specs.Lawful.{IsStatement, bounds_of}
+use Rattle.pardo_flat.specs.Layouts.{ProgramLayoutData}
 use Rattle.pardo_job.specs.Inner.Pieces.{bounds_code}
-use Rattle.pardo_job.specs.Layouts.{ProgramLayoutData}
 use Rattle.pardo_job.specs.Values.{value_code}
 use Rattle.pardo_job.proofs.Great.{array_part, for_part, if_part, judged_as, private_part}
 use Rattle.pardo_job.proofs.Great.{while_part}

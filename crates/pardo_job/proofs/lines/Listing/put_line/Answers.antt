@@ -5,13 +5,14 @@ use Rattle.pram_job.specs.declared.instr.Instr.{Instr}
 use Rattle.pardo_text.specs.declared.statement.Line.{Line}
 use Rattle.pardo_text.specs.declared.statement.Statement.{Statement}
 use Rattle.pardo_text.specs.Lawful.{IsStatement, bounds_of, masks_of}
+use Rattle.pardo_flat.proofs.FlatLines.{line_there}
 use Rattle.pardo_job.specs.Lines.{assignment_code, condition_code, first_code, none_code}
 use Rattle.pardo_job.proofs.LineFits.{choices_in, loops_in, target_in, tree_in}
 use Rattle.pardo_job.proofs.LineGoals.{assign_fails, assign_puts, else_puts, end_for_puts}
 use Rattle.pardo_job.proofs.LineGoals.{end_if_puts, end_while_puts}
 use Rattle.pardo_job.proofs.LineGoals.{for_puts, for_start_fails, for_test_fails, if_fails, if_puts}
 use Rattle.pardo_job.proofs.LineGoals.{while_fails, while_puts}
-use Rattle.pardo_job.proofs.Placed.{line_there, statement_there}
+use Rattle.pardo_job.proofs.Placed.{statement_there}
 use Rattle.pardo_job.proofs.lines.Listing.put_line.Goals as goal
 
 pub put_assignment-requires-clause-target : goal.put_assignment-requires-clause-target

@@ -1,0 +1,4 @@
+pub mod Statements
+pub mod Layouts
+pub mod Flat
+pub mod Inner

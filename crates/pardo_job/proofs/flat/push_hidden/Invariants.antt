@@ -1,7 +1,0 @@
-use Rattle.std.proofs.Common.{◌≡◌, ◌++◌, take}
-use Rattle.pardo_job.specs.Flat.{hidden}
-use Rattle.pardo_job.proofs.flat.push_hidden.Given as goal
-
-abbrev pub invariant-loop-index : goal.invariant-loop-index
-invariant-loop-index l = l.lines.items ≡ l.initial.lines.items
-    ++ hidden 0 l.line l.base (take l.index l.pieces)
