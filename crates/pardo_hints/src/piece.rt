@@ -4,29 +4,29 @@ use text_lines::is_blank;
 
 /// A token of a line, or a character that begins none.
 #[derive(Clone, Copy, Debug)]
-pub(crate) struct Piece<'t> {
-    pub(crate) spelled: &'t [u8],
+pub struct Piece<'t> {
+    pub spelled: &'t [u8],
     /// How many bytes of the line stand before it.
-    pub(crate) start: usize,
+    pub start: usize,
     /// Whether it is a token.
     pub(crate) is_token: bool,
 }
 
 /// The tokens of a line that were not taken yet.
 #[derive(Clone, Copy, Debug)]
-pub(crate) struct Pieces<'t> {
+pub struct Pieces<'t> {
     line: &'t [u8],
     rest: &'t [u8],
 }
 
 impl<'t> Pieces<'t> {
     /// All tokens of a line that has no comment.
-    pub(crate) fn new(line: &'t [u8]) -> Self {
+    pub fn new(line: &'t [u8]) -> Self {
         Pieces { line, rest: line }
     }
 
     /// Takes the next one.
-    pub(crate) fn take(&mut self) -> Option<Piece<'t>> {
+    pub fn take(&mut self) -> Option<Piece<'t>> {
         let (spelled, rest, is_token) = match first_spelled(self.rest) {
             Some((spelled, rest)) => (spelled, rest, true),
             None => {
@@ -65,7 +65,7 @@ fn first_character(line: &[u8]) -> Option<(&[u8], &[u8])> {
 }
 
 /// What stands between the blanks at both ends.
-pub(crate) fn trimmed(line: &[u8]) -> &[u8] {
+pub fn trimmed(line: &[u8]) -> &[u8] {
     let start = line
         .iter()
         .position(|&byte| !is_blank(byte))

@@ -59,12 +59,12 @@ pub(crate) struct Open<'t> {
 
 /// What the lines before say.
 #[derive(Debug, Drop)]
-pub(crate) struct Before<'t> {
+pub struct Before<'t> {
     pub(crate) part: Part,
     pub(crate) known: Vec<Known<'t>>,
     pub(crate) open: Vec<Open<'t>>,
     /// The bad line, without its line feed.
-    pub(crate) line: &'t [u8],
+    pub line: &'t [u8],
 }
 
 // What a shared name stands for, by what follows it in a line of so many bytes.
@@ -86,7 +86,7 @@ fn shared_sort(len: usize, pieces: &mut Pieces<'_>) -> Sort {
 }
 
 /// What the lines before that of this number say.
-pub(crate) fn lines_before<'t>(
+pub fn lines_before<'t>(
     alloc: Global,
     text: &'t [u8],
     number: u64,
@@ -112,7 +112,7 @@ pub(crate) fn lines_before<'t>(
 
 impl<'t> Before<'t> {
     /// The line of this number as well, which has no comment.
-    pub(crate) fn take_line(&mut self, number: u64, line: &'t [u8]) -> Result<(), AllocError> {
+    pub fn take_line(&mut self, number: u64, line: &'t [u8]) -> Result<(), AllocError> {
         let mut pieces = Pieces::new(line);
         let first = pieces.take_spelled();
         let second = pieces.take_spelled();

@@ -11,7 +11,7 @@ use text_lines::is_word;
 
 /// A point in a line, and the tokens around it; those that are not there have no byte.
 #[derive(Clone, Copy, Debug)]
-pub(crate) struct Point<'t> {
+pub struct Point<'t> {
     pub(crate) kind: PardoKind,
     /// What stands before the line's comment.
     pub(crate) line: &'t [u8],
@@ -21,7 +21,7 @@ pub(crate) struct Point<'t> {
     pub(crate) here: &'t [u8],
     pub(crate) after: &'t [u8],
     /// How many bytes stand before it.
-    pub(crate) start: usize,
+    pub start: usize,
     /// How many tokens do.
     pub(crate) at: usize,
     pub(crate) wanted: Wanted,
@@ -31,7 +31,7 @@ pub(crate) struct Point<'t> {
 }
 
 /// The point in a bad line at which the reader stopped.
-pub(crate) fn point_of<'t>(
+pub fn point_of<'t>(
     alloc: Global,
     before: &Before<'t>,
     stop: &Stop,

@@ -7,7 +7,7 @@ const KEYWORDS: &str = "pardo rule const procs shared private code for to downto
 const OPERATORS: &str = "+ - * / % << >> & | ^ xor = != < <= > >= and or";
 
 /// Whether a token is among these words, between which a blank stands.
-pub(crate) fn is_among(words: &str, token: &[u8]) -> bool {
+pub fn is_among(words: &str, token: &[u8]) -> bool {
     for word in words.split(' ') {
         if word.as_bytes() == token {
             return true;
@@ -49,6 +49,7 @@ pub(crate) fn is_operator(token: &[u8]) -> bool {
     is_among(OPERATORS, token)
 }
 
-pub(crate) fn is_comparison(token: &[u8]) -> bool {
+/// Whether a token compares two operands.
+pub fn is_comparison(token: &[u8]) -> bool {
     matches!(token, b"=" | b"!=" | b"<" | b"<=" | b">" | b">=")
 }

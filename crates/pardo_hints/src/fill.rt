@@ -1,5 +1,5 @@
 //! Sentences with gaps, which are filled with what stands in a line.
-use crate::diagnosis::push_number;
+use crate::number::push_number;
 use crate::piece::trimmed;
 use crate::point::Point;
 use std::alloc::AllocError;

@@ -18,7 +18,7 @@ use text_lines::is_word;
 struct Sentence(&'static str, &'static str);
 
 /// Adds the sentence on a point.
-pub(crate) fn push_sentence(
+pub fn push_sentence(
     text: &mut Vec<u8>,
     before: &Before<'_>,
     point: &Point<'_>,
