@@ -8,7 +8,7 @@ use Rattle.std.proofs.lemmas.Option.{slice_get-get_or, some_pair_parts}
 use Rattle.clap.specs.Words.{Text}
 use Rattle.pardo_text.specs.Settings.{SettingData, first_in, text_as_set, with_first}
 use Rattle.pardo_text.specs.declared.settings.SetKind.{SetKind}
-use Rattle.pram_commands.specs.Inputs.{IsBad}
+use Rattle.naming.specs.BadTexts.{IsBad}
 use Rattle.pram_commands.specs.Sweeps.{IsRunRecord}
 use Rattle.pram_commands.specs.declared.sweeps.RunRecord.{RunRecord}
 use Rattle.refusals.specs.declared.fault.CommandFault.{CommandFault}

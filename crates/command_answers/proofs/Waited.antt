@@ -14,7 +14,8 @@ use Rattle.pardo_text.specs.Settings.{SettingData}
 use Rattle.pardo_text.specs.declared.settings.SetKind.{SetKind}
 use Rattle.pram_step.specs.declared.answer.RunAnswer.{RunAnswer}
 use Rattle.pram_step.specs.declared.answer.RunAnswer.TheVariants as answer
-use Rattle.pram_commands.specs.Did.{Writing, ends_with}
+use Rattle.naming.specs.Writing.{Writing}
+use Rattle.pram_commands.specs.Did.{ends_with}
 use Rattle.pram_commands.specs.Files.{ServesFiles, ServesText}
 use Rattle.refusals.specs.declared.refusal.TheConstants.{MEMORY}
 use Rattle.command_answers.specs.Answering.{AnswersWords, IsTextIfSet, RefusesSet, ServesLineSet}

@@ -10,7 +10,7 @@ use Rattle.command_data.specs.declared.line.AskAlone.TheVariants.{Sweep}
 use Rattle.command_data.specs.declared.line.AskOnThreads.{AskOnThreads}
 use Rattle.command_data.specs.declared.line.Line.{Line}
 use Rattle.pardo_text.specs.declared.settings.SetKind.{SetKind}
-use Rattle.pram_commands.specs.Did.{Writing}
+use Rattle.naming.specs.Writing.{Writing}
 use Rattle.pram_commands.specs.Files.{ServesFiles, ServesText}
 use Rattle.refusals.specs.declared.refusal.TheConstants.{DONE, FAILED, MEMORY, REFUSED}
 use Rattle.command_line.specs.CommandLine.{HasSettings, IsAskedLine, MeanNoLine, pramx}

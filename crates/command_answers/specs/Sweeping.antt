@@ -6,8 +6,8 @@ use Rattle.clap.specs.Words.{Text}
 use Rattle.command_data.specs.declared.line.Line.{Line}
 use Rattle.pardo_text.specs.Settings.{SettingData, text_as_set, with_first}
 use Rattle.pardo_text.specs.declared.settings.SetKind.{SetKind}
-use Rattle.pram_commands.specs.Did.{Writing}
-use Rattle.pram_commands.specs.Inputs.{IsBad}
+use Rattle.naming.specs.Writing.{Writing}
+use Rattle.naming.specs.BadTexts.{IsBad}
 use Rattle.pram_commands.specs.Sweeps.{IsRunRecord}
 use Rattle.pram_commands.specs.declared.sweeps.RunRecord.{RunRecord}
 use Rattle.pram_streams.specs.Transfer.{AppendsBeginning}

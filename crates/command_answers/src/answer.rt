@@ -2,7 +2,7 @@
 ghost use Rattle.std.specs.Prelude.{◌≡◌, ◌≢◌, ◌⊎◌, ◌≤◌, false, map};
 ghost use Rattle.std.specs.Prelude.{IfErr, IfOk, OnErr};
 ghost use Rattle.clap.specs.Words.{kind_of};
-ghost use Rattle.pram_commands.specs.Did.{writing};
+ghost use Rattle.naming.specs.Writing.{writing};
 ghost use Rattle.pram_commands.specs.Files.{MayFail};
 ghost use Rattle.command_answers.specs.Answering.{AnswersWords, AskForThreads, EndsByWords};
 ghost use Rattle.command_answers.specs.Answering.{ServesOrRefusesSet, ServesWaiting, WaitsFor};

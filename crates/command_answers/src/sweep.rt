@@ -3,7 +3,7 @@ ghost use Rattle.std.specs.Prelude.{◌≡◌, ◌⊎◌, ◌≤◌, ◌++◌, �
 ghost use Rattle.std.specs.Prelude.{IfErr, IfOk, OnOk, codes, decimal};
 ghost use Rattle.std.specs.Io.KnownBytes.{Appends};
 ghost use Rattle.pardo_text.specs.Settings.{with_first};
-ghost use Rattle.pram_commands.specs.Did.{writing};
+ghost use Rattle.naming.specs.Writing.{writing};
 ghost use Rattle.pram_streams.specs.Transfer.{AppendsBeginning};
 ghost use Rattle.command_answers.specs.Answering.{RefusesSet, is_sweep};
 ghost use Rattle.refusals.specs.Faults.{fault_status};

@@ -24,8 +24,8 @@ use Rattle.pardo_answers.specs.Laws.{IsCarrying}
 use Rattle.command_law.specs.Laws.{IsCutOff, IsProgramsAnswer, IsProgramsRecords}
 use Rattle.command_law.specs.Laws.{PlainRecordsTheProgramsEnd, RunsRecordTheProgramsEnd}
 use Rattle.command_law.specs.Laws.{PlainPrintsTheProgramsAnswer, RunsPrintTheProgramsAnswer}
-use Rattle.pram_commands.specs.Names.{AreNames, IsNaming, NamingData, printed_answer}
-use Rattle.pram_commands.specs.Names.{recorded}
+use Rattle.naming.specs.Names.{AreNames, IsNaming, NamingData, printed_answer}
+use Rattle.naming.specs.Names.{recorded}
 use Rattle.pram_commands.specs.Threads.{EndsAt}
 
 -- its job carries it

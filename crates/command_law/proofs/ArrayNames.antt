@@ -18,8 +18,8 @@ use Rattle.job_text.proofs.Naming.{array_words_lawful, is_same-true}
 use Rattle.pardo_text.specs.Program.{ArrayData, PrivateData, ProgramData}
 use Rattle.pardo_text.specs.Variables.{AreDistinct, variable_names}
 use Rattle.pardo_flat.specs.Layouts.{cells_of_array, private_cells, program_layout}
-use Rattle.pram_commands.specs.ArrayNames.{may_name, name_of_private, private_name, row_at}
-use Rattle.pram_commands.specs.ArrayNames.{shared_name, variable_name, word_of}
+use Rattle.naming.specs.ArrayNames.{may_name, name_of_private, private_name, row_at}
+use Rattle.naming.specs.ArrayNames.{shared_name, variable_name, word_of}
 
 -- ---- an array has the name of one variable
 

@@ -46,14 +46,16 @@ use Rattle.pardo_law.proofs.FlatTelling.{jobs_tell_lines}
 use Rattle.pardo_answers.specs.Language.{is_program}
 use Rattle.pardo_answers.specs.Laws.{IsAnswerText, IsCarrying}
 use Rattle.pardo_answers.proofs.LawAnswers.{printed_answers_are_the_programs}
-use Rattle.pram_commands.specs.declared.line_costs.LineCost.{LineCost}
-use Rattle.pram_commands.specs.Costs.{TellsCost, cost_words, line_cost, line_costs}
-use Rattle.pram_commands.specs.Costs.{place_or_cell}
-use Rattle.pram_commands.specs.Names.{AreNames, IsNaming, NamingData}
+use Rattle.naming.specs.declared.line_costs.LineCost.{LineCost}
+use Rattle.pram_commands.specs.Costs.{TellsCost}
+use Rattle.naming.specs.Costs.{cost_words, line_cost, line_costs}
+use Rattle.naming.specs.Costs.{place_or_cell}
+use Rattle.naming.specs.Names.{AreNames, IsNaming, NamingData}
 use Rattle.command_law.specs.Programs.{AreLineCosts, AreProgramsCosts}
 use Rattle.command_law.specs.Programs.{CostsTellTheProgramsLines, IsMeetingOf, line_cost_by}
 use Rattle.command_law.specs.Programs.{AreProgramsRecords, RecordsTellTheProgramsLines}
-use Rattle.pram_commands.specs.LineRecords.{TellsLines, records_text}
+use Rattle.pram_commands.specs.LineRecords.{TellsLines}
+use Rattle.naming.specs.LineRecords.{records_text}
 use Rattle.command_law.specs.Programs.{BothWrite, IsProgramsJob, MeetByMeaning}
 use Rattle.command_law.proofs.Executing.{halt_access, pid_access}
 use Rattle.command_law.proofs.Jobs.{lawful, nested, no_machines, procs_are, programs_job}

@@ -29,7 +29,7 @@ use Rattle.pardo_job.specs.Runs.{IsProgramConflict, IsProgramEnd, IsProgramOver,
 use Rattle.pardo_job.specs.Runs as source
 use Rattle.pardo_law.specs.Between.{AreLinesMade, IsInLine}
 use Rattle.pardo_law.proofs.Showing.{whole_at}
-use Rattle.pram_commands.specs.Names.{IsNaming, NamingData}
+use Rattle.naming.specs.Names.{IsNaming, NamingData}
 use Rattle.pram_commands.specs.Why.{told_steps}
 use Rattle.command_law.specs.Programs.{AllThere, IsEndOf, IsFirstGone, IsLostOf, IsProgramsJob}
 use Rattle.command_law.specs.Programs.{SpeaksOf}

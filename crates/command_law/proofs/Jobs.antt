@@ -21,7 +21,7 @@ use Rattle.pardo_flat.specs.Flat.{flat}
 use Rattle.pardo_job.specs.Lines.{job_of}
 use Rattle.pardo_law.proofs.FlatBetween.{jobs_go_through}
 use Rattle.pardo_answers.specs.Language.{is_program}
-use Rattle.pram_commands.specs.Names.{AreNames, IsNaming, NamingData}
+use Rattle.naming.specs.Names.{AreNames, IsNaming, NamingData}
 use Rattle.pram_commands.specs.Threads.{WatchEndsAt}
 use Rattle.command_law.specs.Laws.{IsCutOff}
 use Rattle.command_law.specs.Programs.{CheckTellsTheProgramsJob, IsProgramsJob}

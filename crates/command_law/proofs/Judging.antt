@@ -5,8 +5,8 @@ use Rattle.pram_step.specs.declared.answer.RunAnswer.{RunAnswer}
 use Rattle.pram_cost.specs.Beyond.{beyond_line}
 use Rattle.pram_cost.specs.declared.pram.Pram.{Pram}
 use Rattle.pardo_answers.specs.Language.{is_program}
-use Rattle.pram_commands.specs.Costs.{cost_words, line_costs}
-use Rattle.pram_commands.specs.Names.{AreNames, NamingData}
+use Rattle.naming.specs.Costs.{cost_words, line_costs}
+use Rattle.naming.specs.Names.{AreNames, NamingData}
 use Rattle.pram_commands.specs.Under.{TellsBeyond}
 use Rattle.command_law.specs.Programs.{IsProgramsBeyond, ModelsJudgeTheProgram}
 use Rattle.command_law.proofs.Costs.{meeting_is, reached_within}

@@ -12,7 +12,7 @@ use Rattle.pram_run.specs.Replays.{IsReplay}
 use Rattle.pram_run.specs.declared.trace.TraceRow.{TraceRow}
 use Rattle.pardo_answers.specs.Language.{is_program}
 use Rattle.pram_commands.specs.Did.{ending}
-use Rattle.pram_commands.specs.Names.{AreNames, NamingData}
+use Rattle.naming.specs.Names.{AreNames, NamingData}
 use Rattle.command_law.specs.Laws.{IsCutOff}
 use Rattle.command_law.specs.Programs.{IsReplaysEnding, ReplaysPrintTheProgramsAnswer}
 use Rattle.command_law.proofs.Answers.{told_answer}

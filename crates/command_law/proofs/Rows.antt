@@ -16,8 +16,8 @@ use Rattle.pardo_job.specs.Runs.{line_number}
 use Rattle.pardo_law.specs.Between.{IsInLine}
 use Rattle.pardo_answers.specs.Language.{is_program}
 use Rattle.pram_commands.specs.Did.{ending}
-use Rattle.pram_commands.specs.Names.{AreNames, NamingData}
-use Rattle.pram_commands.specs.Steps.{row_words}
+use Rattle.naming.specs.Names.{AreNames, NamingData}
+use Rattle.naming.specs.RowNames.{row_words}
 use Rattle.pram_commands.specs.Traced.{all_steps, traced}
 use Rattle.command_law.specs.Programs.{AreProgramsLines, AreProgramsSteps, IsEnding, IsProgramsJob}
 use Rattle.command_law.specs.Programs.{TellNumbers, TracesTellTheProgramsLines}

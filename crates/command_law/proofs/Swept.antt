@@ -12,8 +12,8 @@ use Rattle.pardo_job.specs.Meaning.{after}
 use Rattle.pardo_job.specs.Runs.{IsProgramEnd}
 use Rattle.pardo_answers.specs.Language.{is_program}
 use Rattle.pardo_answers.proofs.LawAnswers.{one_line}
-use Rattle.pram_commands.specs.Costs.{line_costs}
-use Rattle.pram_commands.specs.Names.{AreNames, IsNaming, NamingData}
+use Rattle.naming.specs.Costs.{line_costs}
+use Rattle.naming.specs.Names.{AreNames, IsNaming, NamingData}
 use Rattle.pram_commands.specs.Sweeps.{TellsRecord, end_word, fields_text, told_gone}
 use Rattle.command_law.specs.Programs.{IsEndWord, IsProgramsJob, IsProgramsRun}
 use Rattle.command_law.specs.Programs.{SweepsTellTheProgramsRuns}

@@ -16,7 +16,7 @@ use Rattle.job_text.specs.Printed.{array_word, text_of}
 use Rattle.job_text.proofs.Naming.{array_words_lawful}
 use Rattle.pardo_text.specs.Variables.{AreDistinct, variable_names}
 use Rattle.pardo_text.proofs.LawNames.{names_are_distinct}
-use Rattle.pram_commands.specs.ArrayNames.{array_words}
+use Rattle.naming.specs.ArrayNames.{array_words}
 use Rattle.command_law.proofs.ArrayNames.{names_lawful}
 use Rattle.job_text.proofs.Landing.{jumps_land as spelled_jumps_land}
 use Rattle.job_text.proofs.ReadBack.{read_back}
@@ -27,7 +27,7 @@ use Rattle.pardo_text.proofs.LawLawful.{programs_are_lawful}
 use Rattle.pardo_answers.specs.Language.{begins_program, is_program}
 use Rattle.pardo_answers.proofs.Landing.{jumps_land}
 use Rattle.command_law.specs.Laws.{CompilePrintsTheSameJob, IsTextOf}
-use Rattle.pram_commands.specs.Names.{AreNames, NamingData}
+use Rattle.naming.specs.Names.{AreNames, NamingData}
 
 -- ---- a text of the machine is no program
 

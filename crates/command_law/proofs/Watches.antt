@@ -11,9 +11,9 @@ use Rattle.pardo_text.specs.Program.{ProgramData}
 use Rattle.pardo_law.specs.Between.{AreLinesMade, GoesThrough, HoldsVariables}
 use Rattle.pardo_job.specs.Meaning.{after}
 use Rattle.pardo_answers.specs.Language.{is_program}
-use Rattle.pram_commands.specs.CellLists.{AreCellsOf}
+use Rattle.naming.specs.CellLists.{AreCellsOf}
 use Rattle.pram_commands.specs.Did.{Answering}
-use Rattle.pram_commands.specs.Names.{AreNames, NamingData, printed_answer}
+use Rattle.naming.specs.Names.{AreNames, NamingData, printed_answer}
 use Rattle.pram_commands.specs.Threads.{IsTrueOf, TellsSights}
 use Rattle.command_law.specs.Laws.{IsCutOff, IsProgramsAnswer}
 use Rattle.command_law.specs.Programs.{IsProgramsWatch, IsSightOf, WatchesTellThePrograms}

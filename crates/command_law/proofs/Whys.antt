@@ -8,7 +8,7 @@ use Rattle.pram_step.specs.Runs.{IsAnswer, IsReached}
 use Rattle.stop_plan.specs.Plan.{PlanData}
 use Rattle.pram_board.specs.Seats.{SeatData}
 use Rattle.pardo_answers.specs.Language.{is_program}
-use Rattle.pram_commands.specs.Names.{AreNames, NamingData, line_at, printed_answer}
+use Rattle.naming.specs.Names.{AreNames, NamingData, line_at, printed_answer}
 use Rattle.pram_commands.specs.Threads.{EndsAt}
 use Rattle.pram_commands.specs.Why.{Follows}
 use Rattle.command_law.specs.Laws.{IsCutOff, IsProgramsAnswer}

@@ -8,7 +8,7 @@ use Rattle.pardo_text.specs.Program.{ProgramData}
 use Rattle.pardo_text.specs.Reading.{program_of}
 use Rattle.pardo_answers.specs.Language.{is_program}
 use Rattle.pardo_answers.specs.Laws.{IsAnswerText, IsRecordedAnswer}
-use Rattle.pram_commands.specs.Names.{IsMachines, Means}
+use Rattle.naming.specs.Names.{IsMachines, Means}
 use Rattle.pram_commands.specs.Plain.{no_plan, plainly}
 use Rattle.pram_commands.specs.Texts.{compiling}
 use Rattle.pram_commands.specs.Threads.{running}

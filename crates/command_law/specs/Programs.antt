@@ -52,16 +52,20 @@ use Rattle.pardo_job.specs.Times.{line_time, line_times, operations_to, time_to}
 use Rattle.pardo_job.specs.declared.times.CountedLine.{CountedLine}
 use Rattle.pardo_law.specs.Between.{AreLinesMade, GoesThrough, PutsTo}
 use Rattle.pardo_answers.specs.Language.{is_program}
-use Rattle.pram_commands.specs.CellLists.{AreCellsOf}
-use Rattle.pram_commands.specs.declared.line_costs.LineCost.{LineCost}
-use Rattle.pram_commands.specs.Costs.{cost_words, costing, place_or_cell, spot_in}
-use Rattle.pram_commands.specs.LineRecords.{costing_by, records_text}
-use Rattle.pram_commands.specs.Names.{Means, NamingData}
+use Rattle.naming.specs.CellLists.{AreCellsOf}
+use Rattle.naming.specs.declared.line_costs.LineCost.{LineCost}
+use Rattle.naming.specs.Costs.{cost_words, place_or_cell, spot_in}
+use Rattle.pram_commands.specs.Costs.{costing}
+use Rattle.pram_commands.specs.LineRecords.{costing_by}
+use Rattle.naming.specs.LineRecords.{records_text}
+use Rattle.naming.specs.Names.{Means, NamingData}
 use Rattle.pram_commands.specs.Plain.{checking, no_plan, plainly}
 use Rattle.pram_commands.specs.Replayed.{replaying}
 use Rattle.pram_commands.specs.Sweeps.{TellsRecord, end_word, fields_text}
-use Rattle.pram_commands.specs.Steps.{row_words, stepping}
-use Rattle.pram_commands.specs.Threads.{cell_words, running, watching}
+use Rattle.naming.specs.RowNames.{row_words}
+use Rattle.pram_commands.specs.Steps.{stepping}
+use Rattle.naming.specs.CellNames.{cell_words}
+use Rattle.pram_commands.specs.Threads.{running, watching}
 use Rattle.pram_commands.specs.Traced.{all_steps, traced, tracing}
 use Rattle.pram_commands.specs.Under.{TellsBeyond}
 use Rattle.pram_commands.specs.Why.{in_lines}

@@ -5,7 +5,7 @@ use Rattle.pram_step.specs.Runs.{IsAnswer}
 use Rattle.pram_step.specs.declared.answer.RunAnswer.{RunAnswer}
 use Rattle.pram_step.specs.declared.answer.RunAnswer.TheVariants.{Final}
 use Rattle.pram_commands.specs.Did.{status_of}
-use Rattle.pram_commands.specs.Names.{Means}
+use Rattle.naming.specs.Names.{Means}
 use Rattle.pram_commands.specs.Plain.{checking}
 use Rattle.library_core.specs.Serving.{IsUndone}
 use Rattle.library_core.specs.declared.fault.CallFault.{CallFault}

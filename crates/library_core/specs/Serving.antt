@@ -11,8 +11,8 @@ use Rattle.refusals.specs.declared.fault.CommandFault.TheVariants.{PlanTooLarge,
 use Rattle.refusals.specs.declared.fault.CommandFault.TheVariants.{JobDevice, PlanDevice, OutDevice}
 use Rattle.refusals.specs.declared.fault.CommandFault.TheVariants.{OutsideCell, OutsidePlace}
 use Rattle.pram_commands.specs.Did.{Command, ends_with}
-use Rattle.pram_commands.specs.Inputs.{IsBad}
-use Rattle.pram_commands.specs.Names.{Means}
+use Rattle.naming.specs.BadTexts.{IsBad}
+use Rattle.naming.specs.Names.{Means}
 use Rattle.library_core.specs.Calls.{IsCall}
 use Rattle.library_core.specs.declared.answer.Answer.{Answer}
 use Rattle.library_core.specs.declared.fault.CallFault.{CallFault}

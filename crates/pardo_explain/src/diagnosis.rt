@@ -1,9 +1,9 @@
 //! A diagnosis, and how it is printed.
-ghost use Rattle.std.specs.Prelude.{◌≡◌, ◌++◌, decimal, OnOk};
+ghost use Rattle.std.specs.Prelude.{◌≡◌, ◌++◌, OnOk};
 ghost use Rattle.pardo_explain.specs.Diagnoses.{diagnosis_text, indented, mark, spot};
 
 use crate::look::{Look, push_sign};
-use itoa::Buffer;
+use pardo_hints::push_number;
 use std::alloc::AllocError;
 
 /// Where a text is wrong, and a sentence on it: the line and the column, both counted from 1, the
@@ -67,12 +67,4 @@ fn push_indented(text: &mut Vec<u8>, line: &[u8]) -> Result<(), AllocError>
 {
     text.extend_from_slice(b"\n    ")?;
     text.extend_from_slice(line)
-}
-
-/// Adds a number.
-pub(crate) fn push_number(text: &mut Vec<u8>, number: u64) -> Result<(), AllocError>
-    ensures { OnOk result (text.new.items ≡ text.old.items ++ decimal number) }
-{
-    let mut buffer = Buffer::new();
-    text.extend_from_slice(buffer.format(number).as_bytes())
 }

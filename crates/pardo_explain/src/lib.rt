@@ -1,23 +1,12 @@
 //! Where a program is wrong, and a sentence on it. The reader refuses a text by a line and a kind;
 //! here it reads the text again, up to the token at which it stops, and what stands around that
-//! token decides the sentence. Nothing here decides what is refused.
+//! token (`pardo_hints`) decides the sentence. Nothing here decides what is refused.
 #![tactic(auto)]
 
-mod before;
 mod diagnosis;
-mod fill;
 mod look;
-mod nearest;
 mod note;
-mod piece;
-mod point;
-mod scan;
 mod second_look;
-mod sentence;
-mod slip;
-mod slips;
-mod wanted;
-mod words;
 
 pub use diagnosis::{Diagnosis, push_diagnosis};
 pub use look::Look;

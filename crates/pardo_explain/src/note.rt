@@ -1,9 +1,8 @@
 //! How a program was read where people could read it otherwise: at a shift beside another operator,
 //! without brackets.
 use crate::diagnosis::Diagnosis;
-use crate::piece::{Piece, Pieces, trimmed};
 use crate::second_look::pointing;
-use crate::words::{is_among, is_comparison};
+use pardo_hints::{Piece, Pieces, is_among, is_comparison, trimmed};
 use pardo_text::said;
 use std::alloc::{AllocError, Global};
 use text_lines::{TextLines, is_word};

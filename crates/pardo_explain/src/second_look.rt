@@ -3,10 +3,8 @@ ghost use Rattle.std.specs.Prelude.{◌≡◌, Ok, Err, IfOk, IfSome, MatchOptio
 ghost use Rattle.pardo_text.specs.Program.{ProgramData};
 ghost use Rattle.pardo_text.specs.Reading.{program_of};
 
-use crate::before::lines_before;
 use crate::diagnosis::Diagnosis;
-use crate::point::point_of;
-use crate::sentence::push_sentence;
+use pardo_hints::{lines_before, point_of, push_sentence};
 use pardo_text::{PardoFault, PardoKind, Stop, read_or_stop, said};
 use std::alloc::{AllocError, Global};
 use text_lines::{TextLines, is_blank};

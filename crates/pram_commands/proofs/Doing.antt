@@ -12,11 +12,12 @@ use Rattle.pram_streams.specs.Transfer.{AppendsBeginning, GivesSome}
 use Rattle.pram_streams.specs.declared.print.PrintFault.{PrintFault}
 use Rattle.pram_streams.specs.declared.print.PrintFault.TheVariants as print
 use Rattle.stop_plan.specs.Plan.{PlanData}
-use Rattle.pram_commands.specs.Did.{Command, Did, Given, Showing, Writing}
+use Rattle.pram_commands.specs.Did.{Command, Did, Given, Showing}
+use Rattle.naming.specs.Writing.{Writing}
 use Rattle.pram_commands.specs.Did.{ending, ends_with, tells, tells_none, tells_status}
 use Rattle.pram_commands.specs.Inner.Puts.{PutBeginning, PutsAnswer, printed_as, status_result}
 use Rattle.pram_commands.specs.Inputs.{Taking}
-use Rattle.pram_commands.specs.Names.{AreNames, NamingData}
+use Rattle.naming.specs.Names.{AreNames, NamingData}
 use Rattle.refusals.specs.declared.fault.CommandFault.{CommandFault}
 use Rattle.refusals.specs.declared.fault.CommandFault.TheVariants.{JobDevice, PlanDevice}
 use Rattle.refusals.specs.declared.fault.CommandFault.TheVariants.{OutDevice, Memory}

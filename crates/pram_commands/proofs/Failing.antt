@@ -6,7 +6,7 @@ use Rattle.std.specs.Prelude.{◌||◌}
 use Rattle.pram_streams.specs.declared.device.Source as a_source
 use Rattle.command_data.specs.Line.{text_now}
 use Rattle.command_data.specs.declared.line.Line.{Line}
-use Rattle.pram_commands.specs.Did.{Writing}
+use Rattle.naming.specs.Writing.{Writing}
 use Rattle.pram_commands.specs.Files.{ArePlanBytes, MayFail, ServesFiles, ServesText}
 use Rattle.pram_commands.specs.Inputs.{reading}
 use Rattle.pram_commands.specs.Served.{Served}

@@ -10,7 +10,8 @@ use Rattle.stop_plan.specs.Plan.{PlanData}
 use Rattle.pram_board.specs.Seats.{Desk, SeatData}
 use Rattle.pram_run.specs.Heard.{Ended, HasRunBeside}
 use Rattle.command_data.specs.declared.line.Style.{Style}
-use Rattle.pram_commands.specs.Did.{Writing, tells}
+use Rattle.naming.specs.Writing.{Writing}
+use Rattle.pram_commands.specs.Did.{tells}
 use Rattle.pram_commands.specs.Inner.Hearing.{HasToldEnd}
 use Rattle.pram_commands.specs.Inner.Puts.{PutsAnswer, outcome}
 use Rattle.pram_commands.specs.Inner.Watching.{HasHeardAlone, Hearing, IsWatchedBy, CellReading}

@@ -11,14 +11,15 @@ use Rattle.pram_streams.specs.declared.print.PrintFault.TheVariants.{Device, Mem
 use Rattle.pram_cost.specs.Beyond.{IsBeyond, beyond_line}
 use Rattle.pram_cost.specs.declared.beyond.Beyond.{Beyond}
 use Rattle.pram_cost.specs.declared.pram.Pram.{Pram}
-use Rattle.pram_commands.specs.Costs.{cost_words}
-use Rattle.pram_commands.specs.Did.{Writing, ends_with, tells_status}
-use Rattle.pram_commands.specs.Inner.Costed.{IsCosted}
+use Rattle.naming.specs.Costs.{cost_words}
+use Rattle.naming.specs.Writing.{Writing}
+use Rattle.pram_commands.specs.Did.{ends_with, tells_status}
+use Rattle.naming.specs.Costed.{IsCosted}
 use Rattle.pram_commands.specs.Inner.Puts.{PutsAnswer, with_status}
 use Rattle.pram_commands.specs.Under.{TellsBeyond, clash_at}
-use Rattle.pram_commands.specs.declared.line_costs.Costs.{Costs}
-use Rattle.pram_commands.specs.declared.line_costs.LineCost.{LineCost}
-use Rattle.pram_commands.specs.declared.sources.Spelled.{Spelled}
+use Rattle.naming.specs.declared.line_costs.Costs.{Costs}
+use Rattle.naming.specs.declared.line_costs.LineCost.{LineCost}
+use Rattle.naming.specs.declared.texts.Spelled.{Spelled}
 use Rattle.pram_commands.proofs.Doing.{err_as, ok_not_err, put_failed}
 
 -- what the answer is, whatever else a call tells

@@ -1,4 +1,3 @@
-pub mod Cells
 pub mod Doing
 pub mod Ends
 pub mod Statuses
@@ -6,13 +5,7 @@ pub mod Told
 pub mod Hearing
 pub mod Outside
 pub mod Watching
-pub mod Digits
-pub mod Rows
 pub mod Failing
-pub mod Costed
-pub mod Lined
 pub mod Explaining
-pub mod LineFinding
 pub mod Judged
 pub mod Recording
-pub mod ArrayNames

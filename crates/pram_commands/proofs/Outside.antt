@@ -9,11 +9,12 @@ use Rattle.pram_streams.specs.declared.print.PrintFault.{PrintFault}
 use Rattle.pram_streams.specs.declared.print.PrintFault.TheVariants.{Device}
 use Rattle.pram_streams.specs.declared.print.PrintFault.TheVariants as print
 use Rattle.stop_plan.specs.Plan.{PlanData}
-use Rattle.pram_commands.specs.CellLists.{IsOutside}
-use Rattle.pram_commands.specs.Did.{Command, Did, Explains, Given, Writing, Wrote}
+use Rattle.naming.specs.CellLists.{IsOutside}
+use Rattle.pram_commands.specs.Did.{Command, Did, Explains, Given, Wrote}
+use Rattle.naming.specs.Writing.{Writing}
 use Rattle.pram_commands.specs.Inner.Puts.{PutBeginning, PutsAnswer}
 use Rattle.pram_commands.specs.Inputs.{IsOfJob, Taking}
-use Rattle.pram_commands.specs.Names.{NamingData}
+use Rattle.naming.specs.Names.{NamingData}
 use Rattle.refusals.specs.declared.fault.CommandFault.{CommandFault}
 use Rattle.refusals.specs.declared.fault.CommandFault.TheVariants as fault
 use Rattle.pram_commands.proofs.Doing.{err_same}

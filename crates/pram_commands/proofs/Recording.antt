@@ -4,11 +4,11 @@ use Rattle.pram_job.specs.Job.{JobData}
 use Rattle.pram_cost.specs.Models.{IsWeakestModel}
 use Rattle.pram_cost.specs.declared.pram.Pram.{Pram}
 use Rattle.pram_commands.specs.Costs.{conflict_of}
-use Rattle.pram_commands.specs.Inner.Costed.{AreCosts}
-use Rattle.pram_commands.specs.Names.{AreNames, NamingData}
+use Rattle.naming.specs.Costed.{AreCosts}
+use Rattle.naming.specs.Names.{AreNames, NamingData}
 use Rattle.pram_commands.specs.Sweeps.{TellsRecord, end_word, fields_text, told_gone}
-use Rattle.pram_commands.specs.declared.line_costs.Costs.{Costs}
-use Rattle.pram_commands.specs.declared.line_costs.LineCost.{LineCost}
+use Rattle.naming.specs.declared.line_costs.Costs.{Costs}
+use Rattle.naming.specs.declared.line_costs.LineCost.{LineCost}
 
 pub told_record : (job_text : List ℕ) (job : JobData) (names : Option NamingData) (costs : Costs)
     (pram : Pram) (bytes : List ℕ) → AreNames job_text job names → AreCosts names job costs →

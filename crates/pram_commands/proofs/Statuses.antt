@@ -13,7 +13,8 @@ use Rattle.pram_cost.specs.declared.pram.Pram.{Pram}
 use Rattle.stop_plan.specs.Plan.{PlanData}
 use Rattle.pram_commands.specs.Costs.{conflict_of}
 use Rattle.pram_commands.specs.Did.{Begins, Command, Did, Explains, Prints, Wrote}
-use Rattle.pram_commands.specs.Did.{Writing, ends_with, tells_status}
+use Rattle.naming.specs.Writing.{Writing}
+use Rattle.pram_commands.specs.Did.{ends_with, tells_status}
 use Rattle.refusals.specs.Faults.{fault_status}
 use Rattle.pram_commands.specs.Inputs.{InputsRead, Taking}
 use Rattle.pram_commands.specs.Line.{command_alone, command_of}

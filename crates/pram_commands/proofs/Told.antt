@@ -6,9 +6,10 @@ use Rattle.pram_step.specs.declared.answer.RunAnswer.{RunAnswer}
 use Rattle.pram_streams.specs.declared.print.PrintFault.{PrintFault}
 use Rattle.pram_streams.specs.declared.print.PrintFault.TheVariants.{Device, Memory}
 use Rattle.command_data.specs.declared.line.Style.{Style}
-use Rattle.pram_commands.specs.Did.{Writing, tells}
+use Rattle.naming.specs.Writing.{Writing}
+use Rattle.pram_commands.specs.Did.{tells}
 use Rattle.pram_commands.specs.Inner.Puts.{HasAnswered, PutBeginning, PutsAnswer, outcome}
-use Rattle.pram_commands.specs.Names.{AreNames, NamingData, line_at, styled}
+use Rattle.naming.specs.Names.{AreNames, NamingData, line_at, styled}
 use Rattle.pram_commands.specs.Why.{Explaining, Follows}
 use Rattle.pram_commands.proofs.Doing.{ok_not_err, other_fault}
 

@@ -15,13 +15,15 @@ use Rattle.pram_run.specs.Heard.{Ended, HasRunWith}
 use Rattle.pram_run.specs.Printed.{sights_text}
 use Rattle.pram_run.specs.PutReads.{Printing, PutWatch}
 use Rattle.pram_run.specs.Watching.{HasWatchedWith, ReadsAndHears}
-use Rattle.pram_commands.specs.Did.{Answering, tells, writing}
+use Rattle.pram_commands.specs.Did.{Answering, tells}
+use Rattle.naming.specs.Writing.{writing}
 use Rattle.pram_commands.specs.Inner.Hearing.{HasPrinted}
 use Rattle.pram_commands.specs.Inner.Puts.{PutsAnswer, outcome}
 use Rattle.pram_commands.specs.Inner.Watching.{HasPrintedAfter, Hearing}
 use Rattle.pram_commands.specs.Inner.Watching.{IsWatchedBy, CellReading}
-use Rattle.pram_commands.specs.Names.{AreNames, NamingData}
-use Rattle.pram_commands.specs.Threads.{TellsSights, cell_words}
+use Rattle.naming.specs.Names.{AreNames, NamingData}
+use Rattle.pram_commands.specs.Threads.{TellsSights}
+use Rattle.naming.specs.CellNames.{cell_words}
 use Rattle.pram_commands.specs.declared.sources.Inputs.{Inputs}
 use Rattle.pram_commands.proofs.Doing.{begins_after, begins_front, ok_not_err, put_both, put_failed}
 use Rattle.pram_commands.proofs.Doing.{well}

@@ -1,4 +1,4 @@
--- What a command is, and what a call of it does with what it reads and writes.
+-- What a command is, and what a call of it does.
 use Rattle.std.specs.Prelude.{◌≡◌, ◌⊎◌, ◌++◌, ◌↔◌, ℕ, Bool, true, false, List, [], Option, None}
 use Rattle.std.specs.Prelude.{Some, Result, ⊤}
 use Rattle.std.specs.Prelude.{IfOk, IfErr, IfSome, MatchOption, IsErrOf, IsTrue}
@@ -7,13 +7,13 @@ use Rattle.pram_job.specs.Job.{JobData}
 use Rattle.pram_step.specs.declared.answer.RunAnswer.{RunAnswer}
 use Rattle.pram_step.specs.declared.answer.RunAnswer.TheVariants.{Final, Conflict, Unfinished}
 use Rattle.pram_streams.specs.Transfer.{AppendsBeginning, GivesMoreThan, GivesSome}
-use Rattle.pram_streams.specs.declared.device.Sink as a_sink
 use Rattle.pram_streams.specs.declared.transfer.TheConstants.{MOST}
 use Rattle.stop_plan.specs.Plan.{PlanData}
 use Rattle.stop_plan.specs.declared.plan.PlanKind.{PlanKind}
 use Rattle.pram_commands.specs.Inputs.{GivesFault, GivesSuch, GivesText}
 use Rattle.pram_commands.specs.Inputs.{GivesSomeJob, IsOfJob, InputsRead, Taking}
-use Rattle.pram_commands.specs.Names.{AreNames, NamingData, printed_answer}
+use Rattle.naming.specs.Names.{AreNames, NamingData, printed_answer}
+use Rattle.naming.specs.Writing.{Writing}
 use Rattle.refusals.specs.declared.fault.CommandFault.{CommandFault}
 use Rattle.refusals.specs.declared.fault.CommandFault.TheVariants.{Text, Program, Plan}
 use Rattle.refusals.specs.declared.fault.CommandFault.TheVariants.{OutsideCell, JobDevice}
@@ -22,21 +22,6 @@ use Rattle.refusals.specs.declared.fault.CommandFault.TheVariants.{PlanDevice, O
 use Rattle.refusals.specs.declared.fault.CommandFault.TheVariants.{JobTooLarge, PlanTooLarge}
 use Rattle.refusals.specs.declared.fault.CommandFault.TheVariants.{Memory}
 use Rattle.refusals.specs.declared.refusal.TheConstants.{DONE, CONFLICT, UNFINISHED}
-
--- What a call did with its output, and that nothing was written.
-pub record Writing : Type 1 where
-  pub out : Option (List ℕ)
-  pub out' : Option (List ℕ)
-  pub failed : Bool
-  pub Unwritten : Type 0
-
-abbrev pub writing : {O : Type 0} → a_sink.Ghosts O → (before after : O) → Writing
-writing of_out before after = record {
-  out = of_out.taken before;
-  out' = of_out.taken after;
-  failed = of_out.has_failed after;
-  Unwritten = after ≡ before;
-}
 
 -- What a command is: the workers of the plan that it follows, if it follows one; which plan a text
 -- is then, and which fault it has in which row; what the job has to have, and what a fault says

@@ -1,7 +1,7 @@
 -- What a line that is served from files says of them.
 use Rattle.std.specs.Prelude.{◌≡◌, ◌||◌, ℕ, List, [], Option, None, Some, IsTrue}
 use Rattle.pram_streams.specs.declared.device.Source as a_source
-use Rattle.pram_commands.specs.Did.{Writing}
+use Rattle.naming.specs.Writing.{Writing}
 use Rattle.pram_commands.specs.Inputs.{InputsRead}
 use Rattle.command_data.specs.Line.{text_now}
 use Rattle.pram_commands.specs.Served.{Served}

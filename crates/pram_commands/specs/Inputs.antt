@@ -1,16 +1,8 @@
--- What reading a job and a plan says of their sources, by their bytes before and after.
-use Rattle.std.specs.Prelude.{◌≡◌, ◌≢◌, ◌↔◌, ℕ, Bool, true, false, List, Option, Result, ⊤}
+-- What reading a job and a plan says of their sources.
+use Rattle.std.specs.Prelude.{◌≡◌, ◌↔◌, ℕ, Bool, false, List, Option, Result, ⊤}
 use Rattle.std.specs.Prelude.{IfOk, IfErr, IsErrOf, IsTrue, nat_lt, ◌&&◌}
 use Rattle.std.specs.Prelude.{if◌then◌else◌, None, Some}
 use Rattle.pram_job.specs.Job.{JobData}
-use Rattle.pram_text.specs.Text.{Bears}
-use Rattle.pram_text.specs.declared.fault.TextKind.TheVariants as text_kind
-use Rattle.pardo_text.specs.declared.fault.PardoKind.TheVariants as pardo_kind
-use Rattle.pardo_job.specs.Refusals.{IsProgramRefusal}
-use Rattle.pardo_job.specs.declared.fault.JobKind.TheVariants as job_kind
-use Rattle.pardo_job.specs.declared.fault.Refusal.{Refusal}
-use Rattle.pardo_job.specs.declared.fault.Refusal.TheVariants as program
-use Rattle.pardo_answers.specs.Language.{is_program}
 use Rattle.pram_step.specs.Runs.{IsAnswer}
 use Rattle.pram_step.specs.declared.answer.RunAnswer.{RunAnswer}
 use Rattle.pram_streams.specs.Transfer.{Gives, GivesMoreThan, GivesSome}
@@ -21,7 +13,8 @@ use Rattle.stop_plan.specs.Plan.{PlanData}
 use Rattle.stop_plan.specs.Records.{FirstFault, SpellsPlan, records_of}
 use Rattle.stop_plan.specs.declared.plan.PlanKind.{PlanKind}
 use Rattle.refusals.specs.declared.fault.CommandFault.{CommandFault}
-use Rattle.pram_commands.specs.Names.{AreNames, Means}
+use Rattle.naming.specs.BadTexts.{IsBad}
+use Rattle.naming.specs.Names.{AreNames, Means}
 use Rattle.refusals.specs.declared.fault.CommandFault.TheVariants.{Text, Program, Plan}
 use Rattle.refusals.specs.declared.fault.CommandFault.TheVariants.{JobDevice}
 use Rattle.refusals.specs.declared.fault.CommandFault.TheVariants.{PlanDevice, JobTooLarge}
@@ -78,26 +71,6 @@ pub record GivesText (source source' : Option (List ℕ)) (text : List ℕ) (job
 -- The source gave a text of this job.
 abbrev pub GivesJob : Option (List ℕ) → Option (List ℕ) → JobData → Type 0
 GivesJob source source' job = (text : List ℕ) × GivesText source source' text job
-
--- What is wrong with a program is wrong with its text.
-abbrev pub IsOfText : Refusal → Type 0
-IsOfText (program.Text fault) = fault.kind ≢ pardo_kind.Memory
-IsOfText (program.Job fault) = fault.kind ≢ job_kind.Memory
-
--- The text has this fault: as one of the machine, or as a program.
-abbrev pub IsBad : List ℕ → CommandFault → Type 0
-IsBad text (Text line kind) =
-    (is_program text ≡ false) × Bears text line kind × (kind ≢ text_kind.Memory)
-IsBad text (Program refusal) =
-    (is_program text ≡ true) × IsProgramRefusal text refusal × IsOfText refusal
-IsBad text _ = ⊥
-
--- the text has this fault, or memory ran out
-abbrev pub IsBadOrMemory : List ℕ → CommandFault → Type 0
-IsBadOrMemory text (Text line kind) = IsBad text (Text line kind)
-IsBadOrMemory text (Program refusal) = IsBad text (Program refusal)
-IsBadOrMemory text Memory = ⊤
-IsBadOrMemory text _ = ⊥
 
 -- The source gave a text of which this holds.
 pub record GivesSuch (source source' : Option (List ℕ)) (Is : List ℕ → Type 0) : Type 0 where

@@ -1,5 +1,3 @@
-pub mod ArrayNames
-pub mod CellLists
 pub mod Costs
 pub mod Did
 pub mod Faults
@@ -9,7 +7,6 @@ pub mod Inner
 pub mod Inputs
 pub mod Line
 pub mod LineRecords
-pub mod Names
 pub mod Plain
 pub mod Progress
 pub mod Replayed

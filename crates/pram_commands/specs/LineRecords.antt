@@ -1,33 +1,15 @@
 -- What the command comes to that says what each counted line of a program costs.
-use Rattle.std.specs.Prelude.{◌≡◌, ℕ, Bool, true, false, List, [], ◌∷◌, ◌++◌, codes, decimal}
-use Rattle.std.specs.Prelude.{slice_index_or, Option}
-use Rattle.std.specs.List.{flat_map}
-use Rattle.csv.specs.Writing.{default_writer, row_text}
-use Rattle.text_lines.specs.Lines.{lines_of}
+use Rattle.std.specs.Prelude.{◌≡◌, ℕ, Bool, true, false, List, Option}
 use Rattle.pram_job.specs.Job.{JobData}
 use Rattle.pram_step.specs.declared.answer.RunAnswer.{RunAnswer}
 use Rattle.pram_cost.specs.Costs.{IsCost}
 use Rattle.pram_cost.specs.declared.cost.Cost.{Cost}
-use Rattle.pram_commands.specs.declared.line_costs.LineCost.{LineCost}
-use Rattle.pram_commands.specs.Costs.{conflict_of, costing, line_costs}
+use Rattle.pram_commands.specs.Costs.{conflict_of, costing}
+use Rattle.naming.specs.Costs.{line_costs}
 use Rattle.pram_commands.specs.Did.{Command}
-use Rattle.pram_commands.specs.Names.{AreNames, NamingData}
+use Rattle.naming.specs.LineRecords.{records_text}
+use Rattle.naming.specs.Names.{AreNames, NamingData}
 use Rattle.pram_commands.specs.Plain.{on_job}
-
--- the line of this number, which counts from 1; no other number has a line
-abbrev pub line_numbered : List ℕ → ℕ → List ℕ
-line_numbered text number = slice_index_or ([] ∷ lines_of text) number []
-
--- the record of a counted line: its number, what it costs, and the line as it stands
-abbrev pub line_record : LineCost → List ℕ → List ℕ
-line_record cost line = row_text default_writer
-    (decimal cost.line ∷ decimal cost.times ∷ decimal cost.time ∷ decimal cost.operations
-    ∷ decimal cost.most ∷ line ∷ [])
-
--- the records of counted lines, after a header
-abbrev pub records_text : List ℕ → List LineCost → List ℕ
-records_text text costs = codes "line,times,time,operations,most,text\n"
-    ++ flat_map (λ cost. line_record cost (line_numbered text cost.line)) costs
 
 -- The text says what the run of the job costs in each counted line of its program; the job of a
 -- text of the machine has none.

@@ -1,7 +1,8 @@
 -- What the status of a line that was served says.
 use Rattle.std.specs.Prelude.{◌≡◌, ◌⊎◌, ◌≤◌, ◌<◌, ℕ, IsTrue, is_some}
 use Rattle.pram_streams.specs.Transfer.{GivesSome}
-use Rattle.pram_commands.specs.Did.{Begins, Command, Explains, Prints, Writing, tells_status}
+use Rattle.pram_commands.specs.Did.{Begins, Command, Explains, Prints, tells_status}
+use Rattle.naming.specs.Writing.{Writing}
 use Rattle.refusals.specs.Faults.{fault_status}
 use Rattle.pram_commands.specs.Inputs.{InputsRead}
 use Rattle.pram_commands.specs.Line.{command_of}

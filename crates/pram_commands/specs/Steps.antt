@@ -1,43 +1,17 @@
 -- What the command comes to that prints the steps of a window.
-use Rattle.std.specs.Prelude.{◌≡◌, ℕ, Bool, ◌&&◌, if◌then◌else◌, List, ◌++◌, codes, decimal}
-use Rattle.std.specs.Prelude.{Option, Some, None, is_err, ⊤}
-use Rattle.text_lines.specs.Lines.{Word, is_filled}
-use Rattle.pram_job.specs.declared.instr.Array.{Array}
+use Rattle.std.specs.Prelude.{◌≡◌, ℕ, Bool, List, Option, Some, None, ⊤}
 use Rattle.pram_job.specs.Job.{JobData}
-use Rattle.pram_text.specs.Judgement.{register_of}
 use Rattle.pram_step.specs.Runs.{IsAnswer}
 use Rattle.pram_step.specs.declared.answer.RunAnswer.{RunAnswer}
-use Rattle.pram_rows.specs.Instructions.{array_text}
-use Rattle.pram_rows.specs.Rows.{RowWords, by_numbers, rows_text}
+use Rattle.pram_rows.specs.Rows.{rows_text}
 use Rattle.pram_rows.specs.Shown.{last_step}
 use Rattle.pram_rows.specs.declared.window.Window.{Window}
-use Rattle.pardo_job.specs.Printed.{cell_text}
-use Rattle.pram_commands.specs.ArrayNames.{may_name, variable_name}
 use Rattle.pram_commands.specs.Did.{Command, Showing}
 use Rattle.pram_commands.specs.Inputs.{missing_step}
-use Rattle.pram_commands.specs.Names.{AreNames, NamingData}
+use Rattle.naming.specs.Names.{AreNames, NamingData}
+use Rattle.naming.specs.RowNames.{row_words}
 use Rattle.refusals.specs.declared.fault.CommandFault.{CommandFault}
 use Rattle.refusals.specs.declared.fault.CommandFault.TheVariants.{OutsideStep}
-
--- a cell by its place, but by its number where it has none, or one that is named as a register is
-abbrev pub place_word : List ℕ → ℕ → List ℕ
-place_word place cell =
-    if is_filled place && is_err (register_of place) then place else codes "cell " ++ decimal cell
-
--- an array by the name of its variable, but by its cells where it has none, or a register's
-abbrev pub range_word : Option Word → Array → List ℕ
-range_word None array = array_text array
-range_word (Some name) array = if may_name name then name else array_text array
-
--- How rows are told: of a program with the lines that its job's instructions came from, and by its
--- names.
-abbrev pub row_words : Option NamingData → RowWords
-row_words None = by_numbers None
-row_words (Some naming) = record {
-  lines = Some naming.numbers;
-  cell = λ cell. place_word (cell_text naming.program.arrays cell) cell;
-  array = λ array. range_word (variable_name naming.program array) array;
-}
 
 -- This is the answer of the job of a text, and these bytes are the rows of its window.
 pub record TellsSteps (job_text : List ℕ) (job : JobData) (window : Window) (answer : RunAnswer)

@@ -11,11 +11,12 @@ use Rattle.pram_cost.specs.Printed.{name_of}
 use Rattle.pram_cost.specs.declared.cost.Cost.{Cost}
 use Rattle.pram_cost.specs.declared.pram.Pram.{Pram}
 use Rattle.pardo_job.specs.Ends.{gone_in}
-use Rattle.pram_commands.specs.Costs.{conflict_of, line_costs}
+use Rattle.pram_commands.specs.Costs.{conflict_of}
+use Rattle.naming.specs.Costs.{line_costs}
 use Rattle.pram_commands.specs.Did.{Command, ends_with}
-use Rattle.pram_commands.specs.Names.{AreNames, NamingData}
+use Rattle.naming.specs.Names.{AreNames, NamingData}
 use Rattle.pram_commands.specs.Plain.{on_job}
-use Rattle.pram_commands.specs.declared.line_costs.LineCost.{LineCost}
+use Rattle.naming.specs.declared.line_costs.LineCost.{LineCost}
 use Rattle.pram_commands.specs.declared.sweeps.RunRecord.{RunRecord}
 
 -- how a run ends: in a conflict; else with one of these processors gone, or done

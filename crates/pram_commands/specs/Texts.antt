@@ -3,9 +3,9 @@ use Rattle.std.specs.Prelude.{◌≡◌, ℕ, List, Option, None}
 use Rattle.job_text.specs.Printed.{text_of}
 use Rattle.pram_job.specs.Job.{JobData}
 use Rattle.pram_step.specs.declared.answer.RunAnswer.{RunAnswer}
-use Rattle.pram_commands.specs.ArrayNames.{array_words}
+use Rattle.naming.specs.ArrayNames.{array_words}
 use Rattle.pram_commands.specs.Did.{Command}
-use Rattle.pram_commands.specs.Names.{AreNames, NamingData}
+use Rattle.naming.specs.Names.{AreNames, NamingData}
 use Rattle.pram_commands.specs.Plain.{on_job}
 
 -- the text is that of the job, its arrays by the names of its program, and no answer is given

@@ -1,8 +1,6 @@
 -- What the commands come to that run a job on threads.
-use Rattle.std.specs.Prelude.{◌≡◌, ◌<◌, ◌==◌, ◌++◌, if◌then◌else◌, ℕ, List, [], ◌∷◌, Option, None}
-use Rattle.std.specs.Prelude.{Some, ⊤, map}
-use Rattle.std.specs.Prelude.{slice_index, All, codes, decimal}
-use Rattle.std.specs.List.{list_any, repeat}
+use Rattle.std.specs.Prelude.{◌≡◌, ◌<◌, ℕ, List, Option, None, Some, ⊤, map, slice_index, All}
+use Rattle.std.specs.List.{repeat}
 use Rattle.std.specs.List.Sorted.{IsNonDecreasingBy}
 use Rattle.pram_job.specs.Job.{JobData}
 use Rattle.pram_step.specs.Runs.{IsReached, state_after}
@@ -12,15 +10,15 @@ use Rattle.pram_words.specs.Words.{grain_for}
 use Rattle.stop_plan.specs.Plan.{PlanData}
 use Rattle.pram_board.specs.Seats.{Desk, SeatData, IsOpened}
 use Rattle.pram_run.specs.Heard.{HasRunBeside}
-use Rattle.pram_run.specs.Printed.{CellWords, by_numbers, sights_text}
-use Rattle.pardo_job.specs.Printed.{cell_text}
+use Rattle.pram_run.specs.Printed.{sights_text}
 use Rattle.pram_run.specs.Watching.{HasReadBeside, IsWatch}
 use Rattle.pram_run.specs.declared.sight.Sight.{Sight}
 use Rattle.command_data.specs.declared.line.Style.{Style}
-use Rattle.pram_commands.specs.CellLists.{AreCellsOf, LacksCell}
+use Rattle.naming.specs.CellLists.{AreCellsOf, LacksCell}
 use Rattle.pram_commands.specs.Did.{Answering, Command}
 use Rattle.pram_commands.specs.Following.{LacksNone, following}
-use Rattle.pram_commands.specs.Names.{AreNames, NamingData}
+use Rattle.naming.specs.CellNames.{cell_words}
+use Rattle.naming.specs.Names.{AreNames, NamingData}
 use Rattle.pram_commands.specs.Why.{Explaining}
 use Rattle.command_data.specs.Manner.{size_of}
 use Rattle.command_data.specs.declared.block.Block.{Block}
@@ -78,23 +76,6 @@ pub record IsWatchEnd (job : JobData) (plan : PlanData) (cells : List ℕ) (roun
     (sights : List Sight) (answer : RunAnswer) : Type 0 where
   pub later : SeatData
   pub at_it : WatchEndsAt job plan cells rounds later sights answer
-
--- a place as a field of a record: in quotes where it has a comma, as one of two indices has
-abbrev pub as_field : List ℕ → List ℕ
-as_field place =
-    if list_any (λ byte. byte == 44) place then 34 ∷ place ++ 34 ∷ [] else place
-
--- how a watch tells cells: by their numbers, or by a program's places, of those that have one
-abbrev pub or_number : List ℕ → ℕ → List ℕ
-or_number [] cell = decimal cell
-or_number (byte ∷ bytes) cell = as_field (byte ∷ bytes)
-
-abbrev pub cell_words : Option NamingData → CellWords
-cell_words None = by_numbers
-cell_words (Some naming) = record {
-  header = codes "step,place,value\n";
-  word = λ cell. or_number (cell_text naming.program.arrays cell) cell;
-}
 
 -- A watch came to this answer, and these bytes tell what its reader saw, the cells by a text's
 -- names.

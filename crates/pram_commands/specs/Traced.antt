@@ -8,7 +8,7 @@ use Rattle.pram_rows.specs.StepRows.{StepRows}
 use Rattle.pram_rows.specs.declared.window.Window.{Window}
 use Rattle.pardo_trace.specs.Traces.{trace_header, trace_rows}
 use Rattle.pram_commands.specs.Did.{Command, Showing}
-use Rattle.pram_commands.specs.Names.{AreNames, NamingData}
+use Rattle.naming.specs.Names.{AreNames, NamingData}
 
 -- A text of the machine has no lines to tell: its header stands alone.
 abbrev pub traced : Option NamingData → StepRows

@@ -11,9 +11,9 @@ use Rattle.pram_cost.specs.declared.beyond.Beyond.{Beyond}
 use Rattle.pram_cost.specs.declared.cost.Cost.{Cost}
 use Rattle.pram_cost.specs.declared.meeting.Meeting.{Meeting}
 use Rattle.pram_cost.specs.declared.pram.Pram.{Pram}
-use Rattle.pram_commands.specs.Costs.{cost_words, line_costs}
+use Rattle.naming.specs.Costs.{cost_words, line_costs}
 use Rattle.pram_commands.specs.Did.{Command}
-use Rattle.pram_commands.specs.Names.{AreNames, NamingData}
+use Rattle.naming.specs.Names.{AreNames, NamingData}
 use Rattle.pram_commands.specs.Plain.{no_plan, on_job}
 
 -- The model accepts all steps of the run.

@@ -7,7 +7,7 @@ use Rattle.pram_fates.specs.Fates.{AreFates}
 use Rattle.pram_fates.specs.Told.{fates_text}
 use Rattle.pram_fates.specs.declared.fates.Fates.{Fates}
 use Rattle.command_data.specs.declared.line.Style.{Style}
-use Rattle.pram_commands.specs.Names.{AreNames, NamingData, line_at, styled}
+use Rattle.naming.specs.Names.{AreNames, NamingData, line_at, styled}
 
 -- the steps that an answer speaks of: all of the job's, or those that an unfinished run made
 abbrev pub told_steps : JobData → RunAnswer → ℕ

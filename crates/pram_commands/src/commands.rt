@@ -3,7 +3,8 @@ ghost use Rattle.std.specs.Prelude.{◌≡◌, ◌↔◌, false, OnOk, IsErrOf, 
 ghost use Rattle.std.specs.Io.KnownBytes.{Appends};
 ghost use Rattle.pram_streams.specs.Transfer.{AppendsBeginning};
 ghost use Rattle.pram_commands.specs.Costs.{conflict_of};
-ghost use Rattle.pram_commands.specs.Did.{Did, ending, ends_with, status_of, tells_status, writing};
+ghost use Rattle.pram_commands.specs.Did.{Did, ending, ends_with, status_of, tells_status};
+ghost use Rattle.naming.specs.Writing.{writing};
 ghost use Rattle.pram_commands.specs.Inner.Puts.{printed_as, status_result};
 ghost use Rattle.pram_commands.specs.Inputs.{AreReady, taking};
 ghost use Rattle.pram_commands.specs.Line.{command_alone, command_on_threads};
@@ -12,12 +13,12 @@ mod alone;
 mod on_threads;
 mod under;
 
-use crate::names::print_told;
-use crate::sources::{Sources, Spelled};
+use crate::sources::Sources;
 pub use alone::{
     check, compile, cost, cost_by_lines, plain, replay, steps, sweep, take_answer, trace,
 };
 use command_data::{AskAlone, AskOnThreads};
+use naming::{Spelled, print_told};
 pub use on_threads::{run, watch};
 use pram_cost::Cost;
 use pram_rows::Window;

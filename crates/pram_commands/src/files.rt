@@ -3,7 +3,7 @@ ghost use Rattle.std.specs.Prelude.{◌≡◌, ℕ, false, List, [], Option, Som
 ghost use Rattle.std.specs.Option.{option_map_or};
 ghost use Rattle.command_data.specs.Line.{text_now};
 ghost use Rattle.command_data.specs.declared.line.Ask.TheVariants.{Alone};
-ghost use Rattle.pram_commands.specs.Did.{writing};
+ghost use Rattle.naming.specs.Writing.{writing};
 ghost use Rattle.pram_commands.specs.Files.{ArePlanBytes, MayFail, ServesFiles};
 ghost use Rattle.pram_commands.specs.Files.{ServesText};
 

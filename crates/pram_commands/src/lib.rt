@@ -2,16 +2,10 @@
 //! status.
 #![tactic(auto)]
 
-mod array_names;
 mod bytes;
-mod cell_list;
 pub mod commands;
 mod files;
 mod inputs;
-mod line_costs;
-mod line_records;
-mod names;
-mod places;
 mod printing;
 mod progress;
 mod server;
@@ -29,12 +23,12 @@ pub use command_data::{
 pub use commands::{do_alone, take_answer};
 pub use files::{Folder, serve_files, serve_files_alone, serve_text, serve_text_alone};
 pub use inputs::{take_inputs, take_job, take_plan};
-pub use names::Naming;
+pub use naming::{Naming, Spelled};
 pub use progress::{Teller, tell_steps};
 pub use refusals::{
     CONFLICT, CommandFault, DONE, Explanation, FAILED, Look, MEMORY, REFUSED, Reasons, Refusal,
     UNFINISHED, Unset, tell, tell_unset,
 };
 pub use server::{serve, serve_alone};
-pub use sources::{Console, Inputs, Sources, Spelled};
+pub use sources::{Console, Inputs, Sources};
 pub use sweeps::{RunRecord, run_record};

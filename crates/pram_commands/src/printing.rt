@@ -2,17 +2,16 @@
 ghost use Rattle.std.specs.Prelude.{◌≡◌, ◌↔◌, IsErrOf, IsTrue, false};
 ghost use Rattle.pram_streams.specs.declared.print.PrintFault.TheVariants.{Device};
 ghost use Rattle.pram_run.specs.PutReads.{PutWatch};
-ghost use Rattle.pram_commands.specs.Did.{writing};
+ghost use Rattle.naming.specs.Writing.{writing};
 ghost use Rattle.pram_commands.specs.Inner.Hearing.{HasPrinted, HasToldEnd};
 ghost use Rattle.pram_commands.specs.Inner.Puts.{outcome};
 ghost use Rattle.pram_commands.specs.Inner.Watching.{HasPrintedAfter};
-ghost use Rattle.pram_commands.specs.Names.{AreNames};
-ghost use Rattle.pram_commands.specs.Threads.{cell_words};
+ghost use Rattle.naming.specs.Names.{AreNames};
+ghost use Rattle.naming.specs.CellNames.{cell_words};
 
-use crate::names::print_told;
-use crate::sources::Spelled;
 use crate::why::put_told;
 use command_data::Style;
+use naming::{Spelled, print_told};
 use pram_board::Seat;
 use pram_run::{Listener, Reads, Shared, Sight, print_reads};
 use pram_step::RunAnswer;

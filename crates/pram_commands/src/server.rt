@@ -1,6 +1,6 @@
 //! The work of a line.
 ghost use Rattle.std.specs.Prelude.{◌≡◌, ◌⊎◌, false, IfOk, IfErr};
-ghost use Rattle.pram_commands.specs.Did.{writing};
+ghost use Rattle.naming.specs.Writing.{writing};
 ghost use Rattle.refusals.specs.Faults.{fault_status};
 ghost use Rattle.pram_commands.specs.Inputs.{AreReady, reading};
 ghost use Rattle.command_data.specs.declared.line.Ask.TheVariants.{Alone};

@@ -1,8 +1,7 @@
 //! What a line reads, what that gives, and what it writes to.
 ghost use Rattle.std.specs.Prelude.{◌≤◌};
 
-use crate::names::Naming;
-use pram_job::Job;
+use naming::Spelled;
 use refusals::Look;
 use stop_plan::Plan;
 
@@ -13,14 +12,6 @@ pub struct Sources<J, P> {
     pub job: J,
     pub plan: P,
     pub text: Option<Vec<u8>>,
-}
-
-/// A text with its job, and what the job's answers are told by where the text is a program.
-#[derive(Drop)]
-pub struct Spelled {
-    pub text: Vec<u8>,
-    pub job: Job,
-    pub names: Option<Naming>,
 }
 
 /// A text with its job, and a plan for workers.

@@ -2,12 +2,11 @@
 ghost use Rattle.std.specs.Prelude.{◌≡◌, ◌++◌, ℕ, IfErr, IfOk, OnOk, is_some};
 ghost use Rattle.std.specs.List.{list_any, range_with_len};
 ghost use Rattle.pardo_job.specs.Ends.{gone_in};
-ghost use Rattle.pram_commands.specs.Inputs.{IsBadOrMemory};
+ghost use Rattle.naming.specs.BadTexts.{IsBadOrMemory};
 ghost use Rattle.pram_commands.specs.Sweeps.{IsRunRecord, end_word, fields_text, told_gone};
 
 use crate::commands::cost_status;
-use crate::line_costs::{Costs, total_operations, total_time};
-use crate::names::{Naming, read_costed};
+use naming::{Costs, Naming, read_costed, total_operations, total_time};
 use pram_cost::Pram;
 use pram_streams::push_labelled;
 use refusals::CommandFault;

@@ -2,7 +2,7 @@
 ghost use Rattle.std.specs.Prelude.{◌≡◌};
 ghost use Rattle.pram_commands.specs.Traced.{traced};
 
-use crate::sources::Spelled;
+use naming::Spelled;
 use pardo_trace::{HEADER, Tracer};
 use pram_rows::Rows;
 use pram_step::Moment;

@@ -1,14 +1,14 @@
 //! An answer, and what became of the processors.
 ghost use Rattle.std.specs.Prelude.{◌≡◌, false, true, string_bytes, IfOk};
-ghost use Rattle.pram_commands.specs.Did.{tells, writing};
+ghost use Rattle.pram_commands.specs.Did.{tells};
+ghost use Rattle.naming.specs.Writing.{writing};
 ghost use Rattle.pram_commands.specs.Inner.Puts.{HasAnswered, PutsAnswer};
-ghost use Rattle.pram_commands.specs.Names.{AreNames, line_at};
+ghost use Rattle.naming.specs.Names.{AreNames, line_at};
 ghost use Rattle.pram_commands.specs.Why.{Explaining, Follows, told_steps};
 ghost use Rattle.pram_step.specs.Runs.{IsAnswer};
 
-use crate::names::{origin_of, print_styled};
-use crate::sources::Spelled;
 use command_data::Style;
+use naming::{Spelled, origin_of, print_styled};
 use pram_fates::{answer_with_fates, fates_after, fates_text};
 use pram_job::Job;
 use pram_step::RunAnswer;

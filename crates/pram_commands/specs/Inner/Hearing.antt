@@ -1,24 +1,14 @@
 -- What comes of an answer that is printed as it is heard.
-use Rattle.std.specs.Prelude.{◌≡◌, ◌↔◌, ℕ, List, Option, Result, Ok, Err, OnOk, IsErrOf}
-use Rattle.std.specs.Prelude.{IsTrue}
-use Rattle.std.specs.Io.KnownBytes.{Appends}
+use Rattle.std.specs.Prelude.{◌≡◌, ℕ, List, Option, Result, Ok, Err}
 use Rattle.pram_job.specs.Job.{JobData}
-use Rattle.pram_streams.specs.Transfer.{AppendsBeginning}
 use Rattle.pram_streams.specs.declared.print.PrintFault.{PrintFault}
-use Rattle.pram_streams.specs.declared.print.PrintFault.TheVariants.{Device, Memory}
+use Rattle.pram_streams.specs.declared.print.PrintFault.TheVariants.{Memory}
 use Rattle.pram_run.specs.Heard.{Ended}
 use Rattle.command_data.specs.declared.line.Style.{Style}
-use Rattle.pram_commands.specs.Did.{Writing}
+use Rattle.naming.specs.Puts.{PutText}
+use Rattle.naming.specs.Writing.{Writing}
 use Rattle.pram_commands.specs.Inner.Puts.{HasAnswered}
-use Rattle.pram_commands.specs.Names.{NamingData, printed_answer}
-
--- The output took the text, or a beginning of it; nothing where memory ran out.
-pub record PutText (writes : Writing) (text : List ℕ) (put : Result (Unit {0}) PrintFault)
-    : Type 0 where
-  pub ok : OnOk put (Appends writes.out writes.out' text)
-  pub beginning : AppendsBeginning writes.out writes.out' text
-  pub memory : IsErrOf put Memory → writes.Unwritten
-  pub failed : IsTrue writes.failed ↔ IsErrOf put Device
+use Rattle.naming.specs.Names.{NamingData, printed_answer}
 
 -- The answer of a job of so many steps was printed, or nothing where the run was out of memory.
 abbrev pub HasPrinted : Writing → Option NamingData → ℕ → Ended → Result (Unit {0}) PrintFault →

@@ -9,7 +9,8 @@ use Rattle.pram_streams.specs.declared.print.PrintFault.{PrintFault}
 use Rattle.pram_streams.specs.declared.print.PrintFault.TheVariants.{Device, Memory}
 use Rattle.pram_run.specs.Heard.{Ended}
 use Rattle.command_data.specs.declared.line.Style.{Style}
-use Rattle.pram_commands.specs.Did.{Writing, status_of, tells}
+use Rattle.naming.specs.Writing.{Writing}
+use Rattle.pram_commands.specs.Did.{status_of, tells}
 use Rattle.pram_commands.specs.Faults.{fault_of_print}
 use Rattle.pram_commands.specs.Why.{Explaining}
 use Rattle.refusals.specs.declared.fault.CommandFault.{CommandFault}

@@ -7,9 +7,9 @@ use Rattle.pram_board.specs.Seats.{Desk, SeatData}
 use Rattle.pram_run.specs.Heard.{Ended}
 use Rattle.pram_run.specs.PutReads.{Printing}
 use Rattle.pram_run.specs.Watching.{HasWatchedWith, ReadsAndHears}
-use Rattle.pram_commands.specs.Did.{Writing}
+use Rattle.naming.specs.Writing.{Writing}
 use Rattle.pram_commands.specs.Inner.Hearing.{HasPrinted}
-use Rattle.pram_commands.specs.Names.{NamingData}
+use Rattle.naming.specs.Names.{NamingData}
 use Rattle.pram_commands.specs.Threads.{IsNewBoard}
 
 -- What reading comes to, of a task, cells and rounds, from a seat to a later one.

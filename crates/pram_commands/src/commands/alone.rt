@@ -2,14 +2,15 @@
 //! `replay`, and the record of a sweep.
 ghost use Rattle.std.specs.Prelude.{◌≡◌, ◌↔◌, ⊤, true, false, IfErr, IfOk, IsErrOf, IsTrue};
 ghost use Rattle.pram_streams.specs.Transfer.{GivesSome};
-ghost use Rattle.pram_commands.specs.Did.{Did, Showing, tells, tells_none, writing};
-ghost use Rattle.pram_commands.specs.Inner.Costed.{IsCosted};
+ghost use Rattle.pram_commands.specs.Did.{Did, Showing, tells, tells_none};
+ghost use Rattle.naming.specs.Writing.{writing};
+ghost use Rattle.naming.specs.Costed.{IsCosted};
 ghost use Rattle.pram_commands.specs.Inner.Puts.{PutsAnswer};
 ghost use Rattle.pram_commands.specs.Inputs.{AreReady, ExplainsJob, GivesAnswer, missing_step};
 ghost use Rattle.pram_commands.specs.Inputs.{taking};
 ghost use Rattle.pram_commands.specs.Plain.{TellsSummary, checking, plainly};
 ghost use Rattle.pram_step.specs.Runs.{IsAnswer};
-ghost use Rattle.pram_commands.specs.Names.{AreNames};
+ghost use Rattle.naming.specs.Names.{AreNames};
 ghost use Rattle.pram_commands.specs.Costs.{TellsCost, costing, tells_conflict};
 ghost use Rattle.pram_commands.specs.LineRecords.{TellsLines, costing_by};
 ghost use Rattle.pram_commands.specs.Sweeps.{TellsRecord, sweeping};
@@ -22,14 +23,13 @@ ghost use Rattle.refusals.specs.declared.fault.CommandFault.TheVariants.{JobDevi
 
 use crate::commands::{print_ending, printed};
 use crate::inputs::{take_costed, take_inputs, take_job, take_text};
-use crate::line_costs::{Costed, Costs};
-use crate::line_records::records_of;
-use crate::sources::{Inputs, Sources, Spelled};
+use crate::sources::{Inputs, Sources};
 use crate::sweeps::record_of;
 use crate::traces::Traces;
 use crate::why::{put_explained, put_told};
 use command_data::{Style, Workers};
 use job_text::print_text;
+use naming::{Costed, Costs, Spelled, records_of};
 use pram_cost::{Cost, print_cost};
 use pram_job::Job;
 use pram_rows::{Requests, Window, print_steps};

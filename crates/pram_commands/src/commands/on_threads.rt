@@ -1,19 +1,20 @@
 //! The commands that start threads: `run` and `watch`.
 ghost use Rattle.std.specs.Prelude.{◌≡◌, ⊤, false};
-ghost use Rattle.pram_commands.specs.Did.{Answering, Did, tells, writing};
+ghost use Rattle.pram_commands.specs.Did.{Answering, Did, tells};
+ghost use Rattle.naming.specs.Writing.{writing};
 ghost use Rattle.pram_commands.specs.Inner.Puts.{PutsAnswer};
 ghost use Rattle.pram_commands.specs.Inputs.{AreReady, taking};
-ghost use Rattle.pram_commands.specs.Names.{AreNames};
+ghost use Rattle.naming.specs.Names.{AreNames};
 ghost use Rattle.pram_commands.specs.Threads.{TellsSights, running, watching};
 ghost use Rattle.command_data.specs.CellLists.{parts_of};
 
-use crate::cell_list::cells_in;
 use crate::commands::printed;
 use crate::inputs::take_inputs;
 use crate::printing::{Printing, PrintingReads, outcome, take_back};
 use crate::sources::Sources;
 use crate::threads::{Watched, run_job};
 use command_data::{AskRun, AskWatch, Manner};
+use naming::cells_in;
 use pram_run::ReadsNothing;
 use pram_step::RunAnswer;
 use pram_streams::{PrintFault, Sink, Source};

@@ -1,5 +1,5 @@
 use Rattle.std.proofs.Common.{subst}
-use Rattle.pram_commands.specs.Did.{writing}
+use Rattle.naming.specs.Writing.{writing}
 use Rattle.pram_commands.specs.Files.{MayFail}
 use Rattle.command_answers.specs.Answering.{AnswersWords}
 use Rattle.command_answers.proofs.Texts.{texts_of}

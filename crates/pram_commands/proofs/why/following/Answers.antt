@@ -1,6 +1,6 @@
 use Rattle.std.proofs.Common.{◌∙◌, ℕ, List, ap}
 use Rattle.std.proofs.lemmas.Result.{IfOk-weaker}
-use Rattle.pram_commands.specs.Names.{line_at}
+use Rattle.naming.specs.Names.{line_at}
 use Rattle.pram_commands.proofs.Explaining.{follows}
 use Rattle.pram_commands.proofs.why.following.Goals as goal
 

@@ -1,6 +1,6 @@
 use Rattle.std.proofs.Common.{◌∙◌, Err, List, Ok, ℕ, ap, refl}
 use Rattle.pram_step.specs.Runs.{IsAnswer}
-use Rattle.pram_commands.specs.Names.{line_at}
+use Rattle.naming.specs.Names.{line_at}
 use Rattle.pram_commands.proofs.Doing.{err_is}
 use Rattle.pram_commands.proofs.Explaining.{follows_answer}
 use Rattle.pram_commands.proofs.Told.{told_as}

@@ -3,11 +3,12 @@ use Rattle.pram_streams.specs.declared.print.PrintFault.TheVariants.{Device}
 use Rattle.pram_cost.specs.Models.{IsWeakestModel}
 use Rattle.pram_cost.specs.Printed.{cost_text}
 use Rattle.pram_cost.specs.declared.pram.Pram.{Pram}
-use Rattle.pram_commands.specs.Costs.{TellsCost, conflict_of, cost_words}
-use Rattle.pram_commands.specs.Inner.Costed.{IsCosted}
-use Rattle.pram_commands.specs.declared.line_costs.Costs.{Costs}
-use Rattle.pram_commands.specs.declared.line_costs.LineCost.{LineCost}
-use Rattle.pram_commands.specs.declared.sources.Spelled.{Spelled}
+use Rattle.pram_commands.specs.Costs.{TellsCost, conflict_of}
+use Rattle.naming.specs.Costs.{cost_words}
+use Rattle.naming.specs.Costed.{IsCosted}
+use Rattle.naming.specs.declared.line_costs.Costs.{Costs}
+use Rattle.naming.specs.declared.line_costs.LineCost.{LineCost}
+use Rattle.naming.specs.declared.texts.Spelled.{Spelled}
 use Rattle.pram_commands.proofs.Doing.{err_is, ok_not_err, put_failed}
 use Rattle.pram_commands.proofs.commands.alone.put_cost.Goals as goal
 

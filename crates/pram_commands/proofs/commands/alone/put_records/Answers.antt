@@ -1,11 +1,12 @@
 use Rattle.std.proofs.Common.{◌≡◌, ◌∙◌, List, ℕ, refl, ap₂}
 use Rattle.pram_streams.specs.declared.print.PrintFault.TheVariants.{Device, Memory}
 use Rattle.pram_commands.specs.Costs.{conflict_of}
-use Rattle.pram_commands.specs.Inner.Costed.{IsCosted}
-use Rattle.pram_commands.specs.LineRecords.{TellsLines, records_text}
-use Rattle.pram_commands.specs.declared.line_costs.Costs.{Costs}
-use Rattle.pram_commands.specs.declared.line_costs.LineCost.{LineCost}
-use Rattle.pram_commands.specs.declared.sources.Spelled.{Spelled}
+use Rattle.naming.specs.Costed.{IsCosted}
+use Rattle.pram_commands.specs.LineRecords.{TellsLines}
+use Rattle.naming.specs.LineRecords.{records_text}
+use Rattle.naming.specs.declared.line_costs.Costs.{Costs}
+use Rattle.naming.specs.declared.line_costs.LineCost.{LineCost}
+use Rattle.naming.specs.declared.texts.Spelled.{Spelled}
 use Rattle.pram_commands.proofs.Doing.{err_is, ok_not_err, put_failed, well}
 use Rattle.pram_commands.proofs.commands.alone.put_records.Goals as goal
 

@@ -6,8 +6,9 @@ use Rattle.pram_streams.specs.declared.print.PrintFault.TheVariants.{Device}
 use Rattle.pram_rows.specs.Rows.{request_rows}
 use Rattle.pram_rows.specs.Shown.{steps_text}
 use Rattle.pram_rows.specs.declared.window.Window.{Window}
-use Rattle.pram_commands.specs.Names.{AreNames, NamingData}
-use Rattle.pram_commands.specs.Steps.{TellsSteps, row_words}
+use Rattle.naming.specs.Names.{AreNames, NamingData}
+use Rattle.pram_commands.specs.Steps.{TellsSteps}
+use Rattle.naming.specs.RowNames.{row_words}
 use Rattle.pram_commands.proofs.Doing.{begins_after, begins_front, err_as, err_is, put_both}
 use Rattle.pram_commands.proofs.Doing.{put_failed}
 use Rattle.pram_commands.proofs.commands.alone.put_steps.Goals as goal

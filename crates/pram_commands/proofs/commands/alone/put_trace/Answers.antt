@@ -4,7 +4,7 @@ use Rattle.pram_step.specs.Runs.{IsAnswer}
 use Rattle.pram_step.specs.declared.answer.RunAnswer.{RunAnswer}
 use Rattle.pram_streams.specs.declared.print.PrintFault.TheVariants.{Device}
 use Rattle.pram_rows.specs.Shown.{steps_text}
-use Rattle.pram_commands.specs.Names.{AreNames, NamingData}
+use Rattle.naming.specs.Names.{AreNames, NamingData}
 use Rattle.pram_commands.specs.Traced.{TellsMadeLines, all_steps, traced}
 use Rattle.pram_commands.proofs.Doing.{begins_after, begins_front, err_as, err_is, put_both}
 use Rattle.pram_commands.proofs.Doing.{put_failed}

@@ -1,8 +1,8 @@
 use Rattle.std.proofs.Common.{◌∙◌, ap, inl, inr, subst, sym}
 use Rattle.pram_commands.proofs.Watching.{puts_alone, puts_read, told_by}
 use Rattle.std.specs.Borrow.{Bor}
-use Rattle.pram_commands.specs.Names.{AreNames}
-use Rattle.pram_commands.specs.declared.sources.Spelled.{Spelled}
+use Rattle.naming.specs.Names.{AreNames}
+use Rattle.naming.specs.declared.texts.Spelled.{Spelled}
 use Rattle.pram_commands.proofs.commands.on_threads.put_watch.Goals as goal
 
 -- the output's last value is what was handed back

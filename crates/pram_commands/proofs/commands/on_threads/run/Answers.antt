@@ -1,7 +1,7 @@
 use Rattle.std.proofs.Common.{◌∙◌, ap, sym}
 use Rattle.pram_commands.proofs.Doing.{ok_not_err, printed_did, well}
 use Rattle.pram_commands.proofs.Hearing.{ends_unread, puts_heard}
-use Rattle.pram_commands.specs.Did.{writing}
+use Rattle.naming.specs.Writing.{writing}
 use Rattle.pram_commands.proofs.commands.on_threads.run.Goals as goal
 
 -- the output's last value is what was handed back

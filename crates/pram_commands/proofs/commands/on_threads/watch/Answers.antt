@@ -3,8 +3,9 @@ use Rattle.std.specs.Prelude.{⊤}
 use Rattle.pram_commands.proofs.Doing.{err_is, ok_not_err, printed_did, well}
 use Rattle.pram_commands.proofs.Outside.{outside_did, puts_as}
 use Rattle.command_data.specs.CellLists.{parts_of}
-use Rattle.pram_commands.specs.CellLists.{AreCellsOf, IsOutside}
-use Rattle.pram_commands.specs.Did.{Answering, tells, writing}
+use Rattle.naming.specs.CellLists.{AreCellsOf, IsOutside}
+use Rattle.pram_commands.specs.Did.{Answering, tells}
+use Rattle.naming.specs.Writing.{writing}
 use Rattle.pram_commands.specs.Threads.{TellsSights, TellsWatch}
 use Rattle.pram_commands.proofs.commands.on_threads.watch.Goals as goal
 

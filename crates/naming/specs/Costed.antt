@@ -1,0 +1,18 @@
+-- What was read where the cost is asked for.
+use Rattle.std.specs.Prelude.{◌≡◌, Option}
+use Rattle.pram_job.specs.Job.{JobData}
+use Rattle.pram_cost.specs.Costs.{IsCost}
+use Rattle.naming.specs.declared.line_costs.Costs.{Costs}
+use Rattle.naming.specs.declared.texts.Spelled.{Spelled}
+use Rattle.naming.specs.Costs.{line_costs}
+use Rattle.naming.specs.Names.{AreNames, NamingData}
+
+-- what the job's run costs, and what it tells of the counted lines of its program
+pub record AreCosts (names : Option NamingData) (job : JobData) (costs : Costs) : Type 0 where
+  pub cost : IsCost job costs.cost
+  pub lines : costs.lines.items ≡ line_costs names job
+
+-- a text, its job with what its answers are told by, and what the job's run costs
+pub record IsCosted (spelled : Spelled) (costs : Costs) : Type 0 where
+  pub names : AreNames spelled.text.items spelled.job spelled.names
+  pub are_costs : AreCosts spelled.names spelled.job costs

@@ -1,0 +1,5 @@
+-- For private contracts alone.
+pub mod Refusals
+pub mod Places
+pub mod Lines
+pub mod Finding

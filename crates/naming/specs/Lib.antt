@@ -1,0 +1,12 @@
+pub mod ArrayNames
+pub mod BadTexts
+pub mod CellLists
+pub mod CellNames
+pub mod Costed
+pub mod Costs
+pub mod Inner
+pub mod LineRecords
+pub mod Names
+pub mod Puts
+pub mod RowNames
+pub mod Writing

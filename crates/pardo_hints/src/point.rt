@@ -1,0 +1,194 @@
+//! The point at which the reader stopped, and the tokens around it.
+use crate::before::Before;
+use crate::piece::Pieces;
+use crate::scan::Scan;
+use crate::wanted::Wanted;
+use crate::words::is_number;
+use pardo_text::{PardoKind, Stop, said};
+use std::alloc::{AllocError, Global};
+use std::str;
+use text_lines::is_word;
+
+/// A point in a line, and the tokens around it; those that are not there have no byte.
+#[derive(Clone, Copy, Debug)]
+pub struct Point<'t> {
+    pub(crate) kind: PardoKind,
+    /// What stands before the line's comment.
+    pub(crate) line: &'t [u8],
+    pub(crate) first: &'t [u8],
+    pub(crate) second: &'t [u8],
+    pub(crate) before: &'t [u8],
+    pub(crate) here: &'t [u8],
+    pub(crate) after: &'t [u8],
+    /// How many bytes stand before it.
+    pub start: usize,
+    /// How many tokens do.
+    pub(crate) at: usize,
+    pub(crate) wanted: Wanted,
+    pub(crate) is_within_log: bool,
+    /// Whether all lines were read, and something is missing at their end.
+    pub(crate) is_end: bool,
+}
+
+/// The point in a bad line at which the reader stopped.
+pub fn point_of<'t>(
+    alloc: Global,
+    before: &Before<'t>,
+    stop: &Stop,
+) -> Result<Point<'t>, AllocError> {
+    let line = said(before.line);
+    let at = match (stop.read, stop.fault.kind) {
+        (None, _) => usize::MAX,
+        (_, PardoKind::BadSymbol) => first_bad(line),
+        (Some(read), kind) => token_of(alloc, before, line, kind, read)?,
+    };
+    let mut point = window(line, at);
+    let scan = scanned(alloc, before, line, at)?;
+    point.kind = stop.fault.kind;
+    point.wanted = scan.wanted();
+    point.is_within_log = scan.is_within_log();
+    point.is_end = stop.read.is_none();
+    if stop.fault.kind == PardoKind::NotAscii {
+        point.start = first_unlawful(before.line);
+    }
+    Ok(point)
+}
+
+// Which token of the line the fault is of, where so many were read.
+fn token_of<'t>(
+    alloc: Global,
+    before: &Before<'t>,
+    line: &'t [u8],
+    kind: PardoKind,
+    read: usize,
+) -> Result<usize, AllocError> {
+    let last = read.saturating_sub(1);
+    let spelled = window(line, last);
+    Ok(match kind {
+        PardoKind::BadLine => {
+            let scan = scanned(alloc, before, line, last)?;
+            if scan.takes(spelled.here) { read } else { last }
+        }
+        PardoKind::WrongKind if is_word(spelled.here, "[") => last.saturating_sub(1),
+        PardoKind::OutOfLimits if is_too_great(spelled.here) => last,
+        PardoKind::OutOfLimits => value_out(&scanned(alloc, before, line, read)?, &spelled),
+        PardoKind::WrongLength => scanned(alloc, before, line, read)?.value,
+        PardoKind::BadHeader => header_token(&spelled),
+        PardoKind::TooDeep => read,
+        PardoKind::BadBlock | PardoKind::TooManyCells | PardoKind::NotAscii => 0,
+        _ => last,
+    })
+}
+
+// A literal that is no number of 32 bits.
+fn is_too_great(token: &[u8]) -> bool {
+    match str::from_utf8(token) {
+        Ok(digits) if is_number(token) => match digits.parse::<u32>() {
+            Ok(_) => false,
+            Err(_) => true,
+        },
+        _ => false,
+    }
+}
+
+// The division, where the last token is a divisor of 0, or else the value that is out of limits.
+fn value_out(scan: &Scan<'_, '_>, last: &Point<'_>) -> usize {
+    let is_division = scan.division > 0 && is_word(last.here, "0");
+    match last.first {
+        b"procs" | b"private" if !is_division => scan.value,
+        b"shared" if !is_division && scan.value == 0 => 3,
+        _ => scan.division,
+    }
+}
+
+// A header line is wrong from its first token on, or from its second one.
+fn header_token(line: &Point<'_>) -> usize {
+    match line.first {
+        b"rule" => 1,
+        b"code" if !line.second.is_empty() => 1,
+        _ => 0,
+    }
+}
+
+// The tokens before a point.
+fn scanned<'b, 't>(
+    alloc: Global,
+    before: &'b Before<'t>,
+    line: &'t [u8],
+    at: usize,
+) -> Result<Scan<'b, 't>, AllocError> {
+    let mut scan = Scan::new(alloc, before);
+    let mut pieces = Pieces::new(line);
+    for _turn in 0..line.len().min(at) {
+        let Some(piece) = pieces.take() else {
+            break;
+        };
+        scan.take(piece.spelled)?;
+    }
+    Ok(scan)
+}
+
+// The point of the first character that begins no token.
+fn first_bad(line: &[u8]) -> usize {
+    let mut pieces = Pieces::new(line);
+    for at in 0..line.len() {
+        if let Some(piece) = pieces.take()
+            && !piece.is_token
+        {
+            return at;
+        }
+    }
+    line.len()
+}
+
+fn first_unlawful(line: &[u8]) -> usize {
+    line.iter()
+        .position(|&byte| byte > b'~' || (byte < b' ' && byte != b'\t' && byte != b'\r'))
+        .unwrap_or(line.len())
+}
+
+// A point, and the tokens around it.
+fn window(line: &[u8], at: usize) -> Point<'_> {
+    let mut point = nowhere(line);
+    let mut pieces = Pieces::new(line);
+    for k in 0..line.len() {
+        let Some(piece) = pieces.take() else {
+            return point;
+        };
+        if k == 0 {
+            point.first = piece.spelled;
+        }
+        if k == 1 {
+            point.second = piece.spelled;
+        }
+        if k < at {
+            point.at = usize::saturating_add(k, 1);
+            point.before = piece.spelled;
+            point.start = piece.start.saturating_add(piece.spelled.len());
+        } else if k == at {
+            point.here = piece.spelled;
+            point.start = piece.start;
+        } else {
+            point.after = piece.spelled;
+            return point;
+        }
+    }
+    point
+}
+
+fn nowhere(line: &[u8]) -> Point<'_> {
+    Point {
+        kind: PardoKind::BadLine,
+        line,
+        first: b"",
+        second: b"",
+        before: b"",
+        here: b"",
+        after: b"",
+        start: 0,
+        at: 0,
+        wanted: Wanted::End,
+        is_within_log: false,
+        is_end: false,
+    }
+}

@@ -1,7 +1,0 @@
-use Rattle.std.proofs.Common.{◌≡◌, drop}
-use Rattle.pram_commands.specs.CellLists.{array_named}
-use Rattle.pram_commands.proofs.places.array_named.Given as goal
-
--- no array so far has the name
-abbrev pub invariant-loop-array : goal.invariant-loop-array
-invariant-loop-array l = array_named l.arrays l.name ≡ array_named (drop l.array-index l.arrays) l.name

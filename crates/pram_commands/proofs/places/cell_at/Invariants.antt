@@ -1,8 +1,0 @@
-use Rattle.std.proofs.Common.{◌≡◌, ◌<◌, ℕ, drop}
-use Rattle.pardo_job.specs.Printed.{cell_text}
-use Rattle.pram_commands.proofs.places.cell_at.Given as goal
-
--- no array so far tells a cell so
-abbrev pub invariant-loop-array : goal.invariant-loop-array
-invariant-loop-array l = (cell : ℕ) → cell < l.count → cell_text l.arrays cell ≡ l.place →
-    cell_text (drop l.array-index l.arrays) cell ≡ l.place
