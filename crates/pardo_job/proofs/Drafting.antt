@@ -4,8 +4,8 @@ use Rattle.std.specs.Prelude.{IfErr, slice_index}
 use Rattle.std.proofs.lemmas.List.{get_or-map}
 use Rattle.pram_job.specs.Job.{JobData}
 use Rattle.pram_job.specs.declared.limits.TheConstants.{MAX_CODE}
-use Rattle.pardo_text.specs.Lawful.{IsProgram}
-use Rattle.pardo_text.specs.Program.{ProgramData}
+use Rattle.pardo_program.specs.Lawful.{IsProgram}
+use Rattle.pardo_program.specs.Program.{ProgramData}
 use Rattle.pardo_job.specs.declared.fault.JobKind.{JobKind}
 use Rattle.pardo_job.specs.declared.fault.JobKind.TheVariants.{TooDeep, TooLong, Endless, Memory}
 use Rattle.pardo_job.specs.declared.fault.JobKind.TheVariants.{TooManyCells}

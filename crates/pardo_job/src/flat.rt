@@ -1,7 +1,7 @@
 //! The flat program: hidden lines come before those for which three registers are too few.
 ghost use Rattle.std.specs.Prelude.{◌≡◌, ◌+◌, ◌-◌, ◌≤◌, ◌==◌, ◌++◌, ◌∷◌, [], IfErr, IfOk, OnOk};
 ghost use Rattle.std.specs.Prelude.{if◌then◌else◌, length, map, max, slice_index, true};
-ghost use Rattle.pardo_text.specs.Lawful.{IsProgram};
+ghost use Rattle.pardo_program.specs.Lawful.{IsProgram};
 ghost use Rattle.pardo_job.specs.Flat.{base_of, bound_pieces, flat, giving, hidden, is_common};
 ghost use Rattle.pardo_job.specs.Flat.{last_pieces, parts_of, split_statement, statement_parts};
 ghost use Rattle.pardo_job.specs.Inner.Flats.{AreFlat, DoAllFit, IsFlattened, moved_by, moved_line};

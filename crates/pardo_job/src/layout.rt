@@ -2,7 +2,7 @@
 //! then rows of a cell for each processor, one row for each private variable, then one for each
 //! depth of loops, then one for each depth of `if`s.
 ghost use Rattle.std.specs.Prelude.{◌≡◌, ◌+◌, ◌*◌, ◌<◌, ◌≤◌, length, nat_le, IfOk};
-ghost use Rattle.pardo_text.specs.Lawful.{IsProgram};
+ghost use Rattle.pardo_program.specs.Lawful.{IsProgram};
 ghost use Rattle.pardo_job.specs.Layouts.{array_cells, cell_count, program_layout, loop_cells};
 ghost use Rattle.pardo_job.specs.Layouts.{mask_cells, private_cells, row};
 

@@ -7,15 +7,17 @@ use Rattle.std.specs.Option.{option_map, option_and_then, option_or, is_none}
 use Rattle.std.proofs.Math.Bool.{and-false}
 use Rattle.std.proofs.lemmas.Bool.{cases_Bool}
 use mathlib.Core.Path.{fun_ext}
-use Rattle.pardo_text.specs.declared.statement.Line.{Line}
-use Rattle.pardo_text.specs.declared.statement.Statement.{Statement}
-use Rattle.pardo_text.specs.declared.statement.Statement.TheVariants.{Assign, If, Else, EndIf}
-use Rattle.pardo_text.specs.declared.statement.Statement.TheVariants.{While, EndWhile, For, EndFor}
-use Rattle.pardo_text.specs.declared.statement.Target.TheVariants.{Private, Array as Shared}
-use Rattle.pardo_text.specs.Expression.{Tree, number, own, loop, private, place, apply}
-use Rattle.pardo_text.specs.Lawful.{Bounds, IsExpression, IsLine, IsProgram, IsStatement, bounds_of}
-use Rattle.pardo_text.specs.Operations.{worked_out}
-use Rattle.pardo_text.specs.Program.{ProgramData}
+use Rattle.pardo_program.specs.declared.statement.Line.{Line}
+use Rattle.pardo_program.specs.declared.statement.Statement.{Statement}
+use Rattle.pardo_program.specs.declared.statement.Statement.TheVariants.{Assign, If, Else, EndIf}
+use Rattle.pardo_program.specs.declared.statement.Statement.TheVariants.{While, EndWhile, For}
+use Rattle.pardo_program.specs.declared.statement.Statement.TheVariants.{EndFor}
+use Rattle.pardo_program.specs.declared.statement.Target.TheVariants.{Private, Array as Shared}
+use Rattle.pardo_program.specs.Expression.{Tree, number, own, loop, private, place, apply}
+use Rattle.pardo_program.specs.Lawful.{Bounds, IsExpression, IsLine, IsProgram, IsStatement}
+use Rattle.pardo_program.specs.Lawful.{bounds_of}
+use Rattle.pardo_program.specs.Operations.{worked_out}
+use Rattle.pardo_program.specs.Program.{ProgramData}
 use Rattle.pardo_job.specs.Meaning.{Source, value, array_cell, is_active, after_statement, losing}
 use Rattle.pardo_job.specs.Meaning.{asked_in, chosen, common_value, given_to, first_below, has_none}
 use Rattle.pardo_job.specs.Meaning.{abandoned, by_common, is_true, loop_ended, next_turn, on_to}

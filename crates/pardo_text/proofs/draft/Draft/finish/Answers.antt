@@ -1,8 +1,8 @@
 use Rattle.std.proofs.Common.{◌≡◌, ◌==◌, ◌∙◌, sym, ap, length, vec_len, arith, Ok, List}
 use Rattle.pardo_text.specs.Inner.Drafts.{draft_of}
-use Rattle.pardo_text.specs.Program.{ArrayData}
+use Rattle.pardo_program.specs.Program.{ArrayData}
 use Rattle.pardo_text.specs.Reading.{program_in, said_so_far}
-use Rattle.pardo_text.specs.Tests.{program_untested}
+use Rattle.pardo_program.specs.Tests.{program_untested}
 use Rattle.pardo_text.proofs.Finished.{finished-early, finished-open, finished-empty}
 use Rattle.pardo_text.proofs.Finished.{finished-whole}
 use Rattle.pardo_text.proofs.draft.Draft.finish.Goals as goal
