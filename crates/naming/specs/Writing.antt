@@ -1,4 +1,4 @@
--- What a call did with its output.
+-- What a call wrote.
 use Rattle.std.specs.Prelude.{◌≡◌, ℕ, Bool, List, Option}
 use Rattle.pram_streams.specs.declared.device.Sink as a_sink
 

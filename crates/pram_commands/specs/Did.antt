@@ -1,4 +1,4 @@
--- What a command is, and what a call of it does with what it reads and writes.
+-- What a command is, and what a call of it does.
 use Rattle.std.specs.Prelude.{◌≡◌, ◌⊎◌, ◌++◌, ◌↔◌, ℕ, Bool, true, false, List, [], Option, None}
 use Rattle.std.specs.Prelude.{Some, Result, ⊤}
 use Rattle.std.specs.Prelude.{IfOk, IfErr, IfSome, MatchOption, IsErrOf, IsTrue}

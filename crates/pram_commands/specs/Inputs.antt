@@ -1,4 +1,4 @@
--- What reading a job and a plan says of their sources, by their bytes before and after.
+-- What reading a job and a plan says of their sources.
 use Rattle.std.specs.Prelude.{◌≡◌, ◌↔◌, ℕ, Bool, false, List, Option, Result, ⊤}
 use Rattle.std.specs.Prelude.{IfOk, IfErr, IsErrOf, IsTrue, nat_lt, ◌&&◌}
 use Rattle.std.specs.Prelude.{if◌then◌else◌, None, Some}
