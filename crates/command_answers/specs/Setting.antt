@@ -4,7 +4,7 @@ use Rattle.std.specs.Prelude.{length, ⊤}
 use Rattle.std.specs.List.{after_first, before_first, position_or_len}
 use Rattle.clap.specs.Lexer.{strip_byte}
 use Rattle.clap.specs.Words.{Text}
-use Rattle.pardo_text.specs.Program.{ProgramData}
+use Rattle.pardo_program.specs.Program.{ProgramData}
 use Rattle.pardo_text.specs.Reading.{program_of}
 use Rattle.pardo_text.specs.Settings.{SettingData, blamed, text_as_set, unmet, with_setting}
 use Rattle.pardo_text.specs.declared.fault.PardoFault.{PardoFault}

@@ -11,9 +11,9 @@ use Rattle.pram_step.specs.Runs.{IsAnswer}
 use Rattle.stop_plan.specs.Plan.{PlanData}
 use Rattle.pram_board.specs.Seats.{SeatData}
 use Rattle.pardo_text.specs.declared.fault.PardoFault.{PardoFault}
-use Rattle.pardo_text.specs.Lawful.{IsProgram}
-use Rattle.pardo_text.specs.Nested.{IsNested}
-use Rattle.pardo_text.specs.Program.{ProgramData}
+use Rattle.pardo_program.specs.Lawful.{IsProgram}
+use Rattle.pardo_program.specs.Nested.{IsNested}
+use Rattle.pardo_program.specs.Program.{ProgramData}
 use Rattle.pardo_text.proofs.LawLawful.{programs_are_lawful}
 use Rattle.pardo_text.proofs.LawNesting.{programs_are_nested}
 use Rattle.pardo_law.proofs.FlatCarrying.{jobs_carry_programs}

@@ -15,8 +15,8 @@ use Rattle.pram_job.specs.Instructions.{IsArray}
 use Rattle.pram_text.specs.Judgement.{is_array_name, is_name, register_of}
 use Rattle.job_text.specs.Printed.{AreArrayWords, array_word, is_same}
 use Rattle.job_text.proofs.Naming.{array_words_lawful, is_same-true}
-use Rattle.pardo_text.specs.Program.{ArrayData, PrivateData, ProgramData}
-use Rattle.pardo_text.specs.Variables.{AreDistinct, variable_names}
+use Rattle.pardo_program.specs.Program.{ArrayData, PrivateData, ProgramData}
+use Rattle.pardo_program.specs.Variables.{AreDistinct, variable_names}
 use Rattle.pardo_flat.specs.Layouts.{cells_of_array, private_cells, program_layout}
 use Rattle.naming.specs.ArrayNames.{may_name, name_of_private, private_name, row_at}
 use Rattle.naming.specs.ArrayNames.{shared_name, variable_name, word_of}

@@ -19,7 +19,7 @@ use Rattle.pram_fates.specs.declared.fates.Fates.{Fates}
 use Rattle.pram_fates.specs.declared.fates.Lost.{Lost}
 use Rattle.pram_fates.specs.Fates.{AllName, AreFates, AreMade as AreStepsMade, IsEnd as IsEndAfter}
 use Rattle.pram_fates.specs.Fates.{IsFirstLost, IsFirstLostOrNone, NamesNone}
-use Rattle.pardo_text.specs.Program.{ProgramData}
+use Rattle.pardo_program.specs.Program.{ProgramData}
 use Rattle.pardo_job.specs.Carries.{ShowsFlat}
 use Rattle.pardo_job.specs.Compiled.{IsWhole}
 use Rattle.pram_step.specs.declared.answer.Dispute.{Dispute}

@@ -14,15 +14,15 @@ use Rattle.pram_text.proofs.LawOneJob.{spells_once}
 use Rattle.pram_text.proofs.Lawful.{spells_lawful}
 use Rattle.job_text.specs.Printed.{array_word, text_of}
 use Rattle.job_text.proofs.Naming.{array_words_lawful}
-use Rattle.pardo_text.specs.Variables.{AreDistinct, variable_names}
+use Rattle.pardo_program.specs.Variables.{AreDistinct, variable_names}
 use Rattle.pardo_text.proofs.LawNames.{names_are_distinct}
 use Rattle.naming.specs.ArrayNames.{array_words}
 use Rattle.command_law.proofs.ArrayNames.{names_lawful}
 use Rattle.job_text.proofs.Landing.{jumps_land as spelled_jumps_land}
 use Rattle.job_text.proofs.ReadBack.{read_back}
 use Rattle.pardo_text.specs.declared.fault.PardoFault.{PardoFault}
-use Rattle.pardo_text.specs.Lawful.{IsProgram}
-use Rattle.pardo_text.specs.Program.{ProgramData}
+use Rattle.pardo_program.specs.Lawful.{IsProgram}
+use Rattle.pardo_program.specs.Program.{ProgramData}
 use Rattle.pardo_text.proofs.LawLawful.{programs_are_lawful}
 use Rattle.pardo_answers.specs.Language.{begins_program, is_program}
 use Rattle.pardo_answers.proofs.Landing.{jumps_land}

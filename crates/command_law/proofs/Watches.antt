@@ -7,7 +7,7 @@ use Rattle.pram_step.specs.declared.answer.RunAnswer.{RunAnswer}
 use Rattle.pram_step.specs.Runs.{IsAnswer, state_after}
 use Rattle.stop_plan.specs.Plan.{PlanData}
 use Rattle.pram_run.specs.declared.sight.Sight.{Sight}
-use Rattle.pardo_text.specs.Program.{ProgramData}
+use Rattle.pardo_program.specs.Program.{ProgramData}
 use Rattle.pardo_law.specs.Between.{AreLinesMade, GoesThrough, HoldsVariables}
 use Rattle.pardo_job.specs.Meaning.{after}
 use Rattle.pardo_answers.specs.Language.{is_program}

@@ -36,7 +36,7 @@ use Rattle.pram_run.specs.declared.sight.Sight.{Sight}
 use Rattle.pram_run.specs.declared.trace.TraceRow.{TraceRow}
 use Rattle.pram_run.specs.Printed.{sights_text, trace_text}
 use Rattle.pram_run.specs.Replays.{IsReplay}
-use Rattle.pardo_text.specs.Program.{ProgramData}
+use Rattle.pardo_program.specs.Program.{ProgramData}
 use Rattle.pardo_text.specs.Reading.{program_of}
 use Rattle.pardo_flat.specs.Layouts.{program_layout, private_cells}
 use Rattle.pardo_flat.specs.Flat.{flat}

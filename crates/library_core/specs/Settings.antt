@@ -5,7 +5,7 @@ use Rattle.std.specs.List.{position}
 use Rattle.std.specs.Option.{option_map}
 use Rattle.text_lines.specs.Lines.{lines_of}
 use Rattle.text_lines.specs.Reads.{◌>>=◌}
-use Rattle.pardo_text.specs.Program.{ProgramData}
+use Rattle.pardo_program.specs.Program.{ProgramData}
 use Rattle.pardo_text.specs.Reading.{program_of}
 use Rattle.pardo_text.specs.Settings.{SettingData, blamed, text_as_set, unmet, with_setting}
 use Rattle.pardo_text.specs.declared.fault.PardoFault.{PardoFault}

@@ -17,8 +17,8 @@ use Rattle.text_lines.specs.Lines.{Word}
 use Rattle.pram_job.specs.declared.instr.Array.{Array}
 use Rattle.pram_text.specs.Judgement.{is_name}
 use Rattle.job_text.specs.Printed.{is_same}
-use Rattle.pardo_text.specs.Lawful.{AreArrays}
-use Rattle.pardo_text.specs.Program.{ArrayData, PrivateData, ProgramData, shared_cells}
+use Rattle.pardo_program.specs.Lawful.{AreArrays}
+use Rattle.pardo_program.specs.Program.{ArrayData, PrivateData, ProgramData, shared_cells}
 use Rattle.pardo_flat.specs.Layouts.{cells_of_array, private_cells, program_layout}
 use Rattle.naming.specs.ArrayNames.{name_if, name_of_private, private_name, row_at}
 use Rattle.naming.specs.ArrayNames.{shared_name}

@@ -12,7 +12,7 @@ use Rattle.pram_cost.specs.declared.cost.Cost.{Cost}
 use Rattle.pram_cost.specs.declared.cost.Tally.{Tally}
 use Rattle.pardo_job.specs.Compiled.{CompiledData, IsWhole}
 use Rattle.pardo_job.specs.Drafts.{IsComplete}
-use Rattle.pardo_text.specs.Program.{ProgramData}
+use Rattle.pardo_program.specs.Program.{ProgramData}
 
 pub length_final : (job : JobData) (cells : List ℕ) → IsAnswer job (Final cells) →
     IsLength job job.steps None

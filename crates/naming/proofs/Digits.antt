@@ -5,7 +5,7 @@ use Rattle.std.specs.Prelude.{codes, decimal, fold}
 use Rattle.std.proofs.lemmas.Bool.Decides.{nat_tests}
 use Rattle.std.proofs.lemmas.Fmt.{decimal_by_steps}
 use Rattle.std.proofs.lemmas.List.Sums.{fold-append, fold_push}
-use Rattle.pardo_text.specs.Program.{ArrayData}
+use Rattle.pardo_program.specs.Program.{ArrayData}
 use Rattle.pardo_job.specs.Printed.{index_text, place_text}
 use Rattle.naming.specs.Inner.Places.{read_on}
 

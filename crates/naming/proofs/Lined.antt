@@ -12,8 +12,8 @@ use Rattle.pram_cost.specs.declared.profile.Tallied.{Tallied}
 use Rattle.pram_cost.specs.Profiled.{HasProfiled, IsExecuted, row_at}
 use Rattle.pram_cost.specs.Profiles.{executed_at, steps_at}
 use Rattle.pram_cost.proofs.Tallying.{executed_few, executed_is_same, steps_few}
-use Rattle.pardo_text.specs.declared.statement.Line.{Line}
-use Rattle.pardo_text.specs.Program.{ProgramData}
+use Rattle.pardo_program.specs.declared.statement.Line.{Line}
+use Rattle.pardo_program.specs.Program.{ProgramData}
 use Rattle.pardo_flat.specs.Flat.{first_flat_of, flat}
 use Rattle.pardo_job.specs.declared.times.CountedLine.{CountedLine}
 use Rattle.pardo_job.specs.Compiled.{CompiledData}

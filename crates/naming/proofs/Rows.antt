@@ -6,8 +6,8 @@ use Rattle.std.specs.Prelude.{if◌then◌else◌}
 use Rattle.std.proofs.Common.{length-drop, take_all}
 use Rattle.std.proofs.lemmas.Bool.Decides.{nat_tests}
 use Rattle.std.specs.Prelude.{Result, Ok, IfOk}
-use Rattle.pardo_text.specs.Lawful.{AreArrays, IsProgram}
-use Rattle.pardo_text.specs.Program.{ArrayData, ProgramData}
+use Rattle.pardo_program.specs.Lawful.{AreArrays, IsProgram}
+use Rattle.pardo_program.specs.Program.{ArrayData, ProgramData}
 use Rattle.pardo_text.specs.Reading.{program_of}
 use Rattle.pardo_text.specs.declared.fault.PardoFault.{PardoFault}
 use Rattle.pardo_text.proofs.LawLawful.{programs_are_lawful}

@@ -6,7 +6,7 @@ use Rattle.pram_job.specs.declared.instr.Array.{Array}
 use Rattle.text_lines.specs.Lines.{Word}
 use Rattle.pram_text.specs.Judgement.{is_name, register_of}
 use Rattle.job_text.specs.Printed.{ArrayWords, array_word, is_same}
-use Rattle.pardo_text.specs.Program.{ArrayData, PrivateData, ProgramData, shared_cells}
+use Rattle.pardo_program.specs.Program.{ArrayData, PrivateData, ProgramData, shared_cells}
 use Rattle.pardo_flat.specs.Layouts.{cells_of_array, private_cells, program_layout}
 use Rattle.naming.specs.Names.{NamingData}
 

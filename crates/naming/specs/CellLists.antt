@@ -6,7 +6,7 @@ use Rattle.std.specs.List.{flat_map, range_with_len}
 use Rattle.std.specs.Str.{bytes_eq}
 use Rattle.command_data.specs.CellLists.{SpellsCell, cell_listed, part_at}
 use Rattle.pram_job.specs.Job.{JobData}
-use Rattle.pardo_text.specs.Program.{ArrayData}
+use Rattle.pardo_program.specs.Program.{ArrayData}
 use Rattle.pardo_job.specs.Printed.{cell_text}
 use Rattle.naming.specs.declared.places.Stretch.{Stretch}
 use Rattle.naming.specs.Names.{AreNames, NamingData}

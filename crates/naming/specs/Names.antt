@@ -5,7 +5,7 @@ use Rattle.pram_job.specs.Job.{JobData}
 use Rattle.pram_text.specs.Text.{Spells}
 use Rattle.pram_step.specs.declared.answer.RunAnswer.{RunAnswer}
 use Rattle.pram_streams.specs.Printed.{printed}
-use Rattle.pardo_text.specs.Program.{ProgramData}
+use Rattle.pardo_program.specs.Program.{ProgramData}
 use Rattle.pardo_text.specs.Reading.{program_of}
 use Rattle.pardo_job.specs.Compiled.{IsCompiled}
 use Rattle.pardo_job.specs.Drafts.{ArePlacesOf}

@@ -2,8 +2,8 @@
 ghost use Rattle.std.specs.Prelude.{◌≡◌, ◌+◌, ◌<◌, ◌++◌, if◌then◌else◌, Some, None, slice_get};
 ghost use Rattle.std.specs.Prelude.{string_bytes, IfOk, MatchOption, OnOk};
 ghost use Rattle.std.specs.Option.{option_copied, option_map};
-ghost use Rattle.pardo_text.specs.Lawful.{AreArrays};
-ghost use Rattle.pardo_text.specs.Program.{shared_cells};
+ghost use Rattle.pardo_program.specs.Lawful.{AreArrays};
+ghost use Rattle.pardo_program.specs.Program.{shared_cells};
 ghost use Rattle.naming.specs.ArrayNames.{array_words, may_name, private_name};
 ghost use Rattle.naming.specs.ArrayNames.{shared_name, variable_name, word_of};
 ghost use Rattle.naming.specs.RowNames.{place_word, range_word, row_words};

@@ -2,7 +2,7 @@
 ghost use Rattle.std.specs.Prelude.{◌≡◌, ◌<◌, ◌++◌, ℕ, true, false, Some, None, IfOk, IfErr, OnOk};
 ghost use Rattle.std.specs.Option.{option_copied};
 ghost use Rattle.std.specs.Prelude.{MatchOption, ◌≤◌};
-ghost use Rattle.pardo_text.specs.Lawful.{AreArrays};
+ghost use Rattle.pardo_program.specs.Lawful.{AreArrays};
 ghost use Rattle.pardo_job.specs.Compiled.{IsWhole};
 ghost use Rattle.pardo_job.specs.Ends.{gone_in};
 ghost use Rattle.pardo_job.specs.Printed.{cell_text};
@@ -62,7 +62,7 @@ impl Model for Naming {
     ghost Value = { NamingData };
 
     ghost use Rattle.std.specs.Coded.{codes};
-    ghost use Rattle.pardo_text.specs.contracts.program.Program as a_program;
+    ghost use Rattle.pardo_program.specs.contracts.program.Program as a_program;
     ghost use Rattle.pardo_job.specs.contracts.ended.Ended as an_end;
 
     ghost coded = { Prim.hlevel (codes, a_program.the_row.coded, an_end.the_row.coded) };
@@ -75,7 +75,7 @@ impl Model for Naming {
           ended = n.ended;
         } };
 
-    ghost use Rattle.pardo_text.specs.Lawful.{AreArrays};
+    ghost use Rattle.pardo_program.specs.Lawful.{AreArrays};
 
     ghost invariant = { λ n. AreArrays n.program.arrays 0 };
 }

@@ -2,7 +2,7 @@
 ghost use Rattle.std.specs.Prelude.{◌≡◌, ◌≢◌, ◌+◌, ◌<◌, ◌≤◌, ◌^◌, ◌↔◌, ◌++◌, ℕ, List, true};
 ghost use Rattle.std.specs.Prelude.{codes, decimal, length, IfOk, OnOk, IsTrue, MatchOption};
 ghost use Rattle.std.specs.Option.{option_copied};
-ghost use Rattle.pardo_text.specs.Lawful.{AreArrays};
+ghost use Rattle.pardo_program.specs.Lawful.{AreArrays};
 ghost use Rattle.pardo_job.specs.Printed.{cell_text, has_cell, place_text};
 ghost use Rattle.naming.specs.Inner.Places.{IsPlaceText, NameAlike, read_on, with_digit};
 ghost use Rattle.naming.specs.CellLists.{AreOfArray, array_named};

@@ -8,8 +8,8 @@ use Rattle.std.proofs.lemmas.List.FromFn.{get_or-map-range_with_len, length-map-
 use Rattle.std.proofs.lemmas.List.FromFn.{map-range_with_len_more}
 use Rattle.std.proofs.lemmas.List.Sums.{sum_by-cons}
 use Rattle.std.proofs.lemmas.Option.{slice_get-get_or}
-use Rattle.pardo_text.specs.Lawful.{AreArrays}
-use Rattle.pardo_text.specs.Program.{ArrayData, shared_cells}
+use Rattle.pardo_program.specs.Lawful.{AreArrays}
+use Rattle.pardo_program.specs.Program.{ArrayData, shared_cells}
 
 -- one row more
 pub rows_more : {X Y : Type 0} (f : X → Y) (xs : List X) (k : ℕ) (x : X) (y : Y)

@@ -15,8 +15,8 @@ use Rattle.pardo_text.specs.declared.fault.PardoKind.TheVariants.{OutOfLimits}
 use Rattle.pardo_text.specs.declared.fault.PardoKind.TheVariants.{WrongLength, TooManyCells}
 use Rattle.pardo_text.specs.declared.fault.PardoKind.TheVariants.{BadBlock, OpenBlock, NoCode}
 use Rattle.pardo_text.specs.declared.fault.PardoKind.TheVariants as text_kind
-use Rattle.pardo_text.specs.declared.statement.Line.{Line}
-use Rattle.pardo_text.specs.Program.{ArrayData, PrivateData, ProgramData}
+use Rattle.pardo_program.specs.declared.statement.Line.{Line}
+use Rattle.pardo_program.specs.Program.{ArrayData, PrivateData, ProgramData}
 use Rattle.pardo_text.specs.Reading.{program_of}
 use Rattle.pardo_flat.specs.Flat.{flat}
 use Rattle.pardo_flat.specs.Layouts.{cells_of_array, program_layout, row}

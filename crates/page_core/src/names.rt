@@ -1,9 +1,9 @@
 //! The names of the cells of a program's job.
 ghost use Rattle.std.specs.Prelude.{◌≡◌, ◌<◌, ◌≤◌, ◌++◌, IfErr, IfOk, OnOk, length, map};
 ghost use Rattle.std.specs.List.{flat_map, range_with_len};
-ghost use Rattle.pardo_text.specs.Lawful.{AreArrays, IsProgram};
-ghost use Rattle.pardo_text.specs.declared.limits.TheConstants.{MAX_CELLS};
-ghost use Rattle.pardo_text.specs.Program.{shared_cells};
+ghost use Rattle.pardo_program.specs.Lawful.{AreArrays, IsProgram};
+ghost use Rattle.pardo_program.specs.declared.limits.TheConstants.{MAX_CELLS};
+ghost use Rattle.pardo_program.specs.Program.{shared_cells};
 ghost use Rattle.page_core.specs.Programs.{AreNamesOf, IsNoProgram, all_names, all_rows};
 ghost use Rattle.page_core.specs.Programs.{own_count, own_kind, own_name, own_row};
 ghost use Rattle.page_core.specs.Programs.{shared_row};

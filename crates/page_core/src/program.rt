@@ -2,7 +2,7 @@
 //! instructions came from, and the program's lines of code.
 ghost use Rattle.std.specs.Prelude.{◌≡◌, [], IfErr, IfOk, map, slice_index, string_bytes};
 ghost use Rattle.pram_text.specs.Text.{Spells};
-ghost use Rattle.pardo_text.specs.Lawful.{IsProgram};
+ghost use Rattle.pardo_program.specs.Lawful.{IsProgram};
 ghost use Rattle.pardo_text.specs.Reading.{program_of};
 ghost use Rattle.pardo_job.specs.Compiled.{IsCompiled};
 ghost use Rattle.page_core.specs.Findings.{IsKeptBehind};

@@ -4,7 +4,7 @@ use Rattle.std.proofs.Common.{length, refl, ap₂, codes, decimal}
 use Rattle.std.proofs.Common.{drop, sym, ap, inl, inr, ◌∙◌, arith, drop-cons, min}
 use Rattle.std.proofs.lemmas.Bool.{cases_lt}
 use Rattle.std.proofs.lemmas.List.{get_or_past}
-use Rattle.pardo_text.specs.Program.{ArrayData}
+use Rattle.pardo_program.specs.Program.{ArrayData}
 use Rattle.pardo_job.specs.Printed.{cell_text, has_cell, place_text, values_text}
 
 -- past the cells there are zeros

@@ -10,9 +10,9 @@ use Rattle.pram_job.specs.declared.instr.Operands.{Operands}
 use Rattle.pram_job.specs.declared.instr.Operands.TheVariants as o
 use Rattle.pram_job.specs.Instructions.{AreOperands, row_of}
 use Rattle.pram_job.specs.Job.{JobData}
-use Rattle.pardo_text.specs.declared.statement.Line.{Line}
-use Rattle.pardo_text.specs.Lawful.{IsLine, IsProgram, bounds_of}
-use Rattle.pardo_text.specs.Program.{ProgramData}
+use Rattle.pardo_program.specs.declared.statement.Line.{Line}
+use Rattle.pardo_program.specs.Lawful.{IsLine, IsProgram, bounds_of}
+use Rattle.pardo_program.specs.Program.{ProgramData}
 use Rattle.pardo_flat.specs.Flat.{flat}
 use Rattle.pardo_flat.specs.Layouts.{cell_count, program_layout}
 use Rattle.pardo_job.specs.Compiled.{IsCompiled, IsLinesJob}

@@ -15,8 +15,8 @@ use Rattle.pram_machine.specs.Machine.{State, IsStopped, counter, out_of_range}
 use Rattle.pram_step.specs.Runs.{IsFault, IsStateAfter, state_after}
 use Rattle.pram_step.proofs.LawCounters.{stopped_processor}
 use Rattle.pram_step.proofs.LawAnswer.{conflict_ends, one_conflict}
-use Rattle.pardo_text.specs.Lawful.{AreArrays}
-use Rattle.pardo_text.specs.Program.{ArrayData, ProgramData, shared_cells}
+use Rattle.pardo_program.specs.Lawful.{AreArrays}
+use Rattle.pardo_program.specs.Program.{ArrayData, ProgramData, shared_cells}
 use Rattle.pram_step.specs.declared.answer.Dispute.{Dispute}
 use Rattle.pardo_flat.specs.Layouts.{cell_count, program_layout}
 use Rattle.pardo_flat.specs.Flat.{flat}

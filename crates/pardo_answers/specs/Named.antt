@@ -3,7 +3,7 @@ use Rattle.std.specs.Prelude.{ℕ, List, slice_index}
 use Rattle.pram_step.specs.declared.answer.RunAnswer.{RunAnswer}
 use Rattle.pram_step.specs.declared.answer.RunAnswer.TheVariants.{Final, Conflict, Unfinished}
 use Rattle.pram_streams.specs.Printed.{printed}
-use Rattle.pardo_text.specs.Program.{ProgramData}
+use Rattle.pardo_program.specs.Program.{ProgramData}
 use Rattle.pram_step.specs.Runs.{dispute_of}
 use Rattle.pardo_job.specs.Printed.{conflict_text, end_text}
 use Rattle.pardo_job.specs.declared.ended.Lines.{Lines}

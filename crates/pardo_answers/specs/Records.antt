@@ -4,7 +4,7 @@ use Rattle.std.specs.Prelude.{if◌then◌else◌, slice_index}
 use Rattle.std.specs.List.{flat_map, range_with_len}
 use Rattle.pram_step.specs.declared.answer.RunAnswer.{RunAnswer}
 use Rattle.pram_step.specs.declared.answer.RunAnswer.TheVariants.{Final, Conflict, Unfinished}
-use Rattle.pardo_text.specs.Program.{ProgramData, ArrayData}
+use Rattle.pardo_program.specs.Program.{ProgramData, ArrayData}
 use Rattle.pardo_job.specs.declared.ended.Lines.{Lines}
 use Rattle.pardo_job.specs.Ends.{gone_in}
 use Rattle.pardo_answers.specs.Named.{named_answer}

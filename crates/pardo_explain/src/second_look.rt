@@ -1,6 +1,6 @@
 //! The second look at a text that was refused.
 ghost use Rattle.std.specs.Prelude.{◌≡◌, Ok, Err, IfOk, IfSome, MatchOption};
-ghost use Rattle.pardo_text.specs.Program.{ProgramData};
+ghost use Rattle.pardo_program.specs.Program.{ProgramData};
 ghost use Rattle.pardo_text.specs.Reading.{program_of};
 
 use crate::diagnosis::Diagnosis;

@@ -11,16 +11,17 @@ use Rattle.std.proofs.lemmas.Bool.{cases_Bool}
 use Rattle.std.proofs.lemmas.List.Elements.{All-append, All-cons, All-from_get_or, All-nil}
 use Rattle.std.proofs.lemmas.List.Elements.{All-tail}
 use Rattle.std.proofs.lemmas.Option.{none-some, same_Some, slice_get_within}
-use Rattle.pardo_text.specs.declared.limits.TheConstants.{MAX_CELLS}
-use Rattle.pardo_text.specs.declared.statement.Line.{Line}
-use Rattle.pardo_text.specs.declared.statement.Statement.{Statement}
-use Rattle.pardo_text.specs.declared.statement.Statement.TheVariants.{Assign, If, Else, EndIf}
-use Rattle.pardo_text.specs.declared.statement.Statement.TheVariants.{While, EndWhile, For, EndFor}
-use Rattle.pardo_text.specs.declared.statement.Target.TheVariants.{Private, Array as Shared}
-use Rattle.pardo_text.specs.Expression.{Tree, number, own, loop, private, place, apply}
-use Rattle.pardo_text.specs.Lawful.{Bounds, IsCommon, IsCommonTree, IsExpression, IsLine}
-use Rattle.pardo_text.specs.Lawful.{IsPrivate, IsProgram, IsStatement, bounds_of, masks_of}
-use Rattle.pardo_text.specs.Program.{PrivateData, ProgramData, shared_cells}
+use Rattle.pardo_program.specs.declared.limits.TheConstants.{MAX_CELLS}
+use Rattle.pardo_program.specs.declared.statement.Line.{Line}
+use Rattle.pardo_program.specs.declared.statement.Statement.{Statement}
+use Rattle.pardo_program.specs.declared.statement.Statement.TheVariants.{Assign, If, Else, EndIf}
+use Rattle.pardo_program.specs.declared.statement.Statement.TheVariants.{While, EndWhile, For}
+use Rattle.pardo_program.specs.declared.statement.Statement.TheVariants.{EndFor}
+use Rattle.pardo_program.specs.declared.statement.Target.TheVariants.{Private, Array as Shared}
+use Rattle.pardo_program.specs.Expression.{Tree, number, own, loop, private, place, apply}
+use Rattle.pardo_program.specs.Lawful.{Bounds, IsCommon, IsCommonTree, IsExpression, IsLine}
+use Rattle.pardo_program.specs.Lawful.{IsPrivate, IsProgram, IsStatement, bounds_of, masks_of}
+use Rattle.pardo_program.specs.Program.{PrivateData, ProgramData, shared_cells}
 use Rattle.pardo_flat.specs.Flat.{base_of, beside, first_flat_of, fits, flat, giving, has_room}
 use Rattle.pardo_flat.specs.Flat.{hidden, is_beside, is_common, last_line, last_of, last_pieces}
 use Rattle.pardo_flat.specs.Flat.{lines_for, most_pieces, moved_statement, nameless, pieces_count}

@@ -5,13 +5,14 @@ use Rattle.std.proofs.Common.{take}
 use Rattle.std.specs.Prelude.{replicate, slice_get, sum_by}
 use Rattle.std.specs.List.{flat_map}
 use Rattle.std.proofs.lemmas.List.Sums.{sum_by-cons}
-use Rattle.pardo_text.specs.declared.statement.Line.{Line}
-use Rattle.pardo_text.specs.declared.statement.Statement.{Statement}
-use Rattle.pardo_text.specs.declared.statement.Statement.TheVariants.{Assign, If, Else, EndIf}
-use Rattle.pardo_text.specs.declared.statement.Statement.TheVariants.{While, EndWhile, For, EndFor}
-use Rattle.pardo_text.specs.Expression.{Tree}
-use Rattle.pardo_text.specs.Lawful.{IsLine, IsProgram, IsStatement, bounds_of}
-use Rattle.pardo_text.specs.Program.{PrivateData, ProgramData}
+use Rattle.pardo_program.specs.declared.statement.Line.{Line}
+use Rattle.pardo_program.specs.declared.statement.Statement.{Statement}
+use Rattle.pardo_program.specs.declared.statement.Statement.TheVariants.{Assign, If, Else, EndIf}
+use Rattle.pardo_program.specs.declared.statement.Statement.TheVariants.{While, EndWhile, For}
+use Rattle.pardo_program.specs.declared.statement.Statement.TheVariants.{EndFor}
+use Rattle.pardo_program.specs.Expression.{Tree}
+use Rattle.pardo_program.specs.Lawful.{IsLine, IsProgram, IsStatement, bounds_of}
+use Rattle.pardo_program.specs.Program.{PrivateData, ProgramData}
 use Rattle.pardo_flat.specs.Flat.{base_of, first_flat_of, fits, flat, flat_size, hidden, is_common}
 use Rattle.pardo_flat.specs.Flat.{last_line, last_of, last_pieces, line_parts, lines_for}
 use Rattle.pardo_flat.specs.Flat.{most_pieces, moved_statement, nameless, pieces_count, pieces_of}

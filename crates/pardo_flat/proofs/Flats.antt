@@ -13,15 +13,16 @@ use Rattle.std.proofs.lemmas.List.{get_or_append_left, get_or_push, map-append, 
 use Rattle.std.proofs.lemmas.List.Concat.{length-flat_map}
 use Rattle.std.proofs.lemmas.Option.{none-some, same_Some}
 use mathlib.Core.Path.{fun_ext}
-use Rattle.pardo_text.specs.declared.limits.TheConstants.{MAX_CELLS}
-use Rattle.pardo_text.specs.declared.statement.Line.{Line}
-use Rattle.pardo_text.specs.declared.statement.Statement.{Statement}
-use Rattle.pardo_text.specs.declared.statement.Statement.TheVariants.{Assign, If, Else, EndIf}
-use Rattle.pardo_text.specs.declared.statement.Statement.TheVariants.{While, EndWhile, For, EndFor}
-use Rattle.pardo_text.specs.declared.statement.Target.TheVariants.{Private, Array as Shared}
-use Rattle.pardo_text.specs.Expression.{Tree, number}
-use Rattle.pardo_text.specs.Lawful.{IsProgram, IsLine, IsStatement, bounds_of}
-use Rattle.pardo_text.specs.Program.{PrivateData, ProgramData, shared_cells}
+use Rattle.pardo_program.specs.declared.limits.TheConstants.{MAX_CELLS}
+use Rattle.pardo_program.specs.declared.statement.Line.{Line}
+use Rattle.pardo_program.specs.declared.statement.Statement.{Statement}
+use Rattle.pardo_program.specs.declared.statement.Statement.TheVariants.{Assign, If, Else, EndIf}
+use Rattle.pardo_program.specs.declared.statement.Statement.TheVariants.{While, EndWhile, For}
+use Rattle.pardo_program.specs.declared.statement.Statement.TheVariants.{EndFor}
+use Rattle.pardo_program.specs.declared.statement.Target.TheVariants.{Private, Array as Shared}
+use Rattle.pardo_program.specs.Expression.{Tree, number}
+use Rattle.pardo_program.specs.Lawful.{IsProgram, IsLine, IsStatement, bounds_of}
+use Rattle.pardo_program.specs.Program.{PrivateData, ProgramData, shared_cells}
 use Rattle.pardo_flat.specs.Flat.{base_of, first_flat_of, fits, flat, flat_size, giving, hidden}
 use Rattle.pardo_flat.specs.Flat.{is_common, last_of, line_parts, lines_for, most_pieces}
 use Rattle.pardo_flat.specs.Flat.{moved_statement, nameless, pieces_count, pieces_of, split}

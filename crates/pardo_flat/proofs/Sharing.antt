@@ -4,8 +4,8 @@ use Rattle.std.proofs.Common.{take}
 use Rattle.std.proofs.Common.{get_or, arith, refl, ap, ◌∙◌, subst}
 use Rattle.std.proofs.lemmas.List.Sums.{sum_by-append}
 use Rattle.pram_job.specs.declared.instr.Array.{Array}
-use Rattle.pardo_text.specs.Lawful.{AreArrays}
-use Rattle.pardo_text.specs.Program.{ArrayData, shared_cells}
+use Rattle.pardo_program.specs.Lawful.{AreArrays}
+use Rattle.pardo_program.specs.Program.{ArrayData, shared_cells}
 use Rattle.pardo_flat.specs.Layouts.{ProgramLayoutData, cells_of_array}
 
 pub shared_more : (array : ArrayData) (arrays : List ArrayData) →

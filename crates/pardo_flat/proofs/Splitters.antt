@@ -5,17 +5,17 @@ use Rattle.std.proofs.Common.{append-nil, ◌≤◌}
 use Rattle.std.specs.Prelude.{max}
 use Rattle.std.proofs.lemmas.Bool.{cases_Bool}
 use Rattle.std.proofs.lemmas.List.{at_drop_all, drop_more, same_from_push}
-use Rattle.pardo_text.specs.declared.expression.Node.{Node}
-use Rattle.pardo_text.specs.declared.expression.Node.TheVariants.{Number, Own, Loop}
-use Rattle.pardo_text.specs.declared.expression.Node.TheVariants.{Private, Place, Apply}
-use Rattle.pardo_text.specs.declared.operation.Op.{Op}
-use Rattle.pardo_text.specs.Expression.{Tree, number, own, loop, private, place, apply, postfix}
-use Rattle.pardo_text.specs.Expression.{trees_of, trees_of-postfix, with_node}
+use Rattle.pardo_program.specs.declared.expression.Node.{Node}
+use Rattle.pardo_program.specs.declared.expression.Node.TheVariants.{Number, Own, Loop}
+use Rattle.pardo_program.specs.declared.expression.Node.TheVariants.{Private, Place, Apply}
+use Rattle.pardo_program.specs.declared.operation.Op.{Op}
+use Rattle.pardo_program.specs.Expression.{Tree, number, own, loop, private, place, apply, postfix}
+use Rattle.pardo_program.specs.Expression.{trees_of, trees_of-postfix, with_node}
 use Rattle.pardo_flat.specs.declared.splitter.Part.{Part}
 use Rattle.pardo_flat.specs.Flat.{ShapeData, applied_shape, beside, computed_shape, is_beside}
 use Rattle.pardo_flat.specs.Flat.{shape_of, split}
 use Rattle.pardo_flat.specs.Flat.{variable}
-use Rattle.pardo_text.specs.Inner.Postfixes.{HasOperands}
+use Rattle.pardo_program.specs.Inner.Postfixes.{HasOperands}
 use Rattle.pardo_flat.specs.Inner.Splits.{AreSplit, CanSplit, JoinsTo}
 use Rattle.pardo_flat.specs.Inner.Splits.{CanShape, ShapesNode, TakesNode, joined, shapes_of}
 use Rattle.pardo_flat.specs.Inner.Splits.{split_part, parts_after, pieces_after}

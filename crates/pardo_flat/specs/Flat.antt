@@ -7,19 +7,20 @@ use Rattle.std.specs.Prelude.{true, false, not, ◌&&◌, ◌||◌, nat_le}
 use Rattle.std.specs.Prelude.{if◌then◌else◌, max, min}
 use Rattle.std.specs.Prelude.{List, [], ◌∷◌, ◌++◌, length, replicate, take, sum_by}
 use Rattle.std.specs.List.{flat_map}
-use Rattle.pardo_text.specs.declared.operation.Op.{Op}
-use Rattle.pardo_text.specs.declared.operation.Op.TheVariants.{Sub, Div, Rem, Shl, Shr}
-use Rattle.pardo_text.specs.declared.operation.Op.TheVariants.{BitAnd, BitOr, Eq, Ne, Or}
-use Rattle.pardo_text.specs.declared.operation.Op.TheVariants.{Lt, Le, Gt, Ge, And, Min, Max}
-use Rattle.pardo_text.specs.declared.operation.Op.TheVariants.{Within}
-use Rattle.pardo_text.specs.declared.statement.Line.{Line}
-use Rattle.pardo_text.specs.declared.statement.Statement.{Statement}
-use Rattle.pardo_text.specs.declared.statement.Statement.TheVariants.{Assign, If}
-use Rattle.pardo_text.specs.declared.statement.Statement.TheVariants.{While, EndWhile, For, EndFor}
-use Rattle.pardo_text.specs.declared.statement.Target.TheVariants.{Private, Array as Shared}
-use Rattle.pardo_text.specs.Expression.{Tree, number, own, loop, private, place, apply}
-use Rattle.pardo_text.specs.declared.limits.TheConstants.{MAX_CELLS}
-use Rattle.pardo_text.specs.Program.{ProgramData, PrivateData, shared_cells}
+use Rattle.pardo_program.specs.declared.operation.Op.{Op}
+use Rattle.pardo_program.specs.declared.operation.Op.TheVariants.{Sub, Div, Rem, Shl, Shr}
+use Rattle.pardo_program.specs.declared.operation.Op.TheVariants.{BitAnd, BitOr, Eq, Ne, Or}
+use Rattle.pardo_program.specs.declared.operation.Op.TheVariants.{Lt, Le, Gt, Ge, And, Min, Max}
+use Rattle.pardo_program.specs.declared.operation.Op.TheVariants.{Within}
+use Rattle.pardo_program.specs.declared.statement.Line.{Line}
+use Rattle.pardo_program.specs.declared.statement.Statement.{Statement}
+use Rattle.pardo_program.specs.declared.statement.Statement.TheVariants.{Assign, If}
+use Rattle.pardo_program.specs.declared.statement.Statement.TheVariants.{While, EndWhile, For}
+use Rattle.pardo_program.specs.declared.statement.Statement.TheVariants.{EndFor}
+use Rattle.pardo_program.specs.declared.statement.Target.TheVariants.{Private, Array as Shared}
+use Rattle.pardo_program.specs.Expression.{Tree, number, own, loop, private, place, apply}
+use Rattle.pardo_program.specs.declared.limits.TheConstants.{MAX_CELLS}
+use Rattle.pardo_program.specs.Program.{ProgramData, PrivateData, shared_cells}
 use Rattle.pardo_flat.specs.Statements.{statement_at}
 
 -- ---- registers

@@ -4,7 +4,7 @@ use Rattle.std.specs.Prelude.{ℕ, ◌+◌, ◌-◌, ◌*◌, List, ◌++◌, le
 use Rattle.std.specs.Prelude.{replicate, slice_get, Some, None}
 use Rattle.std.specs.List.{flat_map}
 use Rattle.pram_job.specs.declared.instr.Array.{Array}
-use Rattle.pardo_text.specs.Program.{ProgramData, ArrayData, shared_cells}
+use Rattle.pardo_program.specs.Program.{ProgramData, ArrayData, shared_cells}
 
 pub record ProgramLayoutData : Type 0 where
   -- the shared arrays

@@ -1,7 +1,7 @@
 //! The flat program: hidden lines come before those for which three registers are too few.
 ghost use Rattle.std.specs.Prelude.{◌≡◌, ◌+◌, ◌-◌, ◌≤◌, ◌==◌, ◌++◌, ◌∷◌, [], IfOk, OnOk};
 ghost use Rattle.std.specs.Prelude.{if◌then◌else◌, length, map, max, slice_index, true};
-ghost use Rattle.pardo_text.specs.Lawful.{IsProgram};
+ghost use Rattle.pardo_program.specs.Lawful.{IsProgram};
 ghost use Rattle.pardo_flat.specs.Flat.{base_of, bound_pieces, flat, giving, hidden, is_common};
 ghost use Rattle.pardo_flat.specs.Flat.{last_pieces, parts_of, split_statement, statement_parts};
 ghost use Rattle.pardo_flat.specs.Inner.Flats.{AreFlat, DoAllFit, IsFlattened, moved_by};
@@ -11,7 +11,7 @@ ghost use Rattle.pardo_flat.specs.Statements.{statement_at};
 use crate::layout::Layout;
 use crate::needs::{Shape, fits};
 use crate::splitter::Splitter;
-use pardo_text::{Expr, Line, Program, Statement, Target};
+use pardo_program::{Expr, Line, Program, Statement, Target};
 use std::alloc::{AllocError, Global};
 
 /// The flat program of a program, and where the first of the lines for each line stands; the last

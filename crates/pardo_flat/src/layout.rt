@@ -2,12 +2,12 @@
 //! then rows of a cell for each processor, one row for each private variable, then one for each
 //! depth of loops, then one for each depth of `if`s.
 ghost use Rattle.std.specs.Prelude.{◌≡◌, ◌+◌, ◌*◌, ◌<◌, ◌≤◌, length, nat_le, IfOk};
-ghost use Rattle.pardo_text.specs.Lawful.{IsProgram};
+ghost use Rattle.pardo_program.specs.Lawful.{IsProgram};
 ghost use Rattle.pardo_flat.specs.Layouts.{array_cells, cell_count, program_layout, loop_cells};
 ghost use Rattle.pardo_flat.specs.Layouts.{mask_cells, private_cells, row};
 
-use pardo_text::Program;
-use pardo_text::limits::MAX_CELLS;
+use pardo_program::Program;
+use pardo_program::limits::MAX_CELLS;
 use pram_job::Array;
 use std::alloc::{AllocError, Global};
 use std::marker::Model;

@@ -5,7 +5,7 @@ ghost use Rattle.pardo_flat.specs.Flat.{applied_shape, computed_shape, first_nee
 ghost use Rattle.pardo_flat.specs.Flat.{is_beside, operation_need, shape_of, taken};
 ghost use Rattle.pardo_flat.specs.Inner.Splits.{CanShape, ShapesNode};
 
-use pardo_text::{Expr, Node, Op, Statement, Target};
+use pardo_program::{Expr, Node, Op, Statement, Target};
 use std::alloc::{AllocError, Global};
 use std::marker::Model;
 

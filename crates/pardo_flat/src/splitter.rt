@@ -5,7 +5,7 @@ ghost use Rattle.pardo_flat.specs.Flat.{split, split_bounds, split_last, split_s
 ghost use Rattle.pardo_flat.specs.Inner.Splits.{CanSplit, JoinsTo, TakesNode, split_part};
 
 use crate::needs::{Shape, is_beside, place_shape};
-use pardo_text::{Expr, Node, Op};
+use pardo_program::{Expr, Node, Op};
 use std::alloc::{AllocError, Global};
 
 /// What is left of an expression, and the shapes of that and of the whole expression.

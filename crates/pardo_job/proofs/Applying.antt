@@ -9,12 +9,12 @@ use Rattle.std.proofs.lemmas.Bool.{lt-ltb, le-ltb, cases_lt}
 use Rattle.pram_job.specs.declared.instr.Instr.{Instr}
 use Rattle.pram_job.specs.declared.instr.Operand.{Operand}
 use Rattle.pram_job.specs.declared.instr.Operand.TheVariants.{Register, Number}
-use Rattle.pardo_text.specs.declared.operation.Op.{Op}
-use Rattle.pardo_text.specs.declared.operation.Op.TheVariants.{Add, Sub, Mul, Div, Rem, Shl, Shr}
-use Rattle.pardo_text.specs.declared.operation.Op.TheVariants.{BitAnd, BitOr, BitXor, Eq, Ne}
-use Rattle.pardo_text.specs.declared.operation.Op.TheVariants.{Lt, Le, Gt, Ge, And, Or, Min, Max}
-use Rattle.pardo_text.specs.declared.operation.Op.TheVariants.{Within}
-use Rattle.pardo_text.specs.Operations.{bit, operation_value}
+use Rattle.pardo_program.specs.declared.operation.Op.{Op}
+use Rattle.pardo_program.specs.declared.operation.Op.TheVariants.{Add, Sub, Mul, Div, Rem, Shl, Shr}
+use Rattle.pardo_program.specs.declared.operation.Op.TheVariants.{BitAnd, BitOr, BitXor, Eq, Ne}
+use Rattle.pardo_program.specs.declared.operation.Op.TheVariants.{Lt, Le, Gt, Ge, And, Or, Min, Max}
+use Rattle.pardo_program.specs.declared.operation.Op.TheVariants.{Within}
+use Rattle.pardo_program.specs.Operations.{bit, operation_value}
 use Rattle.pardo_job.specs.Operations.{native, choice, operation_code}
 use Rattle.pardo_job.specs.Operations.{taken_by, is_shallow, negation}
 use Rattle.pardo_job.specs.Straight.{Registers, operand_in, Computes}

@@ -6,12 +6,12 @@ use Rattle.pram_job.specs.declared.instr.Instr.TheVariants as instr
 use Rattle.pram_job.specs.declared.instr.Operand.{Operand}
 use Rattle.pram_job.specs.declared.instr.Operand.TheVariants.{Register}
 use Rattle.pram_job.specs.declared.instr.Place.TheVariants.{Named}
-use Rattle.pardo_text.specs.declared.operation.Op.{Op}
-use Rattle.pardo_text.specs.declared.operation.Op.TheVariants.{Add, Sub, Mul, Div, Rem, Shl, Shr}
-use Rattle.pardo_text.specs.declared.operation.Op.TheVariants.{BitAnd, BitOr, BitXor, Eq, Ne}
-use Rattle.pardo_text.specs.declared.operation.Op.TheVariants.{Lt, Le, Gt, Ge, And, Or, Min, Max}
-use Rattle.pardo_text.specs.declared.operation.Op.TheVariants.{Within}
-use Rattle.pardo_text.specs.Expression.{Tree, number, own, loop, private, place, apply}
+use Rattle.pardo_program.specs.declared.operation.Op.{Op}
+use Rattle.pardo_program.specs.declared.operation.Op.TheVariants.{Add, Sub, Mul, Div, Rem, Shl, Shr}
+use Rattle.pardo_program.specs.declared.operation.Op.TheVariants.{BitAnd, BitOr, BitXor, Eq, Ne}
+use Rattle.pardo_program.specs.declared.operation.Op.TheVariants.{Lt, Le, Gt, Ge, And, Or, Min, Max}
+use Rattle.pardo_program.specs.declared.operation.Op.TheVariants.{Within}
+use Rattle.pardo_program.specs.Expression.{Tree, number, own, loop, private, place, apply}
 use Rattle.pardo_flat.specs.Layouts.{ProgramLayoutData, private_cells, loop_cells, array_cells}
 use Rattle.pardo_job.specs.Operations.{native, in_order, is_turned, choice, conjunction}
 use Rattle.pardo_job.specs.Operations.{operation_code, within_code, index_code, test_register}

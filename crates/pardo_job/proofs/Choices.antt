@@ -8,9 +8,9 @@ use Rattle.pram_job.specs.declared.instr.Instr.{Instr}
 use Rattle.pram_job.specs.declared.instr.Instr.TheVariants as instr
 use Rattle.pram_job.specs.declared.instr.Operand.{Operand}
 use Rattle.pram_job.specs.declared.instr.Operand.TheVariants.{Register, Number}
-use Rattle.pardo_text.specs.declared.operation.Op.{Op}
-use Rattle.pardo_text.specs.declared.operation.Op.TheVariants.{Min, Max}
-use Rattle.pardo_text.specs.Operations.{operation_value}
+use Rattle.pardo_program.specs.declared.operation.Op.{Op}
+use Rattle.pardo_program.specs.declared.operation.Op.TheVariants.{Min, Max}
+use Rattle.pardo_program.specs.Operations.{operation_value}
 use Rattle.pardo_job.specs.Operations.{chosen_of, choice, copy_code, taken_by, is_shallow}
 use Rattle.pardo_job.specs.Operations.{negation, is_max}
 use Rattle.pardo_job.specs.Straight.{Registers, put, operand_in, after_one, Computes}

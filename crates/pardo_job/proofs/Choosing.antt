@@ -7,8 +7,8 @@ use Rattle.pram_job.specs.declared.instr.Instr.{Instr}
 use Rattle.pram_job.specs.declared.instr.Instr.TheVariants as instr
 use Rattle.pram_job.specs.declared.instr.Operand.{Operand}
 use Rattle.pram_job.specs.declared.instr.Operand.TheVariants.{Register, Number}
-use Rattle.pardo_text.specs.declared.operation.Op.TheVariants as op
-use Rattle.pardo_text.specs.Operations.{bit}
+use Rattle.pardo_program.specs.declared.operation.Op.TheVariants as op
+use Rattle.pardo_program.specs.Operations.{bit}
 use Rattle.pardo_job.specs.Operations.{chosen_of}
 use Rattle.pardo_job.specs.Operations.{taken_by}
 use Rattle.pardo_job.specs.Straight.{Registers, put, operand_in, after_all, IsKept, Computes}

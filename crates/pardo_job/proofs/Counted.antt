@@ -10,16 +10,17 @@ use Rattle.std.proofs.lemmas.Option.{get_or_from_slice_get, slice_get_within}
 use Rattle.pram_job.specs.declared.instr.Instr.{Instr}
 use Rattle.pram_job.specs.declared.instr.Instr.TheVariants.{Jmp, Jz, St}
 use Rattle.pram_job.specs.declared.instr.Place.TheVariants.{Named}
-use Rattle.pardo_text.specs.declared.statement.Line.{Line}
-use Rattle.pardo_text.specs.declared.statement.Statement.{Statement}
-use Rattle.pardo_text.specs.declared.statement.Statement.TheVariants.{Assign, If, Else, EndIf}
-use Rattle.pardo_text.specs.declared.statement.Statement.TheVariants.{While, EndWhile, For, EndFor}
-use Rattle.pardo_text.specs.declared.statement.Target.{Target}
-use Rattle.pardo_text.specs.declared.statement.Target.TheVariants.{Private, Array as Shared}
-use Rattle.pardo_text.specs.declared.expression.Node.{Node}
-use Rattle.pardo_text.specs.declared.expression.Node.TheVariants.{Apply, Place}
-use Rattle.pardo_text.specs.Expression.{Tree, number, own, loop, private, place, apply, postfix}
-use Rattle.pardo_text.specs.Program.{ProgramData}
+use Rattle.pardo_program.specs.declared.statement.Line.{Line}
+use Rattle.pardo_program.specs.declared.statement.Statement.{Statement}
+use Rattle.pardo_program.specs.declared.statement.Statement.TheVariants.{Assign, If, Else, EndIf}
+use Rattle.pardo_program.specs.declared.statement.Statement.TheVariants.{While, EndWhile, For}
+use Rattle.pardo_program.specs.declared.statement.Statement.TheVariants.{EndFor}
+use Rattle.pardo_program.specs.declared.statement.Target.{Target}
+use Rattle.pardo_program.specs.declared.statement.Target.TheVariants.{Private, Array as Shared}
+use Rattle.pardo_program.specs.declared.expression.Node.{Node}
+use Rattle.pardo_program.specs.declared.expression.Node.TheVariants.{Apply, Place}
+use Rattle.pardo_program.specs.Expression.{Tree, number, own, loop, private, place, apply, postfix}
+use Rattle.pardo_program.specs.Program.{ProgramData}
 use Rattle.pardo_flat.specs.Flat.{first_flat_of, flat, flat_size}
 use Rattle.pardo_flat.specs.Layouts.{ProgramLayoutData, array_cells, mask_cells, program_layout}
 use Rattle.pardo_flat.proofs.FlatLines.{first_next, some_at}

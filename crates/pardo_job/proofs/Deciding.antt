@@ -5,9 +5,9 @@ use Rattle.std.proofs.Common.{refl, sym, ap, ◌∙◌, inl, inr, if◌then◌el
 use Rattle.std.specs.Option.{option_and_then}
 use Rattle.pram_job.specs.declared.instr.Instr.{Instr}
 use Rattle.pram_job.specs.declared.instr.Operand.TheVariants.{Register, Number}
-use Rattle.pardo_text.specs.declared.operation.Op.TheVariants as op
-use Rattle.pardo_text.specs.Expression.{Tree, number, own, loop, private, place, apply}
-use Rattle.pardo_text.specs.Operations.{bit, operation_value}
+use Rattle.pardo_program.specs.declared.operation.Op.TheVariants as op
+use Rattle.pardo_program.specs.Expression.{Tree, number, own, loop, private, place, apply}
+use Rattle.pardo_program.specs.Operations.{bit, operation_value}
 use Rattle.pardo_flat.specs.Layouts.{ProgramLayoutData}
 use Rattle.pardo_job.specs.Leaves.{Decides, DecidesTo, ConditionsDecide}
 use Rattle.pardo_job.specs.Lines.{condition_code}

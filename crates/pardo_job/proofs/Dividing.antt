@@ -11,9 +11,9 @@ use Rattle.pram_job.specs.declared.instr.Instr.{Instr}
 use Rattle.pram_job.specs.declared.instr.Instr.TheVariants as instr
 use Rattle.pram_job.specs.declared.instr.Operand.{Operand}
 use Rattle.pram_job.specs.declared.instr.Operand.TheVariants.{Register, Number}
-use Rattle.pardo_text.specs.declared.operation.Op.{Op}
-use Rattle.pardo_text.specs.declared.operation.Op.TheVariants.{Div, Rem, Within}
-use Rattle.pardo_text.specs.Operations.{bit, is_division, lacks, operation_value, worked_out}
+use Rattle.pardo_program.specs.declared.operation.Op.{Op}
+use Rattle.pardo_program.specs.declared.operation.Op.TheVariants.{Div, Rem, Within}
+use Rattle.pardo_program.specs.Operations.{bit, is_division, lacks, operation_value, worked_out}
 use Rattle.pardo_job.specs.Operations.{in_order, instruction_of, is_shallow, native}
 use Rattle.pardo_job.specs.Operations.{operation_code, taken_by, within_code, index_code}
 use Rattle.pardo_job.specs.Operations.{test_register}

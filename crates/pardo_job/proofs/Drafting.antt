@@ -4,8 +4,8 @@ use Rattle.std.specs.Prelude.{IfErr, slice_index}
 use Rattle.std.proofs.lemmas.List.{get_or-map}
 use Rattle.pram_job.specs.Job.{JobData}
 use Rattle.pram_job.specs.declared.limits.TheConstants.{MAX_CODE}
-use Rattle.pardo_text.specs.Lawful.{IsProgram}
-use Rattle.pardo_text.specs.Program.{ProgramData}
+use Rattle.pardo_program.specs.Lawful.{IsProgram}
+use Rattle.pardo_program.specs.Program.{ProgramData}
 use Rattle.pardo_flat.specs.declared.flat.Flat.{Flat}
 use Rattle.pardo_flat.specs.Flat.{first_flat_of, flat}
 use Rattle.pardo_flat.specs.Inner.Flats.{DoAllFit, IsFlatProgram}

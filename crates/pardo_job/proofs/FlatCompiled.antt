@@ -2,8 +2,8 @@
 use Rattle.std.proofs.Common.{◌≡◌, ℕ, ◌+◌, ◌*◌, ◌≤◌, ap, arith, length, max}
 use Rattle.std.proofs.Math.Nat.{mul_comm}
 use Rattle.pram_job.specs.Job.{JobData}
-use Rattle.pardo_text.specs.Lawful.{IsProgram}
-use Rattle.pardo_text.specs.Program.{ProgramData, shared_cells}
+use Rattle.pardo_program.specs.Lawful.{IsProgram}
+use Rattle.pardo_program.specs.Program.{ProgramData, shared_cells}
 use Rattle.pardo_flat.specs.Flat.{flat}
 use Rattle.pardo_flat.specs.Layouts.{cell_count, program_layout}
 use Rattle.pardo_flat.proofs.FlatLawful.{flat_lawful}

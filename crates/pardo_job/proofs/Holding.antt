@@ -3,8 +3,8 @@ use Rattle.std.proofs.Common.{Result, Ok, Err, OnOk, subst}
 use Rattle.pram_job.specs.declared.instr.Array.{Array}
 use Rattle.pram_job.specs.declared.instr.Instr.TheVariants.{Ld}
 use Rattle.pram_job.specs.declared.instr.Place.TheVariants.{Named}
-use Rattle.pardo_text.specs.declared.expression.Node.TheVariants.{Place, Apply}
-use Rattle.pardo_text.specs.Expression.{with_node}
+use Rattle.pardo_program.specs.declared.expression.Node.TheVariants.{Place, Apply}
+use Rattle.pardo_program.specs.Expression.{with_node}
 use Rattle.pardo_flat.specs.Layouts.{ProgramLayoutData, array_cells}
 use Rattle.pardo_flat.specs.Flat.{gives_truth}
 use Rattle.pardo_job.specs.declared.fault.JobKind.{JobKind}
@@ -21,9 +21,9 @@ use Rattle.pram_job.specs.declared.instr.Instr.{Instr}
 use Rattle.pram_job.specs.declared.instr.Instr.TheVariants as instr
 use Rattle.pram_job.specs.declared.instr.Operand.{Operand}
 use Rattle.pram_job.specs.declared.instr.Operand.TheVariants.{Register, Number}
-use Rattle.pardo_text.specs.declared.operation.Op.{Op}
-use Rattle.pardo_text.specs.declared.operation.Op.TheVariants as op
-use Rattle.pardo_text.specs.Expression.{Tree, number, own, loop, private, place, apply}
+use Rattle.pardo_program.specs.declared.operation.Op.{Op}
+use Rattle.pardo_program.specs.declared.operation.Op.TheVariants as op
+use Rattle.pardo_program.specs.Expression.{Tree, number, own, loop, private, place, apply}
 use Rattle.pardo_job.specs.declared.held.Held.{Held}
 use Rattle.pardo_job.specs.declared.held.Stack.{Stack}
 use Rattle.pardo_job.specs.Operations.{taken_by, chosen_of, is_shallow, native}

@@ -14,9 +14,9 @@ use Rattle.pram_job.specs.declared.instr.Instr.{Instr}
 use Rattle.pram_job.specs.declared.limits.TheConstants.{MAX_CODE}
 use Rattle.pram_job.specs.Instructions.{IsArray}
 use Rattle.pram_job.specs.Job.{IsInstr, IsJob}
-use Rattle.pardo_text.specs.declared.statement.Line.{Line}
-use Rattle.pardo_text.specs.Lawful.{AreArrays, IsLine, IsPrivate, IsProgram, bounds_of}
-use Rattle.pardo_text.specs.Program.{ArrayData, PrivateData, ProgramData, shared_cells}
+use Rattle.pardo_program.specs.declared.statement.Line.{Line}
+use Rattle.pardo_program.specs.Lawful.{AreArrays, IsLine, IsPrivate, IsProgram, bounds_of}
+use Rattle.pardo_program.specs.Program.{ArrayData, PrivateData, ProgramData, shared_cells}
 use Rattle.pardo_flat.specs.Layouts.{cell_count, cells_of_array, given_values, program_layout}
 use Rattle.pardo_flat.specs.Layouts.{start_values}
 use Rattle.pardo_job.specs.Lines.{code_from, code_of, job_of, length_of_line, line_code, place_of}

@@ -12,18 +12,19 @@ use Rattle.pram_job.specs.declared.instr.Operand.{Operand}
 use Rattle.pram_job.specs.declared.instr.Operand.TheVariants.{Register, Number}
 use Rattle.pram_job.specs.declared.instr.Place.TheVariants.{Named}
 use Rattle.pram_job.specs.Instructions.{IsArray, IsOperand}
-use Rattle.pardo_text.specs.declared.operation.Op.{Op}
-use Rattle.pardo_text.specs.declared.operation.Op.TheVariants as op
-use Rattle.pardo_text.specs.declared.statement.Statement.{Statement}
-use Rattle.pardo_text.specs.declared.statement.Statement.TheVariants.{Assign, If, Else, EndIf}
-use Rattle.pardo_text.specs.declared.statement.Statement.TheVariants.{While, EndWhile, For, EndFor}
-use Rattle.pardo_text.specs.declared.statement.Target.{Target}
-use Rattle.pardo_text.specs.declared.statement.Target.TheVariants.{Private, Array as Shared}
-use Rattle.pardo_text.specs.Expression.{Tree}
-use Rattle.pardo_text.specs.Lawful.{IsLine, IsStatement, IsTarget, IsExpression, bounds_of}
-use Rattle.pardo_text.specs.Lawful.{masks_of}
-use Rattle.pardo_text.specs.declared.statement.Line.{Line}
-use Rattle.pardo_text.specs.Program.{ProgramData}
+use Rattle.pardo_program.specs.declared.operation.Op.{Op}
+use Rattle.pardo_program.specs.declared.operation.Op.TheVariants as op
+use Rattle.pardo_program.specs.declared.statement.Statement.{Statement}
+use Rattle.pardo_program.specs.declared.statement.Statement.TheVariants.{Assign, If, Else, EndIf}
+use Rattle.pardo_program.specs.declared.statement.Statement.TheVariants.{While, EndWhile, For}
+use Rattle.pardo_program.specs.declared.statement.Statement.TheVariants.{EndFor}
+use Rattle.pardo_program.specs.declared.statement.Target.{Target}
+use Rattle.pardo_program.specs.declared.statement.Target.TheVariants.{Private, Array as Shared}
+use Rattle.pardo_program.specs.Expression.{Tree}
+use Rattle.pardo_program.specs.Lawful.{IsLine, IsStatement, IsTarget, IsExpression, bounds_of}
+use Rattle.pardo_program.specs.Lawful.{masks_of}
+use Rattle.pardo_program.specs.declared.statement.Line.{Line}
+use Rattle.pardo_program.specs.Program.{ProgramData}
 use Rattle.pardo_flat.specs.Layouts.{ProgramLayoutData, array_cells, cells_of_array, program_layout}
 use Rattle.pardo_flat.specs.Layouts.{loop_cells}
 use Rattle.pardo_flat.specs.Layouts.{mask_cells, private_cells}

@@ -9,7 +9,7 @@ use Rattle.std.proofs.lemmas.List.{length-append}
 use Rattle.pram_job.specs.declared.instr.Instr.{Instr}
 use Rattle.pram_job.specs.declared.instr.Instr.TheVariants.{Jz, Jmp}
 use Rattle.pram_job.specs.declared.limits.TheConstants.{MAX_CODE}
-use Rattle.pardo_text.specs.Expression.{Tree}
+use Rattle.pardo_program.specs.Expression.{Tree}
 use Rattle.pardo_flat.specs.Layouts.{ProgramLayoutData, mask_cells}
 use Rattle.pardo_job.specs.declared.fault.JobKind.{JobKind}
 use Rattle.pardo_job.specs.declared.fault.JobKind.TheVariants.{TooDeep, TooLong, Endless, Memory}
@@ -17,8 +17,8 @@ use Rattle.pardo_job.specs.declared.fault.JobKind.TheVariants.{TooManyCells}
 use Rattle.pardo_job.specs.Inner.Emitting.{PutsCode, IsCodeFault}
 use Rattle.pram_job.specs.declared.instr.Array.{Array}
 use Rattle.pram_job.specs.declared.instr.Operand.{Operand}
-use Rattle.pardo_text.specs.declared.operation.Op.{Op}
-use Rattle.pardo_text.specs.declared.operation.Op.TheVariants as op
+use Rattle.pardo_program.specs.declared.operation.Op.{Op}
+use Rattle.pardo_program.specs.declared.operation.Op.TheVariants as op
 use Rattle.pardo_job.specs.Inner.Pieces.{IsLineFault, PutsLine, bounds_code, bounds_operands}
 use Rattle.pardo_job.specs.Inner.Pieces.{choice_code, under}
 use Rattle.pardo_job.specs.Lines.{choosing, idle, masked, none_code, own_store}

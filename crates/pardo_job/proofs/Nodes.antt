@@ -5,9 +5,9 @@ use Rattle.std.proofs.lemmas.List.Sums.{sum_by-cons}
 use Rattle.pram_job.specs.declared.instr.Instr.{Instr}
 use Rattle.pram_job.specs.declared.instr.Instr.TheVariants.{Ld}
 use Rattle.pram_job.specs.declared.instr.Place.TheVariants.{Named}
-use Rattle.pardo_text.specs.declared.expression.Node.{Node}
-use Rattle.pardo_text.specs.declared.expression.Node.TheVariants.{Place, Apply}
-use Rattle.pardo_text.specs.Expression.{Tree, number, own, loop, private, place, apply, postfix}
+use Rattle.pardo_program.specs.declared.expression.Node.{Node}
+use Rattle.pardo_program.specs.declared.expression.Node.TheVariants.{Place, Apply}
+use Rattle.pardo_program.specs.Expression.{Tree, number, own, loop, private, place, apply, postfix}
 use Rattle.pardo_flat.specs.Layouts.{ProgramLayoutData, array_cells}
 use Rattle.pardo_job.specs.Operations.{operation_code}
 use Rattle.pardo_job.specs.Values.{value_code, value_operand, takes, is_truth}

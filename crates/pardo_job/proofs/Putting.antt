@@ -4,8 +4,8 @@ use Rattle.std.proofs.Common.{get_or, Ok, Err}
 use Rattle.std.proofs.Common.{refl, sym, ap, subst, ◌∙◌, append_assoc, append-nil, arith, Result}
 use Rattle.std.proofs.lemmas.List.{at_drop_all, drop_more}
 use Rattle.pram_job.specs.declared.instr.Instr.{Instr}
-use Rattle.pardo_text.specs.declared.expression.Node.{Node}
-use Rattle.pardo_text.specs.Expression.{Tree, postfix, trees_of, trees_of-postfix, with_node}
+use Rattle.pardo_program.specs.declared.expression.Node.{Node}
+use Rattle.pardo_program.specs.Expression.{Tree, postfix, trees_of, trees_of-postfix, with_node}
 use Rattle.pardo_flat.specs.Layouts.{ProgramLayoutData}
 use Rattle.pardo_job.specs.declared.fault.JobKind.{JobKind}
 use Rattle.pardo_job.specs.declared.held.Held.{Held}

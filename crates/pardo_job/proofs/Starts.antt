@@ -6,8 +6,8 @@ use Rattle.pram_job.specs.declared.instr.Instr.{Instr}
 use Rattle.pram_job.specs.declared.instr.Rule.{Rule}
 use Rattle.pram_job.specs.Job.{IsJob, JobData, job_data}
 use Rattle.pram_step.specs.Runs.{IsReached, state_after}
-use Rattle.pardo_text.specs.Lawful.{IsProgram}
-use Rattle.pardo_text.specs.Program.{ProgramData}
+use Rattle.pardo_program.specs.Lawful.{IsProgram}
+use Rattle.pardo_program.specs.Program.{ProgramData}
 use Rattle.pardo_flat.specs.Layouts.{cell_count, program_layout, start_values}
 use Rattle.pardo_flat.specs.Flat.{flat}
 use Rattle.pardo_job.specs.declared.fault.JobKind.{JobKind}

@@ -6,7 +6,7 @@ use Rattle.std.specs.Option.{option_and_then}
 use Rattle.pram_job.specs.declared.instr.Instr.{Instr}
 use Rattle.pram_job.specs.declared.instr.Instr.TheVariants as instr
 use Rattle.pram_job.specs.declared.instr.Operand.TheVariants.{Number}
-use Rattle.pardo_text.specs.Operations.{bit}
+use Rattle.pardo_program.specs.Operations.{bit}
 use Rattle.pardo_job.specs.Operations.{negation}
 use Rattle.pardo_job.specs.Straight.{Registers, put, after_one, after_all, Computes}
 

@@ -4,12 +4,12 @@ use Rattle.std.proofs.Common.{if◌then◌else◌, Option, Some, None, refl, sym
 use Rattle.std.specs.Option.{option_and_then}
 use Rattle.std.proofs.Math.Nat.{mod-eq_of_lt, mul-le-mul_right, suc-mul}
 use Rattle.std.proofs.lemmas.Bool.{ltb-true}
-use Rattle.pardo_text.specs.declared.limits.TheConstants.{MAX_CELLS}
-use Rattle.pardo_text.specs.declared.operation.Op.TheVariants.{Add, Mul, Within}
-use Rattle.pardo_text.specs.Expression.{Tree, number, own, loop, private, place, apply}
-use Rattle.pardo_text.specs.Expressions.{applied, constant_of, tested}
-use Rattle.pardo_text.specs.Operations.{is_division, lacks, operation_value, worked_out}
-use Rattle.pardo_text.specs.Program.{ProgramData}
+use Rattle.pardo_program.specs.declared.limits.TheConstants.{MAX_CELLS}
+use Rattle.pardo_program.specs.declared.operation.Op.TheVariants.{Add, Mul, Within}
+use Rattle.pardo_program.specs.Expression.{Tree, number, own, loop, private, place, apply}
+use Rattle.pardo_program.specs.Folding.{applied, constant_of, tested}
+use Rattle.pardo_program.specs.Operations.{is_division, lacks, operation_value, worked_out}
+use Rattle.pardo_program.specs.Program.{ProgramData}
 use Rattle.pardo_text.proofs.LawBounds.{applied_keeps}
 use Rattle.pardo_job.specs.Laws.{IndicesAreTested, row_by_row}
 use Rattle.pardo_job.specs.Meaning.{Source, value}

@@ -1,9 +1,9 @@
 -- Expressions of a program name what there is in its cells.
 use Rattle.std.proofs.Common.{◌<◌, sym, subst}
 use Rattle.std.proofs.lemmas.List.{length-map}
-use Rattle.pardo_text.specs.Expression.{Tree, number, own, loop, private, place, apply}
-use Rattle.pardo_text.specs.Lawful.{IsExpression, bounds_of}
-use Rattle.pardo_text.specs.Program.{ProgramData}
+use Rattle.pardo_program.specs.Expression.{Tree, number, own, loop, private, place, apply}
+use Rattle.pardo_program.specs.Lawful.{IsExpression, bounds_of}
+use Rattle.pardo_program.specs.Program.{ProgramData}
 use Rattle.pardo_flat.specs.Layouts.{cells_of_array, program_layout}
 use Rattle.pardo_job.specs.Lawful.{IsLawfulTree}
 

@@ -2,12 +2,12 @@
 use Rattle.std.proofs.Common.{◌≡◌, ℕ, ◌==◌, nat_lt, nat_le, Bool, true, false, ap, ◌∙◌, inl, inr}
 use Rattle.std.proofs.Common.{◌&&◌, ◌||◌, not}
 use Rattle.std.specs.Prelude.{bit_and, bit_or}
-use Rattle.pardo_text.specs.declared.operation.Op.{Op}
-use Rattle.pardo_text.specs.declared.operation.Op.TheVariants.{Add, Sub, Mul, Div, Rem, Shl, Shr}
-use Rattle.pardo_text.specs.declared.operation.Op.TheVariants.{BitAnd, BitOr, BitXor, Eq, Ne}
-use Rattle.pardo_text.specs.declared.operation.Op.TheVariants.{Lt, Le, Gt, Ge, And, Or, Min, Max}
-use Rattle.pardo_text.specs.declared.operation.Op.TheVariants.{Within}
-use Rattle.pardo_text.specs.Operations.{operation_value}
+use Rattle.pardo_program.specs.declared.operation.Op.{Op}
+use Rattle.pardo_program.specs.declared.operation.Op.TheVariants.{Add, Sub, Mul, Div, Rem, Shl, Shr}
+use Rattle.pardo_program.specs.declared.operation.Op.TheVariants.{BitAnd, BitOr, BitXor, Eq, Ne}
+use Rattle.pardo_program.specs.declared.operation.Op.TheVariants.{Lt, Le, Gt, Ge, And, Or, Min, Max}
+use Rattle.pardo_program.specs.declared.operation.Op.TheVariants.{Within}
+use Rattle.pardo_program.specs.Operations.{operation_value}
 use Rattle.pardo_flat.specs.Flat.{gives_truth}
 use Rattle.pardo_job.proofs.Applying.{IsTruth, bit_truth}
 

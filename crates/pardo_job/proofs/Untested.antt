@@ -5,14 +5,14 @@ use Rattle.std.proofs.Common.{slice_get}
 use Rattle.std.specs.Option.{option_and_then, option_map}
 use Rattle.std.proofs.Math.Nat.{mod-lt}
 use Rattle.std.proofs.lemmas.Bool.{eqb-false, ltb-true, leb-true, lt-ltb}
-use Rattle.pardo_text.specs.declared.operation.Op.{Op}
-use Rattle.pardo_text.specs.declared.operation.Op.TheVariants as op
-use Rattle.pardo_text.specs.Expression.{Tree, number, own, loop, private, place, apply}
-use Rattle.pardo_text.specs.Expressions.{constant_of}
-use Rattle.pardo_text.specs.Operations.{is_division, lacks, operation_value, worked_out}
-use Rattle.pardo_text.specs.Program.{ProgramData}
-use Rattle.pardo_text.specs.Tests.{Known, is_below, is_most_below, is_rest_below, untested}
-use Rattle.pardo_text.specs.Tests.{without_tests}
+use Rattle.pardo_program.specs.declared.operation.Op.{Op}
+use Rattle.pardo_program.specs.declared.operation.Op.TheVariants as op
+use Rattle.pardo_program.specs.Expression.{Tree, number, own, loop, private, place, apply}
+use Rattle.pardo_program.specs.Folding.{constant_of}
+use Rattle.pardo_program.specs.Operations.{is_division, lacks, operation_value, worked_out}
+use Rattle.pardo_program.specs.Program.{ProgramData}
+use Rattle.pardo_program.specs.Tests.{Known, is_below, is_most_below, is_rest_below, untested}
+use Rattle.pardo_program.specs.Tests.{without_tests}
 use Rattle.pardo_job.specs.Laws.{KnownIsTrue, LeftOutTestsPass}
 use Rattle.pardo_job.specs.Meaning.{Source, array_cell, value}
 use Rattle.pardo_job.proofs.Tables.{worked_within}

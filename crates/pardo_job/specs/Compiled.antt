@@ -4,8 +4,8 @@ use Rattle.pram_job.specs.Job.{JobData, IsJob}
 use Rattle.pram_step.specs.declared.answer.Fault.{Fault}
 use Rattle.pram_machine.specs.Machine.{AllStopped}
 use Rattle.pram_step.specs.Runs.{state_after, IsReached, IsFirstConflict}
-use Rattle.pardo_text.specs.declared.statement.Line.{Line}
-use Rattle.pardo_text.specs.Program.{ProgramData}
+use Rattle.pardo_program.specs.declared.statement.Line.{Line}
+use Rattle.pardo_program.specs.Program.{ProgramData}
 use Rattle.pardo_flat.specs.Flat.{flat}
 use Rattle.pardo_job.specs.declared.ended.Ended.{Ended}
 use Rattle.pardo_job.specs.Lines.{job_of}

@@ -1,6 +1,6 @@
 -- What the reader makes of every text: what the compiler relies on.
 use Rattle.std.specs.Prelude.{◌<◌, ◌^◌, length}
-use Rattle.pardo_text.specs.Expression.{Tree, number, own, loop, private, place, apply}
+use Rattle.pardo_program.specs.Expression.{Tree, number, own, loop, private, place, apply}
 use Rattle.pardo_flat.specs.Layouts.{ProgramLayoutData}
 
 -- An expression of code names what there is.

@@ -3,14 +3,14 @@ use Rattle.std.specs.Prelude.{◌≡◌, ◌≢◌, ℕ, ◌⊎◌, ◌+◌, ◌
 use Rattle.std.specs.Prelude.{if◌then◌else◌, false, slice_get, Some, None}
 use Rattle.pram_job.specs.declared.instr.Rule.{Rule}
 use Rattle.pram_job.specs.declared.instr.Rule.TheVariants.{Priority, Crew}
-use Rattle.pardo_text.specs.declared.statement.Line.{Line}
-use Rattle.pardo_text.specs.declared.limits.TheConstants.{MAX_CELLS}
-use Rattle.pardo_text.specs.declared.operation.Op.TheVariants.{Add, Mul}
-use Rattle.pardo_text.specs.Expression.{Tree, number}
-use Rattle.pardo_text.specs.Expressions.{applied, constant_of, tested}
-use Rattle.pardo_text.specs.Lawful.{IsCommon, IsExpression, bounds_of}
-use Rattle.pardo_text.specs.Program.{ProgramData}
-use Rattle.pardo_text.specs.Tests.{Known, without_tests}
+use Rattle.pardo_program.specs.declared.statement.Line.{Line}
+use Rattle.pardo_program.specs.declared.limits.TheConstants.{MAX_CELLS}
+use Rattle.pardo_program.specs.declared.operation.Op.TheVariants.{Add, Mul}
+use Rattle.pardo_program.specs.Expression.{Tree, number}
+use Rattle.pardo_program.specs.Folding.{applied, constant_of, tested}
+use Rattle.pardo_program.specs.Lawful.{IsCommon, IsExpression, bounds_of}
+use Rattle.pardo_program.specs.Program.{ProgramData}
+use Rattle.pardo_program.specs.Tests.{Known, without_tests}
 use Rattle.pram_step.specs.declared.answer.Dispute.{Dispute}
 use Rattle.pardo_flat.specs.Layouts.{program_layout}
 use Rattle.pardo_job.specs.Conflicts.{LineAgrees, IsLineDispute, Assigns, asked}

@@ -3,7 +3,7 @@ use Rattle.std.specs.Prelude.{◌≡◌, ℕ, ◌+◌, ◌-◌, ◌*◌, ◌/◌
 use Rattle.std.specs.Prelude.{if◌then◌else◌}
 use Rattle.std.specs.Prelude.{List, [], ◌∷◌, ◌++◌, length, codes, decimal, Option, Some, None}
 use Rattle.std.specs.List.{flat_map, range_with_len}
-use Rattle.pardo_text.specs.Program.{ProgramData, ArrayData}
+use Rattle.pardo_program.specs.Program.{ProgramData, ArrayData}
 use Rattle.pram_step.specs.declared.answer.Dispute.{Dispute}
 use Rattle.pardo_job.specs.Meaning.{after}
 use Rattle.pardo_job.specs.Runs.{IsProgramEnd, IsProgramConflict, line_number}

@@ -5,8 +5,8 @@ use Rattle.pram_job.specs.declared.limits.TheConstants.{MAX_CODE}
 use Rattle.pram_job.specs.Job.{JobData}
 use Rattle.pram_machine.specs.Machine.{State, counter, IsStopped}
 use Rattle.pram_step.specs.Runs.{state_after, IsReached}
-use Rattle.pardo_text.specs.declared.statement.Line.{Line}
-use Rattle.pardo_text.specs.Program.{ProgramData}
+use Rattle.pardo_program.specs.declared.statement.Line.{Line}
+use Rattle.pardo_program.specs.Program.{ProgramData}
 use Rattle.pardo_text.specs.Reading.{program_of, IsReaderRefusal as IsTextRefusal}
 use Rattle.pardo_flat.specs.Flat.{IsTooWide, flat}
 use Rattle.pardo_job.specs.declared.fault.JobKind.{JobKind}

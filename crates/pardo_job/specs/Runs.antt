@@ -1,7 +1,7 @@
 -- The run of a program, and what it ends with.
 use Rattle.std.specs.Prelude.{◌≡◌, ℕ, ◌<◌, ◌⊎◌, IsTrue, length, is_some, slice_get}
 use Rattle.std.specs.Prelude.{Some, None}
-use Rattle.pardo_text.specs.Program.{ProgramData}
+use Rattle.pardo_program.specs.Program.{ProgramData}
 use Rattle.pardo_job.specs.Meaning.{Source, after}
 use Rattle.pram_step.specs.declared.answer.Dispute.{Dispute}
 use Rattle.pardo_job.specs.Conflicts.{LineAgrees, IsLineDispute}

@@ -3,7 +3,7 @@ ghost use Rattle.std.specs.Prelude.{◌≡◌, Ok, IfOk, IfErr, map, slice_index
 ghost use Rattle.pram_job.specs.Job.{IsJob};
 ghost use Rattle.pram_step.specs.Last.{AreLast};
 ghost use Rattle.pram_step.specs.Runs.{IsFirstConflict};
-ghost use Rattle.pardo_text.specs.Lawful.{IsProgram};
+ghost use Rattle.pardo_program.specs.Lawful.{IsProgram};
 ghost use Rattle.pardo_text.specs.Reading.{program_of};
 ghost use Rattle.pardo_flat.specs.Layouts.{program_layout, start_values};
 ghost use Rattle.pardo_job.specs.Compiled.{IsCompiled};

@@ -1,6 +1,6 @@
 //! The program that is compiled in place of one.
 ghost use Rattle.std.specs.Prelude.{◌≡◌, IfErr, IfOk};
-ghost use Rattle.pardo_text.specs.Lawful.{IsProgram};
+ghost use Rattle.pardo_program.specs.Lawful.{IsProgram};
 ghost use Rattle.pardo_flat.specs.Flat.{flat};
 ghost use Rattle.pardo_job.specs.Refusals.{IsProgramFault};
 

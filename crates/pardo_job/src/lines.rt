@@ -3,7 +3,7 @@ ghost use Rattle.std.specs.Prelude.{◌≡◌, ◌+◌, ◌<◌, ◌≤◌, ◌^
 ghost use Rattle.std.specs.Prelude.{slice_index, vec_len};
 ghost use Rattle.pram_job.specs.declared.limits.TheConstants.{MAX_CODE as MOST};
 ghost use Rattle.pram_job.specs.declared.instr.Instr.TheVariants.{Jz as JzTo, Jmp as JmpTo};
-ghost use Rattle.pardo_text.specs.Lawful.{IsLine, IsProgram, IsStatement, bounds_of};
+ghost use Rattle.pardo_program.specs.Lawful.{IsLine, IsProgram, IsStatement, bounds_of};
 ghost use Rattle.pardo_flat.specs.Layouts.{program_layout};
 ghost use Rattle.pardo_job.specs.Inner.Emitting.{PutsCode};
 ghost use Rattle.pardo_job.specs.Inner.Pieces.{PutsLine, choice_code, rest_code, under};

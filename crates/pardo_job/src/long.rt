@@ -3,7 +3,7 @@
 ghost use Rattle.std.specs.Prelude.{◌≡◌, ◌<◌, ◌≤◌, ℕ, length, true, IfErr, IfOk, IsTrue, OnOk};
 ghost use Rattle.std.specs.Prelude.{slice_index};
 ghost use Rattle.pram_job.specs.declared.limits.TheConstants.{MAX_CODE as MOST};
-ghost use Rattle.pardo_text.specs.Lawful.{IsLine, IsProgram, bounds_of};
+ghost use Rattle.pardo_program.specs.Lawful.{IsLine, IsProgram, bounds_of};
 ghost use Rattle.pardo_flat.specs.Layouts.{ProgramLayoutData};
 ghost use Rattle.pardo_job.specs.Inner.Emitting.{IsCodeFault};
 ghost use Rattle.pardo_job.specs.Inner.Nodes.{held_of};

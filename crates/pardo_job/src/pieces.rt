@@ -4,7 +4,7 @@ ghost use Rattle.std.specs.Prelude.{◌≡◌, ◌<◌, if◌then◌else◌, ◌
 ghost use Rattle.std.specs.Prelude.{IfErr, IfOk, OnOk};
 ghost use Rattle.pram_job.specs.declared.instr.Operand.TheVariants.{Register};
 ghost use Rattle.pram_job.specs.declared.instr.Instr.TheVariants.{St};
-ghost use Rattle.pardo_text.specs.declared.operation.Op.TheVariants as op;
+ghost use Rattle.pardo_program.specs.declared.operation.Op.TheVariants as op;
 ghost use Rattle.pardo_job.specs.Inner.Emitting.{IsCodeFault, PutsCode};
 ghost use Rattle.pardo_job.specs.Inner.Pieces.{IsLawfulTarget};
 ghost use Rattle.pardo_job.specs.Inner.Pieces.{bounds_code, bounds_operands};

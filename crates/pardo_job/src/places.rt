@@ -2,7 +2,7 @@
 ghost use Rattle.std.specs.Prelude.{◌≡◌, ◌≢◌, ◌<◌, ◌≤◌, [], length, IfOk, IfErr, slice_index};
 ghost use Rattle.std.specs.Prelude.{vec_len};
 ghost use Rattle.pram_job.specs.declared.limits.TheConstants.{MAX_CODE as MOST};
-ghost use Rattle.pardo_text.specs.Lawful.{IsLine, IsProgram, bounds_of};
+ghost use Rattle.pardo_program.specs.Lawful.{IsLine, IsProgram, bounds_of};
 ghost use Rattle.pardo_job.specs.Inner.Listings.{AreAllPlaces, IsFaultAt, IsPlaceAfter};
 ghost use Rattle.pardo_job.specs.Inner.Pieces.{PutsLine};
 ghost use Rattle.pardo_job.specs.Lines.{code_of, line_code};

@@ -11,12 +11,12 @@ use Rattle.pram_job.specs.declared.instr.Instr.TheVariants.{St, Eq, Lt}
 use Rattle.pram_job.specs.declared.instr.Operand.TheVariants.{Register, Number}
 use Rattle.pram_job.specs.declared.instr.Place.TheVariants.{Named}
 use Rattle.pram_job.specs.Job.{JobData}
-use Rattle.pardo_text.specs.declared.statement.Statement.TheVariants.{Assign}
-use Rattle.pardo_text.specs.declared.statement.Target.TheVariants.{Array as Shared}
-use Rattle.pardo_text.specs.Expression.{Tree}
-use Rattle.pardo_text.specs.Lawful.{IsExpression, bounds_of}
-use Rattle.pardo_text.specs.Operations.{bit}
-use Rattle.pardo_text.specs.Program.{ProgramData}
+use Rattle.pardo_program.specs.declared.statement.Statement.TheVariants.{Assign}
+use Rattle.pardo_program.specs.declared.statement.Target.TheVariants.{Array as Shared}
+use Rattle.pardo_program.specs.Expression.{Tree}
+use Rattle.pardo_program.specs.Lawful.{IsExpression, bounds_of}
+use Rattle.pardo_program.specs.Operations.{bit}
+use Rattle.pardo_program.specs.Program.{ProgramData}
 use Rattle.pardo_flat.specs.Layouts.{program_layout, private_cells}
 use Rattle.pardo_flat.specs.Layouts.{mask_cells}
 use Rattle.pardo_flat.specs.Layouts.{array_cells}

@@ -6,9 +6,9 @@ use Rattle.std.specs.Option.{is_none, option_or}
 use Rattle.std.proofs.lemmas.Option.{none-some}
 use Rattle.pram_job.specs.declared.instr.Instr.TheVariants.{Jz, Jmp}
 use Rattle.pram_job.specs.Job.{JobData}
-use Rattle.pardo_text.specs.Expression.{Tree}
-use Rattle.pardo_text.specs.Lawful.{IsCommonTree, bounds_of}
-use Rattle.pardo_text.specs.Program.{ProgramData}
+use Rattle.pardo_program.specs.Expression.{Tree}
+use Rattle.pardo_program.specs.Lawful.{IsCommonTree, bounds_of}
+use Rattle.pardo_program.specs.Program.{ProgramData}
 use Rattle.pardo_flat.specs.Layouts.{program_layout, loop_cells}
 use Rattle.pardo_job.specs.Lines.{own_store, place_of}
 use Rattle.pardo_job.specs.Lines.{next_value, while_code, none_code, first_code}

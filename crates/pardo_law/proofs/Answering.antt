@@ -11,7 +11,7 @@ use Rattle.pram_step.specs.declared.answer.RunAnswer.TheVariants.{Final, Conflic
 use Rattle.pram_machine.specs.Machine.{State}
 use Rattle.pram_step.specs.Runs.{state_after, IsAnswer}
 use Rattle.pram_step.proofs.LawAnswer.{one_answer}
-use Rattle.pardo_text.specs.Program.{ProgramData}
+use Rattle.pardo_program.specs.Program.{ProgramData}
 use Rattle.pardo_flat.specs.Flat.{flat}
 use Rattle.pardo_flat.specs.Layouts.{program_layout}
 use Rattle.pardo_job.specs.Carries.{Carries, EndsAs}

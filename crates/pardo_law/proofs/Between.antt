@@ -16,8 +16,8 @@ use Rattle.pram_step.specs.Runs.{state_after, AgreesAfter}
 use Rattle.pram_step.specs.Runs as machine
 use Rattle.pram_step.proofs.LawCounters.{stopped_processor}
 use Rattle.pram_step.proofs.LawStopped.{stopped_request}
-use Rattle.pardo_text.specs.declared.statement.Line.{Line}
-use Rattle.pardo_text.specs.Program.{ProgramData}
+use Rattle.pardo_program.specs.declared.statement.Line.{Line}
+use Rattle.pardo_program.specs.Program.{ProgramData}
 use Rattle.pardo_flat.specs.Layouts.{program_layout}
 use Rattle.pardo_job.specs.Carries.{ComesFrom}
 use Rattle.pardo_job.specs.Compiled.{AreLineNumbers, IsWhole}

@@ -13,11 +13,12 @@ use Rattle.pram_job.specs.Job.{JobData}
 use Rattle.pram_machine.specs.Machine.{counter, out_of_range}
 use Rattle.pram_machine.specs.Instructions.{request_in}
 use Rattle.pram_step.specs.Runs.{state_after}
-use Rattle.pardo_text.specs.declared.statement.Statement.{Statement}
-use Rattle.pardo_text.specs.declared.statement.Statement.TheVariants.{Assign, If, Else, EndIf, For}
-use Rattle.pardo_text.specs.declared.statement.Statement.TheVariants.{While, EndWhile, EndFor}
-use Rattle.pardo_text.specs.declared.statement.Target.TheVariants.{Private, Array as Shared}
-use Rattle.pardo_text.specs.Program.{ProgramData}
+use Rattle.pardo_program.specs.declared.statement.Statement.{Statement}
+use Rattle.pardo_program.specs.declared.statement.Statement.TheVariants.{Assign, If, Else, EndIf}
+use Rattle.pardo_program.specs.declared.statement.Statement.TheVariants.{For}
+use Rattle.pardo_program.specs.declared.statement.Statement.TheVariants.{While, EndWhile, EndFor}
+use Rattle.pardo_program.specs.declared.statement.Target.TheVariants.{Private, Array as Shared}
+use Rattle.pardo_program.specs.Program.{ProgramData}
 use Rattle.pardo_flat.specs.Layouts.{ProgramLayoutData, program_layout}
 use Rattle.pardo_flat.specs.Layouts.{mask_cells}
 use Rattle.pardo_flat.specs.Statements.{statement_at}

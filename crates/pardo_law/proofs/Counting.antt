@@ -12,13 +12,14 @@ use Rattle.pram_machine.specs.Machine.{IsStopped, counter, out_of_range}
 use Rattle.pram_step.specs.Runs.{state_after}
 use Rattle.pram_step.proofs.LawCounters.{stopped_processor}
 use Rattle.pram_cost.specs.Profiles.{standing_at_index}
-use Rattle.pardo_text.specs.declared.statement.Line.{Line}
-use Rattle.pardo_text.specs.declared.statement.Statement.{Statement}
-use Rattle.pardo_text.specs.declared.statement.Statement.TheVariants.{Assign, If, Else, EndIf}
-use Rattle.pardo_text.specs.declared.statement.Statement.TheVariants.{While, EndWhile, For, EndFor}
-use Rattle.pardo_text.specs.declared.statement.Target.TheVariants.{Private, Array as Shared}
-use Rattle.pardo_text.specs.Operations.{bit}
-use Rattle.pardo_text.specs.Program.{ProgramData}
+use Rattle.pardo_program.specs.declared.statement.Line.{Line}
+use Rattle.pardo_program.specs.declared.statement.Statement.{Statement}
+use Rattle.pardo_program.specs.declared.statement.Statement.TheVariants.{Assign, If, Else, EndIf}
+use Rattle.pardo_program.specs.declared.statement.Statement.TheVariants.{While, EndWhile, For}
+use Rattle.pardo_program.specs.declared.statement.Statement.TheVariants.{EndFor}
+use Rattle.pardo_program.specs.declared.statement.Target.TheVariants.{Private, Array as Shared}
+use Rattle.pardo_program.specs.Operations.{bit}
+use Rattle.pardo_program.specs.Program.{ProgramData}
 use Rattle.pardo_flat.specs.Layouts.{mask_cells, program_layout}
 use Rattle.pardo_job.specs.Lines.{assignment_code, choosing, condition_code, line_code, masked}
 use Rattle.pardo_job.specs.Lines.{idle, own_store, place_of}

@@ -6,7 +6,7 @@ use Rattle.std.proofs.lemmas.Bool.{cases_lt}
 use Rattle.pram_job.specs.Job.{JobData}
 use Rattle.pram_machine.specs.Machine.{State, counter, halted}
 use Rattle.pram_step.specs.Runs.{state_after}
-use Rattle.pardo_text.specs.Program.{ProgramData}
+use Rattle.pardo_program.specs.Program.{ProgramData}
 use Rattle.pardo_job.specs.Carries.{EndsAs}
 use Rattle.pardo_job.specs.Compiled.{AreLineNumbers, IsWhole}
 use Rattle.pardo_job.specs.Leaving.{Leaves, GoneIn}

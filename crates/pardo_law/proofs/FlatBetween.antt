@@ -10,9 +10,9 @@ use Rattle.pram_job.specs.Job.{JobData}
 use Rattle.pram_machine.specs.Machine.{State, counter, halted, out_of_range}
 use Rattle.pram_step.specs.Runs.{state_after}
 use Rattle.pram_step.specs.Runs as machine
-use Rattle.pardo_text.specs.declared.statement.Line.{Line}
-use Rattle.pardo_text.specs.Lawful.{IsProgram}
-use Rattle.pardo_text.specs.Program.{ProgramData}
+use Rattle.pardo_program.specs.declared.statement.Line.{Line}
+use Rattle.pardo_program.specs.Lawful.{IsProgram}
+use Rattle.pardo_program.specs.Program.{ProgramData}
 use Rattle.pardo_flat.specs.Layouts.{private_cells, program_layout}
 use Rattle.pardo_flat.specs.Flat.{flat, most_pieces, nameless, pieces_of}
 use Rattle.pardo_flat.proofs.FlatLines.{none_stands}

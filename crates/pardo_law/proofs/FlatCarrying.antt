@@ -11,14 +11,15 @@ use Rattle.pram_job.specs.declared.instr.Rule.{Rule}
 use Rattle.pram_job.specs.Job.{JobData}
 use Rattle.pram_step.specs.declared.answer.Dispute.{Dispute}
 use Rattle.pram_step.specs.Disputes.{Clash, IsLeastClash}
-use Rattle.pardo_text.specs.declared.statement.Line.{Line}
-use Rattle.pardo_text.specs.declared.statement.Statement.{Statement}
-use Rattle.pardo_text.specs.declared.statement.Statement.TheVariants.{Assign, If, Else, EndIf}
-use Rattle.pardo_text.specs.declared.statement.Statement.TheVariants.{While, EndWhile, For, EndFor}
-use Rattle.pardo_text.specs.declared.statement.Target.TheVariants.{Private, Array as Shared}
-use Rattle.pardo_text.specs.Lawful.{IsLine, IsProgram, IsStatement, bounds_of}
-use Rattle.pardo_text.specs.Nested.{IsNested}
-use Rattle.pardo_text.specs.Program.{ProgramData, shared_cells}
+use Rattle.pardo_program.specs.declared.statement.Line.{Line}
+use Rattle.pardo_program.specs.declared.statement.Statement.{Statement}
+use Rattle.pardo_program.specs.declared.statement.Statement.TheVariants.{Assign, If, Else, EndIf}
+use Rattle.pardo_program.specs.declared.statement.Statement.TheVariants.{While, EndWhile, For}
+use Rattle.pardo_program.specs.declared.statement.Statement.TheVariants.{EndFor}
+use Rattle.pardo_program.specs.declared.statement.Target.TheVariants.{Private, Array as Shared}
+use Rattle.pardo_program.specs.Lawful.{IsLine, IsProgram, IsStatement, bounds_of}
+use Rattle.pardo_program.specs.Nested.{IsNested}
+use Rattle.pardo_program.specs.Program.{ProgramData, shared_cells}
 use Rattle.pardo_flat.specs.Layouts.{cell_count, program_layout}
 use Rattle.pardo_flat.specs.Statements.{statement_at}
 use Rattle.pardo_flat.specs.Flat.{first_flat_of, flat, is_common, last_line, pieces_of}

@@ -6,13 +6,14 @@ use Rattle.std.specs.Prelude.{slice_get}
 use Rattle.std.specs.List.{flat_map}
 use Rattle.std.proofs.lemmas.Bool.{cases_lt}
 use Rattle.std.proofs.lemmas.Option.{none-some, same_Some, slice_get_within}
-use Rattle.pardo_text.specs.declared.statement.Line.{Line}
-use Rattle.pardo_text.specs.declared.statement.Statement.{Statement}
-use Rattle.pardo_text.specs.declared.statement.Statement.TheVariants.{Assign, If, Else, EndIf}
-use Rattle.pardo_text.specs.declared.statement.Statement.TheVariants.{While, EndWhile, For, EndFor}
-use Rattle.pardo_text.specs.declared.statement.Target.TheVariants.{Private, Array as Shared}
-use Rattle.pardo_text.specs.Expression.{Tree}
-use Rattle.pardo_text.specs.Program.{ProgramData}
+use Rattle.pardo_program.specs.declared.statement.Line.{Line}
+use Rattle.pardo_program.specs.declared.statement.Statement.{Statement}
+use Rattle.pardo_program.specs.declared.statement.Statement.TheVariants.{Assign, If, Else, EndIf}
+use Rattle.pardo_program.specs.declared.statement.Statement.TheVariants.{While, EndWhile, For}
+use Rattle.pardo_program.specs.declared.statement.Statement.TheVariants.{EndFor}
+use Rattle.pardo_program.specs.declared.statement.Target.TheVariants.{Private, Array as Shared}
+use Rattle.pardo_program.specs.Expression.{Tree}
+use Rattle.pardo_program.specs.Program.{ProgramData}
 use Rattle.pardo_flat.specs.Statements.{statement_at}
 use Rattle.pardo_flat.specs.Flat.{base_of, fits, flat, giving, is_common, last_line, last_of}
 use Rattle.pardo_flat.specs.Flat.{lines_for, moved_statement, pieces_of, split_statement}

@@ -7,15 +7,17 @@ use Rattle.std.specs.Option.{option_map, option_and_then, option_or, is_none}
 use Rattle.std.proofs.Math.Bool.{and-false}
 use Rattle.std.proofs.lemmas.Bool.{cases_Bool}
 use mathlib.Core.Path.{fun_ext}
-use Rattle.pardo_text.specs.declared.statement.Line.{Line}
-use Rattle.pardo_text.specs.declared.statement.Statement.{Statement}
-use Rattle.pardo_text.specs.declared.statement.Statement.TheVariants.{Assign, If, Else, EndIf}
-use Rattle.pardo_text.specs.declared.statement.Statement.TheVariants.{While, EndWhile, For, EndFor}
-use Rattle.pardo_text.specs.declared.statement.Target.TheVariants.{Private, Array as Shared}
-use Rattle.pardo_text.specs.Expression.{Tree, number, own, loop, private, place, apply}
-use Rattle.pardo_text.specs.Lawful.{Bounds, IsExpression, IsLine, IsProgram, IsStatement, bounds_of}
-use Rattle.pardo_text.specs.Operations.{worked_out}
-use Rattle.pardo_text.specs.Program.{ProgramData}
+use Rattle.pardo_program.specs.declared.statement.Line.{Line}
+use Rattle.pardo_program.specs.declared.statement.Statement.{Statement}
+use Rattle.pardo_program.specs.declared.statement.Statement.TheVariants.{Assign, If, Else, EndIf}
+use Rattle.pardo_program.specs.declared.statement.Statement.TheVariants.{While, EndWhile, For}
+use Rattle.pardo_program.specs.declared.statement.Statement.TheVariants.{EndFor}
+use Rattle.pardo_program.specs.declared.statement.Target.TheVariants.{Private, Array as Shared}
+use Rattle.pardo_program.specs.Expression.{Tree, number, own, loop, private, place, apply}
+use Rattle.pardo_program.specs.Lawful.{Bounds, IsExpression, IsLine, IsProgram, IsStatement}
+use Rattle.pardo_program.specs.Lawful.{bounds_of}
+use Rattle.pardo_program.specs.Operations.{worked_out}
+use Rattle.pardo_program.specs.Program.{ProgramData}
 use Rattle.pardo_flat.specs.Statements.{statement_at}
 use Rattle.pardo_flat.specs.Flat.{first_flat_of, fits, flat, has_room, is_common}
 use Rattle.pardo_flat.specs.Flat.{last_line, last_of, last_pieces, line_parts, moved_statement}

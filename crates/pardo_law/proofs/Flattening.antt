@@ -8,15 +8,17 @@ use Rattle.std.proofs.Math.Seq.{take-length}
 use Rattle.std.proofs.lemmas.Bool.{cases_Bool, le-ltb}
 use Rattle.std.proofs.lemmas.List.{length-take-le}
 use mathlib.Core.Path.{fun_ext}
-use Rattle.pardo_text.specs.declared.statement.Line.{Line}
-use Rattle.pardo_text.specs.declared.statement.Statement.{Statement}
-use Rattle.pardo_text.specs.declared.statement.Statement.TheVariants.{Assign, If, Else, EndIf}
-use Rattle.pardo_text.specs.declared.statement.Statement.TheVariants.{While, EndWhile, For, EndFor}
-use Rattle.pardo_text.specs.declared.statement.Target.TheVariants.{Private, Array as Shared}
-use Rattle.pardo_text.specs.Expression.{Tree, number as numeral, own, loop, private, place as at_place, apply}
-use Rattle.pardo_text.specs.Lawful.{Bounds, IsExpression, IsLine, IsProgram, IsStatement}
-use Rattle.pardo_text.specs.Lawful.{bounds_of}
-use Rattle.pardo_text.specs.Program.{PrivateData, ProgramData}
+use Rattle.pardo_program.specs.declared.statement.Line.{Line}
+use Rattle.pardo_program.specs.declared.statement.Statement.{Statement}
+use Rattle.pardo_program.specs.declared.statement.Statement.TheVariants.{Assign, If, Else, EndIf}
+use Rattle.pardo_program.specs.declared.statement.Statement.TheVariants.{While, EndWhile, For}
+use Rattle.pardo_program.specs.declared.statement.Statement.TheVariants.{EndFor}
+use Rattle.pardo_program.specs.declared.statement.Target.TheVariants.{Private, Array as Shared}
+use Rattle.pardo_program.specs.Expression.{Tree, number as numeral, own, loop, private}
+use Rattle.pardo_program.specs.Expression.{place as at_place, apply}
+use Rattle.pardo_program.specs.Lawful.{Bounds, IsExpression, IsLine, IsProgram, IsStatement}
+use Rattle.pardo_program.specs.Lawful.{bounds_of}
+use Rattle.pardo_program.specs.Program.{PrivateData, ProgramData}
 use Rattle.pardo_flat.specs.Statements.{statement_at}
 use Rattle.pardo_flat.specs.Flat.{base_of, first_flat_of, fits, flat, giving, hidden, is_common}
 use Rattle.pardo_flat.specs.Flat.{last_line, last_of, last_pieces, line_parts, most_pieces}

@@ -4,10 +4,10 @@ use Rattle.std.proofs.Common.{◌++◌, Option, Some, None, refl, sym, ap, ◌�
 use Rattle.std.proofs.Common.{arith, if◌then◌else◌, length, length-append}
 use Rattle.std.specs.Option.{option_map, option_and_then}
 use Rattle.std.proofs.lemmas.Bool.{eq-eqb, ne_eqb}
-use Rattle.pardo_text.specs.declared.operation.Op.{Op}
-use Rattle.pardo_text.specs.Expression.{Tree, number, own, loop, private, place, apply}
-use Rattle.pardo_text.specs.Operations.{worked_out}
-use Rattle.pardo_text.specs.Program.{ProgramData}
+use Rattle.pardo_program.specs.declared.operation.Op.{Op}
+use Rattle.pardo_program.specs.Expression.{Tree, number, own, loop, private, place, apply}
+use Rattle.pardo_program.specs.Operations.{worked_out}
+use Rattle.pardo_program.specs.Program.{ProgramData}
 use Rattle.pardo_flat.specs.Flat.{beside, has_room, is_beside, shape_of, split, split_bounds}
 use Rattle.pardo_flat.specs.Flat.{split_last}
 use Rattle.pardo_job.specs.Meaning.{Source, abandoned, array_cell, by_common, common_value, on_to}

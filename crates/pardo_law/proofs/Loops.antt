@@ -9,10 +9,10 @@ use Rattle.pram_job.specs.declared.instr.Instr.{Instr}
 use Rattle.pram_job.specs.declared.instr.Instr.TheVariants.{St, Jz, Jmp}
 use Rattle.pram_job.specs.declared.instr.Operand.TheVariants.{Register}
 use Rattle.pram_job.specs.Job.{JobData}
-use Rattle.pardo_text.specs.Expression.{Tree}
-use Rattle.pardo_text.specs.Lawful.{IsCommonTree, IsProgram, bounds_of}
-use Rattle.pardo_text.specs.Operations.{bit, operation_value}
-use Rattle.pardo_text.specs.Program.{ProgramData}
+use Rattle.pardo_program.specs.Expression.{Tree}
+use Rattle.pardo_program.specs.Lawful.{IsCommonTree, IsProgram, bounds_of}
+use Rattle.pardo_program.specs.Operations.{bit, operation_value}
+use Rattle.pardo_program.specs.Program.{ProgramData}
 use Rattle.pardo_flat.specs.Layouts.{program_layout, loop_cells}
 use Rattle.pardo_job.specs.Lines.{while_code, none_code, first_code, turn_code, next_value}
 use Rattle.pardo_job.specs.Lines.{own_store, place_of}

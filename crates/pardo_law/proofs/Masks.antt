@@ -12,10 +12,10 @@ use Rattle.pram_job.specs.declared.instr.Instr.{Instr}
 use Rattle.pram_job.specs.declared.instr.Instr.TheVariants.{Jmp, Eq, Lt}
 use Rattle.pram_job.specs.declared.instr.Operand.TheVariants.{Register, Number}
 use Rattle.pram_job.specs.Job.{JobData}
-use Rattle.pardo_text.specs.Expression.{Tree}
-use Rattle.pardo_text.specs.Lawful.{IsExpression, IsProgram, bounds_of}
-use Rattle.pardo_text.specs.Operations.{bit}
-use Rattle.pardo_text.specs.Program.{ProgramData}
+use Rattle.pardo_program.specs.Expression.{Tree}
+use Rattle.pardo_program.specs.Lawful.{IsExpression, IsProgram, bounds_of}
+use Rattle.pardo_program.specs.Operations.{bit}
+use Rattle.pardo_program.specs.Program.{ProgramData}
 use Rattle.pardo_flat.specs.Layouts.{ProgramLayoutData, program_layout, mask_cells}
 use Rattle.pardo_job.specs.Lines.{idle, masked, choosing, others, own_store, place_of}
 use Rattle.pardo_job.specs.Lines.{condition_code}

@@ -13,8 +13,8 @@ use Rattle.pram_job.specs.declared.instr.Rule.{Rule}
 use Rattle.pram_job.specs.declared.instr.Rule.TheVariants.{Common, Priority, Crew}
 use Rattle.pram_job.specs.Job.{JobData}
 use Rattle.pram_step.specs.Disputes.{Forbids}
-use Rattle.pardo_text.specs.Lawful.{AreArrays}
-use Rattle.pardo_text.specs.Program.{ProgramData, ArrayData, shared_cells}
+use Rattle.pardo_program.specs.Lawful.{AreArrays}
+use Rattle.pardo_program.specs.Program.{ProgramData, ArrayData, shared_cells}
 use Rattle.pardo_flat.specs.Layouts.{ProgramLayoutData, row, cells_of_array, program_layout}
 use Rattle.pardo_flat.specs.Layouts.{array_cells}
 use Rattle.pardo_flat.proofs.Sharing.{shared_more}

@@ -11,8 +11,8 @@ use Rattle.pram_machine.specs.Machine.{State, register, counter, halted, out_of_
 use Rattle.pram_step.specs.Runs.{state_after, IsStateAfter, IsFirstConflict, AgreesAfter}
 use Rattle.pram_step.specs.Runs as machine
 use Rattle.pram_step.proofs.LawStopped.{stopped_stays, stopped_later}
-use Rattle.pardo_text.specs.Operations.{bit}
-use Rattle.pardo_text.specs.Program.{ProgramData}
+use Rattle.pardo_program.specs.Operations.{bit}
+use Rattle.pardo_program.specs.Program.{ProgramData}
 use Rattle.pardo_flat.specs.Layouts.{program_layout, mask_cells, private_cells}
 use Rattle.pardo_job.specs.Compiled.{Stops, IsWhole}
 use Rattle.pardo_job.specs.Lines.{place_of}

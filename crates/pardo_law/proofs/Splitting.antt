@@ -8,12 +8,12 @@ use Rattle.std.specs.Option.{option_map, option_and_then, is_none}
 use Rattle.std.proofs.Math.Bool.{and-false}
 use Rattle.std.proofs.lemmas.Bool.{eq-eqb, ne_eqb}
 use mathlib.Core.Path.{fun_ext}
-use Rattle.pardo_text.specs.declared.statement.Statement.TheVariants.{Assign}
-use Rattle.pardo_text.specs.declared.statement.Target.TheVariants.{Private}
-use Rattle.pardo_text.specs.declared.operation.Op.{Op}
-use Rattle.pardo_text.specs.Expression.{Tree, number, own, loop, private, place, apply}
-use Rattle.pardo_text.specs.Operations.{worked_out}
-use Rattle.pardo_text.specs.Program.{ProgramData}
+use Rattle.pardo_program.specs.declared.statement.Statement.TheVariants.{Assign}
+use Rattle.pardo_program.specs.declared.statement.Target.TheVariants.{Private}
+use Rattle.pardo_program.specs.declared.operation.Op.{Op}
+use Rattle.pardo_program.specs.Expression.{Tree, number, own, loop, private, place, apply}
+use Rattle.pardo_program.specs.Operations.{worked_out}
+use Rattle.pardo_program.specs.Program.{ProgramData}
 use Rattle.pardo_flat.specs.Flat.{beside, is_beside, shape_of, split}
 use Rattle.pardo_job.specs.Meaning.{Source, value, array_cell, is_active, after_statement}
 

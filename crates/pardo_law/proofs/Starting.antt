@@ -15,9 +15,9 @@ use Rattle.pram_job.specs.declared.instr.Instr.TheVariants.{Pid}
 use Rattle.pram_job.specs.Job.{JobData}
 use Rattle.pram_machine.specs.Machine.{start, register}
 use Rattle.pram_step.specs.Runs.{state_after}
-use Rattle.pardo_text.specs.Lawful.{IsPrivate}
-use Rattle.pardo_text.specs.Operations.{bit}
-use Rattle.pardo_text.specs.Program.{ProgramData, ArrayData, PrivateData}
+use Rattle.pardo_program.specs.Lawful.{IsPrivate}
+use Rattle.pardo_program.specs.Operations.{bit}
+use Rattle.pardo_program.specs.Program.{ProgramData, ArrayData, PrivateData}
 use Rattle.pardo_flat.specs.Layouts.{program_layout, given_values, start_values, cell_count}
 use Rattle.pardo_job.specs.Lines.{place_of}
 use Rattle.pardo_job.specs.Meaning as meaning

@@ -11,11 +11,11 @@ use Rattle.pram_machine.specs.Machine.{AllStopped, counter, halted}
 use Rattle.pram_step.specs.declared.answer.Dispute.{Dispute}
 use Rattle.pram_step.specs.Runs.{IsReached, state_after}
 use Rattle.pram_cost.specs.Profiles.{executed_at, most_at, standing_at_index, steps_at}
-use Rattle.pardo_text.specs.declared.statement.Line.{Line}
-use Rattle.pardo_text.specs.Lawful.{IsProgram}
-use Rattle.pardo_text.specs.Nested.{IsNested}
-use Rattle.pardo_text.specs.Operations.{bit}
-use Rattle.pardo_text.specs.Program.{ProgramData}
+use Rattle.pardo_program.specs.declared.statement.Line.{Line}
+use Rattle.pardo_program.specs.Lawful.{IsProgram}
+use Rattle.pardo_program.specs.Nested.{IsNested}
+use Rattle.pardo_program.specs.Operations.{bit}
+use Rattle.pardo_program.specs.Program.{ProgramData}
 use Rattle.pardo_job.specs.Compiled.{IsCompiled}
 use Rattle.pardo_job.specs.Lines.{length_of_line, place_of}
 use Rattle.pardo_job.specs.Meaning.{after}

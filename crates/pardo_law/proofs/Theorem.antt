@@ -3,11 +3,11 @@ use Rattle.std.proofs.Common.{◌≡◌, ℕ, suc, ◌+◌, Some, refl, sym, ap,
 use Rattle.std.specs.Prelude.{slice_get}
 use Rattle.pram_job.specs.Job.{JobData}
 use Rattle.pram_step.specs.Runs.{IsFault}
-use Rattle.pardo_text.specs.declared.statement.Line.{Line}
-use Rattle.pardo_text.specs.Lawful.{IsProgram}
-use Rattle.pardo_text.specs.Nested.{IsNested}
-use Rattle.pardo_text.specs.Program.{ProgramData}
-use Rattle.pardo_text.proofs.LawFors.{turns_tied}
+use Rattle.pardo_program.specs.declared.statement.Line.{Line}
+use Rattle.pardo_program.specs.Lawful.{IsProgram}
+use Rattle.pardo_program.specs.Nested.{IsNested}
+use Rattle.pardo_program.specs.Program.{ProgramData}
+use Rattle.pardo_program.proofs.LawFors.{turns_tied}
 use Rattle.pardo_job.specs.Carries.{Carries, ComesFrom}
 use Rattle.pardo_job.specs.Compiled.{AreLineNumbers, IsCompiled, IsWhole}
 use Rattle.pardo_job.specs.Conflicts.{IsLineDispute}

@@ -5,16 +5,17 @@ use Rattle.std.proofs.Common.{refl, sym, ap, ◌∙◌, subst, arith, length, le
 use Rattle.std.specs.Prelude.{drop, slice_get}
 use Rattle.std.proofs.Math.Seq.{take-append_seam}
 use Rattle.std.proofs.lemmas.Option.{none-some, same_Some}
-use Rattle.pardo_text.specs.declared.statement.Line.{Line}
-use Rattle.pardo_text.specs.declared.statement.Statement.{Statement}
-use Rattle.pardo_text.specs.declared.statement.Statement.TheVariants.{Assign, If, Else, EndIf}
-use Rattle.pardo_text.specs.declared.statement.Statement.TheVariants.{While, EndWhile, For, EndFor}
-use Rattle.pardo_text.specs.Blocks.{is_choice}
-use Rattle.pardo_text.specs.Expression.{Tree, own}
-use Rattle.pardo_text.specs.Nested.{Belongs, IsNested, LinesLead, around, loops_of, opened_by}
-use Rattle.pardo_text.specs.Program.{ProgramData}
-use Rattle.pardo_text.specs.Tests.{Known, known_after, known_of, lines_untested, loop_most}
-use Rattle.pardo_text.specs.Tests.{statement_untested}
+use Rattle.pardo_program.specs.declared.statement.Line.{Line}
+use Rattle.pardo_program.specs.declared.statement.Statement.{Statement}
+use Rattle.pardo_program.specs.declared.statement.Statement.TheVariants.{Assign, If, Else, EndIf}
+use Rattle.pardo_program.specs.declared.statement.Statement.TheVariants.{While, EndWhile, For}
+use Rattle.pardo_program.specs.declared.statement.Statement.TheVariants.{EndFor}
+use Rattle.pardo_program.specs.Blocks.{is_choice}
+use Rattle.pardo_program.specs.Expression.{Tree, own}
+use Rattle.pardo_program.specs.Nested.{Belongs, IsNested, LinesLead, around, loops_of, opened_by}
+use Rattle.pardo_program.specs.Program.{ProgramData}
+use Rattle.pardo_program.specs.Tests.{Known, known_after, known_of, lines_untested, loop_most}
+use Rattle.pardo_program.specs.Tests.{statement_untested}
 use Rattle.pardo_flat.specs.Statements.{statement_at}
 
 -- ---- what is known before the line at a place

@@ -5,19 +5,20 @@ use Rattle.std.proofs.Common.{◌∙◌, subst, ⊎_elim, arith, if◌then◌els
 use Rattle.std.specs.Prelude.{drop, slice_get}
 use Rattle.std.proofs.lemmas.Bool.{cases_lt, eq-eqb, eqb-false, ltb-false, ne_eqb}
 use Rattle.std.proofs.lemmas.Option.{none-some, same_Some, slice_get_within}
-use Rattle.pardo_text.specs.declared.statement.Line.{Line}
-use Rattle.pardo_text.specs.declared.statement.Statement.{Statement}
-use Rattle.pardo_text.specs.declared.statement.Statement.TheVariants.{Assign, If, Else, EndIf}
-use Rattle.pardo_text.specs.declared.statement.Statement.TheVariants.{While, EndWhile, For, EndFor}
-use Rattle.pardo_text.specs.declared.statement.Target.TheVariants.{Private, Array as Shared}
-use Rattle.pardo_text.specs.Expression.{Tree, number, own, loop, private, place, apply}
-use Rattle.pardo_text.specs.Expressions.{constant_of}
-use Rattle.pardo_text.specs.Lawful.{IsLine, IsProgram, IsStatement, bounds_of}
-use Rattle.pardo_text.specs.Nested.{Belongs, IsNested, loop_begin, loop_end_told, said_by}
-use Rattle.pardo_text.specs.Operations.{operation_value}
-use Rattle.pardo_text.specs.Program.{ProgramData}
-use Rattle.pardo_text.specs.Tests.{Known, known_of, loop_most, without_tests}
-use Rattle.pardo_text.specs.Values.{greatest_value}
+use Rattle.pardo_program.specs.declared.statement.Line.{Line}
+use Rattle.pardo_program.specs.declared.statement.Statement.{Statement}
+use Rattle.pardo_program.specs.declared.statement.Statement.TheVariants.{Assign, If, Else, EndIf}
+use Rattle.pardo_program.specs.declared.statement.Statement.TheVariants.{While, EndWhile, For}
+use Rattle.pardo_program.specs.declared.statement.Statement.TheVariants.{EndFor}
+use Rattle.pardo_program.specs.declared.statement.Target.TheVariants.{Private, Array as Shared}
+use Rattle.pardo_program.specs.Expression.{Tree, number, own, loop, private, place, apply}
+use Rattle.pardo_program.specs.Folding.{constant_of}
+use Rattle.pardo_program.specs.Lawful.{IsLine, IsProgram, IsStatement, bounds_of}
+use Rattle.pardo_program.specs.Nested.{Belongs, IsNested, loop_begin, loop_end_told, said_by}
+use Rattle.pardo_program.specs.Operations.{operation_value}
+use Rattle.pardo_program.specs.Program.{ProgramData}
+use Rattle.pardo_program.specs.Tests.{Known, known_of, loop_most, without_tests}
+use Rattle.pardo_program.specs.Operations.{greatest_value}
 use Rattle.pardo_flat.specs.Statements.{statement_at}
 use Rattle.pardo_flat.proofs.FlatLines.{all_at, get_back, get_front}
 use Rattle.pardo_job.specs.Meaning.{Source, abandoned, after, after_statement, by_common}

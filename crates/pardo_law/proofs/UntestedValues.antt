@@ -9,20 +9,21 @@ use Rattle.std.proofs.lemmas.Bool.{cases_lt, eqb-true}
 use Rattle.std.proofs.lemmas.List.{get_or_past}
 use Rattle.std.proofs.lemmas.List.Elements.{All-append, All-nil}
 use Rattle.std.proofs.lemmas.Option.{none-some, same_Some, slice_get-map}
-use Rattle.pardo_text.specs.declared.operation.Op.{Op}
-use Rattle.pardo_text.specs.declared.operation.Op.TheVariants.{Add, Sub}
-use Rattle.pardo_text.specs.declared.statement.Line.{Line}
-use Rattle.pardo_text.specs.declared.statement.Statement.{Statement}
-use Rattle.pardo_text.specs.declared.statement.Statement.TheVariants.{Assign, If, Else, EndIf}
-use Rattle.pardo_text.specs.declared.statement.Statement.TheVariants.{While, EndWhile, For, EndFor}
-use Rattle.pardo_text.specs.declared.statement.Target.TheVariants.{Private, Array as Shared}
-use Rattle.pardo_text.specs.Expression.{Tree, number, own, loop, private, place, apply}
-use Rattle.pardo_text.specs.Lawful.{AreArrays, IsExpression, IsPrivate, IsProgram, IsStatement}
-use Rattle.pardo_text.specs.Lawful.{bounds_of}
-use Rattle.pardo_text.specs.Operations.{lacks, operation_value, worked_out}
-use Rattle.pardo_text.specs.Program.{ArrayData, PrivateData, ProgramData}
-use Rattle.pardo_text.specs.Tests.{greatest_start, known_of, widened, widened_by}
-use Rattle.pardo_text.specs.Values.{greatest_value}
+use Rattle.pardo_program.specs.declared.operation.Op.{Op}
+use Rattle.pardo_program.specs.declared.operation.Op.TheVariants.{Add, Sub}
+use Rattle.pardo_program.specs.declared.statement.Line.{Line}
+use Rattle.pardo_program.specs.declared.statement.Statement.{Statement}
+use Rattle.pardo_program.specs.declared.statement.Statement.TheVariants.{Assign, If, Else, EndIf}
+use Rattle.pardo_program.specs.declared.statement.Statement.TheVariants.{While, EndWhile, For}
+use Rattle.pardo_program.specs.declared.statement.Statement.TheVariants.{EndFor}
+use Rattle.pardo_program.specs.declared.statement.Target.TheVariants.{Private, Array as Shared}
+use Rattle.pardo_program.specs.Expression.{Tree, number, own, loop, private, place, apply}
+use Rattle.pardo_program.specs.Lawful.{AreArrays, IsExpression, IsPrivate, IsProgram, IsStatement}
+use Rattle.pardo_program.specs.Lawful.{bounds_of}
+use Rattle.pardo_program.specs.Operations.{lacks, operation_value, worked_out}
+use Rattle.pardo_program.specs.Program.{ArrayData, PrivateData, ProgramData}
+use Rattle.pardo_program.specs.Tests.{greatest_start, known_of, widened, widened_by}
+use Rattle.pardo_program.specs.Operations.{greatest_value}
 use Rattle.pardo_flat.specs.Statements.{statement_at}
 use Rattle.pardo_flat.proofs.FlatLines.{all_at}
 use Rattle.pardo_job.specs.Meaning.{Source, after_statement, array_cell, asked_in}

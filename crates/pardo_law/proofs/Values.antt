@@ -13,10 +13,10 @@ use Rattle.pram_job.specs.declared.instr.Operand.{Operand}
 use Rattle.pram_job.specs.declared.instr.Operand.TheVariants.{Register}
 use Rattle.pram_job.specs.declared.instr.Place.TheVariants.{Named}
 use Rattle.pram_job.specs.Job.{JobData}
-use Rattle.pardo_text.specs.Expression.{Tree}
-use Rattle.pardo_text.specs.Lawful.{IsExpression, IsCommonTree, IsProgram, bounds_of}
-use Rattle.pardo_text.specs.Operations.{bit}
-use Rattle.pardo_text.specs.Program.{ProgramData}
+use Rattle.pardo_program.specs.Expression.{Tree}
+use Rattle.pardo_program.specs.Lawful.{IsExpression, IsCommonTree, IsProgram, bounds_of}
+use Rattle.pardo_program.specs.Operations.{bit}
+use Rattle.pardo_program.specs.Program.{ProgramData}
 use Rattle.pardo_flat.specs.Layouts.{ProgramLayoutData, program_layout, loop_cells, array_cells}
 use Rattle.pardo_job.specs.Leaves.{DecidesTo}
 use Rattle.pardo_job.specs.Lines.{condition_code, while_code, none_code, turn_code}

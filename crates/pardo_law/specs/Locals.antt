@@ -16,7 +16,7 @@ use Rattle.pram_machine.specs.Machine.{State, register, counter, out_of_range, h
 use Rattle.pram_step.specs.Runs.{state_after, IsReached}
 use Rattle.pram_step.specs.Disputes.{Forbids}
 use Rattle.pram_step.specs.Steps.{next_state}
-use Rattle.pardo_text.specs.Expression.{Tree}
+use Rattle.pardo_program.specs.Expression.{Tree}
 use Rattle.pardo_flat.specs.Layouts.{ProgramLayoutData}
 use Rattle.pardo_job.specs.Lines.{idle}
 use Rattle.pardo_job.specs.Meaning.{first_below, given_to}

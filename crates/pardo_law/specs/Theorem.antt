@@ -5,9 +5,9 @@ use Rattle.pram_step.specs.declared.answer.RunAnswer.{RunAnswer}
 use Rattle.pram_step.specs.declared.answer.RunAnswer.TheVariants.{Final, Conflict, Unfinished}
 use Rattle.pram_step.specs.Runs.{IsAnswer}
 use Rattle.pram_job.specs.declared.instr.Rule.{Rule}
-use Rattle.pardo_text.specs.Lawful.{IsProgram}
-use Rattle.pardo_text.specs.Nested.{IsNested}
-use Rattle.pardo_text.specs.Program.{ProgramData}
+use Rattle.pardo_program.specs.Lawful.{IsProgram}
+use Rattle.pardo_program.specs.Nested.{IsNested}
+use Rattle.pardo_program.specs.Program.{ProgramData}
 use Rattle.pardo_flat.specs.Layouts.{program_layout}
 use Rattle.pardo_job.specs.Carries.{Carries}
 use Rattle.pardo_job.specs.Compiled.{IsCompiled}

@@ -1,9 +1,9 @@
 -- The tests of indices that are left out of a program change no run.
 use Rattle.std.specs.Prelude.{◌≡◌, ℕ, ◌<◌}
-use Rattle.pardo_text.specs.Lawful.{IsProgram}
-use Rattle.pardo_text.specs.Nested.{IsNested}
-use Rattle.pardo_text.specs.Program.{ProgramData}
-use Rattle.pardo_text.specs.Tests.{program_untested}
+use Rattle.pardo_program.specs.Lawful.{IsProgram}
+use Rattle.pardo_program.specs.Nested.{IsNested}
+use Rattle.pardo_program.specs.Program.{ProgramData}
+use Rattle.pardo_program.specs.Tests.{program_untested}
 use Rattle.pardo_job.specs.Conflicts.{asked}
 use Rattle.pardo_job.specs.Meaning.{Source, after}
 

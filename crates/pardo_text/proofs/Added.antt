@@ -1,8 +1,8 @@
 -- Expressions that were read onto others.
 use Rattle.std.proofs.Common.{◌≡◌, List, ◌∷◌, drop, Result, sym, ap, ◌∙◌, subst}
 use Rattle.pardo_text.specs.declared.fault.PardoKind.{PardoKind}
-use Rattle.pardo_text.specs.declared.operation.Op.{Op}
-use Rattle.pardo_text.specs.Expression.{Tree, first_of}
+use Rattle.pardo_program.specs.declared.operation.Op.{Op}
+use Rattle.pardo_program.specs.Expression.{Tree, first_of}
 use Rattle.pardo_text.specs.Expressions.{Read, joined}
 use Rattle.pardo_text.specs.Inner.Exprs.{Adds}
 use Rattle.pardo_text.specs.Tokens.{Token}

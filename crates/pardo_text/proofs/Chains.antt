@@ -4,14 +4,14 @@ use Rattle.std.proofs.Common.{Ok, Err, refl, sym, ap, ◌∙◌, arith}
 use Rattle.pardo_text.specs.declared.fault.PardoKind.{PardoKind}
 use Rattle.pardo_text.specs.declared.fault.PardoKind.TheVariants.{TooDeep}
 use Rattle.pardo_text.specs.declared.names.Scope.{Scope}
-use Rattle.pardo_text.specs.declared.operation.Op.{Op}
-use Rattle.pardo_text.specs.declared.operation.Op.TheVariants.{Div, Rem}
+use Rattle.pardo_program.specs.declared.operation.Op.{Op}
+use Rattle.pardo_program.specs.declared.operation.Op.TheVariants.{Div, Rem}
 use Rattle.std.specs.Bool.{IsTrue}
-use Rattle.pardo_text.specs.Expression.{Tree}
+use Rattle.pardo_program.specs.Expression.{Tree}
 use Rattle.pardo_text.specs.Expressions.{Read, Inner, operator_at, operand_at, joined, chained}
 use Rattle.pardo_text.specs.Expressions.{turns_at, level_at, within_at}
 use Rattle.pardo_text.specs.Names.{Names}
-use Rattle.pardo_text.specs.Operations.{loosest, level_of, is_division}
+use Rattle.pardo_program.specs.Operations.{loosest, level_of, is_division}
 use Rattle.text_lines.specs.Reads.{◌>>=◌}
 use Rattle.pardo_text.specs.Tokens.{Token}
 

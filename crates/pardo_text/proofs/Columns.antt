@@ -8,12 +8,12 @@ use Rattle.std.proofs.lemmas.List.{drop_all, drop-set-lt, replicate_more, take_m
 use Rattle.std.proofs.lemmas.List.{take-append-drop}
 use Rattle.pardo_text.specs.declared.fault.PardoKind.{PardoKind}
 use Rattle.pardo_text.specs.declared.fault.PardoKind.TheVariants.{OutOfLimits}
-use Rattle.pardo_text.specs.declared.operation.Op.{Op}
-use Rattle.pardo_text.specs.declared.expression.Node.{Node}
-use Rattle.pardo_text.specs.declared.expression.Node.TheVariants.{Place, Apply}
-use Rattle.pardo_text.specs.Expression.{Tree, number, own, loop, private, place, apply, postfix}
+use Rattle.pardo_program.specs.declared.operation.Op.{Op}
+use Rattle.pardo_program.specs.declared.expression.Node.{Node}
+use Rattle.pardo_program.specs.declared.expression.Node.TheVariants.{Place, Apply}
+use Rattle.pardo_program.specs.Expression.{Tree, number, own, loop, private, place, apply, postfix}
 use Rattle.pardo_text.specs.Inner.Columns.{below, quotients, with_column, column_after, top_of}
-use Rattle.pardo_text.specs.Operations.{is_division, operation_value}
+use Rattle.pardo_program.specs.Operations.{is_division, operation_value}
 use Rattle.text_lines.specs.Reads.{◌>>=◌}
 use Rattle.pardo_text.specs.Values.{value_for, values_for, quotient_of}
 

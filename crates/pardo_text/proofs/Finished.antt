@@ -2,14 +2,14 @@
 use Rattle.std.proofs.Common.{◌≡◌, ◌==◌, true, false, List, [], ◌∷◌, length, Ok, Err}
 use Rattle.std.proofs.Common.{refl, arith}
 use Rattle.std.proofs.lemmas.Bool.{eqb-true}
-use Rattle.pardo_text.specs.declared.block.Block.{Block}
+use Rattle.pardo_program.specs.declared.block.Block.{Block}
 use Rattle.pardo_text.specs.declared.draft.Stage.{Stage}
 use Rattle.pardo_text.specs.declared.draft.Stage.TheVariants as stage
 use Rattle.pardo_text.specs.declared.fault.PardoKind.TheVariants.{BadHeader, OpenBlock, NoCode}
-use Rattle.pardo_text.specs.declared.statement.Line.{Line}
+use Rattle.pardo_program.specs.declared.statement.Line.{Line}
 use Rattle.pardo_text.specs.Drafts.{Draft}
 use Rattle.pardo_text.specs.Reading.{finished_draft, said_so_far}
-use Rattle.pardo_text.specs.Tests.{program_untested}
+use Rattle.pardo_program.specs.Tests.{program_untested}
 
 pub finished-early : (s : Stage) (blocks : List Block) (lines : List Line) (draft : Draft) →
     (s ≡ stage.Code → ⊥) → finished_draft s blocks lines draft ≡ Err BadHeader

@@ -6,23 +6,24 @@ use Rattle.pardo_text.specs.declared.names.Named.{Named}
 use Rattle.pardo_text.specs.declared.names.Named.TheVariants as thing
 use Rattle.pardo_text.specs.declared.names.Scope.{Scope}
 use Rattle.pardo_text.specs.declared.names.Scope.TheVariants.{Start}
-use Rattle.pardo_text.specs.declared.operation.Op.{Op}
-use Rattle.pardo_text.specs.declared.operation.Op.TheVariants.{Add, Mul, Within}
-use Rattle.pardo_text.specs.declared.statement.Line.{Line}
-use Rattle.pardo_text.specs.declared.statement.Statement.{Statement}
-use Rattle.pardo_text.specs.declared.statement.Statement.TheVariants as statement
-use Rattle.pardo_text.specs.declared.statement.Target.{Target}
-use Rattle.pardo_text.specs.declared.statement.Target.TheVariants as target
-use Rattle.pardo_text.specs.Expression.{Tree, number, own, loop, private, place, apply}
-use Rattle.pardo_text.specs.Expressions.{applied, joined, constant_of, is_zero, tested}
-use Rattle.pardo_text.specs.Lawful.{Bounds, IsExpression, IsCommonTree, IsTarget, IsStatement}
-use Rattle.pardo_text.specs.Lawful.{IsLine}
+use Rattle.pardo_program.specs.declared.operation.Op.{Op}
+use Rattle.pardo_program.specs.declared.operation.Op.TheVariants.{Add, Mul, Within}
+use Rattle.pardo_program.specs.declared.statement.Line.{Line}
+use Rattle.pardo_program.specs.declared.statement.Statement.{Statement}
+use Rattle.pardo_program.specs.declared.statement.Statement.TheVariants as statement
+use Rattle.pardo_program.specs.declared.statement.Target.{Target}
+use Rattle.pardo_program.specs.declared.statement.Target.TheVariants as target
+use Rattle.pardo_program.specs.Expression.{Tree, number, own, loop, private, place, apply}
+use Rattle.pardo_program.specs.Folding.{applied, constant_of, tested}
+use Rattle.pardo_text.specs.Expressions.{joined, is_zero}
+use Rattle.pardo_program.specs.Lawful.{Bounds, IsExpression, IsCommonTree, IsTarget, IsStatement}
+use Rattle.pardo_program.specs.Lawful.{IsLine}
 use Rattle.text_lines.specs.Lines.{Word}
 use Rattle.pardo_text.specs.Names.{Names, admits, tree_from}
-use Rattle.pardo_text.specs.Operations.{is_division, operation_value}
+use Rattle.pardo_program.specs.Operations.{is_division, operation_value}
 use Rattle.pardo_text.proofs.Ifs.{ok_if}
 use Rattle.pardo_text.proofs.LawTrees.{Keeps, IsBare}
-use Rattle.pardo_text.proofs.LawValues.{value_small}
+use Rattle.pardo_program.proofs.LawValues.{value_small}
 
 pub record Grows (b c : Bounds) : Type 0 where
   pub arrays : b.arrays ≤ c.arrays

@@ -6,19 +6,19 @@ use Rattle.std.specs.Prelude.{codes}
 use Rattle.std.proofs.lemmas.Result.{IfOk-weaker}
 use Rattle.std.specs.List.{All}
 use Rattle.std.proofs.lemmas.List.Elements.{All-head}
-use Rattle.pardo_text.specs.declared.block.Block.{Block}
-use Rattle.pardo_text.specs.declared.block.Block.TheVariants as block
-use Rattle.pardo_text.specs.declared.limits.TheConstants.{MAX_CELLS}
+use Rattle.pardo_program.specs.declared.block.Block.{Block}
+use Rattle.pardo_program.specs.declared.block.Block.TheVariants as block
+use Rattle.pardo_program.specs.declared.limits.TheConstants.{MAX_CELLS}
 use Rattle.pardo_text.specs.declared.names.Named.{Named}
 use Rattle.pardo_text.specs.declared.names.Named.TheVariants as thing
 use Rattle.pardo_text.specs.declared.names.Scope.{Scope}
 use Rattle.pardo_text.specs.declared.names.Scope.TheVariants.{Bound, Uniform, Any}
-use Rattle.pardo_text.specs.declared.operation.Op.TheVariants.{Div}
-use Rattle.pardo_text.specs.declared.statement.Statement.{Statement}
-use Rattle.pardo_text.specs.declared.statement.Statement.TheVariants as statement
-use Rattle.pardo_text.specs.declared.statement.Target.{Target}
+use Rattle.pardo_program.specs.declared.operation.Op.TheVariants.{Div}
+use Rattle.pardo_program.specs.declared.statement.Statement.{Statement}
+use Rattle.pardo_program.specs.declared.statement.Statement.TheVariants as statement
+use Rattle.pardo_program.specs.declared.statement.Target.{Target}
 use Rattle.pardo_text.specs.declared.symbol.Symbol.TheVariants as the
-use Rattle.pardo_text.specs.Blocks.{choice_depth, is_choice}
+use Rattle.pardo_program.specs.Blocks.{choice_depth, is_choice}
 use Rattle.pardo_text.specs.Code.{whole_at, array_place, table_place, bare_target}
 use Rattle.pardo_text.specs.Code.{assignment_target}
 use Rattle.pardo_text.specs.Code.{assignment_at}
@@ -28,14 +28,14 @@ use Rattle.pardo_text.specs.Code.{end_block, quotient_at, asserted, assert_line,
 use Rattle.pardo_text.specs.Code.{assignment_line, named_line, statement_line}
 use Rattle.pardo_text.specs.Drafts.{Draft, cells_needed, fitting, with_line, with_block, with_loop}
 use Rattle.pardo_text.specs.Drafts.{without, with_end}
-use Rattle.pardo_text.specs.Expression.{Tree, number, place}
+use Rattle.pardo_program.specs.Expression.{Tree, number, place}
 use Rattle.pardo_text.specs.Expressions.{new_name, rest_after_mark, ended}
 use Rattle.pardo_text.specs.Expressions.{indexed, joined, expression_at, indices_at, within_at}
-use Rattle.pardo_text.specs.Lawful.{Bounds, IsExpression, IsCommonTree, IsTarget, IsStatement}
-use Rattle.pardo_text.specs.Lawful.{masks_of}
+use Rattle.pardo_program.specs.Lawful.{Bounds, IsExpression, IsCommonTree, IsTarget, IsStatement}
+use Rattle.pardo_program.specs.Lawful.{masks_of}
 use Rattle.text_lines.specs.Lines.{Word}
 use Rattle.pardo_text.specs.Names.{Names}
-use Rattle.pardo_text.specs.Program.{shared_cells}
+use Rattle.pardo_program.specs.Program.{shared_cells}
 use Rattle.pardo_text.specs.Tokens.{Token, name, symbol}
 use Rattle.pardo_text.proofs.Ifs.{ok_bind, ok_after, ok_if}
 use Rattle.pardo_text.proofs.LawBounds.{Grows, AreThings, IsCommonScope, keeps_tree, tree_more}

@@ -4,12 +4,13 @@ use Rattle.std.proofs.Common.{subst, Ok, Some, None}
 use Rattle.pardo_text.specs.declared.names.Named.{Named}
 use Rattle.pardo_text.specs.declared.names.Named.TheVariants as thing
 use Rattle.pardo_text.specs.declared.names.Scope.TheVariants.{Fixed}
-use Rattle.pardo_text.specs.declared.operation.Op.{Op}
-use Rattle.pardo_text.specs.Expression.{Tree, number}
-use Rattle.pardo_text.specs.Expressions.{Read, applied, joined, constant_of, is_zero, within_at}
+use Rattle.pardo_program.specs.declared.operation.Op.{Op}
+use Rattle.pardo_program.specs.Expression.{Tree, number}
+use Rattle.pardo_text.specs.Expressions.{Read, joined, is_zero, within_at}
+use Rattle.pardo_program.specs.Folding.{applied, constant_of}
 use Rattle.pardo_text.specs.Laws.{ConstantsAreNumbers}
 use Rattle.pardo_text.specs.Names.{Names, admits, tree_from}
-use Rattle.pardo_text.specs.Operations.{is_division, operation_value}
+use Rattle.pardo_program.specs.Operations.{is_division, operation_value}
 use Rattle.pardo_text.specs.Tokens.{Token}
 use Rattle.pardo_text.proofs.Ifs.{ok_if}
 use Rattle.pardo_text.proofs.LawTrees.{Keeps, within_kept, expression_kept}

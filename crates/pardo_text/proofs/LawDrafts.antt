@@ -10,29 +10,31 @@ use Rattle.std.proofs.lemmas.List.{length-append, length-set}
 use Rattle.std.proofs.lemmas.List.Elements.{All-push, All-set, All-tail, All-weaker, All-cons}
 use Rattle.std.proofs.lemmas.List.Sums.{sum_by-append}
 use Rattle.std.proofs.lemmas.Option.{slice_get_within, get_or_from_slice_get}
-use Rattle.pardo_text.specs.declared.arrays.Shape.{Shape}
-use Rattle.pardo_text.specs.declared.arrays.Shape.TheVariants as shape
-use Rattle.pardo_text.specs.declared.block.Block.{Block}
-use Rattle.pardo_text.specs.declared.block.Block.TheVariants as block
-use Rattle.pardo_text.specs.declared.limits.TheConstants.{MAX_CELLS, MAX_PROCS}
+use Rattle.pardo_program.specs.declared.arrays.Shape.{Shape}
+use Rattle.pardo_program.specs.declared.arrays.Shape.TheVariants as shape
+use Rattle.pardo_program.specs.declared.block.Block.{Block}
+use Rattle.pardo_program.specs.declared.block.Block.TheVariants as block
+use Rattle.pardo_program.specs.declared.limits.TheConstants.{MAX_CELLS, MAX_PROCS}
 use Rattle.pardo_text.specs.declared.names.Named.{Named}
 use Rattle.pardo_text.specs.declared.names.Named.TheVariants as thing
 use Rattle.pardo_text.specs.declared.draft.Stage.{Stage}
 use Rattle.pardo_text.specs.declared.draft.Stage.TheVariants as stage
-use Rattle.pardo_text.specs.declared.statement.Line.{Line}
-use Rattle.pardo_text.specs.declared.statement.Statement.{Statement}
-use Rattle.pardo_text.specs.declared.statement.Statement.TheVariants as statement
-use Rattle.pardo_text.specs.Blocks.{choice_depth}
+use Rattle.pardo_program.specs.declared.statement.Line.{Line}
+use Rattle.pardo_program.specs.declared.statement.Statement.{Statement}
+use Rattle.pardo_program.specs.declared.statement.Statement.TheVariants as statement
+use Rattle.pardo_program.specs.Blocks.{choice_depth}
 use Rattle.pardo_text.specs.Drafts.{Draft, cells_needed, fitting, with_name, with_array}
 use Rattle.pardo_text.specs.Drafts.{with_private}
-use Rattle.pardo_text.specs.Drafts.{with_line, with_block, with_loop, without, loop_ending_at}
+use Rattle.pardo_text.specs.Drafts.{with_line, with_block, with_loop, without}
+use Rattle.pardo_program.specs.Blocks.{loop_ending_at}
 use Rattle.pardo_text.specs.Drafts.{ended_at}
 use Rattle.pardo_text.specs.Drafts.{with_end, thing_of}
-use Rattle.pardo_text.specs.Lawful.{Bounds, IsStatement, IsLine, AreNumbers, AreArrays, IsPrivate}
-use Rattle.pardo_text.specs.Lawful.{masks_of}
+use Rattle.pardo_program.specs.Lawful.{Bounds, IsStatement, IsLine, AreNumbers, AreArrays}
+use Rattle.pardo_program.specs.Lawful.{IsPrivate}
+use Rattle.pardo_program.specs.Lawful.{masks_of}
 use Rattle.text_lines.specs.Lines.{Word}
 use Rattle.pardo_text.specs.Names.{Names, named, unnamed}
-use Rattle.pardo_text.specs.Program.{ArrayData, shared_cells, array_after}
+use Rattle.pardo_program.specs.Program.{ArrayData, shared_cells, array_after}
 use Rattle.pardo_text.proofs.Ifs.{ok_if}
 use Rattle.pardo_text.proofs.LawBounds.{Grows, IsThing, AreThings, things_more, line_more}
 

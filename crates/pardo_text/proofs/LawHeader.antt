@@ -6,7 +6,7 @@ use Rattle.std.proofs.lemmas.Bool.Decides.{nat_tests}
 use Rattle.std.proofs.lemmas.List.{length-append}
 use Rattle.pardo_text.specs.declared.draft.Stage.{Stage}
 use Rattle.pardo_text.specs.declared.draft.Stage.TheVariants as stage
-use Rattle.pardo_text.specs.declared.limits.TheConstants.{MAX_CELLS, MAX_PROCS}
+use Rattle.pardo_program.specs.declared.limits.TheConstants.{MAX_CELLS, MAX_PROCS}
 use Rattle.pardo_text.specs.declared.names.Named.TheVariants as thing
 use Rattle.pardo_text.specs.declared.names.Scope.TheVariants.{Start}
 use Rattle.pardo_text.specs.declared.symbol.Symbol.TheVariants as the
@@ -18,14 +18,15 @@ use Rattle.pardo_text.specs.Header.{shape_at, columns_at, after_comma, shared_li
 use Rattle.pardo_text.specs.Header.{private_line, code_line}
 use Rattle.pardo_text.specs.Header.{header_line}
 use Rattle.pram_job.specs.declared.instr.Rule.{Rule}
-use Rattle.pardo_text.specs.Lawful.{AreNumbers}
+use Rattle.pardo_program.specs.Lawful.{AreNumbers}
 use Rattle.text_lines.specs.Lines.{Word}
 use Rattle.pardo_text.specs.Names.{Names}
-use Rattle.pardo_text.specs.declared.arrays.Shape.{Shape}
-use Rattle.pardo_text.specs.declared.arrays.Shape.TheVariants as shape
-use Rattle.pardo_text.specs.Program.{places_in, shared_cells}
+use Rattle.pardo_program.specs.declared.arrays.Shape.{Shape}
+use Rattle.pardo_program.specs.declared.arrays.Shape.TheVariants as shape
+use Rattle.pardo_program.specs.Program.{places_in, shared_cells}
 use Rattle.pardo_text.specs.Tokens.{Token, name, number as literal, symbol}
-use Rattle.pardo_text.specs.Values.{greatest_value, values_for, start_at}
+use Rattle.pardo_program.specs.Operations.{greatest_value}
+use Rattle.pardo_text.specs.Values.{values_for, start_at}
 use Rattle.pardo_text.proofs.Ifs.{ok_bind, ok_after, ok_if}
 use Rattle.pardo_text.proofs.LawBounds.{IsStart, keeps_start}
 use Rattle.pardo_text.proofs.LawDrafts.{IsLawful, IsShape, bounds_in, fitting_kept, more_kept}

@@ -3,15 +3,15 @@ use Rattle.std.proofs.Common.{◌≡◌, ℕ, ◌+◌, not, List, [], ◌∷◌,
 use Rattle.std.proofs.Common.{IfOk, Some, None, refl, sym, subst, ap, arith, length}
 use Rattle.std.specs.List.{All, list_all}
 use Rattle.std.proofs.lemmas.List.Elements.{All-nil}
-use Rattle.pardo_text.specs.declared.block.Block.{Block}
+use Rattle.pardo_program.specs.declared.block.Block.{Block}
 use Rattle.pardo_text.specs.declared.draft.Stage.{Stage}
 use Rattle.pardo_text.specs.declared.draft.Stage.TheVariants as stage
 use Rattle.pardo_text.specs.declared.fault.PardoFault.{PardoFault}
 use Rattle.pardo_text.specs.declared.fault.PardoKind.{PardoKind}
-use Rattle.pardo_text.specs.declared.statement.Line.{Line}
+use Rattle.pardo_program.specs.declared.statement.Line.{Line}
 use Rattle.pardo_text.specs.Drafts.{Draft, empty}
 use Rattle.pardo_text.specs.Laws.{ProgramsAreLawful}
-use Rattle.pardo_text.specs.Lawful.{IsProgram, IsPrivate, IsLine}
+use Rattle.pardo_program.specs.Lawful.{IsProgram, IsPrivate, IsLine}
 use Rattle.text_lines.specs.Lines.{lines_of, is_allowed, said_in}
 use Rattle.pardo_text.specs.Reading.{line_in_stage, with_tokens, with_text_line, finished_draft}
 use Rattle.pardo_text.specs.Reading.{program_in, said_so_far}
@@ -20,8 +20,8 @@ use Rattle.pardo_text.specs.Tokens.{Token, tokens_of}
 use Rattle.pardo_text.proofs.Ifs.{ok_after, ok_if}
 use Rattle.pardo_text.proofs.LawCode.{statement_kept}
 use Rattle.pardo_text.proofs.LawDrafts.{IsLawful, IsBlock, bounds_in}
-use Rattle.pardo_text.specs.Tests.{known_of, lines_untested}
-use Rattle.pardo_text.proofs.LawTests.{lines_kept, same_length}
+use Rattle.pardo_program.specs.Tests.{known_of, lines_untested}
+use Rattle.pardo_program.proofs.LawTests.{lines_kept, same_length}
 use Rattle.pardo_text.proofs.LawHeader.{version_kept, rule_kept, header_kept}
 
 at_kept : (next : Stage) (n : ℕ) (d : Draft) (tokens : List Token) → d.stage ≡ next → IsLawful d →

@@ -9,17 +9,17 @@ use Rattle.std.proofs.lemmas.Bool.{cases_Bool, both_ways}
 use Rattle.std.proofs.lemmas.List.{map-append}
 use Rattle.std.proofs.lemmas.Slice.Eq.{bytes_eq-Decides}
 use Rattle.pardo_text.specs.declared.fault.PardoKind.{PardoKind}
-use Rattle.pardo_text.specs.declared.block.Block.{Block}
-use Rattle.pardo_text.specs.declared.block.Block.TheVariants as block
+use Rattle.pardo_program.specs.declared.block.Block.{Block}
+use Rattle.pardo_program.specs.declared.block.Block.TheVariants as block
 use Rattle.pardo_text.specs.declared.draft.Stage.{Stage}
 use Rattle.pardo_text.specs.declared.draft.Stage.TheVariants as stage
-use Rattle.pardo_text.specs.declared.limits.TheConstants.{MAX_CELLS, MAX_PROCS}
+use Rattle.pardo_program.specs.declared.limits.TheConstants.{MAX_CELLS, MAX_PROCS}
 use Rattle.pardo_text.specs.declared.names.Named.{Named}
 use Rattle.pardo_text.specs.declared.names.Named.TheVariants as thing
 use Rattle.pardo_text.specs.declared.names.Scope.TheVariants.{Bound, Uniform, Any}
 use Rattle.pardo_text.specs.declared.part.Mark.TheVariants as mark
-use Rattle.pardo_text.specs.declared.statement.Line.{Line}
-use Rattle.pardo_text.specs.declared.statement.Statement.TheVariants as statement
+use Rattle.pardo_program.specs.declared.statement.Line.{Line}
+use Rattle.pardo_program.specs.declared.statement.Statement.TheVariants as statement
 use Rattle.pardo_text.specs.declared.symbol.Symbol.TheVariants as the
 use Rattle.pardo_text.specs.Code.{whole_at, assignment_at, if_line, while_line, way_at, for_line}
 use Rattle.pardo_text.specs.Code.{else_of, elsif_line, elsifs_ended, end_block, quotient_at}
@@ -35,13 +35,14 @@ use Rattle.pardo_text.specs.Header.{shape_at, shared_line, private_start, privat
 use Rattle.pardo_text.specs.Header.{header_line}
 use Rattle.pardo_text.specs.Laws.{NamesAreDistinct}
 use Rattle.pardo_text.specs.Names.{Names, named}
-use Rattle.pardo_text.specs.declared.arrays.Shape.{Shape}
-use Rattle.pardo_text.specs.Program.{ArrayData, PrivateData, ProgramData, places_in}
+use Rattle.pardo_program.specs.declared.arrays.Shape.{Shape}
+use Rattle.pardo_program.specs.Program.{ArrayData, PrivateData, ProgramData, places_in}
 use Rattle.pardo_text.specs.Reading.{line_in_stage, with_tokens, with_text_line, finished_draft}
 use Rattle.pardo_text.specs.Reading.{program_in, on_line, program_after, program_of}
 use Rattle.pardo_text.specs.Tokens.{Token, name, number as literal, symbol, tokens_of}
-use Rattle.pardo_text.specs.Values.{greatest_value, values_for, start_at}
-use Rattle.pardo_text.specs.Variables.{AreDistinct, names_among, variable_names}
+use Rattle.pardo_program.specs.Operations.{greatest_value}
+use Rattle.pardo_text.specs.Values.{values_for, start_at}
+use Rattle.pardo_program.specs.Variables.{AreDistinct, names_among, variable_names}
 use Rattle.pardo_text.proofs.Ifs.{ok_bind, ok_after, ok_if}
 use Rattle.pardo_text.proofs.LawHeader.{ended_kept}
 use Rattle.pardo_text.proofs.LawLawful.{on_line_kept, and_then_kept}

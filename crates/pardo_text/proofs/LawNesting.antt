@@ -5,19 +5,19 @@ use Rattle.std.proofs.Common.{subst, ◌∙◌, arith}
 use Rattle.std.specs.List.{list_all}
 use Rattle.std.specs.Prelude.{codes}
 use Rattle.std.proofs.lemmas.List.{length-append}
-use Rattle.pardo_text.specs.declared.block.Block.{Block}
-use Rattle.pardo_text.specs.declared.block.Block.TheVariants as block
+use Rattle.pardo_program.specs.declared.block.Block.{Block}
+use Rattle.pardo_program.specs.declared.block.Block.TheVariants as block
 use Rattle.pardo_text.specs.declared.draft.Stage.{Stage}
 use Rattle.pardo_text.specs.declared.draft.Stage.TheVariants as stage
-use Rattle.pardo_text.specs.declared.limits.TheConstants.{MAX_CELLS, MAX_PROCS}
+use Rattle.pardo_program.specs.declared.limits.TheConstants.{MAX_CELLS, MAX_PROCS}
 use Rattle.pardo_text.specs.declared.names.Named.TheVariants as thing
 use Rattle.pardo_text.specs.declared.names.Scope.TheVariants.{Bound, Uniform, Any}
-use Rattle.pardo_text.specs.declared.statement.Line.{Line}
-use Rattle.pardo_text.specs.declared.statement.Statement.{Statement}
-use Rattle.pardo_text.specs.declared.statement.Statement.TheVariants as statement
-use Rattle.pardo_text.specs.declared.statement.Target.{Target}
+use Rattle.pardo_program.specs.declared.statement.Line.{Line}
+use Rattle.pardo_program.specs.declared.statement.Statement.{Statement}
+use Rattle.pardo_program.specs.declared.statement.Statement.TheVariants as statement
+use Rattle.pardo_program.specs.declared.statement.Target.{Target}
 use Rattle.pardo_text.specs.declared.symbol.Symbol.TheVariants as the
-use Rattle.pardo_text.specs.Blocks.{choice_depth, is_choice}
+use Rattle.pardo_program.specs.Blocks.{choice_depth, is_choice}
 use Rattle.pardo_text.specs.Code.{whole_at, assignment_target, assignment_at, if_line}
 use Rattle.pardo_text.specs.Code.{while_line, way_at, for_line, else_of, elsif_line, elsifs_ended}
 use Rattle.pardo_text.specs.Code.{end_block, quotient_at, asserted, assert_line, has_form}
@@ -25,28 +25,29 @@ use Rattle.pardo_text.specs.Code.{assignment_line, named_line, statement_line}
 use Rattle.pardo_text.specs.Drafts.{Draft, empty, cells_needed, fitting, with_line, with_block}
 use Rattle.pardo_text.specs.Drafts.{with_loop}
 use Rattle.pardo_text.specs.Drafts.{without, with_end, with_name, with_array, with_private}
-use Rattle.pardo_text.specs.Expression.{Tree}
+use Rattle.pardo_program.specs.Expression.{Tree}
 use Rattle.pardo_text.specs.Expressions.{new_name, rest_after_mark, indexed, ended}
 use Rattle.pardo_text.specs.Expressions.{expression_at, fixed_at}
 use Rattle.pardo_text.specs.Header.{version_line, rule_named, rule_line, const_line, procs_line}
 use Rattle.pardo_text.specs.Header.{shape_at, shared_line, private_start, private_line, code_line}
-use Rattle.pardo_text.specs.Program.{places_in}
+use Rattle.pardo_program.specs.Program.{places_in}
 use Rattle.pardo_text.specs.Header.{header_line}
 use Rattle.pardo_text.specs.Laws.{ProgramsAreNested}
 use Rattle.text_lines.specs.Lines.{Word, lines_of, is_allowed, said_in}
 use Rattle.pardo_text.specs.Names.{Names}
-use Rattle.pardo_text.specs.Nested.{IsNested, StandsInBlocks, opened_by, around, loop_begin}
-use Rattle.pardo_text.specs.Nested.{loop_end_told}
-use Rattle.pardo_text.specs.Nested.{loops_of, EndsAreTied, LinesLead}
-use Rattle.pardo_text.specs.Program.{ProgramData}
+use Rattle.pardo_program.specs.Nested.{IsNested, StandsInBlocks, opened_by, around, loop_begin}
+use Rattle.pardo_program.specs.Nested.{loop_end_told}
+use Rattle.pardo_program.specs.Nested.{loops_of, EndsAreTied, LinesLead}
+use Rattle.pardo_program.specs.Program.{ProgramData}
 use Rattle.pardo_text.specs.Reading.{line_in_stage, with_tokens, with_text_line, finished_draft}
 use Rattle.pardo_text.specs.Reading.{program_in, said_so_far}
-use Rattle.pardo_text.specs.Tests.{known_of}
+use Rattle.pardo_program.specs.Tests.{known_of}
 use Rattle.pardo_text.specs.Reading.{on_line, program_after, program_of}
 use Rattle.pardo_text.specs.Tokens.{Token, name, number as literal, symbol, tokens_of}
-use Rattle.pardo_text.specs.Values.{greatest_value, values_for, start_at}
+use Rattle.pardo_program.specs.Operations.{greatest_value}
+use Rattle.pardo_text.specs.Values.{values_for, start_at}
 use Rattle.pardo_text.proofs.Ifs.{ok_bind, ok_after, ok_if}
-use Rattle.pardo_text.proofs.LawTests.{nested_kept}
+use Rattle.pardo_program.proofs.LawTests.{nested_kept}
 use Rattle.pardo_text.proofs.LawHeader.{ended_kept}
 use Rattle.pardo_text.proofs.LawLawful.{on_line_kept, and_then_kept}
 use Rattle.pardo_text.proofs.LawOpen.{IsCode, IsLeft, AreOpen, no_code, open_push, open_more}

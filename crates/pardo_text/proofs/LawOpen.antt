@@ -3,12 +3,12 @@ use Rattle.std.proofs.Common.{◌≡◌, ℕ, ◌<◌, ◌≤◌, ◌⊎◌, Lis
 use Rattle.std.proofs.Common.{slice_get, slice_set, Option, Some, None}
 use Rattle.std.proofs.Common.{refl, sym, ap, subst, ◌∙◌, arith}
 use Rattle.std.proofs.lemmas.List.{length-set}
-use Rattle.pardo_text.specs.declared.block.Block.{Block}
-use Rattle.pardo_text.specs.declared.block.Block.TheVariants as block
-use Rattle.pardo_text.specs.declared.statement.Line.{Line}
+use Rattle.pardo_program.specs.declared.block.Block.{Block}
+use Rattle.pardo_program.specs.declared.block.Block.TheVariants as block
+use Rattle.pardo_program.specs.declared.statement.Line.{Line}
 use Rattle.pardo_text.specs.Drafts.{ended_at}
-use Rattle.pardo_text.specs.Nested.{LinesLead, loop_end_told}
-use Rattle.pardo_text.specs.Nested.{EndsAreTied, loops_of}
+use Rattle.pardo_program.specs.Nested.{LinesLead, loop_end_told}
+use Rattle.pardo_program.specs.Nested.{EndsAreTied, loops_of}
 use Rattle.pardo_text.proofs.LawTied.{begin_at, end_at, end_push, end_set_other, leads_set}
 use Rattle.pardo_text.proofs.LawTied.{tied_set, end_set, line_there, told, begins_set}
 use Rattle.pardo_text.proofs.LawTied.{Among, BeginsEnd, BeginsLeft}

@@ -7,7 +7,7 @@ use Rattle.pardo_text.specs.Drafts.{Draft, empty}
 use Rattle.pardo_text.specs.Laws.{SayTheSame, LinesAreWhatTheySay, drafted, IsBadLine, IsIncomplete}
 use Rattle.pardo_text.specs.Laws.{FirstBadLine, AllLinesAreTaken}
 use Rattle.text_lines.specs.Lines.{lines_of}
-use Rattle.pardo_text.specs.Program.{ProgramData}
+use Rattle.pardo_program.specs.Program.{ProgramData}
 use Rattle.pardo_text.specs.Reading.{with_text_line, program_in, program_of, program_after, on_line}
 use Rattle.pardo_text.specs.Reading.{and_then}
 

@@ -8,20 +8,21 @@ use Rattle.std.proofs.lemmas.List.{length-append, length-replicate}
 use Rattle.std.proofs.lemmas.List.Elements.{All-nil, All-cons, All-push, All-append, All-replicate}
 use Rattle.pardo_text.specs.declared.fault.PardoKind.{PardoKind}
 use Rattle.pardo_text.specs.declared.names.Scope.TheVariants.{Fixed}
-use Rattle.pardo_text.specs.declared.operation.Op.{Op}
-use Rattle.pardo_text.specs.Expression.{Tree, number, own, loop, private, place, apply}
+use Rattle.pardo_program.specs.declared.operation.Op.{Op}
+use Rattle.pardo_program.specs.Expression.{Tree, number, own, loop, private, place, apply}
 use Rattle.pardo_text.specs.Expressions.{ended, fixed_at, limited, fixed_value, expression_at}
 use Rattle.pardo_text.specs.Expressions.{rest_after_mark}
-use Rattle.pardo_text.specs.Lawful.{AreNumbers}
+use Rattle.pardo_program.specs.Lawful.{AreNumbers}
 use Rattle.pardo_text.specs.Names.{Names}
-use Rattle.pardo_text.specs.Operations.{is_division}
+use Rattle.pardo_program.specs.Operations.{is_division}
 use Rattle.pardo_text.specs.Tokens.{Token}
-use Rattle.pardo_text.specs.Values.{greatest_value, quotient_of, value_for, values_for, values_in}
+use Rattle.pardo_program.specs.Operations.{greatest_value}
+use Rattle.pardo_text.specs.Values.{quotient_of, value_for, values_for, values_in}
 use Rattle.pardo_text.specs.Values.{values_after}
 use Rattle.pardo_text.specs.Values.{values_next, after_dots, filled, start_at}
 use Rattle.pardo_text.proofs.Ifs.{ok_bind, ok_after, ok_if}
 use Rattle.pardo_text.proofs.LawBounds.{IsStart}
-use Rattle.pardo_text.proofs.LawValues.{value_small}
+use Rattle.pardo_program.proofs.LawValues.{value_small}
 use Rattle.pardo_text.specs.declared.part.Mark.TheVariants as mark
 
 -- a number within its limits

@@ -2,15 +2,15 @@
 use Rattle.std.proofs.Common.{◌≡◌, ◌≢◌, ℕ, zero, suc, ◌+◌, ◌<◌, ◌⊎◌, inl, inr, List, [], ◌∷◌}
 use Rattle.std.proofs.Common.{◌++◌, length, slice_get, slice_set, Option, Some, None}
 use Rattle.std.proofs.Common.{refl, sym, ap, subst, ◌∙◌, arith}
-use Rattle.pardo_text.specs.declared.block.Block.{Block}
-use Rattle.pardo_text.specs.declared.block.Block.TheVariants as block
-use Rattle.pardo_text.specs.declared.statement.Line.{Line}
-use Rattle.pardo_text.specs.declared.statement.Statement.{Statement}
-use Rattle.pardo_text.specs.declared.statement.Statement.TheVariants as statement
-use Rattle.pardo_text.specs.Drafts.{loop_ending_at}
-use Rattle.pardo_text.specs.Nested.{LinesLead, StandsInBlocks, opened_by, around, loop_end_told}
-use Rattle.pardo_text.specs.Nested.{loop_begin}
-use Rattle.pardo_text.specs.Nested.{said_by, EndsAreTied}
+use Rattle.pardo_program.specs.declared.block.Block.{Block}
+use Rattle.pardo_program.specs.declared.block.Block.TheVariants as block
+use Rattle.pardo_program.specs.declared.statement.Line.{Line}
+use Rattle.pardo_program.specs.declared.statement.Statement.{Statement}
+use Rattle.pardo_program.specs.declared.statement.Statement.TheVariants as statement
+use Rattle.pardo_program.specs.Blocks.{loop_ending_at}
+use Rattle.pardo_program.specs.Nested.{LinesLead, StandsInBlocks, opened_by, around, loop_end_told}
+use Rattle.pardo_program.specs.Nested.{loop_begin}
+use Rattle.pardo_program.specs.Nested.{said_by, EndsAreTied}
 
 -- ---- what a line says
 

@@ -8,19 +8,21 @@ use Rattle.pardo_text.specs.declared.names.Named.{Named}
 use Rattle.pardo_text.specs.declared.names.Named.TheVariants as thing
 use Rattle.pardo_text.specs.declared.names.Scope.{Scope}
 use Rattle.pardo_text.specs.declared.names.Scope.TheVariants.{Fixed}
-use Rattle.pardo_text.specs.declared.operation.Op.{Op}
-use Rattle.pardo_text.specs.declared.operation.Op.TheVariants.{Add, Mul}
+use Rattle.pardo_program.specs.declared.operation.Op.{Op}
+use Rattle.pardo_program.specs.declared.operation.Op.TheVariants.{Add, Mul}
 use Rattle.pardo_text.specs.declared.symbol.Symbol.TheVariants as the
-use Rattle.pardo_text.specs.Expression.{Tree, number, place}
+use Rattle.pardo_program.specs.Expression.{Tree, number, place}
 use Rattle.pardo_text.specs.Expressions.{Read, Inner, rest_after_mark}
-use Rattle.pardo_text.specs.Expressions.{indexed, applied, joined}
+use Rattle.pardo_text.specs.Expressions.{indexed, joined}
+use Rattle.pardo_program.specs.Folding.{applied}
 use Rattle.pardo_text.specs.Expressions.{pair_at, used_at, place_at, table_at, indices_at, index_at}
-use Rattle.pardo_text.specs.Expressions.{after_row, tested, constant_of}
+use Rattle.pardo_text.specs.Expressions.{after_row}
+use Rattle.pardo_program.specs.Folding.{tested, constant_of}
 use Rattle.pardo_text.specs.Expressions.{named_at, operand_at, operator_at, chained, turns_at}
 use Rattle.pardo_text.specs.Expressions.{level_at, within_at, expression_at, log_of, fixed_value}
 use Rattle.text_lines.specs.Lines.{Word}
 use Rattle.pardo_text.specs.Names.{Names, admits, tree_from}
-use Rattle.pardo_text.specs.Operations.{level_of, loosest}
+use Rattle.pardo_program.specs.Operations.{level_of, loosest}
 use Rattle.text_lines.specs.Reads.{◌>>=◌}
 use Rattle.pardo_text.specs.Tokens.{Token, name, number as literal, symbol}
 use Rattle.pardo_text.proofs.Ifs.{ok_bind, ok_after, ok_if}

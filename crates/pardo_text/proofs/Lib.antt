@@ -1,7 +1,3 @@
-pub mod Postfix
-pub mod Nodes
-pub mod Tests
-pub mod LawTests
 pub mod Runs
 pub mod Turns
 pub mod Marks
@@ -9,7 +5,6 @@ pub mod Tokens
 pub mod Left
 pub mod Chains
 pub mod Added
-pub mod Depths
 pub mod Known
 pub mod Finished
 pub mod Judged
@@ -27,7 +22,6 @@ pub mod LawLg
 pub mod LawSaying
 pub mod LawLongest
 pub mod LawTrees
-pub mod LawValues
 pub mod LawLawful
 pub mod LawBounds
 pub mod LawStarts
@@ -38,4 +32,3 @@ pub mod LawTied
 pub mod LawOpen
 pub mod LawNesting
 pub mod LawNames
-pub mod LawFors

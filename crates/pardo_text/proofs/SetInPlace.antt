@@ -12,7 +12,7 @@ use Rattle.std.proofs.lemmas.List.Elements.{All-append, All-take}
 use Rattle.std.proofs.lemmas.List.Splits.{slice_split-cons_yes, slice_split-cons_no}
 use Rattle.std.proofs.lemmas.List.Splits.{slice_split_at, slice_split_none, length-slice_split}
 use Rattle.text_lines.specs.Lines.{Word, lines_of, said_in}
-use Rattle.pardo_text.specs.Lawful.{AreNumbers}
+use Rattle.pardo_program.specs.Lawful.{AreNumbers}
 use Rattle.pardo_text.specs.Laws.{AreSettings, SetLinesStay}
 use Rattle.pardo_text.specs.Settings.{SettingData, declared_at, line_as_set, parted, set_in, set_to}
 use Rattle.pardo_text.specs.Settings.{setting_of, text_as_set, value_in}

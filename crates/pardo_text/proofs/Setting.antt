@@ -6,7 +6,7 @@ use Rattle.pardo_text.specs.declared.fault.PardoKind.TheVariants.{Memory}
 use Rattle.pardo_text.specs.declared.settings.SetFault.{SetFault}
 use Rattle.pardo_text.specs.declared.settings.SetRefusal.{SetRefusal}
 use Rattle.pardo_text.specs.declared.settings.SetRefusal.TheVariants.{Text, Setting}
-use Rattle.pardo_text.specs.Program.{ProgramData}
+use Rattle.pardo_program.specs.Program.{ProgramData}
 use Rattle.pardo_text.specs.Reading.{program_of}
 use Rattle.pardo_text.specs.Settings.{IsSetRefusal, SettingData, blamed, laid, met, program_set}
 use Rattle.pardo_text.specs.Settings.{text_as_set, unmet}

@@ -9,7 +9,8 @@ use Rattle.pardo_text.specs.Inner.Values.{after_values}
 use Rattle.pardo_text.specs.Names.{Names}
 use Rattle.text_lines.specs.Reads.{◌>>=◌}
 use Rattle.pardo_text.specs.Tokens.{Token}
-use Rattle.pardo_text.specs.Values.{greatest_value, values_in, values_after, values_next}
+use Rattle.pardo_program.specs.Operations.{greatest_value}
+use Rattle.pardo_text.specs.Values.{values_in, values_after, values_next}
 use Rattle.pardo_text.specs.Values.{after_dots}
 use Rattle.pardo_text.specs.Values.{filled, start_at}
 use Rattle.pardo_text.specs.declared.part.Mark.TheVariants as mark

@@ -9,17 +9,17 @@ use Rattle.pardo_text.specs.declared.names.Named.{Named}
 use Rattle.pardo_text.specs.declared.names.Named.TheVariants as thing
 use Rattle.pardo_text.specs.declared.names.Scope.{Scope}
 use Rattle.pardo_text.specs.declared.names.Scope.TheVariants.{Bound, Uniform, Any}
-use Rattle.pardo_text.specs.declared.operation.Op.TheVariants.{Div}
-use Rattle.pardo_text.specs.declared.block.Block.{Block}
-use Rattle.pardo_text.specs.declared.block.Block.TheVariants as block
-use Rattle.pardo_text.specs.declared.statement.Statement.{Statement}
-use Rattle.pardo_text.specs.declared.statement.Statement.TheVariants as statement
-use Rattle.pardo_text.specs.declared.statement.Target.{Target}
-use Rattle.pardo_text.specs.declared.statement.Target.TheVariants as target
+use Rattle.pardo_program.specs.declared.operation.Op.TheVariants.{Div}
+use Rattle.pardo_program.specs.declared.block.Block.{Block}
+use Rattle.pardo_program.specs.declared.block.Block.TheVariants as block
+use Rattle.pardo_program.specs.declared.statement.Statement.{Statement}
+use Rattle.pardo_program.specs.declared.statement.Statement.TheVariants as statement
+use Rattle.pardo_program.specs.declared.statement.Target.{Target}
+use Rattle.pardo_program.specs.declared.statement.Target.TheVariants as target
 use Rattle.pardo_text.specs.declared.symbol.Symbol.TheVariants as the
 use Rattle.pardo_text.specs.Drafts.{Draft, fitting, with_line, with_block, with_loop, without}
 use Rattle.pardo_text.specs.Drafts.{with_end}
-use Rattle.pardo_text.specs.Expression.{Tree, number as constant}
+use Rattle.pardo_program.specs.Expression.{Tree, number as constant}
 use Rattle.pardo_text.specs.Expressions.{Read, rest_after_mark}
 use Rattle.pardo_text.specs.Expressions.{indexed, ended, new_name, joined, expression_at}
 use Rattle.pardo_text.specs.Expressions.{within_at, indices_at}

@@ -4,23 +4,22 @@ use Rattle.std.specs.Prelude.{List, [], ◌∷◌, ◌++◌, length}
 use Rattle.std.specs.Prelude.{slice_set, slice_get, Some, None, Result, Ok, Err}
 use Rattle.pardo_text.specs.declared.fault.PardoKind.{PardoKind}
 use Rattle.pardo_text.specs.declared.fault.PardoKind.TheVariants.{TooManyCells}
-use Rattle.pardo_text.specs.declared.limits.TheConstants.{MAX_CELLS}
+use Rattle.pardo_program.specs.declared.limits.TheConstants.{MAX_CELLS}
 use Rattle.pardo_text.specs.declared.names.Named.{Named}
 use Rattle.pardo_text.specs.declared.names.Named.TheVariants as thing
-use Rattle.pardo_text.specs.declared.arrays.Shape.{Shape}
-use Rattle.pardo_text.specs.declared.arrays.Shape.TheVariants as shape
+use Rattle.pardo_program.specs.declared.arrays.Shape.{Shape}
+use Rattle.pardo_program.specs.declared.arrays.Shape.TheVariants as shape
 use Rattle.pram_job.specs.declared.instr.Rule.{Rule}
 use Rattle.pram_job.specs.declared.instr.Rule.TheVariants.{Common}
-use Rattle.pardo_text.specs.declared.block.Block.{Block}
+use Rattle.pardo_program.specs.declared.block.Block.{Block}
 use Rattle.pardo_text.specs.declared.draft.Stage.{Stage}
 use Rattle.pardo_text.specs.declared.draft.Stage.TheVariants as stage
-use Rattle.pardo_text.specs.declared.statement.Line.{Line}
-use Rattle.pardo_text.specs.declared.statement.Statement.{Statement}
-use Rattle.pardo_text.specs.declared.statement.Statement.TheVariants as statement
+use Rattle.pardo_program.specs.declared.statement.Line.{Line}
+use Rattle.pardo_program.specs.declared.statement.Statement.{Statement}
 use Rattle.text_lines.specs.Lines.{Word}
-use Rattle.pardo_text.specs.Blocks.{choice_depth}
+use Rattle.pardo_program.specs.Blocks.{choice_depth, loop_ending_at}
 use Rattle.pardo_text.specs.Names.{Names, no_names, named, unnamed}
-use Rattle.pardo_text.specs.Program.{ArrayData, PrivateData, shared_cells, array_after}
+use Rattle.pardo_program.specs.Program.{ArrayData, PrivateData, shared_cells, array_after}
 
 -- The program so far. There is no processor before the line `procs`. Blocks and loops are those
 -- that are open, the innermost first.
@@ -115,12 +114,6 @@ abbrev pub without : List Word → Draft → Draft
 without [] draft = draft
 without (name ∷ loops) draft =
     record draft { names = unnamed name draft.names; loops = loops }
-
--- The opening line of a loop learns the place of its end.
-abbrev pub loop_ending_at : ℕ → Statement → Statement
-loop_ending_at end (statement.While condition old) = statement.While condition end
-loop_ending_at end (statement.For nest first last up old) = statement.For nest first last up end
-loop_ending_at end other = other
 
 abbrev pub ended_at : ℕ → List Line → List Line
 ended_at begin lines = elim (slice_get lines begin) [

@@ -11,14 +11,14 @@ use Rattle.pardo_text.specs.declared.names.Named.{Named}
 use Rattle.pardo_text.specs.declared.names.Named.TheVariants.{Array, Table}
 use Rattle.pardo_text.specs.declared.names.Scope.{Scope}
 use Rattle.pardo_text.specs.declared.names.Scope.TheVariants.{Fixed}
-use Rattle.pardo_text.specs.declared.operation.Op.{Op}
-use Rattle.pardo_text.specs.declared.operation.Op.TheVariants as op
+use Rattle.pardo_program.specs.declared.operation.Op.{Op}
+use Rattle.pardo_program.specs.declared.operation.Op.TheVariants as op
 use Rattle.pardo_text.specs.declared.symbol.Symbol.TheVariants as the
-use Rattle.pardo_text.specs.Expression.{Tree, number, place, apply}
+use Rattle.pardo_program.specs.Expression.{Tree, number, place}
+use Rattle.pardo_program.specs.Folding.{applied, constant_of, tested}
 use Rattle.text_lines.specs.Lines.{Word}
 use Rattle.pardo_text.specs.Names.{Names, admits, tree_from}
-use Rattle.pardo_text.specs.Operations.{level_of, is_division, operation_value, comparisons}
-use Rattle.pardo_text.specs.Operations.{loosest}
+use Rattle.pardo_program.specs.Operations.{level_of, is_division, comparisons, loosest}
 use Rattle.text_lines.specs.Reads.{◌>>=◌}
 use Rattle.pardo_text.specs.Tokens.{Token, name, number as literal, symbol}
 use Rattle.pardo_text.specs.declared.part.Mark.{Mark}
@@ -58,16 +58,6 @@ new_name names (name word ∷ rest) =
 new_name names _ = Err BadLine
 
 -- ---- what an operation makes of its operands
-
--- Of two numbers it makes a number at once.
-abbrev pub applied : Op → Tree → Tree → Tree
-applied op (number first) (number second) = number (operation_value op first second)
-applied op first second = apply op first second
-
--- the number that a tree is, if it is one
-abbrev pub constant_of : Tree → Option ℕ
-constant_of (number value) = Some value
-constant_of _ = None
 
 abbrev pub is_zero : Option ℕ → Bool
 is_zero (Some value) = value == 0
@@ -131,11 +121,6 @@ place_at inner scope array (Some tokens) = do
   Ok (place array index.0, rest)
 
 -- ---- two indices
-
--- An index is tested, unless it is a number within its bound.
-abbrev pub tested : ℕ → Tree → Option ℕ → Tree
-tested n tree None = apply op.Within tree (number n)
-tested n tree (Some k) = if nat_lt k n then tree else apply op.Within tree (number n)
 
 -- an index below n
 abbrev pub index_at : Inner → Scope → ℕ → List Token → Read Tree

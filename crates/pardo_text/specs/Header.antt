@@ -4,9 +4,9 @@ use Rattle.std.specs.Prelude.{codes, Option, Some, None, Result, Ok, Err}
 use Rattle.std.specs.Str.{bytes_eq}
 use Rattle.pardo_text.specs.declared.fault.PardoKind.{PardoKind}
 use Rattle.pardo_text.specs.declared.fault.PardoKind.TheVariants.{BadHeader, OutOfLimits}
-use Rattle.pardo_text.specs.declared.arrays.Shape.{Shape}
-use Rattle.pardo_text.specs.declared.arrays.Shape.TheVariants as shape
-use Rattle.pardo_text.specs.declared.limits.TheConstants.{MAX_CELLS, MAX_PROCS}
+use Rattle.pardo_program.specs.declared.arrays.Shape.{Shape}
+use Rattle.pardo_program.specs.declared.arrays.Shape.TheVariants as shape
+use Rattle.pardo_program.specs.declared.limits.TheConstants.{MAX_CELLS, MAX_PROCS}
 use Rattle.pardo_text.specs.declared.names.Named.TheVariants as thing
 use Rattle.pardo_text.specs.declared.names.Scope.TheVariants.{Start}
 use Rattle.pram_job.specs.declared.instr.Rule.{Rule}
@@ -14,15 +14,16 @@ use Rattle.pram_job.specs.declared.instr.Rule.TheVariants.{Common, Priority, Cre
 use Rattle.pardo_text.specs.declared.draft.Stage.TheVariants as stage
 use Rattle.pardo_text.specs.declared.symbol.Symbol.TheVariants as the
 use Rattle.pardo_text.specs.Drafts.{Draft, with_name, with_array, with_private, fitting}
-use Rattle.pardo_text.specs.Expression.{Tree, number}
+use Rattle.pardo_program.specs.Expression.{Tree, number}
 use Rattle.pardo_text.specs.Expressions.{Read, rest_after_mark}
 use Rattle.pardo_text.specs.Expressions.{indexed, ended, new_name, expression_at, fixed_at}
 use Rattle.text_lines.specs.Lines.{Word}
 use Rattle.pardo_text.specs.Names.{Names}
-use Rattle.pardo_text.specs.Program.{places_in}
+use Rattle.pardo_program.specs.Program.{places_in}
 use Rattle.text_lines.specs.Reads.{◌>>=◌}
 use Rattle.pardo_text.specs.Tokens.{Token, name, number as literal, symbol}
-use Rattle.pardo_text.specs.Values.{greatest_value, values_for, start_at}
+use Rattle.pardo_program.specs.Operations.{greatest_value}
+use Rattle.pardo_text.specs.Values.{values_for, start_at}
 use Rattle.pardo_text.specs.declared.part.Mark.TheVariants as mark
 
 -- `pardo 1`

@@ -2,11 +2,8 @@
 pub mod Tokens
 pub mod Marks
 pub mod Names
-pub mod Nodes
 pub mod Values
 pub mod Columns
 pub mod Drafts
-pub mod Postfixes
 pub mod Exprs
-pub mod Untested
 pub mod Settings

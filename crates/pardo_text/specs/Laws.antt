@@ -4,22 +4,22 @@ use Rattle.std.specs.Prelude.{length, map, IsTrue, IfOk, Some, Result, Ok, Err}
 use Rattle.std.specs.List.{All, list_all}
 use Rattle.pardo_text.specs.declared.fault.PardoFault.{PardoFault}
 use Rattle.pardo_text.specs.declared.fault.PardoKind.{PardoKind}
-use Rattle.pardo_text.specs.declared.limits.TheConstants.{MAX_CELLS, MAX_PROCS, MAX_OPEN}
+use Rattle.pardo_program.specs.declared.limits.TheConstants.{MAX_CELLS, MAX_PROCS, MAX_OPEN}
 use Rattle.pardo_text.specs.declared.names.Scope.TheVariants.{Fixed}
 use Rattle.pardo_text.specs.Drafts.{Draft, empty}
-use Rattle.pardo_text.specs.Expression.{number}
+use Rattle.pardo_program.specs.Expression.{number}
 use Rattle.pardo_text.specs.Expressions.{expression_at, log_of}
-use Rattle.pardo_text.specs.Lawful.{AreNumbers, IsProgram}
+use Rattle.pardo_program.specs.Lawful.{AreNumbers, IsProgram}
 use Rattle.text_lines.specs.Lines.{HasOtherLine}
 use Rattle.text_lines.specs.Lines.{lines_of, is_allowed, is_blank, said_in}
 use Rattle.pardo_text.specs.Names.{Names}
-use Rattle.pardo_text.specs.Nested.{IsNested}
-use Rattle.pardo_text.specs.Program.{ProgramData}
+use Rattle.pardo_program.specs.Nested.{IsNested}
+use Rattle.pardo_program.specs.Program.{ProgramData}
 use Rattle.pardo_text.specs.Reading.{with_text_line, program_in, program_of}
 use Rattle.pardo_text.specs.Settings.{SettingData, line_as_set, text_as_set}
 use Rattle.text_lines.specs.Reads.{◌>>=◌}
 use Rattle.pardo_text.specs.Tokens.{Token, token_at, tokens_of}
-use Rattle.pardo_text.specs.Variables.{AreDistinct, variable_names}
+use Rattle.pardo_program.specs.Variables.{AreDistinct, variable_names}
 
 -- cells, processors and open brackets
 abbrev pub ProgramLimitsAre : Type 0

@@ -6,7 +6,7 @@ use Rattle.pardo_text.specs.declared.names.Named.TheVariants.{Constant, Own, Sca
 use Rattle.pardo_text.specs.declared.names.Named.TheVariants.{Private, Loop}
 use Rattle.pardo_text.specs.declared.names.Scope.{Scope}
 use Rattle.pardo_text.specs.declared.names.Scope.TheVariants.{Start, Bound, Uniform, Any}
-use Rattle.pardo_text.specs.Expression.{Tree, number, own, loop, private, place}
+use Rattle.pardo_program.specs.Expression.{Tree, number, own, loop, private, place}
 use Rattle.text_lines.specs.Lines.{Word}
 
 abbrev pub Names : Type 0

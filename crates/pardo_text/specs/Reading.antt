@@ -1,4 +1,4 @@
--- Reading: the program of a text, or its first bad line and what is wrong with it.
+-- Reading: the program of a text, or its first bad line and its fault.
 use Rattle.std.specs.Prelude.{◌≡◌, ◌≢◌, ℕ, ◌+◌, not, if◌then◌else◌, List, [], ◌∷◌}
 use Rattle.std.specs.Prelude.{Result, Ok, Err}
 use Rattle.std.specs.List.{list_all}
@@ -6,16 +6,16 @@ use Rattle.pardo_text.specs.declared.fault.PardoFault.{PardoFault}
 use Rattle.pardo_text.specs.declared.fault.PardoKind.{PardoKind}
 use Rattle.pardo_text.specs.declared.fault.PardoKind.TheVariants.{NotAscii, BadHeader, OpenBlock}
 use Rattle.pardo_text.specs.declared.fault.PardoKind.TheVariants.{NoCode, Memory}
-use Rattle.pardo_text.specs.declared.block.Block.{Block}
+use Rattle.pardo_program.specs.declared.block.Block.{Block}
 use Rattle.pardo_text.specs.declared.draft.Stage.{Stage}
 use Rattle.pardo_text.specs.declared.draft.Stage.TheVariants as stage
-use Rattle.pardo_text.specs.declared.statement.Line.{Line}
+use Rattle.pardo_program.specs.declared.statement.Line.{Line}
 use Rattle.pardo_text.specs.Code.{statement_line}
 use Rattle.pardo_text.specs.Drafts.{Draft, empty}
 use Rattle.pardo_text.specs.Header.{version_line, rule_line, header_line}
 use Rattle.text_lines.specs.Lines.{lines_of, said_in, is_allowed}
-use Rattle.pardo_text.specs.Program.{ProgramData}
-use Rattle.pardo_text.specs.Tests.{program_untested}
+use Rattle.pardo_program.specs.Program.{ProgramData}
+use Rattle.pardo_program.specs.Tests.{program_untested}
 use Rattle.text_lines.specs.Reads.{◌>>=◌}
 use Rattle.pardo_text.specs.Tokens.{Token, tokens_of}
 

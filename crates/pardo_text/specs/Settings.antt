@@ -19,7 +19,7 @@ use Rattle.pardo_text.specs.declared.settings.SetRefusal.TheVariants as refusal
 use Rattle.pardo_text.specs.declared.symbol.Symbol.{Symbol}
 use Rattle.pardo_text.specs.declared.symbol.Symbol.TheVariants as the
 use Rattle.pardo_text.specs.Inner.Tokens.{after_blanks}
-use Rattle.pardo_text.specs.Program.{ProgramData}
+use Rattle.pardo_program.specs.Program.{ProgramData}
 use Rattle.pardo_text.specs.Reading.{program_of}
 use Rattle.pardo_text.specs.Tokens.{Token, name, number, symbol, token_at}
 use Rattle.text_lines.specs.Lines.{Word, lines_of, said_in}

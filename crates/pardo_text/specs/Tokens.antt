@@ -8,7 +8,7 @@ use Rattle.std.specs.Str.{bytes_eq}
 use Rattle.std.specs.Str.Parse.{digits_value}
 use Rattle.pardo_text.specs.declared.fault.PardoKind.{PardoKind}
 use Rattle.pardo_text.specs.declared.fault.PardoKind.TheVariants.{BadSymbol}
-use Rattle.pardo_text.specs.declared.operation.Op.TheVariants as op
+use Rattle.pardo_program.specs.declared.operation.Op.TheVariants as op
 use Rattle.pardo_text.specs.declared.symbol.Symbol.{Symbol}
 use Rattle.pardo_text.specs.declared.symbol.Symbol.TheVariants as the
 use Rattle.text_lines.specs.Lines.{Word, is_blank}

@@ -4,19 +4,15 @@ use Rattle.std.specs.Prelude.{if◌then◌else◌, List, [], ◌∷◌, ◌++◌
 use Rattle.std.specs.Prelude.{Option, Some, None, Result, Ok, Err}
 use Rattle.pardo_text.specs.declared.fault.PardoKind.{PardoKind}
 use Rattle.pardo_text.specs.declared.fault.PardoKind.TheVariants.{BadLine, OutOfLimits, WrongLength}
-use Rattle.pardo_text.specs.declared.operation.Op.{Op}
+use Rattle.pardo_program.specs.declared.operation.Op.{Op}
 use Rattle.pardo_text.specs.declared.symbol.Symbol.TheVariants as the
-use Rattle.pardo_text.specs.Expression.{Tree, number, own, loop, private, place, apply}
+use Rattle.pardo_program.specs.Expression.{Tree, number, own, loop, private, place, apply}
 use Rattle.pardo_text.specs.Expressions.{ended, fixed_at, rest_after_mark}
 use Rattle.pardo_text.specs.Names.{Names}
-use Rattle.pardo_text.specs.Operations.{is_division, operation_value}
+use Rattle.pardo_program.specs.Operations.{greatest_value, is_division, operation_value}
 use Rattle.text_lines.specs.Reads.{◌>>=◌}
 use Rattle.pardo_text.specs.Tokens.{Token, symbol}
 use Rattle.pardo_text.specs.declared.part.Mark.TheVariants as mark
-
--- the greatest number of 32 bits
-abbrev pub greatest_value : ℕ
-greatest_value = 4294967295
 
 -- ---- of private variables
 

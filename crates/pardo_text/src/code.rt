@@ -5,17 +5,15 @@ ghost use Rattle.pardo_text.specs.Code.{assignment_at, has_form, table_place};
 ghost use Rattle.pardo_text.specs.Inner.Names.{names_in};
 ghost use Rattle.pardo_text.specs.Inner.Tokens.{GivesAsRead};
 
-use crate::block::Block;
 use crate::cursor::Cursor;
 use crate::draft::Draft;
-use crate::expression::Expr;
 use crate::fault::PardoKind;
 use crate::names::{Named, Names, Scope};
 use crate::parse::{expression, place_in, quotient};
 use crate::part::{Mark, ended, expect, indexed, new_name};
-use crate::statement::{Statement, Target};
 use crate::symbol::Symbol;
 use crate::token::Token;
+use pardo_program::{Block, Expr, Statement, Target};
 use std::alloc::Global;
 use text_lines::is_word;
 
@@ -23,10 +21,10 @@ impl<'t> Draft<'t> {
     ghost use Rattle.pardo_text.specs.Code.{statement_line, if_line, while_line, for_line};
     ghost use Rattle.pardo_text.specs.Code.{assignment_line, else_of, elsif_line, elsifs_ended};
     ghost use Rattle.pardo_text.specs.Code.{assert_line, named_line};
-    ghost use Rattle.pardo_text.specs.declared.statement.Statement.TheVariants.{EndIf};
+    ghost use Rattle.pardo_program.specs.declared.statement.Statement.TheVariants.{EndIf};
     ghost use Rattle.pardo_text.specs.Tokens.{symbol};
     ghost use Rattle.pardo_text.specs.Drafts.{fitting, with_line, with_block, with_loop};
-    ghost use Rattle.pardo_text.specs.declared.block.Block.TheVariants.{For as ForBlock};
+    ghost use Rattle.pardo_program.specs.declared.block.Block.TheVariants.{For as ForBlock};
     ghost use Rattle.pardo_text.specs.declared.symbol.Symbol.TheVariants.{Else, End};
     ghost use Rattle.pardo_text.specs.Inner.Drafts.{draft_of};
 

@@ -5,9 +5,8 @@ ghost use Rattle.pardo_text.specs.Values.{quotient_of, values_for};
 ghost use Rattle.pardo_text.specs.Inner.Columns.{below, columns_in, quotients, top_of, with_column};
 ghost use Rattle.pardo_text.specs.Inner.Tokens.{GivesAsRead};
 
-use crate::expression::{Expr, Node};
 use crate::fault::PardoKind;
-use crate::operation::Op;
+use pardo_program::{Expr, Node, Op};
 use std::alloc::{AllocError, Global};
 
 /// The values of an expression for so many processors.

@@ -1,14 +1,13 @@
 //! What the lines of a text so far say.
 ghost use Rattle.std.specs.Prelude.{◌≡◌, IfOk, Ok};
 
-use crate::arrays::{Arrays, Shape};
-use crate::block::{Block, Blocks};
+use crate::arrays::Arrays;
 use crate::fault::PardoKind;
-use crate::limits::MAX_CELLS;
 use crate::names::{Named, Names};
-use crate::program::{Private, Program};
-use crate::statement::{Line, Statement};
-use crate::untested::leave_tests_out;
+use pardo_program::limits::MAX_CELLS;
+use pardo_program::{
+    Block, Blocks, Line, Parts, Private, Program, Shape, Statement, leave_tests_out,
+};
 use pram_job::Rule;
 use std::alloc::{AllocError, Global};
 use std::collections::BTreeMap;
@@ -201,7 +200,7 @@ impl<'t> Draft<'t> {
         if self.lines.is_empty() {
             return Err(PardoKind::NoCode);
         }
-        let mut program = Program {
+        let mut program = Program::new(Parts {
             rule: self.rule,
             procs: self.procs,
             arrays: self.arrays.into_items(),
@@ -209,7 +208,7 @@ impl<'t> Draft<'t> {
             loops: self.most_loops,
             choices: self.most_choices,
             lines: self.lines,
-        };
+        });
         leave_tests_out(self.alloc, &mut program)?;
         Ok(program)
     }

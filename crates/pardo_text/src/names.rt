@@ -1,7 +1,9 @@
 //! What names stand for.
-ghost use Rattle.std.specs.Prelude.{◌≡◌};
-ghost use Rattle.pardo_text.specs.Names.{admits};
+ghost use Rattle.std.specs.Prelude.{◌≡◌, ◌∷◌, IfOk};
+ghost use Rattle.pardo_text.specs.Names.{admits, tree_from};
 
+use pardo_program::{Exprs, Node};
+use std::alloc::AllocError;
 use std::collections::BTreeMap;
 
 /// What a name stands for. Arrays, variables and loops are counted from 0.
@@ -17,6 +19,24 @@ pub(crate) enum Named {
     Private(usize),
     /// The variable of the loop in so many others.
     Loop(usize),
+}
+
+impl Named {
+    /// One expression more: what the name without an index says.
+    pub(crate) fn add_to(self, exprs: &mut Exprs) -> Result<(), AllocError>
+        ensures { IfOk result (λ _. exprs.new ≡ tree_from self ∷ exprs.old) }
+    {
+        match self {
+            Named::Constant(value) => exprs.number(value),
+            Named::Own => exprs.leaf(Node::Own),
+            Named::Private(x) => exprs.leaf(Node::Private(x)),
+            Named::Loop(nest) => exprs.leaf(Node::Loop(nest)),
+            Named::Scalar(array) | Named::Array(array) | Named::Table(array, _, _) => {
+                exprs.number(0)?;
+                exprs.place_of(array)
+            }
+        }
+    }
 }
 
 /// The names that are known.

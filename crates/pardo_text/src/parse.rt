@@ -1,13 +1,13 @@
 //! Expressions, read from tokens.
 ghost use Rattle.std.specs.Prelude.{◌≡◌, ◌<◌, ◌-◌, List, Some, None, drop, length};
 ghost use Rattle.pardo_text.specs.declared.names.Scope.TheVariants.{Any};
-ghost use Rattle.pardo_text.specs.Expression.{first_of};
+ghost use Rattle.pardo_program.specs.Expression.{first_of};
 ghost use Rattle.pardo_text.specs.Expressions.{literal_at, bracketed_at, pair_at, log_at};
 ghost use Rattle.pardo_text.specs.Expressions.{place_at, used_at, named_at, operand_at, joined};
 ghost use Rattle.pardo_text.specs.Expressions.{after_row, index_at, indices_at};
 ghost use Rattle.pardo_text.specs.Expressions.{operator_at, chained, turns_at, level_at};
 ghost use Rattle.pardo_text.specs.Expressions.{within_at, expression_at, fixed_at, log_of};
-ghost use Rattle.pardo_text.specs.Operations.{level_of};
+ghost use Rattle.pardo_program.specs.Operations.{level_of};
 ghost use Rattle.pardo_text.specs.Tokens.{Token as Part};
 ghost use Rattle.pardo_text.specs.Code.{quotient_at};
 ghost use Rattle.pardo_text.specs.Inner.Exprs.{Adds, Joins};
@@ -15,14 +15,13 @@ ghost use Rattle.pardo_text.specs.Inner.Tokens.{GivesAsRead};
 ghost use Rattle.pardo_text.specs.Inner.Names.{names_in};
 
 use crate::cursor::Cursor;
-use crate::expression::{Expr, Exprs};
 use crate::fault::PardoKind;
-use crate::limits::MAX_OPEN;
 use crate::names::{Named, Names, Scope};
-use crate::operation::Op;
 use crate::part::{Mark, expect, indexed};
 use crate::symbol::Symbol;
 use crate::token::Token;
+use pardo_program::limits::MAX_OPEN;
+use pardo_program::{Expr, Exprs, Op};
 use std::alloc::Global;
 
 /// What stands around an expression.
@@ -355,7 +354,7 @@ fn used(around: &Around<'_, '_>, thing: Named, exprs: &mut Exprs, tokens: &mut C
         }
         (Named::Array(_) | Named::Table(_, _, _), false) | (_, true) => Err(PardoKind::WrongKind),
         (_, false) => {
-            exprs.named(thing)?;
+            thing.add_to(exprs)?;
             Ok(())
         }
     }

@@ -9,9 +9,9 @@ ghost use Rattle.pardo_text.specs.Inner.Names.{names_in};
 use crate::cursor::Cursor;
 use crate::fault::PardoKind;
 use crate::names::Names;
-use crate::operation::Op;
 use crate::symbol::Symbol;
 use crate::token::Token;
+use pardo_program::Op;
 
 /// A symbol that has to come next.
 #[derive(Clone, Copy)]

@@ -9,9 +9,9 @@ ghost use Rattle.pardo_text.specs.Settings.{IsSetRefusal, laid, met, program_set
 use crate::cursor::Cursor;
 use crate::draft::{Draft, Stage};
 use crate::fault::{PardoFault, PardoKind};
-use crate::program::Program;
 use crate::settings::{SetFault, SetRefusal, Settings};
 use crate::token::{count_tokens, said};
+use pardo_program::Program;
 use std::alloc::Global;
 use text_lines::{TextLines, is_lawful};
 

@@ -1,5 +1,5 @@
 //! Symbols.
-use crate::operation::Op;
+use pardo_program::Op;
 
 /// A token that is always spelled alike.
 #[derive(Clone, Copy)]

@@ -12,8 +12,8 @@ ghost use Rattle.pardo_text.specs.Inner.Marks.{operation_bytes, other_bytes};
 ghost use Rattle.pardo_text.specs.Inner.Tokens.{plain, after_blanks, tokens_cut, GivesAsRead};
 
 use crate::fault::PardoKind;
-use crate::operation::Op;
 use crate::symbol::Symbol;
+use pardo_program::Op;
 use text_lines::{is_blank, is_word, value_of};
 
 /// The next part of a line.

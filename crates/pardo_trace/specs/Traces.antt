@@ -8,11 +8,11 @@ use Rattle.pram_job.specs.Job.{JobData}
 use Rattle.pram_machine.specs.Instructions.{request_in}
 use Rattle.pram_machine.specs.Machine.{State, counter, halted, out_of_range}
 use Rattle.pram_rows.specs.StepRows.{StepRows}
-use Rattle.pardo_text.specs.Program.{ArrayData, PrivateData, ProgramData}
-use Rattle.pardo_text.specs.declared.statement.Line.{Line}
-use Rattle.pardo_text.specs.declared.statement.Statement.{Statement}
-use Rattle.pardo_text.specs.declared.statement.Statement.TheVariants.{EndIf, While, EndWhile}
-use Rattle.pardo_text.specs.declared.statement.Statement.TheVariants.{For, EndFor}
+use Rattle.pardo_program.specs.Program.{ArrayData, PrivateData, ProgramData}
+use Rattle.pardo_program.specs.declared.statement.Line.{Line}
+use Rattle.pardo_program.specs.declared.statement.Statement.{Statement}
+use Rattle.pardo_program.specs.declared.statement.Statement.TheVariants.{EndIf, While, EndWhile}
+use Rattle.pardo_program.specs.declared.statement.Statement.TheVariants.{For, EndFor}
 use Rattle.pardo_job.specs.Meaning.{first_below}
 use Rattle.pardo_job.specs.Printed.{has_cell}
 use Rattle.pardo_answers.specs.Records.{place_record}

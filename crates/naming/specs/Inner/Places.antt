@@ -2,7 +2,7 @@
 use Rattle.std.specs.Prelude.{◌≡◌, ◌≤◌, ℕ, ◌+◌, ◌*◌, ◌-◌, ◌^◌, ◌==◌, ◌&&◌}
 use Rattle.std.specs.Prelude.{List, length, nat_le, nat_lt}
 use Rattle.std.specs.Prelude.{if◌then◌else◌}
-use Rattle.pardo_text.specs.Program.{ArrayData}
+use Rattle.pardo_program.specs.Program.{ArrayData}
 use Rattle.pram_job.specs.declared.instr.Array.{Array}
 use Rattle.naming.specs.ArrayNames.{shared_name}
 use Rattle.pardo_job.specs.Printed.{cell_text}

@@ -1,12 +1,12 @@
 -- Expressions by pieces, node by node.
 use Rattle.std.specs.Prelude.{◌≡◌, ℕ, ◌+◌, Bool, false, List, [], ◌∷◌, ◌++◌, length}
 use Rattle.std.specs.Prelude.{if◌then◌else◌}
-use Rattle.pardo_text.specs.declared.operation.Op.{Op}
-use Rattle.pardo_text.specs.declared.expression.Node.{Node}
-use Rattle.pardo_text.specs.declared.expression.Node.TheVariants.{Number, Own, Loop}
-use Rattle.pardo_text.specs.declared.expression.Node.TheVariants.{Private, Place, Apply}
-use Rattle.pardo_text.specs.Expression.{Tree, apply, with_node}
-use Rattle.pardo_text.specs.Inner.Postfixes.{HasOperands}
+use Rattle.pardo_program.specs.declared.operation.Op.{Op}
+use Rattle.pardo_program.specs.declared.expression.Node.{Node}
+use Rattle.pardo_program.specs.declared.expression.Node.TheVariants.{Number, Own, Loop}
+use Rattle.pardo_program.specs.declared.expression.Node.TheVariants.{Private, Place, Apply}
+use Rattle.pardo_program.specs.Expression.{Tree, apply, with_node}
+use Rattle.pardo_program.specs.Inner.Postfixes.{HasOperands}
 use Rattle.pardo_flat.specs.declared.splitter.Part.{Part}
 use Rattle.pardo_flat.specs.Flat.{ShapeData, applied_shape, computed_shape, is_beside}
 use Rattle.pardo_flat.specs.Flat.{shape_of, split, variable}

@@ -4,10 +4,10 @@ use Rattle.std.specs.Prelude.{Result, OnOk}
 use Rattle.pram_job.specs.declared.instr.Instr.{Instr}
 use Rattle.pram_job.specs.declared.instr.Instr.TheVariants.{Ld}
 use Rattle.pram_job.specs.declared.instr.Place.TheVariants.{Named}
-use Rattle.pardo_text.specs.declared.expression.Node.{Node}
-use Rattle.pardo_text.specs.declared.expression.Node.TheVariants.{Number, Own, Loop}
-use Rattle.pardo_text.specs.declared.expression.Node.TheVariants.{Private, Place, Apply}
-use Rattle.pardo_text.specs.Expression.{Tree, with_node}
+use Rattle.pardo_program.specs.declared.expression.Node.{Node}
+use Rattle.pardo_program.specs.declared.expression.Node.TheVariants.{Number, Own, Loop}
+use Rattle.pardo_program.specs.declared.expression.Node.TheVariants.{Private, Place, Apply}
+use Rattle.pardo_program.specs.Expression.{Tree, with_node}
 use Rattle.pardo_flat.specs.Layouts.{ProgramLayoutData, private_cells, loop_cells, array_cells}
 use Rattle.pardo_job.specs.declared.fault.JobKind.{JobKind}
 use Rattle.pardo_job.specs.declared.held.Held.{Held}

@@ -2,7 +2,7 @@
 use Rattle.std.specs.Prelude.{◌≡◌, ◌≢◌, List, ◌∷◌, drop, Result, Ok, Err}
 use Rattle.pardo_text.specs.declared.fault.PardoKind.{PardoKind}
 use Rattle.pardo_text.specs.declared.fault.PardoKind.TheVariants.{Memory}
-use Rattle.pardo_text.specs.Expression.{Tree, first_of}
+use Rattle.pardo_program.specs.Expression.{Tree, first_of}
 use Rattle.pardo_text.specs.Expressions.{Read}
 use Rattle.pardo_text.specs.Tokens.{Token}
 

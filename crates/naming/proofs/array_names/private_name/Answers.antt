@@ -1,5 +1,5 @@
 use Rattle.std.proofs.Common.{ap, arith, sym}
-use Rattle.pardo_text.specs.Program.{shared_cells}
+use Rattle.pardo_program.specs.Program.{shared_cells}
 use Rattle.naming.proofs.ArrayNames.{before_rows, no_place, other_row}
 use Rattle.naming.proofs.array_names.private_name.Goals as goal
 use Rattle.naming.proofs.array_names.private_name.Goals.{then-len-eq0-via-then-len-eq0, then-len-eq0-via-else-len-eq0+then-len-procs}

@@ -1,5 +1,5 @@
 use Rattle.std.proofs.Common.{◌≡◌, ℕ, length}
-use Rattle.pardo_text.specs.Lawful.{AreArrays}
+use Rattle.pardo_program.specs.Lawful.{AreArrays}
 use Rattle.pardo_job.specs.Printed.{cell_text}
 use Rattle.naming.specs.Inner.Places.{NameAlike}
 use Rattle.naming.proofs.places.arrays_at.Given as goal

@@ -1,7 +1,7 @@
 use Rattle.std.proofs.Common.{◌∙◌, ◌/◌, ◌<◌, ◌≤◌, ℕ, List, ap, arith, length, subst, sym}
 use Rattle.std.proofs.Common.{length-drop, length-take-le}
-use Rattle.pardo_text.specs.Lawful.{AreArrays}
-use Rattle.pardo_text.specs.Program.{ArrayData}
+use Rattle.pardo_program.specs.Lawful.{AreArrays}
+use Rattle.pardo_program.specs.Program.{ArrayData}
 use Rattle.pardo_job.specs.Printed.{cell_text}
 use Rattle.naming.specs.ArrayNames.{shared_name}
 use Rattle.naming.proofs.ArrayNames.{earlier_named, later_named}

@@ -1,6 +1,6 @@
 use Rattle.std.proofs.Common.{[]}
 use Rattle.std.specs.List.{flat_map}
-use Rattle.pardo_text.specs.Program.{ArrayData, PrivateData}
+use Rattle.pardo_program.specs.Program.{ArrayData, PrivateData}
 use Rattle.page_core.proofs.Telling.{bytes_more}
 use Rattle.page_core.proofs.names.name_bytes.Goals as goal
 

@@ -1,6 +1,6 @@
 use Rattle.std.proofs.Common.{◌≡◌, ◌+◌, ◌-◌, ◌<◌, length, slice_get, Some, ap, sym, arith}
 use Rattle.std.proofs.lemmas.Option.{slice_get_within}
-use Rattle.pardo_text.specs.Program.{shared_cells}
+use Rattle.pardo_program.specs.Program.{shared_cells}
 use Rattle.page_core.proofs.Telling.{shared_end}
 use Rattle.page_core.proofs.names.shared_cells.Goals as goal
 

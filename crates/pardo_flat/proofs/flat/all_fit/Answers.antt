@@ -1,7 +1,7 @@
 use Rattle.std.proofs.Common.{◌≡◌, ◌∙◌, List, Some, false, true, ap, arith, below_more, length, sym}
 use Rattle.std.specs.Prelude.{slice_get}
 use Rattle.std.proofs.lemmas.Option.{same_Some, slice_get_within}
-use Rattle.pardo_text.specs.declared.statement.Line.{Line}
+use Rattle.pardo_program.specs.declared.statement.Line.{Line}
 use Rattle.pardo_flat.specs.Flat.{fits}
 use Rattle.pardo_flat.proofs.FlatLines.{line_there}
 use Rattle.pardo_flat.proofs.flat.all_fit.Goals as goal

@@ -1,6 +1,6 @@
 use Rattle.std.proofs.Common.{◌≡◌, ◌<◌, ℕ, [], Some, true}
 use Rattle.std.specs.Prelude.{slice_get}
-use Rattle.pardo_text.specs.declared.statement.Line.{Line}
+use Rattle.pardo_program.specs.declared.statement.Line.{Line}
 use Rattle.pardo_flat.specs.Flat.{fits}
 use Rattle.pardo_flat.proofs.flat.all_fit.Given as goal
 

@@ -1,6 +1,6 @@
 use Rattle.std.proofs.Common.{◌≡◌, ◌∙◌, ◌∷◌, [], ◌++◌, ap, arith, length, List, refl, rules}
-use Rattle.pardo_text.specs.declared.statement.Line.{Line}
-use Rattle.pardo_text.specs.Program.{PrivateData}
+use Rattle.pardo_program.specs.declared.statement.Line.{Line}
+use Rattle.pardo_program.specs.Program.{PrivateData}
 use Rattle.pardo_flat.proofs.Flats.{all_flat, flat_more}
 use Rattle.pardo_flat.proofs.FlatLines.{line_there}
 use Rattle.pardo_flat.proofs.flat.flat_lines.Goals as goal

@@ -1,6 +1,6 @@
 use Rattle.std.proofs.Common.{ap}
 use Rattle.std.specs.Prelude.{slice_index, slice_index_or}
-use Rattle.pardo_text.specs.declared.statement.Statement.{Statement}
+use Rattle.pardo_program.specs.declared.statement.Statement.{Statement}
 use Rattle.pardo_flat.specs.Inner.Flats.{moved_line}
 use Rattle.pardo_flat.proofs.Flats.{moved_more}
 use Rattle.pardo_flat.proofs.flat.move_lines.Goals as goal

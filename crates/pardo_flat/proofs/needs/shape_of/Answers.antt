@@ -2,7 +2,7 @@ use Rattle.std.proofs.Common.{◌≡◌, [], List, ap, arith, length, sym, ◌�
 use Rattle.std.proofs.lemmas.List.{same_from_push}
 use Rattle.pardo_flat.specs.Flat.{ShapeData, shape_of}
 use Rattle.pardo_flat.specs.Inner.Splits.{shapes_of}
-use Rattle.pardo_text.proofs.Nodes.{all_so_far, none_so_far}
+use Rattle.pardo_program.proofs.Nodes.{all_so_far, none_so_far}
 use Rattle.pardo_flat.proofs.needs.shape_of.Goals as goal
 
 pub loop-node-init : goal.loop-node-init

@@ -1,7 +1,7 @@
 use Rattle.std.proofs.Common.{◌≡◌}
-use Rattle.pardo_text.specs.Expression.{postfix}
+use Rattle.pardo_program.specs.Expression.{postfix}
 use Rattle.pardo_flat.specs.Inner.Splits.{shapes_of}
-use Rattle.pardo_text.proofs.Nodes.{SoFar}
+use Rattle.pardo_program.proofs.Nodes.{SoFar}
 use Rattle.pardo_flat.proofs.needs.shape_of.Given as goal
 
 abbrev pub invariant-loop-node : goal.invariant-loop-node

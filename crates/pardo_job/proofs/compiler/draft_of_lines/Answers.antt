@@ -1,5 +1,5 @@
 use Rattle.std.proofs.Common.{◌∙◌, ap, arith}
-use Rattle.pardo_text.specs.Program.{ProgramData}
+use Rattle.pardo_program.specs.Program.{ProgramData}
 use Rattle.pardo_job.specs.Lines.{code_of}
 use Rattle.pardo_job.specs.Refusals.{line_numbers}
 use Rattle.pardo_job.proofs.Placed.{level_all}

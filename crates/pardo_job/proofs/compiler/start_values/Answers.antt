@@ -1,6 +1,6 @@
 use Rattle.std.proofs.Common.{◌≡◌, ◌-◌, ◌∙◌, ◌++◌, ℕ, List, ap, arith, length, replicate, take}
 use Rattle.std.specs.List.{flat_map}
-use Rattle.pardo_text.specs.Program.{ArrayData, PrivateData}
+use Rattle.pardo_program.specs.Program.{ArrayData, PrivateData}
 use Rattle.pardo_flat.specs.Layouts.{ProgramLayoutData, cell_count, given_values}
 use Rattle.pardo_job.proofs.Initial.{start_is, values_all}
 use Rattle.pardo_job.proofs.compiler.start_values.Goals as goal

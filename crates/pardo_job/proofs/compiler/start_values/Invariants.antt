@@ -1,6 +1,6 @@
 use Rattle.std.proofs.Common.{◌≡◌, ◌++◌, take}
 use Rattle.std.specs.List.{flat_map}
-use Rattle.pardo_text.specs.Program.{ArrayData, PrivateData}
+use Rattle.pardo_program.specs.Program.{ArrayData, PrivateData}
 use Rattle.pardo_job.proofs.compiler.start_values.Given as goal
 
 abbrev pub invariant-loop-array : goal.invariant-loop-array

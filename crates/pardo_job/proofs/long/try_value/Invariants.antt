@@ -1,6 +1,6 @@
 use Rattle.std.proofs.Common.{◌≡◌, List, []}
 use Rattle.pram_job.specs.declared.instr.Instr.{Instr}
-use Rattle.pardo_text.specs.Expression.{postfix}
+use Rattle.pardo_program.specs.Expression.{postfix}
 use Rattle.pardo_job.proofs.Putting.{PutSoFar}
 use Rattle.pardo_job.proofs.long.try_value.Given as goal
 

@@ -1,5 +1,5 @@
 use Rattle.std.proofs.Common.{◌≡◌, ◌<◌, ◌∙◌, ◌++◌, ℕ, List, ap, arith, length}
-use Rattle.pardo_text.specs.declared.statement.Line.{Line}
+use Rattle.pardo_program.specs.declared.statement.Line.{Line}
 use Rattle.pardo_flat.specs.Flat.{first_flat_of, flat}
 use Rattle.pardo_flat.proofs.FlatLines.{line_there}
 use Rattle.pardo_job.specs.declared.times.CountedLine.{CountedLine}

@@ -1,7 +1,7 @@
 use Rattle.std.proofs.Common.{◌≡◌, ◌+◌, ℕ, arith, rules, subst, sym, ◌++◌, ◌∷◌, [], Ok, Err}
 use Rattle.std.proofs.lemmas.Grind.{common_steps}
 use Rattle.pram_job.specs.declared.instr.Operand.TheVariants.{Register}
-use Rattle.pardo_text.specs.declared.expression.Node.{Node}
+use Rattle.pardo_program.specs.declared.expression.Node.{Node}
 use Rattle.pardo_job.specs.Inner.Emitting.{PutsCode, IsCodeFault}
 use Rattle.pardo_job.specs.Inner.Nodes.{Takes}
 use Rattle.pardo_job.specs.Operations.{taken_by}

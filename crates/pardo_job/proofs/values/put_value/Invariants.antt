@@ -1,5 +1,5 @@
 use Rattle.std.proofs.Common.{◌≡◌}
-use Rattle.pardo_text.specs.Expression.{postfix}
+use Rattle.pardo_program.specs.Expression.{postfix}
 use Rattle.pardo_job.proofs.Putting.{PutSoFar}
 use Rattle.pardo_job.proofs.values.put_value.Given as goal
 

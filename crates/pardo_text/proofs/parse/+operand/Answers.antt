@@ -5,7 +5,7 @@ use Rattle.pardo_text.proofs.Chains.{within_at_none, within_at_more, level_at_ze
 use Rattle.pardo_text.proofs.Chains.{chained_ends, chained_operand, chained_join, chained_more}
 use Rattle.pardo_text.proofs.Chains.{chained_begins, chained_over, before_is_no_division}
 use Rattle.pardo_text.proofs.LawConstants.{is_no_other}
-use Rattle.pardo_text.proofs.Postfix.{top_is}
+use Rattle.pardo_program.proofs.Postfix.{top_is}
 use Rattle.pardo_text.proofs.parse.+operand.Goals as goal
 
 pub within-returns-in-Some : goal.within-returns-in-Some

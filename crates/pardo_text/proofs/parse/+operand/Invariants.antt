@@ -1,5 +1,5 @@
 use Rattle.std.proofs.Common.{◌+◌, ◌*◌, ◌-◌, ◌≡◌, ◌∷◌, drop}
-use Rattle.pardo_text.specs.Expression.{first_of}
+use Rattle.pardo_program.specs.Expression.{first_of}
 use Rattle.pardo_text.specs.Expressions.{chained, turns_at, level_at, operand_at, within_at}
 use Rattle.pardo_text.specs.Inner.Names.{names_in}
 use Rattle.pardo_text.proofs.parse.+operand.Given as goal

@@ -1,6 +1,6 @@
 use Rattle.std.proofs.Common.{◌≡◌, ◌∙◌, ◌≤◌, List, ap, subst}
 use Rattle.std.specs.Prelude.{MatchOption}
-use Rattle.pardo_text.specs.Program.{ArrayData}
+use Rattle.pardo_program.specs.Program.{ArrayData}
 use Rattle.naming.specs.CellLists.{AreOfArray}
 use Rattle.naming.specs.Names.{NamingData}
 use Rattle.naming.specs.declared.places.Stretch.{Stretch}

@@ -1,6 +1,6 @@
 use Rattle.std.proofs.Common.{◌≡◌, ◌∙◌, ◌<◌, ℕ, List, ap, subst}
 use Rattle.std.specs.Prelude.{IfOk, MatchOption}
-use Rattle.pardo_text.specs.Program.{ArrayData}
+use Rattle.pardo_program.specs.Program.{ArrayData}
 use Rattle.naming.specs.Inner.Places.{IsPlaceText}
 use Rattle.naming.specs.Names.{NamingData}
 use Rattle.naming.proofs.names.Naming.cell_at.Goals as goal

@@ -1,7 +1,7 @@
 use Rattle.std.proofs.Common.{◌≡◌, ℕ, ◌+◌, ◌<◌, List, [], ◌∷◌, ◌++◌, length, map, take, get_or}
 use Rattle.std.proofs.Common.{subst, ap, sym, ◌∙◌, arith}
 use Rattle.pram_job.specs.declared.instr.Array.{Array}
-use Rattle.pardo_text.specs.Program.{ArrayData, PrivateData, shared_cells}
+use Rattle.pardo_program.specs.Program.{ArrayData, PrivateData, shared_cells}
 use Rattle.pardo_flat.specs.Layouts.{cells_of_array, program_layout}
 use Rattle.pardo_flat.proofs.Sharing.{IsPart, part_of, cells_at, cells_same, layout_same}
 use Rattle.std.proofs.lemmas.List.{take_all}

@@ -1,5 +1,5 @@
 use Rattle.std.proofs.Common.{◌≡◌, map, take}
-use Rattle.pardo_text.specs.Program.{shared_cells}
+use Rattle.pardo_program.specs.Program.{shared_cells}
 use Rattle.pardo_flat.specs.Layouts.{cells_of_array}
 use Rattle.pardo_flat.proofs.layout.Layout.of.Given as goal
 

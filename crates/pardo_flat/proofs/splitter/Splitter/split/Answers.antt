@@ -1,6 +1,6 @@
 use Rattle.std.proofs.Common.{arith, refl, ◌∙◌}
 use Rattle.pardo_flat.specs.Inner.Splits.{AreSplit}
-use Rattle.pardo_text.proofs.Nodes.{all_so_far, none_so_far}
+use Rattle.pardo_program.proofs.Nodes.{all_so_far, none_so_far}
 use Rattle.pardo_flat.proofs.Splitters.{only_part, some_part}
 use Rattle.pardo_flat.proofs.splitter.Splitter.split.Goals as goal
 

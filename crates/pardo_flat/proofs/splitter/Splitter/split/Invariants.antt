@@ -1,7 +1,7 @@
 use Rattle.std.proofs.Common.{◌≡◌}
-use Rattle.pardo_text.specs.Expression.{postfix}
+use Rattle.pardo_program.specs.Expression.{postfix}
 use Rattle.pardo_flat.specs.Inner.Splits.{AreSplit}
-use Rattle.pardo_text.proofs.Nodes.{SoFar}
+use Rattle.pardo_program.proofs.Nodes.{SoFar}
 use Rattle.pardo_flat.proofs.splitter.Splitter.split.Given as goal
 
 abbrev pub invariant-loop-node : goal.invariant-loop-node

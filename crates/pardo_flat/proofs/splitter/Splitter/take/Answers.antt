@@ -1,6 +1,6 @@
 use Rattle.std.proofs.Common.{sym, subst, ◌∙◌}
 use Rattle.std.proofs.lemmas.Result.{on_ok_weaker}
-use Rattle.pardo_text.specs.declared.expression.Node.{Node}
+use Rattle.pardo_program.specs.declared.expression.Node.{Node}
 use Rattle.pardo_flat.specs.Inner.Splits.{JoinsTo, TakesNode}
 use Rattle.pardo_flat.proofs.Splitters.{apply_takes, joins_back}
 use Rattle.pardo_flat.proofs.splitter.Splitter.take.Goals as goal

@@ -6,7 +6,7 @@ use Rattle.pardo_flat.proofs.FlatLines.{line_there}
 use Rattle.pardo_job.specs.declared.fault.JobKind.{JobKind}
 use Rattle.pardo_job.specs.declared.fault.JobKind.TheVariants.{Memory}
 use Rattle.pardo_job.specs.Refusals.{IsLinesFault}
-use Rattle.pardo_text.specs.Lawful.{IsLine, bounds_of}
+use Rattle.pardo_program.specs.Lawful.{IsLine, bounds_of}
 use Rattle.pardo_job.proofs.LineFits.{line_at}
 use Rattle.pardo_job.proofs.Placed.{code_more, code_none, only_memory, place_below}
 use Rattle.pardo_job.proofs.lines.Listing.code.Goals as goal

@@ -1,10 +1,10 @@
 use Rattle.std.proofs.Common.{◌≡◌, ◌∙◌, ap, subst}
 use Rattle.std.specs.Prelude.{slice_index}
-use Rattle.pardo_text.specs.declared.statement.Statement.{Statement}
-use Rattle.pardo_text.specs.declared.statement.Statement.TheVariants.{Assign}
-use Rattle.pardo_text.specs.declared.statement.Target.{Target}
-use Rattle.pardo_text.specs.declared.statement.Target.TheVariants.{Private, Array as Shared}
-use Rattle.pardo_text.specs.Lawful.{IsStatement, bounds_of}
+use Rattle.pardo_program.specs.declared.statement.Statement.{Statement}
+use Rattle.pardo_program.specs.declared.statement.Statement.TheVariants.{Assign}
+use Rattle.pardo_program.specs.declared.statement.Target.{Target}
+use Rattle.pardo_program.specs.declared.statement.Target.TheVariants.{Private, Array as Shared}
+use Rattle.pardo_program.specs.Lawful.{IsStatement, bounds_of}
 use Rattle.pardo_flat.specs.Layouts.{ProgramLayoutData}
 use Rattle.pardo_job.specs.Inner.Pieces.{bounds_code}
 use Rattle.pardo_job.specs.Values.{value_code}

@@ -1,6 +1,6 @@
 use Rattle.std.proofs.Common.{◌≡◌, ◌+◌, ◌-◌, ◌<◌, ◌∙◌, ◌∷◌, [], ◌++◌, ℕ, List, ap, arith, length}
 use Rattle.std.proofs.Common.{replicate, take}
-use Rattle.pardo_text.specs.declared.statement.Line.{Line}
+use Rattle.pardo_program.specs.declared.statement.Line.{Line}
 use Rattle.pardo_flat.proofs.FlatLines.{line_there}
 use Rattle.pardo_job.specs.Lines.{place_of}
 use Rattle.pardo_job.proofs.Placed.{numbers_more, numbers_none}

@@ -2,9 +2,9 @@ use Rattle.std.proofs.Common.{◌≡◌, ◌+◌, ◌≤◌, ◌<◌, ◌∙◌,
 use Rattle.std.proofs.Common.{subst, sym}
 use Rattle.std.specs.Prelude.{slice_index}
 use Rattle.pram_job.specs.declared.instr.Instr.{Instr}
-use Rattle.pardo_text.specs.declared.statement.Line.{Line}
-use Rattle.pardo_text.specs.declared.statement.Statement.{Statement}
-use Rattle.pardo_text.specs.Lawful.{IsStatement, bounds_of, masks_of}
+use Rattle.pardo_program.specs.declared.statement.Line.{Line}
+use Rattle.pardo_program.specs.declared.statement.Statement.{Statement}
+use Rattle.pardo_program.specs.Lawful.{IsStatement, bounds_of, masks_of}
 use Rattle.pardo_flat.proofs.FlatLines.{line_there}
 use Rattle.pardo_job.specs.Lines.{assignment_code, condition_code, first_code, none_code}
 use Rattle.pardo_job.proofs.LineFits.{choices_in, loops_in, target_in, tree_in}

@@ -1,6 +1,6 @@
 use Rattle.std.proofs.Common.{arith, subst}
-use Rattle.pardo_text.specs.declared.statement.Statement.{Statement}
-use Rattle.pardo_text.specs.Lawful.{IsStatement, bounds_of}
+use Rattle.pardo_program.specs.declared.statement.Statement.{Statement}
+use Rattle.pardo_program.specs.Lawful.{IsStatement, bounds_of}
 use Rattle.pardo_job.proofs.LineFits.{loops_in, tree_in}
 use Rattle.pardo_job.proofs.lines.Listing.put_turn.Goals as goal
 

@@ -1,6 +1,6 @@
 use Rattle.std.proofs.Common.{◌≡◌, length}
 use Rattle.pardo_text.specs.Code.{elsifs_ended}
-use Rattle.pardo_text.specs.declared.statement.Statement.TheVariants.{EndIf}
+use Rattle.pardo_program.specs.declared.statement.Statement.TheVariants.{EndIf}
 use Rattle.pardo_text.specs.Drafts.{with_line}
 use Rattle.pardo_text.specs.Inner.Drafts.{draft_of}
 use Rattle.pardo_text.proofs.draft.Draft.end_choice.Given as goal

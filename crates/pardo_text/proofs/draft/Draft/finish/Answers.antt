@@ -1,8 +1,8 @@
 use Rattle.std.proofs.Common.{◌≡◌, ◌==◌, ◌∙◌, sym, ap, length, vec_len, arith, Ok, List}
 use Rattle.pardo_text.specs.Inner.Drafts.{draft_of}
-use Rattle.pardo_text.specs.Program.{ArrayData}
+use Rattle.pardo_program.specs.Program.{ArrayData, ProgramData}
 use Rattle.pardo_text.specs.Reading.{program_in, said_so_far}
-use Rattle.pardo_text.specs.Tests.{program_untested}
+use Rattle.pardo_program.specs.Tests.{program_untested}
 use Rattle.pardo_text.proofs.Finished.{finished-early, finished-open, finished-empty}
 use Rattle.pardo_text.proofs.Finished.{finished-whole}
 use Rattle.pardo_text.proofs.draft.Draft.finish.Goals as goal
@@ -37,5 +37,6 @@ returns c =
     (sym c.is_empty.ensures ∙ c.if-not-is_empty.false)
     (ap (λ n. n == 0) same ∙ sym c.is_empty-2.ensures ∙ c.if-is_empty.false)
     ∙ ap Ok (sym (c.in_ok-leave_tests_out.ensures
+    ∙ ap (λ (program : ProgramData). program_untested program) c.new-program.ensures
     ∙ ap (λ (arrays : List ArrayData). program_untested (record said { arrays = arrays }))
     c.into_items.ensures))

@@ -1,0 +1,16 @@
+use Rattle.std.proofs.Common.{◌∷◌, drop}
+use Rattle.pardo_program.specs.Expression.{place, first_of}
+use Rattle.pardo_program.proofs.Postfix.{nodes_of_all, place_nodes, trees_from_nodes}
+use Rattle.pardo_program.proofs.expression.Exprs.place_of.Goals as goal
+
+pub invariant_of-self-2 : goal.invariant_of-self-2
+invariant_of-self-2 c = (
+  place c.args.array (first_of c.args.self.now) ∷ drop 1 c.args.self.now,
+  place_nodes c.args.self.now c.self.inside.nodes.items _ c.args.array c.requires
+      (nodes_of_all _ _ c.self.invariant c.self.view_is) c.in_ok-push.ensures.items,
+)
+
+pub returns : goal.returns
+returns c = trees_from_nodes _ _
+    (place_nodes c.args.self.now c.self.inside.nodes.items _ c.args.array c.requires
+    (nodes_of_all _ _ c.self.invariant c.self.view_is) c.in_ok-push.ensures.items)

@@ -1,0 +1,10 @@
+pub mod Operations
+pub mod Expression
+pub mod Folding
+pub mod Program
+pub mod Blocks
+pub mod Tests
+pub mod Lawful
+pub mod Nested
+pub mod Variables
+pub mod Inner

@@ -1,6 +1,0 @@
-use Rattle.std.proofs.Common.{◌∙◌}
-use Rattle.pardo_text.proofs.Postfix.{nodes_of}
-use Rattle.pardo_text.proofs.expression.Expr.nodes.Goals as goal
-
-pub returns : goal.returns
-returns c = c.as_slice.ensures.value ∙ nodes_of _ _ c.self.invariant c.self.view_is

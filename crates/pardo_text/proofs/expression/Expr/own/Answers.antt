@@ -1,5 +1,0 @@
-use Rattle.pardo_text.specs.Expression.{own}
-use Rattle.pardo_text.proofs.expression.Expr.own.Goals as goal
-
-pub invariant_of-result : goal.invariant_of-result
-invariant_of-result c = (own, c.in_ok-from_slice.ensures.items)

@@ -1,7 +1,0 @@
-use Rattle.std.proofs.Common.{◌≡◌, drop}
-use Rattle.pardo_text.specs.Tests.{widened_by}
-use Rattle.pardo_text.proofs.untested.widen_by.Given as goal
-
-abbrev pub invariant-loop-line : goal.invariant-loop-line
-invariant-loop-line l =
-    widened_by l.mosts (drop l.line-index l.lines) ≡ widened_by l.initial.mosts l.lines
