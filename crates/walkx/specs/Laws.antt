@@ -20,11 +20,12 @@ AnswersKeepFit =
     Fits job layout worker → HearsAdmitted job layout (ask_of job layout worker) found →
     Fits job layout (told job layout worker found)
 
--- a record that knows a worker knows it with the next answer, once it has the step
+-- a record that knows a worker knows it with the next admitted answer, once it has the step
 abbrev pub KnownStayKnown : Type 0
 KnownStayKnown =
     (job : JobData) (layout : LayoutData) (past : Record) (worker : Walking) (found : ℕ) →
-    Fits job layout worker → Knows job layout past worker →
+    IsBoard job layout → Fits job layout worker → Knows job layout past worker →
+    HearsAdmitted job layout (ask_of job layout worker) found →
     Knows job layout (after past (ask_of job layout worker) found) (told job layout worker found)
 
 -- each operation of a worker is on the board, and admitted
