@@ -5,6 +5,8 @@ use Rattle.std.proofs.Common.{arith, ◌∙◌}
 use Rattle.std.proofs.lemmas.Bool.{cond_both, eqb-true, eqb-false}
 use Rattle.std.proofs.lemmas.Bool.{leb-true, leb-false, eq-eqb, ne_eqb}
 use Rattle.pram_job.specs.Job.{JobData}
+use Rattle.pram_words.specs.declared.layout.Form.{Form}
+use Rattle.pram_words.specs.declared.layout.Form.TheVariants.{Compact, Wide}
 use Rattle.pram_words.specs.Words.{LayoutData, number_of}
 use Rattle.pram_words.proofs.NextPhases.{before_next}
 use Rattle.pram_words.specs.Phases.{step_at, kind_at, has_phase, next_phase}
@@ -16,7 +18,8 @@ use Rattle.walkx.specs.declared.operation.Op.TheVariants.{Load}
 use Rattle.walkx.specs.Doing.{Doing}
 use Rattle.walkx.specs.Doing as doing
 use Rattle.walkx.specs.Scripts.{Script, asks, ends, rest_after, rest, op_with, heard_in}
-use Rattle.walkx.specs.Walk.{Then, begins, turns, works, stops, Walking, HearsAdmitted, AllAdmitted}
+use Rattle.walkx.specs.Walk.{Then, begins, turns, works, stops, Walking, HearsAdmitted, HearsPhase}
+use Rattle.walkx.specs.Walk.{AllAdmitted}
 use Rattle.walkx.specs.Walk.{script_by, script_of, rest_of, node_of, phase_begun, heard_of}
 use Rattle.walkx.specs.Walk.{turn_script, begin_script, part_script, after_part, has_rank}
 use Rattle.walkx.specs.Walk.{begun_phase, processor_at, way_down}
@@ -48,6 +51,18 @@ heard_root y root = (Load (number_of y (Node 1)), root) ∷ []
 abbrev pub heard_both : LayoutData → ℕ → ℕ → List (Op × ℕ)
 heard_both y root u = (Load (number_of y Conflict), u) ∷ heard_root y root
 
+-- the newest answer, if it is a root, is a phase of the form
+abbrev pub NewestPhase : LayoutData → List (Op × ℕ) → Type 0
+NewestPhase y [] = Unit {0}
+NewestPhase y (e ∷ es) = HearsPhase y e.0 e.1
+
+-- the last phase of a step is one of each form
+third_formed : (form : Form) (root : ℕ) → root % 3 ≡ 0 → IsTrue (has_phase form root)
+third_formed Compact root e = refl
+third_formed (Wide g) root e =
+    let other : root % 3 ≡ 2 → ⊥ = λ k. absurd (omega (arith, e, k)) in
+    rw (ne_eqb (root % 3) 2 other) refl
+
 -- a begin ends so at node n
 pub record BeginsTurn (job : JobData) (y : LayoutData) (n m q : ℕ)
     (history : List (Op × ℕ)) : Type 0 where
@@ -55,6 +70,7 @@ pub record BeginsTurn (job : JobData) (y : LayoutData) (n m q : ℕ)
   pub root : ℕ
   pub phase : q ≡ next_phase y.form root
   pub is : IsTrue (has_phase y.form root) → history ≡ phase_begun y (doing.Turn q)
+  pub formed : NewestPhase y history → IsTrue (has_phase y.form root)
   pub less : root ≢ 3 * job.steps
   pub admitted : AllAdmitted job y history → HearsAdmitted job y (Load (number_of y (Node 1))) root
 
@@ -107,6 +123,7 @@ begin_ends job y n = λ root. cond_both (root % 3 == 0) _ _
       is = λ formed. subst (λ (v : ℕ).
           heard_both y root v ≡ phase_begun y (doing.Turn (next_phase y.form root)))
           (sym (eqb-true u 0 none)) (begun_none y root formed (eqb-true (root % 3) 0 third));
+      formed = λ newest. third_formed y.form root (eqb-true (root % 3) 0 third);
       less = eqb-false root (3 * job.steps) part;
       admitted = λ all. all.1.0;
     }))
@@ -116,6 +133,7 @@ begin_ends job y n = λ root. cond_both (root % 3 == 0) _ _
       root = root;
       phase = refl;
       is = λ formed. begun_some y root formed h;
+      formed = λ newest. newest refl;
       less = λ e. h (omega arith);
       admitted = λ all. all.0;
     })

@@ -188,6 +188,11 @@ abbrev pub HearsAdmitted : JobData → LayoutData → Op → ℕ → Type 0
 HearsAdmitted job layout (Load word) found = Admits layout job word found
 HearsAdmitted job layout _ found = Unit {0}
 
+-- a root that was loaded is a phase of the form
+abbrev pub HearsPhase : LayoutData → Op → ℕ → Type 0
+HearsPhase layout op found =
+    op ≡ Load (number_of layout (Node 1)) → IsTrue (has_phase layout.form found)
+
 abbrev pub AllAdmitted : JobData → LayoutData → List (Op × ℕ) → Type 0
 AllAdmitted job layout heard =
     AllByRecursion (λ (end : Op × ℕ). HearsAdmitted job layout end.0 end.1) heard
