@@ -3,10 +3,10 @@ use Rattle.std.proofs.Common.{ℕ, ◌<◌, List, slice_index, subst}
 use Rattle.pram_job.specs.Job.{JobData}
 use Rattle.pram_words.proofs.Numbering.{numbering}
 use Rattle.pram_words.specs.Words.{LayoutData, IsInRange, Admits, length_of, number_of, word_at}
-use Rattle.walkx.specs.declared.operation.Op.{Op}
-use Rattle.walkx.specs.declared.operation.Op.TheVariants.{Load, Store, Max, Swap, Over}
 use Rattle.walkx.specs.Operations.{answer}
 use Rattle.walkx.specs.Walk.{HearsAdmitted, AsksAdmitted}
+use Rattle.walkx.specs.declared.operation.Op.{Op}
+use Rattle.walkx.specs.declared.operation.Op.TheVariants.{Load, Store, Max, Swap, Over}
 use Rattle.lawful_walk.specs.Board.{Stands}
 
 pub word_admitted : (job : JobData) (y : LayoutData) (words : List ℕ) (k : ℕ) → Stands job y words →

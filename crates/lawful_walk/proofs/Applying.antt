@@ -1,61 +1,30 @@
 -- The tasks that carry requests out or claim cells.
-use Rattle.std.proofs.Common.{◌≡◌, ◌≢◌, ℕ, suc, ◌+◌, ◌-◌, ◌*◌, ◌<◌, ◌≤◌, ◌==◌, if◌then◌else◌}
-use Rattle.std.proofs.Common.{false, List, IsTrue, refl, subst, inl, inr, lit<, arith}
+use Rattle.std.proofs.Common.{◌≡◌, ◌≢◌, ℕ, suc, ◌+◌, ◌-◌, ◌*◌, ◌<◌, ◌≤◌, ◌==◌, if◌then◌else◌, false}
+use Rattle.std.proofs.Common.{List, IsTrue, refl, subst, inl, inr, lit<, arith}
 use Rattle.std.proofs.lemmas.Bool.{cond_both, eqb-true, eqb-false}
 use Rattle.pram_job.specs.Job.{JobData}
-use Rattle.pram_job.specs.declared.instr.Rule.{Rule}
-use Rattle.pram_job.specs.declared.instr.Rule.TheVariants.{Common, Priority, Crew}
-use Rattle.pram_step.specs.Runs.{state_after, requests_after}
-use Rattle.pram_step.specs.Steps.{Counts}
-use Rattle.pram_step.proofs.LawPlaces.{one_writer}
-use Rattle.pram_words.specs.declared.words.Word.TheVariants.{Claim}
+use Rattle.pram_job.specs.declared.instr.Rule.TheVariants.{Priority}
+use Rattle.pram_step.proofs.Past.{data_write, each_write}
+use Rattle.pram_step.specs.History.{Asks, Wins, part_after}
 use Rattle.pram_words.specs.Phases.{step_at}
 use Rattle.pram_words.specs.Stamps.{stamped_word}
 use Rattle.pram_words.specs.Words.{LayoutData}
-use Rattle.walkx.specs.declared.operation.Op.{Op}
+use Rattle.pram_words.specs.declared.layout.Form.TheVariants.{Compact}
+use Rattle.pram_words.specs.declared.words.Word.TheVariants.{Claim}
+use Rattle.walkx.proofs.Boards.{same_procs}
 use Rattle.walkx.specs.Scripts.{Script}
 use Rattle.walkx.specs.Tasks.{carries, claims, claim_of, apply_task, crew_apply_task, claim_task}
 use Rattle.walkx.specs.Walk.{Then, IsBoard}
-use Rattle.walkx.proofs.Boards.{same_procs}
-use Rattle.pram_step.specs.History.{Asks, Wins, part_after}
-use Rattle.pram_step.proofs.Past.{data_write, each_write}
-use Rattle.lawful_walk.specs.Writes.{Floor}
-use Rattle.lawful_walk.specs.Steps.{phase_written}
-use Rattle.lawful_walk.specs.Board.{held, root, Carried, Claimed}
-use Rattle.lawful_walk.proofs.Sees.{Sees, Lasts, so}
-use Rattle.lawful_walk.proofs.Scripts.{Aim, Safe}
+use Rattle.walkx.specs.declared.operation.Op.{Op}
+use Rattle.lawful_walk.specs.Lands.{phase_written}
+use Rattle.lawful_walk.proofs.Winners.{wins_all}
+use Rattle.lawful_walk.specs.Board.{held, root, Claimed, Carried}
 use Rattle.lawful_walk.proofs.Carrying.{carries_safe}
-use Rattle.lawful_walk.proofs.Known.{floor_lasts, both_last, EndSafe, stale_end}
 use Rattle.lawful_walk.proofs.Hearing.{hears, hears_all, claims_safe, claimed_lasts}
-
--- every write wins, where the rule is not priority
-counts_all : (job : JobData) (s p i : ℕ) (rule : Rule) → rule ≢ Priority →
-    Counts rule job (requests_after job s) p i
-counts_all job s p i Common not = tt
-counts_all job s p i Priority not = absurd (not refl)
-counts_all job s p i Crew not = tt
-
-pub wins_all : (job : JobData) (s p i : ℕ) → job.rule ≢ Priority → Wins job s p i
-wins_all job s p i not = counts_all job s p i job.rule not
-
--- and what no other processor writes
-pub counts_least : (job : JobData) (s p i : ℕ) (rule : Rule) →
-    ((j w : ℕ) → Asks job s p j w → i ≤ j) → Counts rule job (requests_after job s) p i
-counts_least job s p i Common least = tt
-counts_least job s p i Priority least = least
-counts_least job s p i Crew least = tt
-
-pub wins_own : (job : JobData) (y : LayoutData) (s p i v : ℕ) → IsBoard job y → job.cells ≤ p →
-    Asks job s p i v → Wins job s p i
-wins_own job y s p i v board no_cell asked = counts_least job s p i job.rule
-    (λ j w other. let same : i ≡ j =
-    one_writer job (state_after job s) p i j v w board.limits no_cell asked other in omega arith)
-
--- with rule priority the winner is the least writer
-pub wins_least : (job : JobData) (s p i j v : ℕ) → job.rule ≡ Priority →
-    Wins job s p i → Asks job s p j v → i ≤ j
-wins_least job s p i j v rule wins asked =
-    (subst (λ (r : Rule). Counts r job (requests_after job s) p i) rule wins) j v asked
+use Rattle.lawful_walk.proofs.Known.{floor_lasts, both_last, EndSafe, stale_end}
+use Rattle.lawful_walk.proofs.Scripts.{Aim, Safe}
+use Rattle.lawful_walk.proofs.Sees.{Sees, Lasts, so}
+use Rattle.lawful_walk.specs.Writes.{Floor}
 
 -- the cells that a processor writes: its data place, if that is one
 pub cell_written : (job : JobData) (s c i v : ℕ) → Asks job s c i v →
@@ -67,7 +36,8 @@ cell_written job s c i v asked cell = elim (each_write job s c i v asked) [
 
 module _ (job : JobData) (y : LayoutData)
     (w q : ℕ) (aim : Aim) (x i : ℕ) (some : 1 ≤ q) (most : q ≤ 3 * job.steps)
-    (step : step_at q ≡ suc x) (board : IsBoard job y) (proc : i < y.procs) where
+    (step : step_at q ≡ suc x) (board : IsBoard job y) (proc : i < y.procs)
+    (compact : y.form ≡ Compact) where
   pub proc_job : i < job.procs
   proc_job = let c = same_procs job y board in omega arith
 
@@ -79,7 +49,7 @@ module _ (job : JobData) (y : LayoutData)
 
   -- ---- apply
 
-  pub carried_safe : q ≡ phase_written job.rule x →
+  pub carried_safe : ((p : ℕ) → q ≡ phase_written y.form job p x) →
       ((p v : ℕ) → Asks job x p i v → Wins job x p i) →
       (after : Script Then) → (P : List ℕ → Type 0) →
       Lasts job y P → ((words : List ℕ) → P words → Floor job y q x words) →
@@ -90,23 +60,23 @@ module _ (job : JobData) (y : LayoutData)
       (part_after job x i 1) (part_after job x i 2) after) history
   carried_safe phase wins after P lasts floor history sees on =
       carries_safe job y w q aim x i (part_after job x i 0)
-      (part_after job x i 1) (part_after job x i 2) some most step phase proc_job wins P lasts floor
-      (λ words p. (refl, refl, refl)) after history sees on
+      (part_after job x i 1) (part_after job x i 2) some most step compact phase proc_job
+      wins P lasts floor (λ words p. (refl, refl, refl)) after history sees on
 
-  pub apply_safe : job.rule ≢ Priority → q ≡ phase_written job.rule x →
+  pub apply_safe : job.rule ≢ Priority → ((p : ℕ) → q ≡ phase_written y.form job p x) →
       3 * x + 2 ≤ q → (after : Script Then) →
       EndSafe job y w q aim x (λ words. Carried job y x words i) after → (history : List (Op × ℕ)) →
       Sees job y history (Floor job y q x) →
       Safe job y w q aim (apply_task job y (suc x) i after) history
   unfolding apply_task
   apply_safe rule phase late after done history sees =
-      hears_all job y w q aim x i some most step board proc late after
+      hears_all job y w q aim x i some most step board proc compact late after
       (λ a b c. carries job y (suc x) i a b c after) history
       (stale_end job y w q aim x (λ words. Carried job y x words i) after done) sees (λ longer more.
       carried_safe phase (λ p v asked. wins_all job x p i rule) after
       (Floor job y q x) (floor_lasts job y q x) (λ words f. f) longer more (λ longest known.
       done longest (so job y longest (λ words. Floor job y q x words × Carried job y x words i)
-      (λ words. Floor job y q x words × (root y words + 1 ≡ q → Carried job y x words i))
+      (λ words. Floor job y q x words × (root y words < q → Carried job y x words i))
       (λ words stands h. (h.0, λ live. h.1)) known)))
 
   -- ---- claims
@@ -132,21 +102,22 @@ module _ (job : JobData) (y : LayoutData)
       Safe job y w q aim (claim_task job y (suc x) i after) history
   unfolding claim_task
   claim_safe has phase after done history sees =
-      hears job y w q aim x i some most step board proc 0 (lit< tt) (omega arith) after
+      hears job y w q aim x i some most step board proc compact 0 (lit< tt) (omega arith) after
       (λ place. if place == 0 then after else claims job y (suc x) i (place - 1) after) history
       (stale_end job y w q aim x (λ words. Claimed job y x words i) after done) sees (λ longer more.
       cond_both (part_after job x i 0 == 0) after
       (claims job y (suc x) i (part_after job x i 0 - 1) after)
       (λ (s : Script Then). Safe job y w q aim s longer)
       (λ e. done longer (so job y longer (Floor job y q x)
-      (λ words. Floor job y q x words × (root y words + 1 ≡ q → Claimed job y x words i))
+      (λ words. Floor job y q x words × (root y words < q → Claimed job y x words i))
       (λ words stands f. (f, λ live. no_claim words (eqb-true (part_after job x i 0) 0 e))) more))
-      (λ e. claims_safe job y w q aim x i some most step board proc (part_after job x i 0 - 1)
+      (λ e. claims_safe job y w q aim x i some most step board proc compact
+      (part_after job x i 0 - 1)
       (part_after job x i 1) has phase (data_asked e) after longer more (λ longest known.
       done longest
       (so job y longest (λ words. Floor job y q x words × (part_after job x i 0 - 1 < job.cells →
       stamped_word (suc x) (claim_of job i) ≤ held y words (Claim (part_after job x i 0 - 1))))
-      (λ words. Floor job y q x words × (root y words + 1 ≡ q → Claimed job y x words i))
+      (λ words. Floor job y q x words × (root y words < q → Claimed job y x words i))
       (λ words stands h. (h.0, λ live. claimed_by words e h.1)) known))))
 
   -- ---- crew's apply
@@ -161,10 +132,12 @@ module _ (job : JobData) (y : LayoutData)
       both_last job y (Floor job y q x) (λ words. part_after job x i 0 - 1 < job.cells →
       stamped_word (suc x) (claim_of job i) ≤ held y words (Claim (part_after job x i 0 - 1)))
       (floor_lasts job y q x)
-      (claimed_lasts job y w q aim x i some most step board proc (part_after job x i 0 - 1) has)
+      (claimed_lasts job y w q aim x i some most step board proc compact
+      (part_after job x i 0 - 1) has)
 
   pub crew_apply_safe : job.rule ≢ Priority →
-      IsTrue y.claims → q ≡ phase_written job.rule x → 3 * x + 2 ≡ q → (after : Script Then) →
+      IsTrue y.claims → ((p : ℕ) → q ≡ phase_written y.form job p x) → 3 * x + 2 ≡ q →
+      (after : Script Then) →
       EndSafe job y w q aim x (λ words. Carried job y x words i × Claimed job y x words i) after →
       (history : List (Op × ℕ)) → Sees job y history (Floor job y q x) →
       Safe job y w q aim (crew_apply_task job y (suc x) i after) history
@@ -172,7 +145,7 @@ module _ (job : JobData) (y : LayoutData)
   crew_apply_safe rule has written phase after done history sees =
       let carried = carries job y (suc x) i
       (part_after job x i 0) (part_after job x i 1) (part_after job x i 2) after in
-      hears_all job y w q aim x i some most step board proc (omega arith) after
+      hears_all job y w q aim x i some most step board proc compact (omega arith) after
       (λ place value next. if place == 0 then carries job y (suc x) i place value next after
       else claims job y (suc x) i (place - 1) (carries job y (suc x) i place value next after))
       history
@@ -185,15 +158,16 @@ module _ (job : JobData) (y : LayoutData)
       (Floor job y q x) (floor_lasts job y q x) (λ words f. f) longer more (λ longest known.
       done longest (so job y longest (λ words. Floor job y q x words × Carried job y x words i)
       (λ words. Floor job y q x words
-      × (root y words + 1 ≡ q → Carried job y x words i × Claimed job y x words i))
+      × (root y words < q → Carried job y x words i × Claimed job y x words i))
       (λ words stands h. (
         h.0,
         λ live. (h.1, no_claim words (eqb-true (part_after job x i 0) 0 e)),
       )) known)))
-      (λ e. claims_safe job y w q aim x i some most step board proc (part_after job x i 0 - 1)
+      (λ e. claims_safe job y w q aim x i some most step board proc compact
+      (part_after job x i 0 - 1)
       (part_after job x i 1) has phase (data_asked e) carried longer more (λ longer more.
       carried_safe written (λ p v asked. wins_all job x p i rule) after At
       (at_lasts has) (λ words h. h.0) longer more (λ longest known.
       done longest (so job y longest (λ words. At words × Carried job y x words i) (λ words. Floor
-      job y q x words × (root y words + 1 ≡ q → Carried job y x words i × Claimed job y x words i))
+      job y q x words × (root y words < q → Carried job y x words i × Claimed job y x words i))
       (λ words stands h. (h.0.0, λ live. (h.1, claimed_by words e h.0.1))) known)))))

@@ -1,26 +1,26 @@
 -- The scripts begin and back, and the turn at an inner node or a padded leaf.
-use Rattle.std.proofs.Common.{◌≡◌, ℕ, suc, ◌+◌, ◌*◌, ◌%◌, ◌<◌, ◌≤◌}
-use Rattle.std.proofs.Common.{◌==◌, if◌then◌else◌, List, ◌∷◌, arith}
+use Rattle.std.proofs.Common.{◌≡◌, ℕ, suc, ◌+◌, ◌*◌, ◌%◌, ◌<◌, ◌≤◌, ◌==◌, if◌then◌else◌, List, ◌∷◌}
+use Rattle.std.proofs.Common.{arith}
 use Rattle.std.proofs.lemmas.Bool.{cond_both}
 use Rattle.pram_job.specs.Job.{JobData}
-use Rattle.pram_words.specs.Phases.{step_at}
-use Rattle.pram_words.specs.declared.words.Word.TheVariants.{Conflict, Node, Position}
+use Rattle.pram_words.specs.Phases.{next_phase, step_at}
 use Rattle.pram_words.specs.Words.{LayoutData, number_of}
+use Rattle.pram_words.specs.declared.words.Word.TheVariants.{Conflict, Node, Position}
 use Rattle.walkx.specs.declared.operation.Ended.TheVariants as ended
+use Rattle.walkx.specs.Walk.{begin_script, Then, turns, begins, stops, back_script, marks_node}
+use Rattle.walkx.specs.Walk.{stands_at}
+use Rattle.walkx.specs.Scripts.{Script, asks, ends}
 use Rattle.walkx.specs.declared.operation.Op.{Op}
 use Rattle.walkx.specs.declared.operation.Op.TheVariants.{Load, Store, Max}
-use Rattle.walkx.specs.Walk.{Then, turns, begins, stops, begin_script}
-use Rattle.walkx.specs.Walk.{back_script, marks_node, stands_at}
-use Rattle.walkx.specs.Scripts.{Script, asks, ends}
-use Rattle.lawful_walk.specs.Writes.{Floor}
-use Rattle.lawful_walk.specs.Board.{held, Stands}
-use Rattle.lawful_walk.specs.Moments.{Moment}
-use Rattle.lawful_walk.proofs.Sees.{Sees, Lasts, so, always}
-use Rattle.lawful_walk.specs.Walks.{Goes}
-use Rattle.lawful_walk.proofs.Scripts.{Aim, Safe, load_safe, goes_of}
 use Rattle.lawful_walk.proofs.Frames.{only_set}
-use Rattle.lawful_walk.proofs.Setting.{store_keeps}
+use Rattle.lawful_walk.specs.Board.{held, Stands}
 use Rattle.lawful_walk.proofs.Effects.{writes_keep}
+use Rattle.lawful_walk.proofs.Scripts.{Aim, Safe, load_safe, goes_of}
+use Rattle.lawful_walk.proofs.Sees.{Sees, Lasts, so, always}
+use Rattle.lawful_walk.proofs.Setting.{store_keeps}
+use Rattle.lawful_walk.specs.Moments.{Moment}
+use Rattle.lawful_walk.specs.Walks.{Goes}
+use Rattle.lawful_walk.specs.Writes.{Floor}
 
 pub back_safe : (job : JobData) (y : LayoutData) (v w q : ℕ) (aim : Aim) (history : List (Op × ℕ)) →
     Safe job y w q aim (back_script y v) history
@@ -35,14 +35,14 @@ begin_safe job y n w q aim history =
     load_safe job y w q aim (number_of y (Node 1)) _ history (λ r ok.
     let longer : List (Op × ℕ) = (Load (number_of y (Node 1)), r) ∷ history in
     cond_both (r % 3 == 0) (heard_none r)
-    (ends (turns n (r + 1))) (λ (s : Script Then). Safe job y w q aim s longer)
+    (ends (turns n (next_phase y.form r))) (λ (s : Script Then). Safe job y w q aim s longer)
     (λ e. load_safe job y w q aim (number_of y Conflict) (after_none r) longer
     (λ u ok. heard_safe r u ((Load (number_of y Conflict), u) ∷ longer))) (λ e. tt))
   where
     after_none : ℕ → ℕ → Script Then
     after_none r u = if u == 0
-        then (if r == 3 * job.steps then ends (stops ended.Done) else ends (turns n (r + 1)))
-        else ends (stops (ended.Conflict u))
+        then (if r == 3 * job.steps then ends (stops ended.Done) else ends
+        (turns n (next_phase y.form r))) else ends (stops (ended.Conflict u))
 
     heard_none : ℕ → Script Then
     heard_none r = asks (Load (number_of y Conflict)) (after_none r)
@@ -50,9 +50,11 @@ begin_safe job y n w q aim history =
     heard_safe : (r u : ℕ) (longest : List (Op × ℕ)) →
         Safe job y w q aim (after_none r u) longest
     heard_safe r u longest = cond_both (u == 0)
-        (if r == 3 * job.steps then ends (stops ended.Done) else ends (turns n (r + 1)))
+        (if r == 3 * job.steps then ends (stops ended.Done) else ends
+        (turns n (next_phase y.form r)))
         (ends (stops (ended.Conflict u))) (λ (s : Script Then). Safe job y w q aim s longest)
-        (λ e. cond_both (r == 3 * job.steps) (ends (stops ended.Done)) (ends (turns n (r + 1)))
+        (λ e. cond_both (r == 3 * job.steps) (ends (stops ended.Done))
+        (ends (turns n (next_phase y.form r)))
         (λ (s : Script Then). Safe job y w q aim s longest) (λ e. tt) (λ e. tt)) (λ e. tt)
 
 -- a worker's position is stored

@@ -39,7 +39,7 @@ heard_may job y w es op found now worker m =
     let leaves = m.stands.sizes.leaves in
     subst (λ (answer : ℕ). MayHear job y w es op answer) (sym m.heard)
     (may_hear job y w m.words es op (low_below job y es m.words m.earlier)
-    (m.stands.admitted.in_range (Node 1) (lit< tt, omega arith))
+    (m.stands.admitted.in_range (Node 1) (lit< tt, omega arith)).0
     (m.stands.admitted.in_range (Position w) worker))
 
 pub chain_is_heard : (job : JobData) (y : LayoutData)

@@ -1,33 +1,41 @@
 -- A block of the passes that write: a processor's data and its next counter are carried out, where
 -- all its writes win.
-use Rattle.std.proofs.Common.{◌≡◌, ℕ, suc, ◌-◌, ◌*◌, ◌<◌, ◌≤◌, ◌==◌}
-use Rattle.std.proofs.Common.{false, List, sym, subst, inl, inr, arith}
+use Rattle.std.proofs.Common.{◌≡◌, ℕ, suc, ◌-◌, ◌*◌, ◌<◌, ◌≤◌, ◌==◌, false, List, refl, sym, subst}
+use Rattle.std.proofs.Common.{inl, inr, arith}
 use Rattle.std.proofs.lemmas.Bool.{cond_both, eqb-true, eqb-false}
 use Rattle.pram_job.specs.Job.{JobData}
 use Rattle.pram_machine.specs.Machine.{counter_place}
+use Rattle.pram_step.proofs.Past.{counter_write, data_write, each_write, asks_fit}
+use Rattle.pram_step.specs.History.{Asks, Wins, part_after}
 use Rattle.pram_words.specs.Phases.{step_at}
 use Rattle.pram_words.specs.Words.{LayoutData, places_of}
-use Rattle.walkx.specs.declared.operation.Op.{Op}
-use Rattle.walkx.specs.Scripts.{Script}
-use Rattle.walkx.specs.Walk.{Then, IsBoard}
-use Rattle.walkx.specs.Tasks.{writes_place, carries}
+use Rattle.pram_words.specs.declared.layout.Form.{Form}
+use Rattle.pram_words.specs.declared.layout.Form.TheVariants.{Compact}
 use Rattle.walkx.proofs.Boards.{same_cells, same_procs}
-use Rattle.pram_step.specs.History.{Asks, Wins, part_after}
-use Rattle.pram_step.proofs.Past.{counter_write, data_write, each_write, asks_fit}
-use Rattle.lawful_walk.specs.Writes.{Floor}
-use Rattle.lawful_walk.specs.Steps.{phase_written}
+use Rattle.walkx.specs.Scripts.{Script}
+use Rattle.walkx.specs.Tasks.{writes_place, carries}
+use Rattle.walkx.specs.Walk.{Then, IsBoard}
+use Rattle.walkx.specs.declared.operation.Op.{Op}
+use Rattle.lawful_walk.specs.Lands.{Lands, phase_written}
 use Rattle.lawful_walk.specs.Board.{IsLate, Carried, Stands}
-use Rattle.lawful_walk.proofs.Sees.{Sees, Lasts, so}
 use Rattle.lawful_walk.proofs.Scripts.{Aim, Safe}
+use Rattle.lawful_walk.proofs.Sees.{Sees, Lasts, so}
 use Rattle.lawful_walk.proofs.Writing.{writes_safe, late_later}
+use Rattle.lawful_walk.specs.Writes.{Floor}
 
 module _ (job : JobData) (y : LayoutData)
     (w q : ℕ) (aim : Aim) (x i place value next : ℕ) (some : 1 ≤ q) (most : q ≤ 3 * job.steps)
-    (step : step_at q ≡ suc x) (phase : q ≡ phase_written job.rule x) (proc : i < job.procs)
+    (step : step_at q ≡ suc x) (compact : y.form ≡ Compact)
+    (phase : (p : ℕ) → q ≡ phase_written y.form job p x) (proc : i < job.procs)
     (wins : (p v : ℕ) → Asks job x p i v → Wins job x p i) (P : List ℕ → Type 0)
     (lasts : Lasts job y P) (floor : (words : List ℕ) → P words → Floor job y q x words)
     (parts : (words : List ℕ) → P words → (place ≡ part_after job x i 0)
     × (value ≡ part_after job x i 1) × (next ≡ part_after job x i 2)) where
+  -- in the compact form each write gets a word
+  lands : (p v : ℕ) → Asks job x p i v → Lands y.form job x p i v
+  lands p v asks = subst (λ (f : Form). Lands f job x p i v) (sym compact)
+      (record { asks = asks; told = refl })
+
   ask_next : (words : List ℕ) → P words → Asks job x (counter_place job i) i next
   ask_next words k = subst (λ (v : ℕ). Asks job x (counter_place job i) i v)
       (sym (parts words k).2) (counter_write job x i proc)
@@ -52,14 +60,14 @@ module _ (job : JobData) (y : LayoutData)
   -- the counter alone
   all_next : (words : List ℕ) → P words → place ≡ 0 →
       IsLate y x (counter_place job i) words → Carried job y x words i
-  all_next words k none late p v asks = elim (each_write job x p i v asks) [
+  all_next words k none late p v lands = elim (each_write job x p i v lands.asks) [
     | inl h ↦ subst (λ (p : ℕ). IsLate y x p words) (sym h.0) late
     | inr h ↦ absurd (let g = (parts words k).0 in let e = h.0 in omega arith)
   ]
 
   all_both : (words : List ℕ) → P words → IsLate y x (place - 1) words →
       IsLate y x (counter_place job i) words → Carried job y x words i
-  all_both words k first late p v asks = elim (each_write job x p i v asks) [
+  all_both words k first late p v lands = elim (each_write job x p i v lands.asks) [
     | inl h ↦ subst (λ (p : ℕ). IsLate y x p words) (sym h.0) late
     | inr h ↦ subst (λ (p : ℕ). IsLate y x p words) (let g = (parts words k).0 in
         let e = h.0 in omega arith) first
@@ -90,20 +98,22 @@ module _ (job : JobData) (y : LayoutData)
       (writes_place y (suc x) (place - 1) value
       (writes_place y (suc x) (counter_place job i) next after))
       (λ (s : Script Then). Safe job y w q aim s history) (λ e.
-      writes_safe job y w q aim x (counter_place job i) i next some most step phase P lasts floor
-      (λ words k. (ask_next words k, wins _ _ (ask_next words k))) after history sees
+      writes_safe job y w q aim x (counter_place job i) i next some most step
+      (phase (counter_place job i)) P lasts floor
+      (λ words k. (lands _ _ (ask_next words k), wins _ _ (ask_next words k))) after history sees
       (λ longer more.
       on longer (so job y longer (λ words. P words × IsLate y x (counter_place job i) words)
       (λ words. P words × Carried job y x words i)
       (λ words stands h. (h.0, all_next words h.0 (eqb-true place 0 e) h.1)) more)))
-      (λ e. writes_safe job y w q aim x (place - 1) i value some most step phase Known
+      (λ e. writes_safe job y w q aim x (place - 1) i value some most step (phase (place - 1)) Known
       (λ words later a b up h. (lasts words later a b up h.0, b)) (λ words h. floor words h.0)
       (λ words h. let a = ask_data words h.1 h.0 e in
-      (a, wins _ _ a)) (writes_place y (suc x) (counter_place job i) next after) history
+      (lands _ _ a, wins _ _ a)) (writes_place y (suc x) (counter_place job i) next after) history
       (so job y history P Known (λ words stands k. (k, stands)) sees) (λ longer more.
-      writes_safe job y w q aim x (counter_place job i) i next some most step phase Data
+      writes_safe job y w q aim x (counter_place job i) i next some most step
+      (phase (counter_place job i)) Data
       (data_lasts e) (λ words h. floor words h.0)
-      (λ words h. (ask_next words h.0, wins _ _ (ask_next words h.0))) after longer
+      (λ words h. (lands _ _ (ask_next words h.0), wins _ _ (ask_next words h.0))) after longer
       (so job y longer (λ words. Known words × IsLate y x (place - 1) words) Data
       (λ words stands h. (h.0.0, h.1)) more) (λ longest all.
       on longest (so job y longest (λ words. Data words × IsLate y x (counter_place job i) words)

@@ -1,39 +1,40 @@
 -- The compute task: a processor's operands are read, and its request is raised.
-use Rattle.std.proofs.Common.{◌≡◌, ℕ, zero, suc, ◌+◌, ◌*◌, ◌<◌, ◌≤◌, List, [], ◌∷◌, ◌++◌}
-use Rattle.std.proofs.Common.{map, length, slice_get, slice_index, Option, Some, None}
-use Rattle.std.proofs.Common.{append_assoc, append-nil, refl, sym, subst, lit<, arith}
+use Rattle.std.proofs.Common.{◌≡◌, ℕ, zero, suc, ◌+◌, ◌*◌, ◌<◌, ◌≤◌, List, [], ◌∷◌, ◌++◌, map}
+use Rattle.std.proofs.Common.{length, slice_get, slice_index, Option, Some, None, append_assoc}
+use Rattle.std.proofs.Common.{append-nil, refl, sym, subst, lit<, arith}
 use Rattle.std.specs.List.{AllByRecursion}
-use Rattle.pram_job.specs.declared.instr.Instr.{Instr}
 use Rattle.pram_job.specs.Job.{JobData}
-use Rattle.pram_machine.specs.declared.requests.Request.{Request}
+use Rattle.pram_job.specs.declared.instr.Instr.{Instr}
+use Rattle.pram_machine.proofs.Shapes.{instr_is}
+use Rattle.pram_machine.specs.Instructions.{request_in, sources_of, cell_read, decided, goes_to}
+use Rattle.pram_machine.specs.Instructions.{operand_held, decided_in}
 use Rattle.pram_machine.specs.Machine.{State, register, register_place, counter, counter_place}
+use Rattle.pram_machine.specs.declared.requests.Request.{Request}
+use Rattle.pram_step.specs.History.{part_after}
 use Rattle.pram_step.specs.Runs.{state_after}
-use Rattle.pram_words.specs.declared.phases.Kind.TheVariants.{Compute}
-use Rattle.pram_words.specs.declared.words.Word.TheVariants.{Asked}
 use Rattle.pram_words.specs.Phases.{step_at}
 use Rattle.pram_words.specs.Stamps.{stamped_word}
 use Rattle.pram_words.specs.Words.{LayoutData, number_of, places_of}
-use Rattle.walkx.specs.declared.operation.Op.{Op}
-use Rattle.walkx.specs.declared.operation.Op.TheVariants.{Max}
+use Rattle.pram_words.specs.declared.layout.Form.TheVariants.{Compact}
+use Rattle.pram_words.specs.declared.phases.Kind.TheVariants.{Compute}
+use Rattle.pram_words.specs.declared.words.Word.TheVariants.{Asked}
+use Rattle.walkx.proofs.TaskAsking.{sources_fit}
+use Rattle.walkx.proofs.Boards.{same_cells, same_procs}
+use Rattle.walkx.proofs.Cells.{cell_is}
 use Rattle.walkx.specs.Scripts.{Script, asks}
 use Rattle.walkx.specs.Tasks.{reads_registers, reads_cell, raises_request, executes, compute_task}
 use Rattle.walkx.specs.Walk.{Then, IsBoard}
-use Rattle.walkx.proofs.Boards.{same_cells, same_procs}
-use Rattle.pram_machine.specs.Instructions.{request_in, sources_of, cell_read, decided}
-use Rattle.pram_machine.specs.Instructions.{goes_to, operand_held, decided_in}
-use Rattle.pram_machine.proofs.Shapes.{instr_is}
-use Rattle.walkx.proofs.Asking.{sources_fit}
-use Rattle.walkx.proofs.Cells.{cell_is}
-use Rattle.pram_step.specs.History.{part_after}
-use Rattle.lawful_walk.specs.Writes.{Floor}
-use Rattle.lawful_walk.specs.Board.{held, root, Raised, Grows}
+use Rattle.walkx.specs.declared.operation.Op.{Op}
+use Rattle.walkx.specs.declared.operation.Op.TheVariants.{Max}
 use Rattle.lawful_walk.proofs.Raising.{kind_of}
+use Rattle.lawful_walk.specs.Board.{held, root, Raised, Grows}
 use Rattle.lawful_walk.proofs.Effects.{writes_keep}
-use Rattle.lawful_walk.proofs.Sees.{Sees, Lasts, so}
-use Rattle.lawful_walk.proofs.Scripts.{Aim, Safe}
-use Rattle.lawful_walk.proofs.Known.{floor_lasts, both_last, StaleSafe}
-use Rattle.lawful_walk.proofs.Known.{EndSafe, stale_end, raises_safe}
 use Rattle.lawful_walk.proofs.Hearing.{reads}
+use Rattle.lawful_walk.proofs.Known.{floor_lasts, both_last, StaleSafe, EndSafe, stale_end}
+use Rattle.lawful_walk.proofs.Known.{raises_safe}
+use Rattle.lawful_walk.proofs.Scripts.{Aim, Safe}
+use Rattle.lawful_walk.proofs.Sees.{Sees, Lasts, so}
+use Rattle.lawful_walk.specs.Writes.{Floor}
 
 -- ---- what a worker decides is what the machine does
 
@@ -50,7 +51,8 @@ asks_for job s i instr e = rw (e, request_in) refl
 
 module _ (job : JobData) (y : LayoutData)
     (w q : ℕ) (aim : Aim) (x i : ℕ) (some : 1 ≤ q) (most : q ≤ 3 * job.steps)
-    (step : step_at q ≡ suc x) (board : IsBoard job y) (proc : i < y.procs) (phase : 3 * x + 1 ≡ q)
+    (step : step_at q ≡ suc x) (board : IsBoard job y) (proc : i < y.procs)
+    (compact : y.form ≡ Compact) (phase : 3 * x + 1 ≡ q)
     (after : Script Then)
     (done : EndSafe job y w q aim x (λ words. Raised job y x words i) after) where
   stale : StaleSafe job y w q aim x after
@@ -70,7 +72,7 @@ module _ (job : JobData) (y : LayoutData)
   registers (r ∷ rs) values next history all sees on =
       let low = all.0 in
       let c = same_procs job y board in
-      reads job y w q aim x i some most step board proc
+      reads job y w q aim x i some most step board proc compact
       (register_place job i r) (place_in (register_place job i r) (omega arith)) (sym phase) after
       (λ v. reads_registers job y (suc x) i rs (values ++ v ∷ []) after next) history stale sees
       (λ longer more.
@@ -86,7 +88,8 @@ module _ (job : JobData) (y : LayoutData)
       (next (elim o [ None ↦ 0 | Some c ↦ slice_index (state_after job x) c ])) longer) →
       Safe job y w q aim (reads_cell y (suc x) o after next) history
   cell None is next history sees on = on history sees
-  cell (Some c) is next history sees on = reads job y w q aim x i some most step board proc c
+  cell (Some c) is next history sees on = reads job y w q aim x i some most step board
+      proc compact c
       (place_in c (let l = is c refl in omega arith)) (sym phase) after next history stale sees on
 
   asked_up : (j : ℕ) → j < 3 → (words later : List ℕ) → Grows y words later →
@@ -135,22 +138,23 @@ module _ (job : JobData) (y : LayoutData)
       raises_safe job y w q aim (Asked i 0) (stamped_word (suc x) (part_after job x i 0))
       (Floor job y q x) (floor_lasts job y q x) (proc, lit< tt) (asked_up 0 (lit< tt))
       (λ words stands f.
-      (writes_keep job y words q x stands some most step f).request i 0 proc (lit< tt) kind)
+      (writes_keep job y words q x stands some most step f).request compact i 0 proc (lit< tt) kind)
       (asks (Max (number_of y (Asked i 1)) (stamped_word (suc x) (part_after job x i 1)))
       (λ found. asks (Max (number_of y (Asked i 2)) (stamped_word (suc x) (part_after job x i 2)))
       (λ found. after))) history sees (λ longer more.
       raises_safe job y w q aim (Asked i 1) (stamped_word (suc x) (part_after job x i 1)) First
       first_lasts (proc, lit< tt) (asked_up 1 (lit< tt)) (λ words stands f.
-      (writes_keep job y words q x stands some most step f.0).request i 1 proc (lit< tt) kind)
+      (writes_keep job y words q x stands some most step f.0).request compact i 1 proc
+      (lit< tt) kind)
       (asks (Max (number_of y (Asked i 2)) (stamped_word (suc x) (part_after job x i 2)))
       (λ found. after)) longer more (λ longer more.
       raises_safe job y w q aim (Asked i 2) (stamped_word (suc x) (part_after job x i 2))
       Second second_lasts (proc, lit< tt) (asked_up 2 (lit< tt)) (λ words stands f.
-      (writes_keep job y words q x stands some most step f.0.0).request i 2 proc (lit< tt) kind)
-      after longer more (λ longer more.
+      (writes_keep job y words q x stands some most step f.0.0).request compact i 2 proc
+      (lit< tt) kind) after longer more (λ longer more.
       done longer (so job y longer (λ words.
       Second words × (stamped_word (suc x) (part_after job x i 2) ≤ held y words (Asked i 2)))
-      (λ words. Floor job y q x words × (root y words + 1 ≡ q → Raised job y x words i))
+      (λ words. Floor job y q x words × (root y words < q → Raised job y x words i))
       (λ words stands h. (
         h.0.0.0,
         λ live. raised_by (part_after job x i 0) (part_after job x i 1)
@@ -179,7 +183,8 @@ module _ (job : JobData) (y : LayoutData)
       (counter job s i) instr (slice_index values 0) (slice_index values 1) v) after))
       history (sources_fit job.cells (length job.code) instr fits) sees (λ longer more.
       cell (cell_read job instr (operand_held job s i instr 0))
-      (λ c f. cell_is job instr (operand_held job s i instr 0) c fits f) (λ v. raises_request y (suc x) i
+      (λ c f. cell_is job instr (operand_held job s i instr 0) c fits f)
+      (λ v. raises_request y (suc x) i
       (decided job i (counter job s i) instr (operand_held job s i instr 0)
       (operand_held job s i instr 1) v) after) longer more (λ longest known.
       raises_it (decided_in job s i instr) longest (asks_for job s i instr e) known))
@@ -189,7 +194,7 @@ module _ (job : JobData) (y : LayoutData)
   unfolding compute_task
   compute_safe history sees =
       let c = same_procs job y board in
-      reads job y w q aim x i some most step board proc (counter_place job i)
+      reads job y w q aim x i some most step board proc compact (counter_place job i)
       (place_in (counter_place job i) (omega arith)) (sym phase) after
       (λ c. executes job y (suc x) i c (slice_get job.code c) after) history stale sees
       (λ longer more.

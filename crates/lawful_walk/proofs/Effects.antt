@@ -1,16 +1,16 @@
 -- What each kind of write does to words that stand.
-use Rattle.std.proofs.Common.{◌≡◌, ℕ, suc, ◌+◌, ◌*◌, ◌≤◌, sym, subst, ◌∙◌, inl, inr, arith}
+use Rattle.std.proofs.Common.{◌≡◌, ℕ, suc, ◌*◌, ◌≤◌, arith, ◌+◌, sym, subst, ◌∙◌, inl, inr}
 use Rattle.std.proofs.lemmas.Bool.{cases_eq}
-use Rattle.pram_words.specs.declared.phases.Kind.{Kind}
-use Rattle.pram_words.specs.declared.phases.Kind.TheVariants.{Compute, Apply, Verify}
-use Rattle.pram_words.specs.Phases.{kind_at, step_at}
-use Rattle.lawful_walk.specs.WordLaws.{WritesKeepWordsLawful}
-use Rattle.lawful_walk.specs.Board.{phase_in}
+use Rattle.pram_words.specs.declared.phases.Kind.TheVariants.{Compute, Verify, Apply}
 use Rattle.pram_words.specs.declared.words.Word.TheVariants.{Position}
+use Rattle.pram_words.specs.Phases.{step_at, kind_at}
+use Rattle.pram_words.specs.declared.phases.Kind.{Kind}
 use Rattle.lawful_walk.proofs.Frames.{only_set}
-use Rattle.lawful_walk.proofs.Raising.{kind_of, inner_does, leaf_does}
-use Rattle.lawful_walk.proofs.Setting.{conflict_does, claim_does}
-use Rattle.lawful_walk.proofs.Setting.{stored_does, asked_does, store_keeps}
+use Rattle.lawful_walk.specs.Board.{phase_in}
+use Rattle.lawful_walk.proofs.Raising.{inner_does, leaf_does, kind_of}
+use Rattle.lawful_walk.proofs.Setting.{conflict_does, claim_does, stored_does, asked_does}
+use Rattle.lawful_walk.proofs.Setting.{store_keeps}
+use Rattle.lawful_walk.specs.WordLaws.{WritesKeepWordsLawful}
 
 -- the phase of a kind in a step
 data Phase (x q : ℕ) : Type 0 where
@@ -35,16 +35,16 @@ phase_at x q kind some step e = same_kind x q kind (phase_of_step x q some step)
 
 pub writes_keep : WritesKeepWordsLawful
 writes_keep job y words q x stands some most step floor = record {
-  request = λ i j proc part kind. asked_does job y
-      words q x stands some most step floor i j proc part (phase_at x q Compute some step kind);
+  request = λ compact i j proc part kind. asked_does job y words q x stands some most step floor
+      compact i j proc part (phase_at x q Compute some step kind);
   inner = inner_does job y words q x stands some most step floor;
   leaf = leaf_does job y words q x stands some most step floor;
-  place = λ p i v a b phase asks wins as_heard.
-      stored_does job y words q x stands some most step floor p i v phase asks wins a b as_heard;
+  place = λ p i v a b phase lands wins as_heard.
+      stored_does job y words q x stands some most step floor p i v phase lands wins a b as_heard;
   conflict = λ kind not. conflict_does job y words q x stands some most step floor kind not
       (phase_at x q Verify some step kind);
-  claim = λ c i v is kind asks. claim_does job y words q x stands some most step floor c i v is
-      (phase_at x q Apply some step kind) asks;
+  claim = λ c i v is phase asks.
+      claim_does job y words q x stands some most step floor c i v is phase asks;
   position = λ w n worker low high. record {
     keeps = store_keeps job y w n words stands worker low high;
     others = (only_set y (Position w) n words stands.sizes stands.admitted.len worker).rest;

@@ -1,13 +1,17 @@
 -- A worker that is over, and known: what it heard is so. Progress.
-use Rattle.std.proofs.Common.{◌≡◌, ◌≢◌, ℕ, zero, suc, ◌*◌, ◌≤◌, List, []}
-use Rattle.std.proofs.Common.{◌∷◌, refl, sym, subst, inl, inr, lit<, arith}
+use Rattle.std.proofs.Common.{◌≡◌, ◌≢◌, ℕ, zero, suc, ◌*◌, ◌≤◌, List, [], ◌∷◌, refl, sym, subst}
+use Rattle.std.proofs.Common.{inl, inr, lit<, arith, ◌⊎◌}
 use Rattle.std.proofs.lemmas.Bool.{cases_lt}
 use Rattle.pram_job.specs.Job.{JobData}
 use Rattle.pram_step.specs.Runs.{IsReached, AgreesAfter}
 use Rattle.pram_step.proofs.LawAnswer.{conflict_ends}
 use Rattle.pram_step.proofs.LawDisputes.{reached_or_conflict}
+use Rattle.pram_step.specs.declared.arrival.Arrival.{Arrival}
+use Rattle.pram_step.specs.declared.arrival.Arrival.TheVariants.{Reached, TooFar}
+use Rattle.pram_step.specs.Arrivals.{IsArrival}
 use Rattle.pram_words.specs.declared.words.Word.TheVariants.{Conflict, Node}
 use Rattle.pram_words.specs.Words.{LayoutData, number_of}
+use Rattle.pram_words.proofs.NextPhases.{next_above}
 use Rattle.walkx.specs.declared.operation.Ended.{Ended}
 use Rattle.walkx.specs.declared.operation.Op.TheVariants.{Load}
 use Rattle.walkx.specs.Doing.{Doing}
@@ -19,7 +23,7 @@ use Rattle.walkx.specs.Walk.{Then, stops, Walking, Fits, Matches, node_of, rest_
 use Rattle.walkx.proofs.Ends.{AllEnds, Brings, BeginEnds, heard_both, worker_ends}
 use Rattle.walkx.proofs.Knowing.{has_earlier}
 use Rattle.lawful_walk.specs.Walks.{IsConflict, ProgressWell}
-use Rattle.lawful_walk.specs.Board.{Stands}
+use Rattle.lawful_walk.specs.Board.{Stands, root}
 use Rattle.lawful_walk.specs.Moments.{Backed}
 use Rattle.lawful_walk.specs.Seen.{Heard, Shows}
 use Rattle.lawful_walk.proofs.Facts.{facts}
@@ -67,7 +71,7 @@ both_shows y r (suc k) has = inr (inl (
 
 -- ---- the conflict
 
-is_first : (job : JobData) (s : ℕ) → IsReached job s → (AgreesAfter job s → ⊥) →
+pub is_first : (job : JobData) (s : ℕ) → IsReached job s → (AgreesAfter job s → ⊥) →
     suc s ≤ job.steps → IsConflict job (suc s)
 is_first job s reached not within = elim (reached_or_conflict job (suc s)) [
   | inl all ↦ absurd (not (all s (omega arith)))
@@ -81,6 +85,20 @@ is_first job s reached not within = elim (reached_or_conflict job (suc s)) [
   ])
 ]
 
+-- whoever makes the steps up to a conflict comes upon it
+pub conflict_met : (job : JobData) (step most : ℕ) → IsConflict job step → most ≡ job.steps →
+    (came : Arrival) → IsArrival job step most came →
+    ((state : List ℕ) × (came ≡ Reached state)) ⊎ (came ≡ TooFar) → ⊥
+conflict_met job step most c all came is (inl e) =
+    let there = subst (IsArrival job step most) e.1 is in
+    let at = c.is.first.step in
+    conflict_ends job c.fault step c.is.first (let same = c.step in omega arith) there.reached
+conflict_met job step most c all came is (inr e) =
+    let there = subst (IsArrival job step most) e is in
+    let less = there.0 in
+    let within = c.is.within in
+    let same = c.step in absurd (omega arith)
+
 pub heard_conflict : (job : JobData) (y : LayoutData) (r : Record) (u : ℕ) (words : List ℕ) →
     Stands job y words → Backed job y r words →
     Heard y r Conflict u → u ≢ 0 → IsConflict job u
@@ -92,6 +110,7 @@ heard_conflict job y r (suc s) words stands backed heard some =
     let most = stands.lawful.tree.most 1 (lit< tt, omega arith) in
     let near = stands.lawful.named.near s (conflict_now job y r (suc s) words backed heard some) in
     let low = (facts job y words stands).root_low in
+    let next = (next_above y.form (root y words)).1 in
     is_first job s c.0 c.1 (elim near [ inl e ↦ omega arith | inr e ↦ omega arith ])
 
 -- ---- progress

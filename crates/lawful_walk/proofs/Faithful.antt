@@ -1,33 +1,36 @@
 -- Records that the words bear out are faithful.
-use Rattle.std.proofs.Common.{◌≡◌, ℕ, suc, ◌==◌, ◌<◌, ◌≤◌, max, List, [], length, slice_index}
-use Rattle.std.proofs.Common.{sym, ap, subst, ◌∙◌, inl, inr, get_or-set_same, arith}
-use prog.Atomic.{either}
+use Rattle.std.proofs.Common.{◌≡◌, ℕ, suc, ◌==◌, ◌<◌, ◌≤◌, max, List, [], length, slice_index, sym}
+use Rattle.std.proofs.Common.{ap, subst, ◌∙◌, inl, inr, get_or-set_same, arith}
 use Rattle.std.proofs.lemmas.Bool.{cases_lt}
+use prog.Atomic.{either}
 use Rattle.pram_job.specs.Job.{JobData}
 use Rattle.pram_step.proofs.LawFixed.{reached_down}
-use Rattle.pram_step.proofs.Past.{last_most, before_most, written_value}
-use Rattle.pram_step.specs.History.{Asks, last_write, write_before}
+use Rattle.pram_step.proofs.Past.{written_value}
+use Rattle.pram_step.specs.History.{Asks}
 use Rattle.pram_words.proofs.Numbering.{numbering}
-use Rattle.pram_words.specs.declared.words.Word.{Word}
-use Rattle.pram_words.specs.declared.words.Word.TheVariants.{Conflict, Node, Asked}
-use Rattle.pram_words.specs.declared.words.Word.TheVariants.{Position, Stored, Claim, Spare}
 use Rattle.pram_words.specs.Stamps.{stamp_of, payload_of}
 use Rattle.pram_words.specs.Words.{LayoutData, IsWord, number_of}
-use Rattle.walkx.specs.declared.operation.Op.{Op}
-use Rattle.walkx.specs.declared.operation.Op.TheVariants.{Load, Store, Max, Swap, Over}
+use Rattle.pram_words.specs.declared.words.Word.{Word}
+use Rattle.pram_words.specs.declared.words.Word.TheVariants.{Conflict, Node, Asked, Position}
+use Rattle.pram_words.specs.declared.words.Word.TheVariants.{Stored, Claim, Spare}
 use Rattle.walkx.specs.Operations.{words_after, answer}
 use Rattle.walkx.specs.Records.{Record, empty, after, both}
-use Rattle.lawful_walk.specs.Board.{held, root, stamp_at, finished, Stands, Grows}
-use Rattle.lawful_walk.specs.Faithful.{Remains, left_by, IsAfter, IsPart, IsGiven}
-use Rattle.lawful_walk.specs.Faithful.{IsValue, IsFaithful, FaithfulAnswers}
-use Rattle.lawful_walk.specs.WordLaws.{BackedIsFaithful, SoundIsFaithful}
-use Rattle.lawful_walk.specs.Moments.{Backed}
+use Rattle.walkx.specs.declared.operation.Op.{Op}
+use Rattle.walkx.specs.declared.operation.Op.TheVariants.{Load, Store, Max, Swap, Over}
+use Rattle.lawful_walk.proofs.Landings.{last_most, before_most, stamp_step}
+use Rattle.lawful_walk.proofs.Winners.{winner}
+use Rattle.lawful_walk.specs.Lands.{last_landing, landing_before}
+use Rattle.lawful_walk.proofs.Moments.{stamps_rise, find}
+use Rattle.lawful_walk.specs.Board.{held, root, stamp_at, finished, Grows, Stands}
 use Rattle.lawful_walk.specs.Seen.{Hears}
-use Rattle.lawful_walk.proofs.Facts.{facts, place_below, word_is, winner}
+use Rattle.lawful_walk.proofs.Facts.{facts, place_below, word_is}
 use Rattle.lawful_walk.proofs.Knowing.{held_then, hears_is}
-use Rattle.lawful_walk.proofs.Moments.{find, stamps_rise}
 use Rattle.lawful_walk.proofs.Places.{word_value}
-use Rattle.lawful_walk.proofs.Values.{WordIs, is_settled, is_before, is_new, stamp_step}
+use Rattle.lawful_walk.proofs.Values.{WordIs, is_settled, is_before, is_new}
+use Rattle.lawful_walk.specs.Faithful.{Remains, left_by, IsAfter, IsPart, IsGiven, IsValue}
+use Rattle.lawful_walk.specs.Faithful.{IsFaithful, FaithfulAnswers}
+use Rattle.lawful_walk.specs.Moments.{Backed}
+use Rattle.lawful_walk.specs.WordLaws.{BackedIsFaithful, SoundIsFaithful}
 
 -- ---- what remains while the words grow
 
@@ -84,41 +87,49 @@ module _ (job : JobData) (y : LayoutData) (words : List ℕ) (p k s : ℕ)
   given_before e low =
       let f = facts job y words stands in
       let from = f.stored_from s p k is e in
-      let win = winner job s p from.1 in
+      let win = winner y.form job s p stands.limits from.1 in
       let below = place_below job y words (finished y words) stands.limits
       stands.sizes stands.layout stands.lawful f.root_low f.root_high p is.0 in
       let value = word_value job y words (suc s) p k stands is e
       (reached_down job (suc s) (finished y words) low stands.lawful.reached) in
       let writes = written_value job s p win.writer win.value stands.limits below
-      (stands.lawful.reached s low) win.asks win.wins in
+      (stands.lawful.reached s low) win.lands.asks win.wins in
       record {
         reached = from.0;
         writer = win.writer;
-        asks = subst (Asks job s p win.writer) (sym (value ∙ writes)) win.asks;
+        asks = subst (Asks job s p win.writer) (sym (value ∙ writes)) win.lands.asks;
         wins = win.wins;
       }
 
   -- it is not: the word is new
   given_now : (word : ℕ) → stamp_of word ≡ suc s → finished y words ≤ s →
-      WordIs job (finished y words) (root y words) p word → IsGiven job s p (payload_of word)
+      WordIs y.form job (finished y words) (root y words) p word → IsGiven job s p (payload_of word)
   given_now word e high (is_settled w) =
       let f = finished y words in
-      let z : stamp_of word ≡ last_write job (finished y words) p =
-      ap stamp_of w ∙ stamp_step job (last_write job f p) p stands.limits in
-      let m = last_most job f p in
+      let z : stamp_of word ≡ last_landing y.form job (finished y words) p =
+      ap stamp_of w ∙ stamp_step y.form job stands.limits (last_landing y.form job f p) p in
+      let m = last_most y.form job stands.limits f p in
       absurd (omega arith)
   given_now word e high (is_before w) =
       let f = finished y words in
-      let z : stamp_of word ≡ write_before job (last_write job (finished y words) p) p =
-      ap stamp_of w ∙ stamp_step job (write_before job (last_write job f p) p) p stands.limits in
-      let m = last_most job f p in
-      let b = before_most job (last_write job f p) p in
+      let z : stamp_of word ≡ landing_before y.form job
+      (last_landing y.form job (finished y words) p) p =
+      ap stamp_of w ∙ stamp_step y.form job stands.limits
+      (landing_before y.form job (last_landing y.form job f p) p) p in
+      let m = last_most y.form job stands.limits f p in
+      let b = before_most y.form job stands.limits (last_landing y.form job f p) p in
       absurd (omega arith)
   given_now word e high (is_new n) =
       let z = n.stamp in
       let same : finished y words ≡ s = omega arith in
       subst (λ (x : ℕ). IsGiven job x p (payload_of word)) same
-      (record { reached = stands.lawful.reached; writer = n.writer; asks = n.asks; wins = n.wins })
+      (record {
+        reached = stands.lawful.reached;
+        writer = n.writer;
+        asks =
+            n.lands.asks;
+        wins = n.wins;
+      })
 
   given : stamp_at y words p k ≡ suc s → IsGiven job s p (payload_of (held y words (Stored p k)))
   given e = elim (cases_lt s (finished y words)) [
@@ -144,9 +155,9 @@ answer_faithful job y r op found words stands backed heard = record {
   later = λ word is hears.
       subst (IsAfter y r word) (sym (heard ∙ hears_is op (number_of y word) words hears))
       (after_now job y r words word backed is);
-  asked = λ i j proc part hears.
+  asked = λ compact i j proc part hears.
       subst (IsPart job i j) (sym (heard ∙ hears_is op (number_of y (Asked i j)) words hears))
-      ((stands.lawful.asked i j proc part).part);
+      ((stands.lawful.asked compact i j proc part).part);
   stored = λ p k is hears.
       subst (IsValue job p) (sym (heard ∙ hears_is op (number_of y (Stored p k)) words hears))
       (value_is job y words p k stands is);

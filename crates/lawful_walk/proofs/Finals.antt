@@ -1,24 +1,25 @@
 -- What loads of a cell's words give once the last step is shown, and loads of request words once
 -- word 0 was heard.
-use Rattle.std.proofs.Common.{◌≡◌, ℕ, suc, ◌<◌, ◌≤◌, false, List}
-use Rattle.std.proofs.Common.{slice_index, sym, ap, ◌∙◌, lit<, arith}
+use Rattle.std.proofs.Common.{◌≡◌, ℕ, suc, ◌<◌, ◌≤◌, false, List, slice_index, sym, ap, ◌∙◌, lit<}
+use Rattle.std.proofs.Common.{arith}
 use Rattle.pram_job.specs.Job.{JobData}
-use Rattle.pram_step.specs.Runs.{state_after}
-use Rattle.pram_words.specs.declared.words.Word.TheVariants.{Conflict, Asked, Stored}
-use Rattle.pram_words.specs.Stamps.{stamp_of, payload_of}
-use Rattle.pram_words.specs.Words.{LayoutData, IsWord, IsStamped, number_of, places_of, most_stored}
-use Rattle.walkx.specs.declared.operation.Op.TheVariants.{Load}
-use Rattle.walkx.specs.Records.{Record, after}
-use Rattle.pram_words.specs.Stamps.{newer_payload}
-use Rattle.walkx.specs.Tasks.{is_late}
 use Rattle.pram_step.specs.History.{part_after}
+use Rattle.pram_step.specs.Runs.{state_after}
+use Rattle.pram_words.specs.Stamps.{stamp_of, payload_of, newer_word}
+use Rattle.pram_words.specs.Words.{LayoutData, IsWord, IsStamped, number_of, places_of, most_stored}
+use Rattle.pram_words.specs.declared.layout.Form.TheVariants.{Compact}
+use Rattle.pram_words.specs.declared.words.Word.TheVariants.{Conflict, Asked, Stored}
+use Rattle.walkx.specs.Counters.{worth}
+use Rattle.walkx.specs.Records.{Record, after}
+use Rattle.walkx.specs.Tasks.{is_late}
+use Rattle.walkx.specs.declared.operation.Op.TheVariants.{Load}
 use Rattle.lawful_walk.specs.Board.{held, stamp_at, Stands}
-use Rattle.lawful_walk.specs.Moments.{Backed}
 use Rattle.lawful_walk.specs.Seen.{Heard, KnowsStep}
 use Rattle.lawful_walk.proofs.Facts.{facts}
 use Rattle.lawful_walk.proofs.Growths.{place_as_heard}
-use Rattle.lawful_walk.proofs.Places.{is_early}
 use Rattle.lawful_walk.proofs.Knowing.{known_now, conflict_now}
+use Rattle.lawful_walk.proofs.Places.{is_early}
+use Rattle.lawful_walk.specs.Moments.{Backed}
 
 -- ---- memory
 
@@ -35,7 +36,8 @@ pub final_place : (job : JobData) (y : LayoutData) (r : Record) (p a b : ℕ) (w
     Stands job y words → KnowsStep y r job.steps → p < places_of y →
     Backed job y
     (after (after r (Load (number_of y (Stored p 0))) a) (Load (number_of y (Stored p 1))) b)
-    words → newer_payload a b ≡ slice_index (state_after job job.steps) p
+    words →
+    worth y.form job job.steps p (newer_word a b) ≡ slice_index (state_after job job.steps) p
 final_place job y r p a b words stands knows place m =
     let first = m.earlier in
     let k = known_now job y r job.steps first.words first.stands first.earlier knows in
@@ -54,14 +56,14 @@ final_place job y r p a b words stands knows place m =
 -- Once word 0 was heard as s + 1, each request word holds its part of step s + 1, the one that does
 -- not agree.
 pub final_part : (job : JobData) (y : LayoutData) (r : Record) (s i j found : ℕ) (words : List ℕ) →
-    Stands job y words → Heard y r Conflict (suc s) → i < y.procs → j < 3 →
+    y.form ≡ Compact → Stands job y words → Heard y r Conflict (suc s) → i < y.procs → j < 3 →
     Backed job y (after r (Load (number_of y (Asked i j))) found) words →
     (stamp_of found ≡ suc s) × (payload_of found ≡ part_after job s i j)
-final_part job y r s i j found words stands heard proc part m =
+final_part job y r s i j found words compact stands heard proc part m =
     let c = conflict_now job y r (suc s) m.words m.earlier heard (λ e. absurd (omega arith)) in
     let e : stamp_of (held y m.words (Asked i j)) ≡ suc s =
-    (facts job y m.words m.stands).conflict_asked i j proc part
+    (facts job y m.words m.stands).conflict_asked compact i j proc part
     (λ none. absurd (let g : suc s ≡ 0 = sym c ∙ none in omega arith)) ∙ c in (
       ap stamp_of m.heard ∙ e,
-      ap payload_of m.heard ∙ ((m.stands.lawful.asked i j proc part).part s e).1,
+      ap payload_of m.heard ∙ ((m.stands.lawful.asked compact i j proc part).part s e).1,
     )

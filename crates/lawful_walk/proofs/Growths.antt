@@ -4,32 +4,38 @@ use Rattle.std.proofs.Common.{List, slice_index, refl, sym, ap, subst, ◌∙◌
 use Rattle.std.proofs.lemmas.Bool.{cases_eq, cases_lt, cases_Bool, leb-false, le-leb, lt-leb}
 use Rattle.pram_job.specs.Job.{JobData}
 use Rattle.pram_step.specs.Runs.{IsReached, state_after}
+use Rattle.pram_words.specs.declared.layout.Form.TheVariants.{Compact}
 use Rattle.pram_words.specs.declared.words.Word.TheVariants.{Node, Asked, Stored}
-use Rattle.pram_words.specs.Stamps.{stamp_of, payload_of}
+use Rattle.pram_words.specs.Stamps.{stamp_of, first_is_older, older, older_word}
+use Rattle.pram_words.specs.Stamps.{newer_word}
 use Rattle.pram_words.specs.Words.{LayoutData, IsWord, places_of}
-use Rattle.pram_words.specs.Stamps.{first_is_older, newer_payload, older, older_word}
+use Rattle.pram_words.specs.Phases.{next_phase}
+use Rattle.pram_words.proofs.NextPhases.{next_step}
 use Rattle.walkx.specs.Tasks.{is_late}
-use Rattle.pram_step.specs.History.{last_write, write_before}
-use Rattle.pram_step.proofs.Past.{last_most, last_least, last_rises, value_between, before_most}
-use Rattle.lawful_walk.specs.Writes.{PlaceAsHeard}
-use Rattle.lawful_walk.specs.Steps.{word_of_step, settled, settled_before}
-use Rattle.lawful_walk.specs.Board.{held, root, stamp_at, finished, IsLate, IsPair, newer_first}
-use Rattle.lawful_walk.specs.Board.{newer_second, new_first, new_second, Stands, Grows}
-use Rattle.lawful_walk.proofs.Values.{stamp_step, payload_step, before_less, before_rises}
-use Rattle.lawful_walk.proofs.Values.{has_settled, newer_is_first, newer_is_second}
+use Rattle.walkx.specs.Counters.{worth}
+use Rattle.lawful_walk.specs.Board.{Grows, held, root, stamp_at, finished, IsLate, IsPair}
+use Rattle.lawful_walk.specs.Board.{newer_first, newer_second, new_first, new_second, Stands}
 use Rattle.lawful_walk.proofs.Moments.{onward, stamps_rise}
+use Rattle.lawful_walk.specs.Lands.{landing_before, last_landing, settled, settled_before}
+use Rattle.lawful_walk.specs.Lands.{word_of_step}
+use Rattle.lawful_walk.proofs.Landings.{before_most, last_least, last_most, last_rises}
+use Rattle.lawful_walk.proofs.Landings.{settled_worth, stamp_step}
+use Rattle.lawful_walk.specs.Writes.{PlaceAsHeard}
+use Rattle.lawful_walk.proofs.Values.{before_less, before_rises, has_settled, newer_is_first}
+use Rattle.lawful_walk.proofs.Values.{newer_is_second}
 use Rattle.lawful_walk.proofs.Facts.{facts, place_below, stamp_settled, stamp_before}
 
 -- ---- what holds of words and later ones
 
 pub record LaterWords (job : JobData) (y : LayoutData) (words later : List ℕ) : Type 0 where
   pub finished_rises : finished y words ≤ finished y later
-  pub asked_same : (i j : ℕ) → i < y.procs → j < 3 → 1 ≤ stamp_of (held y words (Asked i j)) →
+  pub asked_same : y.form ≡ Compact → (i j : ℕ) → i < y.procs → j < 3 →
+      1 ≤ stamp_of (held y words (Asked i j)) →
       stamp_of (held y words (Asked i j)) ≡ stamp_of (held y later (Asked i j)) →
       held y words (Asked i j) ≡ held y later (Asked i j)
   pub same_phase : (x q : ℕ) → IsReached job x → 3 * x < q →
-      q ≤ 3 * x + 3 → q ≤ root y words + 1 → root y later + 1 ≡ q →
-      (root y words + 1 ≡ q) × (finished y words ≡ x) × (finished y later ≡ x)
+      q ≤ 3 * x + 3 → q ≤ next_phase y.form (root y words) → root y later < q →
+      (root y words < q) × (finished y words ≡ x) × (finished y later ≡ x)
   pub stored_same : (p k : ℕ) → IsWord y (Stored p k) → finished y words ≡ finished y later →
       stamp_at y later p 0 ≤ finished y later → stamp_at y later p 1 ≤ finished y later →
       held y words (Stored p k) ≡ held y later (Stored p k)
@@ -53,15 +59,16 @@ root_up job y words later stands up =
 -- one of the stamps of a place is at least the last write of any finished step
 top_low : (job : JobData) (y : LayoutData) (words : List ℕ) (x p : ℕ) →
     Stands job y words → p < places_of y → x ≤ finished y words →
-    (last_write job x p ≤ stamp_at y words p 0) ⊎ (last_write job x p ≤ stamp_at y words p 1)
+    (last_landing y.form job x p ≤ stamp_at y words p 0) ⊎
+    (last_landing y.form job x p ≤ stamp_at y words p 1)
 top_low job y words x p stands place h =
-    let r = last_rises job x (finished y words) p h in
-    elim (has_settled job _ _ p _ _ (stands.lawful.stored p place)) [
-      | inl e ↦ (let s : stamp_at y words p 0 ≡ last_write job (finished y words) p =
+    let r = last_rises y.form job stands.limits x (finished y words) p h in
+    elim (has_settled y.form job _ _ p _ _ (stands.lawful.stored p place)) [
+      | inl e ↦ (let s : stamp_at y words p 0 ≡ last_landing y.form job (finished y words) p =
           ap stamp_of e ∙ stamp_settled job y words (finished y words)
           stands.limits stands.sizes stands.layout stands.lawful (facts job y words stands).root_low
           (facts job y words stands).root_high (finished y words) p in inl (omega arith))
-      | inr e ↦ (let s : stamp_at y words p 1 ≡ last_write job (finished y words) p =
+      | inr e ↦ (let s : stamp_at y words p 1 ≡ last_landing y.form job (finished y words) p =
           ap stamp_of e ∙ stamp_settled job y words (finished y words)
           stands.limits stands.sizes stands.layout stands.lawful (facts job y words stands).root_low
           (facts job y words stands).root_high (finished y words) p in inr (omega arith))
@@ -85,7 +92,7 @@ changed job y words later x p k stands after up is h other = elim (up (Stored p 
     changed_late zero e c one two = omega arith
     changed_late (suc s) e c one two =
         let w = ((facts job y later after).stored_from s p k is e).1 in
-        let l = last_least job x p s c w in
+        let l = last_least y.form job stands.limits x p s c w in
         elim (top_low job y words x p stands is.0 h) [ inl t ↦ omega arith | inr t ↦ omega arith ]
 
 module _ (job : JobData) (y : LayoutData) (words later : List ℕ) (stands : Stands job y words)
@@ -97,26 +104,27 @@ module _ (job : JobData) (y : LayoutData) (words later : List ℕ) (stands : Sta
       (facts job y later after).reached_finished (finished y words)
       (omega arith) stands.lawful.reached
 
-  asked_same : (i j s : ℕ) → i < y.procs → j < 3 →
+  asked_same : y.form ≡ Compact → (i j s : ℕ) → i < y.procs → j < 3 →
       stamp_of (held y words (Asked i j)) ≡ suc s → stamp_of (held y later (Asked i j)) ≡ suc s →
       held y words (Asked i j) ≡ held y later (Asked i j)
-  asked_same i j s proc part e g =
-      let a = ((stands.lawful.asked i j proc part).part s e).1 in
-      let b = ((after.lawful.asked i j proc part).part s g).1 in
+  asked_same compact i j s proc part e g =
+      let a = ((stands.lawful.asked compact i j proc part).part s e).1 in
+      let b = ((after.lawful.asked compact i j proc part).part s g).1 in
       omega arith
 
-  asked_by : (i j s : ℕ) → i < y.procs → j < 3 →
+  asked_by : y.form ≡ Compact → (i j s : ℕ) → i < y.procs → j < 3 →
       1 ≤ s → stamp_of (held y words (Asked i j)) ≡ s → stamp_of (held y later (Asked i j)) ≡ s →
       held y words (Asked i j) ≡ held y later (Asked i j)
-  asked_by i j zero proc part some e g = absurd (omega arith)
-  asked_by i j (suc s) proc part some e g = asked_same i j s proc part e g
+  asked_by compact i j zero proc part some e g = absurd (omega arith)
+  asked_by compact i j (suc s) proc part some e g = asked_same compact i j s proc part e g
 
   live : (x q : ℕ) → IsReached job x →
-      3 * x < q → q ≤ 3 * x + 3 → q ≤ root y words + 1 → root y later + 1 ≡ q →
-      (root y words + 1 ≡ q) × (finished y words ≡ x) × (finished y later ≡ x)
+      3 * x < q → q ≤ 3 * x + 3 → q ≤ next_phase y.form (root y words) → root y later < q →
+      (root y words < q) × (finished y words ≡ x) × (finished y later ≡ x)
   live x q reached low high floor now =
       let r = root_up job y words later stands up in
-      let a = (facts job y words stands).reached_finished x (omega arith) reached in
+      let begun = next_step y.form (root y words) x (omega arith) in
+      let a = (facts job y words stands).reached_finished x begun reached in
       let b = (facts job y words stands).root_low in
       let c = (facts job y later after).reached_finished x (omega arith) reached in
       let d = (facts job y later after).root_low in
@@ -143,8 +151,8 @@ module _ (job : JobData) (y : LayoutData) (words later : List ℕ) (stands : Sta
   grown : LaterWords job y words later
   grown = record {
     finished_rises = fin_up;
-    asked_same = λ i j proc part some e.
-        asked_by i j (stamp_of (held y words (Asked i j))) proc part some refl (sym e);
+    asked_same = λ compact i j proc part some e.
+        asked_by compact i j (stamp_of (held y words (Asked i j))) proc part some refl (sym e);
     same_phase = live;
     stored_same = unwritten_each;
   }
@@ -156,57 +164,69 @@ growth_shows job y words later stands after up = grown job y words later stands 
 
 -- a word beside one with a stamp above x is of the last write up to x, at least
 pub beside : (job : JobData) (y : LayoutData) (words : List ℕ) (x p a b : ℕ) →
-    Stands job y words → IsPair job (finished y words) (root y words) p a b → x ≤ finished y words →
-    (x < stamp_of b → last_write job x p ≤ stamp_of a)
-    × (x < stamp_of a → last_write job x p ≤ stamp_of b)
+    Stands job y words → IsPair y.form job (finished y words) (root y words) p a b →
+    x ≤ finished y words → (x < stamp_of b → last_landing y.form job x p ≤ stamp_of a)
+    × (x < stamp_of a → last_landing y.form job x p ≤ stamp_of b)
 beside job y words x p a b stands (newer_first e g) h =
-    let s : stamp_of a ≡ last_write job (finished y words) p =
-    ap stamp_of e ∙ stamp_step job (last_write job (finished y words) p) p stands.limits in
-    let o : stamp_of b ≡ write_before job (last_write job (finished y words) p) p = ap stamp_of g
-    ∙ stamp_step job (write_before job (last_write job (finished y words) p) p) p stands.limits in
-    let r = last_rises job x (finished y words) p h in (
+    let s : stamp_of a ≡ last_landing y.form job (finished y words) p =
+    ap stamp_of e ∙ stamp_step y.form job stands.limits
+    (last_landing y.form job (finished y words) p) p in
+    let o : stamp_of b ≡ landing_before y.form job (last_landing y.form job (finished y words) p)
+    p = ap stamp_of g
+    ∙ stamp_step y.form job stands.limits (landing_before y.form job
+    (last_landing y.form job (finished y words) p) p) p in
+    let r = last_rises y.form job stands.limits x (finished y words) p h in (
       λ late. omega arith,
-      λ late. (let m = before_rises job x (last_write job (finished y words) p) p (omega arith) in
+      λ late. (let m = before_rises y.form job stands.limits x
+          (last_landing y.form job (finished y words) p) p (omega arith) in
           omega arith),
     )
 beside job y words x p a b stands (newer_second e g some) h =
-    let s : stamp_of b ≡ last_write job (finished y words) p =
-    ap stamp_of e ∙ stamp_step job (last_write job (finished y words) p) p stands.limits in
-    let o : stamp_of a ≡ write_before job (last_write job (finished y words) p) p = ap stamp_of g
-    ∙ stamp_step job (write_before job (last_write job (finished y words) p) p) p stands.limits in
-    let r = last_rises job x (finished y words) p h in (
-      λ late. (let m = before_rises job x (last_write job (finished y words) p) p (omega arith) in
+    let s : stamp_of b ≡ last_landing y.form job (finished y words) p =
+    ap stamp_of e ∙ stamp_step y.form job stands.limits
+    (last_landing y.form job (finished y words) p) p in
+    let o : stamp_of a ≡ landing_before y.form job (last_landing y.form job (finished y words) p)
+    p = ap stamp_of g
+    ∙ stamp_step y.form job stands.limits (landing_before y.form job
+    (last_landing y.form job (finished y words) p) p) p in
+    let r = last_rises y.form job stands.limits x (finished y words) p h in (
+      λ late. (let m = before_rises y.form job stands.limits x
+          (last_landing y.form job (finished y words) p) p (omega arith) in
           omega arith),
       λ late. omega arith,
     )
 beside job y words x p a b stands (new_first n e) h =
-    let s : stamp_of b ≡ last_write job (finished y words) p =
-    ap stamp_of e ∙ stamp_step job (last_write job (finished y words) p) p stands.limits in
-    let r = last_rises job x (finished y words) p h in
+    let s : stamp_of b ≡ last_landing y.form job (finished y words) p =
+    ap stamp_of e ∙ stamp_step y.form job stands.limits
+    (last_landing y.form job (finished y words) p) p in
+    let r = last_rises y.form job stands.limits x (finished y words) p h in
     let f = n.stamp in
-    let m = last_most job (finished y words) p in
+    let m = last_most y.form job stands.limits (finished y words) p in
     (λ late. omega arith, λ late. omega arith)
 beside job y words x p a b stands (new_second n e some) h =
-    let s : stamp_of a ≡ last_write job (finished y words) p =
-    ap stamp_of e ∙ stamp_step job (last_write job (finished y words) p) p stands.limits in
-    let r = last_rises job x (finished y words) p h in
+    let s : stamp_of a ≡ last_landing y.form job (finished y words) p =
+    ap stamp_of e ∙ stamp_step y.form job stands.limits
+    (last_landing y.form job (finished y words) p) p in
+    let r = last_rises y.form job stands.limits x (finished y words) p h in
     let f = n.stamp in
-    let m = last_most job (finished y words) p in
+    let m = last_most y.form job stands.limits (finished y words) p in
     (λ late. omega arith, λ late. omega arith)
 
 -- the second word is written only when the first one was
 first_some : (job : JobData) (y : LayoutData) (words : List ℕ) (p a b : ℕ) →
-    Stands job y words → IsPair job (finished y words) (root y words) p a b →
+    Stands job y words → IsPair y.form job (finished y words) (root y words) p a b →
     1 ≤ stamp_of b → 1 ≤ stamp_of a
 first_some job y words p a b stands (newer_first e g) h =
-    let s : stamp_of a ≡ last_write job (finished y words) p = ap stamp_of e ∙ stamp_settled job
+    let s : stamp_of a ≡ last_landing y.form job (finished y words) p =
+    ap stamp_of e ∙ stamp_settled job
     y words (finished y words) stands.limits stands.sizes stands.layout stands.lawful
     (facts job y words stands).root_low (facts job y words stands).root_high (finished y words) p in
-    let o : stamp_of b ≡ write_before job (last_write job (finished y words) p) p =
+    let o : stamp_of b ≡ landing_before y.form job
+    (last_landing y.form job (finished y words) p) p =
     ap stamp_of g ∙ stamp_before job y words
     (finished y words) stands.limits stands.sizes stands.layout stands.lawful
     (facts job y words stands).root_low (facts job y words stands).root_high (finished y words) p in
-    let m = before_most job (last_write job (finished y words) p) p in
+    let m = before_most y.form job stands.limits (last_landing y.form job (finished y words) p) p in
     omega arith
 first_some job y words p a b stands (newer_second e g some) h = some
 first_some job y words p a b stands (new_first n e) h = let s = n.stamp in omega arith
@@ -227,50 +247,54 @@ module _ (job : JobData) (y : LayoutData) (x p a b : ℕ) (first second now : Li
   fin_now : x ≤ finished y now
   fin_now = let f = fin_second in let g = fin_up job y second now s2 s3 on in omega arith
 
-  stamp_x : stamp_of (settled job x p) ≡ last_write job x p
+  stamp_x : stamp_of (settled y.form job x p) ≡ last_landing y.form job x p
   stamp_x = stamp_settled job y first (finished y first) s1.limits s1.sizes s1.layout s1.lawful
       (facts job y first s1).root_low (facts job y first s1).root_high x p
 
-  stamp_x_before : stamp_of (settled_before job x p) ≡ write_before job (last_write job x p) p
+  stamp_x_before : stamp_of (settled_before y.form job x p) ≡ landing_before y.form job
+      (last_landing y.form job x p) p
   stamp_x_before = stamp_before job y first (finished y first) s1.limits s1.sizes s1.layout
       s1.lawful (facts job y first s1).root_low (facts job y first s1).root_high x p
 
-  payload_x : payload_of (settled job x p) ≡ slice_index (state_after job x) p
-  payload_x = payload_step job (last_write job x p) p s1.limits
-      ∙ sym (value_between job (last_write job x p) x p s1.limits (place_below job y first
+  worth_x : worth y.form job x p (settled y.form job x p) ≡ slice_index (state_after job x) p
+  worth_x = settled_worth y.form job s1.limits x p (place_below job y first
       (finished y first) s1.limits s1.sizes s1.layout s1.lawful (facts job y first s1).root_low
-      (facts job y first s1).root_high p place) (last_most job x p) (omega arith))
+      (facts job y first s1).root_high p place)
 
   -- the word before the last one is the last one, where there is none
-  before_none : last_write job x p ≡ 0 → settled_before job x p ≡ settled job x p
+  before_none : last_landing y.form job x p ≡ 0 →
+      settled_before y.form job x p ≡ settled y.form job x p
   before_none none = ap (λ (n : ℕ). word_of_step job n p)
-      (let m = before_most job (last_write job x p) p in omega arith)
+      (let m = before_most y.form job s1.limits (last_landing y.form job x p) p in omega arith)
 
   Heard : ℕ → Type 0
   Heard word =
-      (word ≡ settled job x p) ⊎ ((word ≡ settled_before job x p) × (1 ≤ last_write job x p))
+      (word ≡ settled y.form job x p) ⊎ ((word ≡ settled_before y.form job x p) ×
+      (1 ≤ last_landing y.form job x p))
 
-  heard_of : (word other : ℕ) → (word ≡ settled job x p)
-      ⊎ ((word ≡ settled_before job x p) × (last_write job x p ≤ other)) → Heard word
+  heard_of : (word other : ℕ) → (word ≡ settled y.form job x p)
+      ⊎ ((word ≡ settled_before y.form job x p) × (last_landing y.form job x p ≤ other)) →
+      Heard word
   unfolding Heard
   heard_of word other (inl e) = inl e
-  heard_of word other (inr e) = elim (cases_lt (last_write job x p) 1) [
+  heard_of word other (inr e) = elim (cases_lt (last_landing y.form job x p) 1) [
     | inl c ↦ inl (e.0 ∙ before_none (omega arith))
     | inr c ↦ inr (e.0, c)
   ]
 
-  upto_a : (a ≡ settled job x p)
-      ⊎ ((a ≡ settled_before job x p) × (last_write job x p ≤ stamp_at y first p 1))
-  upto_a = subst (λ (w : ℕ). (w ≡ settled job x p)
-      ⊎ ((w ≡ settled_before job x p) × (last_write job x p ≤ stamp_at y first p 1))) (sym is_a)
-      ((facts job y first s1).stored_upto x p 0 (place, lit< tt) fin_first
+  upto_a : (a ≡ settled y.form job x p)
+      ⊎ ((a ≡ settled_before y.form job x p) × (last_landing y.form job x p ≤ stamp_at y first p 1))
+  upto_a = subst (λ (w : ℕ). (w ≡ settled y.form job x p)
+      ⊎ ((w ≡ settled_before y.form job x p) × (last_landing y.form job x p ≤ stamp_at y first p
+      1))) (sym is_a) ((facts job y first s1).stored_upto x p 0 (place, lit< tt) fin_first
       (let e = ap stamp_of is_a in omega arith))
 
-  upto_b : (b ≡ settled job x p)
-      ⊎ ((b ≡ settled_before job x p) × (last_write job x p ≤ stamp_at y second p 0))
-  upto_b = subst (λ (w : ℕ). (w ≡ settled job x p)
-      ⊎ ((w ≡ settled_before job x p) × (last_write job x p ≤ stamp_at y second p 0))) (sym is_b)
-      ((facts job y second s2).stored_upto x p 1 (place, lit< tt) fin_second
+  upto_b : (b ≡ settled y.form job x p)
+      ⊎ ((b ≡ settled_before y.form job x p) ×
+      (last_landing y.form job x p ≤ stamp_at y second p 0))
+  upto_b = subst (λ (w : ℕ). (w ≡ settled y.form job x p)
+      ⊎ ((w ≡ settled_before y.form job x p) × (last_landing y.form job x p ≤ stamp_at y second p
+      0))) (sym is_b) ((facts job y second s2).stored_upto x p 1 (place, lit< tt) fin_second
       (let e = ap stamp_of is_b in omega arith))
 
   heard_a : Heard a
@@ -280,24 +304,26 @@ module _ (job : JobData) (y : LayoutData) (x p a b : ℕ) (first second now : Li
   heard_b = heard_of b (stamp_at y second p 0) upto_b
 
   -- both words were not heard as the one before
-  not_both : a ≡ settled_before job x p → 1 ≤ last_write job x p → b ≡ settled_before job x p → ⊥
+  not_both : a ≡ settled_before y.form job x p → 1 ≤ last_landing y.form job x p →
+      b ≡ settled_before y.form job x p → ⊥
   not_both e some g =
-      let less = before_less job (last_write job x p) p some in
-      let sb : stamp_of b ≡ write_before job (last_write job x p) p =
+      let less = before_less y.form job s1.limits (last_landing y.form job x p) p some in
+      let sb : stamp_of b ≡ landing_before y.form job (last_landing y.form job x p) p =
       ap stamp_of g ∙ stamp_x_before in
-      let sa : stamp_of a ≡ write_before job (last_write job x p) p =
+      let sa : stamp_of a ≡ landing_before y.form job (last_landing y.form job x p) p =
       ap stamp_of e ∙ stamp_x_before in
       let rise : stamp_at y first p 1 ≤ stamp_at y second p 1 =
       stamps_rise y first second p 1 (place, lit< tt) up in
       let same : stamp_of b ≡ stamp_at y second p 1 = ap stamp_of is_b in
       elim upto_a [
-        | inl f ↦ (let k : stamp_of a ≡ last_write job x p = ap stamp_of f ∙ stamp_x in omega arith)
+        | inl f ↦ (let k : stamp_of a ≡ last_landing y.form job x p =
+            ap stamp_of f ∙ stamp_x in omega arith)
         | inr f ↦ (let k = f.1 in omega arith)
       ]
 
   -- nor both as the last one
-  not_twice : stamp_of a ≡ last_write job x p →
-      stamp_of b ≡ last_write job x p → last_write job x p ≡ 0
+  not_twice : stamp_of a ≡ last_landing y.form job x p →
+      stamp_of b ≡ last_landing y.form job x p → last_landing y.form job x p ≡ 0
   not_twice ea eb =
       let fa : stamp_of a ≡ stamp_at y first p 0 = ap stamp_of is_a in
       let fb : stamp_of b ≡ stamp_at y second p 1 = ap stamp_of is_b in
@@ -310,42 +336,48 @@ module _ (job : JobData) (y : LayoutData) (x p a b : ℕ) (first second now : Li
         ]
       ]
 
-  most_a : stamp_of a ≤ last_write job x p
+  most_a : stamp_of a ≤ last_landing y.form job x p
   unfolding Heard
   most_a = elim heard_a [
-    | inl e ↦ (let s : stamp_of a ≡ last_write job x p = ap stamp_of e ∙ stamp_x in omega arith)
-    | inr e ↦ (let s : stamp_of a ≡ write_before job (last_write job x p) p =
+    | inl e ↦ (let s : stamp_of a ≡ last_landing y.form job x p =
+        ap stamp_of e ∙ stamp_x in omega arith)
+    | inr e ↦ (let s : stamp_of a ≡ landing_before y.form job (last_landing y.form job x p) p =
         ap stamp_of e.0 ∙ stamp_x_before in
-        let m = before_most job (last_write job x p) p in omega arith)
+        let m = before_most y.form job s1.limits (last_landing y.form job x p) p in omega arith)
   ]
 
-  most_b : stamp_of b ≤ last_write job x p
+  most_b : stamp_of b ≤ last_landing y.form job x p
   unfolding Heard
   most_b = elim heard_b [
-    | inl e ↦ (let s : stamp_of b ≡ last_write job x p = ap stamp_of e ∙ stamp_x in omega arith)
-    | inr e ↦ (let s : stamp_of b ≡ write_before job (last_write job x p) p =
+    | inl e ↦ (let s : stamp_of b ≡ last_landing y.form job x p =
+        ap stamp_of e ∙ stamp_x in omega arith)
+    | inr e ↦ (let s : stamp_of b ≡ landing_before y.form job (last_landing y.form job x p) p =
         ap stamp_of e.0 ∙ stamp_x_before in
-        let m = before_most job (last_write job x p) p in omega arith)
+        let m = before_most y.form job s1.limits (last_landing y.form job x p) p in omega arith)
   ]
 
-  value_of : newer_payload a b ≡ slice_index (state_after job x) p
+  value_by : (w : ℕ) → newer_word a b ≡ w → w ≡ settled y.form job x p →
+      worth y.form job x p (newer_word a b) ≡ slice_index (state_after job x) p
+  value_by w newer is = ap (worth y.form job x p) (newer ∙ is) ∙ worth_x
+
+  value_of : worth y.form job x p (newer_word a b) ≡ slice_index (state_after job x) p
   unfolding Heard
   value_of = elim heard_a [
     | inl e ↦ elim heard_b [
       | inl g ↦ elim (cases_lt (stamp_of b) (stamp_of a)) [
-        | inl c ↦ newer_is_first a b c ∙ ap payload_of e ∙ payload_x
-        | inr c ↦ newer_is_second a b c ∙ ap payload_of g ∙ payload_x
+        | inl c ↦ value_by a (newer_is_first a b c) e
+        | inr c ↦ value_by b (newer_is_second a b c) g
       ]
-      | inr g ↦ (let s : stamp_of a ≡ last_write job x p = ap stamp_of e ∙ stamp_x in
-          let o : stamp_of b ≡ write_before job (last_write job x p) p =
+      | inr g ↦ (let s : stamp_of a ≡ last_landing y.form job x p = ap stamp_of e ∙ stamp_x in
+          let o : stamp_of b ≡ landing_before y.form job (last_landing y.form job x p) p =
           ap stamp_of g.0 ∙ stamp_x_before in
-          let less = before_less job (last_write job x p) p g.1 in
-          newer_is_first a b (omega arith) ∙ ap payload_of e ∙ payload_x)
+          let less = before_less y.form job s1.limits (last_landing y.form job x p) p g.1 in
+          value_by a (newer_is_first a b (omega arith)) e)
     ]
     | inr e ↦ elim heard_b [
-      | inl g ↦ (let s : stamp_of b ≡ last_write job x p = ap stamp_of g ∙ stamp_x in
+      | inl g ↦ (let s : stamp_of b ≡ last_landing y.form job x p = ap stamp_of g ∙ stamp_x in
           let m = most_a in
-          newer_is_second a b (omega arith) ∙ ap payload_of g ∙ payload_x)
+          value_by b (newer_is_second a b (omega arith)) g)
       | inr g ↦ absurd (not_both e.0 e.1 g.0)
     ]
   ]

@@ -1,42 +1,46 @@
 -- The blocks of the tasks, where what was heard is put in its place: a part of a request, the value
 -- of a place, a report, a claim.
-use Rattle.std.proofs.Common.{◌≡◌, ◌≢◌, ℕ, suc, ◌+◌, ◌*◌, ◌<◌, ◌≤◌, nat_lt, List}
-use Rattle.std.proofs.Common.{◌∷◌, length, slice_index, get_or-set_same, IsTrue}
-use Rattle.std.proofs.Common.{sym, ap, subst, ◌∙◌, inl, inr, lit<, arith}
-use Rattle.std.specs.Prelude.{slice_set}
+use Rattle.std.proofs.Common.{◌≡◌, ◌≢◌, ℕ, suc, ◌+◌, ◌*◌, ◌<◌, ◌≤◌, nat_lt, List, ◌∷◌, length}
+use Rattle.std.proofs.Common.{slice_index, get_or-set_same, IsTrue, sym, ap, subst, ◌∙◌, inl, inr}
+use Rattle.std.proofs.Common.{lit<, arith}
 use Rattle.std.proofs.lemmas.Bool.{cond_both, cases_eq, ltb-true, ltb-false}
+use Rattle.std.specs.Prelude.{slice_set}
 use Rattle.pram_job.specs.Job.{JobData}
+use Rattle.pram_step.specs.History.{Asks, part_after}
 use Rattle.pram_step.specs.Runs.{AgreesAfter, state_after}
-use Rattle.pram_words.specs.declared.phases.Kind.TheVariants.{Apply, Verify}
-use Rattle.pram_words.specs.declared.words.Word.TheVariants.{Conflict, Claim}
+use Rattle.pram_words.proofs.Numbering.{numbering}
 use Rattle.pram_words.specs.Phases.{step_at}
 use Rattle.pram_words.specs.Stamps.{stamped_word}
 use Rattle.pram_words.specs.Words.{LayoutData, number_of, places_of}
-use Rattle.pram_words.proofs.Numbering.{numbering}
-use Rattle.walkx.specs.declared.operation.Op.{Op}
-use Rattle.walkx.specs.declared.operation.Op.TheVariants.{Max, Swap}
+use Rattle.pram_words.specs.declared.layout.Form.{Form}
+use Rattle.pram_words.specs.declared.layout.Form.TheVariants.{Compact}
+use Rattle.pram_words.specs.declared.phases.Kind.TheVariants.{Verify}
+use Rattle.pram_words.specs.declared.words.Word.TheVariants.{Conflict, Claim}
+use Rattle.walkx.proofs.Boards.{same_cells}
 use Rattle.walkx.specs.Operations.{words_after}
 use Rattle.walkx.specs.Scripts.{Script, asks}
 use Rattle.walkx.specs.Tasks.{hears_part, reads_place, reports, claims, claim_of}
 use Rattle.walkx.specs.Walk.{Then, IsBoard}
-use Rattle.walkx.proofs.Boards.{same_cells}
-use Rattle.pram_step.specs.History.{Asks, part_after}
-use Rattle.lawful_walk.specs.Writes.{Floor}
-use Rattle.lawful_walk.specs.Board.{held, root, conflict, Stands}
-use Rattle.lawful_walk.specs.Moments.{Moment}
-use Rattle.lawful_walk.proofs.Moments.{onward}
+use Rattle.walkx.specs.declared.operation.Op.{Op}
+use Rattle.walkx.specs.declared.operation.Op.TheVariants.{Max, Swap}
+use Rattle.lawful_walk.specs.Lands.{phase_claimed}
 use Rattle.lawful_walk.proofs.Frames.{swap_same, swap_other}
-use Rattle.lawful_walk.proofs.Facts.{facts}
-use Rattle.lawful_walk.proofs.Raising.{alive, kind_of}
-use Rattle.lawful_walk.proofs.Effects.{writes_keep}
-use Rattle.lawful_walk.proofs.Sees.{Sees, Lasts, so, heard}
-use Rattle.lawful_walk.proofs.Scripts.{Aim, Safe}
+use Rattle.lawful_walk.proofs.Moments.{onward}
+use Rattle.lawful_walk.proofs.Raising.{kind_of, alive}
+use Rattle.lawful_walk.specs.Board.{held, root, conflict, Stands}
 use Rattle.lawful_walk.proofs.Blocks.{hears_safe, reads_safe, reports_safe}
+use Rattle.lawful_walk.proofs.Effects.{writes_keep}
+use Rattle.lawful_walk.proofs.Facts.{facts}
 use Rattle.lawful_walk.proofs.Known.{safe_known, floor_lasts, StaleSafe, raises_safe}
+use Rattle.lawful_walk.proofs.Scripts.{Aim, Safe}
+use Rattle.lawful_walk.proofs.Sees.{Sees, Lasts, so, heard}
+use Rattle.lawful_walk.specs.Moments.{Moment}
+use Rattle.lawful_walk.specs.Writes.{Floor}
 
 module _ (job : JobData) (y : LayoutData)
     (w q : ℕ) (aim : Aim) (x i : ℕ) (some : 1 ≤ q) (most : q ≤ 3 * job.steps)
-    (step : step_at q ≡ suc x) (board : IsBoard job y) (proc : i < y.procs) where
+    (step : step_at q ≡ suc x) (board : IsBoard job y) (proc : i < y.procs)
+    (compact : y.form ≡ Compact) where
   -- ---- one part of the request, or all three
 
   pub hears : (j : ℕ) → j < 3 → 3 * x + 2 ≤ q →
@@ -48,7 +52,7 @@ module _ (job : JobData) (y : LayoutData)
       Safe job y w q aim (hears_part y (suc x) i j after next) history
   hears j part phase after next history stale sees on =
       hears_safe job y w q aim x some most step (Floor job y q x) (floor_lasts job y q x)
-      (λ words f. f) i j proc part phase after next history sees stale (λ v longer more.
+      (λ words f. f) compact i j proc part phase after next history sees stale (λ v longer more.
       safe_known job y w q aim (next v) longer (v ≡ part_after job x i j)
       (so job y longer (λ words. Floor job y q x words × (v ≡ part_after job x i j))
       (λ words. v ≡ part_after job x i j) (λ words stands h. h.1) more) (λ e.
@@ -85,7 +89,7 @@ module _ (job : JobData) (y : LayoutData)
       Safe job y w q aim (reads_place y (suc x) p after next) history
   reads p place phase after next history stale sees on =
       reads_safe job y w q aim x some most step (Floor job y q x) (floor_lasts job y q x)
-      (λ words f. f) p place phase after next history sees stale (λ v longer more.
+      (λ words f. f) compact p place phase after next history sees stale (λ v longer more.
       safe_known job y w q aim (next v) longer (v ≡ slice_index (state_after job x) p)
       (so job y longer (λ words. Floor job y q x words × (v ≡ slice_index (state_after job x) p))
       (λ words. v ≡ slice_index (state_after job x) p) (λ words stands h. h.1) more) (λ e.
@@ -110,7 +114,7 @@ module _ (job : JobData) (y : LayoutData)
   ]
 
   named_later : (words : List ℕ) → Stands job y words → Floor job y q x words →
-      conflict y words ≢ 0 → root y words + 1 ≡ q → conflict y words ≡ suc x
+      conflict y words ≢ 0 → root y words < q → conflict y words ≡ suc x
   named_later words stands floor named live =
       let gone = alive job y words q x stands some most step floor live in
       elim (facts job y words stands).conflict_next [
@@ -121,7 +125,7 @@ module _ (job : JobData) (y : LayoutData)
   pub reports_end : 3 * x + 3 ≡ q → (AgreesAfter job x → ⊥) →
       (after : Script Then) (history : List (Op × ℕ)) → Sees job y history (Floor job y q x) →
       ((longer : List (Op × ℕ)) → Sees job y longer
-      (λ words. Floor job y q x words × (root y words + 1 ≡ q → conflict y words ≡ suc x)) →
+      (λ words. Floor job y q x words × (root y words < q → conflict y words ≡ suc x)) →
       Safe job y w q aim after longer) →
       Safe job y w q aim (reports y (suc x) after) history
   reports_end phase not after history sees on =
@@ -132,7 +136,7 @@ module _ (job : JobData) (y : LayoutData)
       on ((Swap (number_of y Conflict) 0 (suc x), found) ∷ history)
       (so job y ((Swap (number_of y Conflict) 0 (suc x), found) ∷ history)
       (Moment job y (Swap (number_of y Conflict) 0 (suc x)) found (Floor job y q x))
-      (λ words. Floor job y q x words × (root y words + 1 ≡ q → conflict y words ≡ suc x))
+      (λ words. Floor job y q x words × (root y words < q → conflict y words ≡ suc x))
       (λ words stands m.
       let floor = floor_lasts job y q x m.words words m.stands stands (onward y m.words (words_after
       m.words (Swap (number_of y Conflict) 0 (suc x))) words m.grew m.since) m.earlier in
@@ -166,7 +170,8 @@ module _ (job : JobData) (y : LayoutData)
       raises_safe job y w q aim (Claim p) (stamped_word (suc x) (claim_of job i)) (Floor job y q x)
       (floor_lasts job y q x) (has, cell) (λ words later up. up (Claim p) (has, cell))
       (λ words stands f. (writes_keep job y words q x stands some most step f).claim p i v
-      (has, cell) (kind_of x q Apply phase) asked) after history sees (λ longer more.
+      (has, cell) (subst (λ (f : Form). q ≡ phase_claimed f x) (sym compact) (sym phase)) asked)
+      after history sees (λ longer more.
       on longer (so job y longer (λ words.
       Floor job y q x words × (stamped_word (suc x) (claim_of job i) ≤ held y words (Claim p)))
       (λ words. Floor job y q x words × (p < job.cells → stamped_word (suc x) (claim_of job i)

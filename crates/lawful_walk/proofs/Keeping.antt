@@ -1,5 +1,5 @@
 -- How the clauses of lawful words are kept: what is done stays done, and a root that rises over a
--- third pass.
+-- step's last pass.
 use Rattle.std.proofs.Common.{◌≡◌, ◌≢◌, ◌⊎◌, ℕ, zero, suc, ◌+◌, ◌*◌, ◌<◌, ◌≤◌, IsTrue, List}
 use Rattle.std.proofs.Common.{slice_index, refl, sym, ap, subst, ◌∙◌, inl, inr, lit<, arith}
 use Rattle.std.proofs.lemmas.Bool.{cases_eq}
@@ -7,28 +7,35 @@ use Rattle.pram_job.specs.Job.{JobData, IsJob}
 use Rattle.pram_job.specs.declared.instr.Rule.{Rule}
 use Rattle.pram_job.specs.declared.instr.Rule.TheVariants.{Common, Priority, Crew}
 use Rattle.pram_step.specs.Runs.{AgreesAfter, state_after}
+use Rattle.pram_step.specs.History.{Asks}
+use Rattle.pram_step.proofs.LawFixed.{reached_more}
+use Rattle.pram_step.proofs.Past.{written_value, asks_fit}
+use Rattle.pram_words.specs.declared.layout.Form.{Form}
+use Rattle.pram_words.specs.declared.layout.Form.TheVariants.{Compact, Wide}
 use Rattle.pram_words.specs.declared.phases.Kind.{Kind}
 use Rattle.pram_words.specs.declared.phases.Kind.TheVariants.{Compute, Apply, Verify}
 use Rattle.pram_words.specs.declared.words.Word.TheVariants.{Conflict, Asked, Stored, Claim}
 use Rattle.pram_words.specs.Stamps.{stamp_of, payload_of, stamped_word}
 use Rattle.pram_words.specs.Words.{LayoutData, IsLayout, IsWord, has_claims, places_of}
+use Rattle.pram_words.proofs.NextPhases.{next_above, next_rises}
 use Rattle.walkx.specs.Tasks.{claim_of}
 use Rattle.walkx.specs.Walk.{IsLayoutOf, IsBoard}
 use Rattle.walkx.proofs.Boards.{same_cells, same_procs}
-use Rattle.pram_step.specs.History.{Asks, IsWritten, last_write, write_before}
-use Rattle.pram_step.proofs.LawFixed.{reached_more}
-use Rattle.pram_step.proofs.Past.{last_most, last_new, write_cases, Left}
-use Rattle.pram_step.proofs.Past.{Set, written_value, before_most, asks_fit}
-use Rattle.lawful_walk.specs.Steps.{word_of_step, settled, settled_before}
 use Rattle.lawful_walk.specs.Board.{held, root, conflict, leaf, stamp_at, finished, IsLate}
-use Rattle.lawful_walk.specs.Board.{HoldsNew, Raised, Carried, CarriedWon, Claimed, Stays}
-use Rattle.lawful_walk.specs.Board.{ClaimStays, Done, phase_in, IsNew, IsPair, newer_first}
-use Rattle.lawful_walk.specs.Board.{newer_second, new_first, new_second, ClaimsFor, IsClaimed}
-use Rattle.lawful_walk.specs.Board.{claimed_before, claimed_now, LawfulFor, Lawful, Grows}
-use Rattle.lawful_walk.proofs.Values.{fin, phase_high, stamp_step}
+use Rattle.lawful_walk.specs.Board.{HoldsNew, Raised, Claimed, ClaimStays, ClaimsFor, Grows}
+use Rattle.lawful_walk.specs.Board.{phase_in, Carried, CarriedCell, CarriedOwn, CarriedWon}
+use Rattle.lawful_walk.specs.Board.{CompactDone, Done, DoneIn, Stays, WideDone, IsNew, IsPair}
+use Rattle.lawful_walk.specs.Board.{newer_first, newer_second, new_first, new_second, IsClaimed}
+use Rattle.lawful_walk.specs.Board.{claimed_before, claimed_now, LawfulFor, Lawful}
 use Rattle.lawful_walk.proofs.Moments.{stamps_rise}
-use Rattle.lawful_walk.proofs.Facts.{place_below, low_leaf, raised, late}
-use Rattle.lawful_walk.proofs.Facts.{claim_fits, agrees_by, claim_high}
+use Rattle.lawful_walk.proofs.Values.{fin, claim_most, phase_high}
+use Rattle.lawful_walk.specs.Lands.{IsLanded, landing_before, last_landing, settled, settled_before}
+use Rattle.lawful_walk.specs.Lands.{word_of_step}
+use Rattle.lawful_walk.proofs.Landings.{Left, Set, before_most, landing_cases, last_most, last_new}
+use Rattle.lawful_walk.proofs.Landings.{stamp_step}
+use Rattle.lawful_walk.proofs.Winners.{cell_lands}
+use Rattle.lawful_walk.proofs.Facts.{agrees_by, board, claim_fits, claim_high, late, low_leaf}
+use Rattle.lawful_walk.proofs.Facts.{place_below, raised}
 
 has_claim_words : (rule : Rule) → rule ≢ Common → IsTrue (has_claims rule)
 has_claim_words Common other = absurd (other refl)
@@ -96,7 +103,7 @@ module _ (job : JobData) (y : LayoutData) (words later : List ℕ) (s : ℕ)
   stays_later : (i : ℕ) → Stays job y s words i → Stays job y s later i
   stays_later i (inl e) = inl (conflict_later e)
   stays_later i (inr h) =
-      inr (λ p v data_write. new_later p v (place_of p i v data_write.0) (h p v data_write))
+      inr (λ p v asks cell. new_later p v (place_of p i v asks) (h p v asks cell))
 
   claim_stays_later : (rule : Rule) → job.rule ≡ rule → rule ≢ Common →
       ((c : ℕ) → IsWord y (Claim c) → held y later (Claim c) ≡ held y words (Claim c)) →
@@ -110,55 +117,89 @@ module _ (job : JobData) (y : LayoutData) (words later : List ℕ) (s : ℕ)
       ap payload_of (still c (is, omega arith)) ∙ h c v asks cell)
 
   won_later : (i : ℕ) → CarriedWon job y s words i → CarriedWon job y s later i
-  won_later i h p v asks wins = late_later p (place_of p i v asks) (h p v asks wins)
+  won_later i h p v lands wins = late_later p (place_of p i v lands.asks) (h p v lands wins)
 
   carried_later : (i : ℕ) → Carried job y s words i → Carried job y s later i
-  carried_later i h p v asks = late_later p (place_of p i v asks) (h p v asks)
+  carried_later i h p v lands = late_later p (place_of p i v lands.asks) (h p v lands)
 
-  done_by : (rule : Rule) (kind : Kind) → job.rule ≡ rule →
+  own_later : (i : ℕ) → CarriedOwn job y s words i → CarriedOwn job y s later i
+  own_later i h p v lands own = late_later p (place_of p i v lands.asks) (h p v lands own)
+
+  cell_later : (i : ℕ) → CarriedCell job y s words i → CarriedCell job y s later i
+  cell_later i h p v asks cell wins = late_later p (place_of p i v asks) (h p v asks cell wins)
+
+  compact_by : (rule : Rule) (kind : Kind) → job.rule ≡ rule →
       (kind ≡ Verify → (c : ℕ) → IsWord y (Claim c) →
       held y later (Claim c) ≡ held y words (Claim c)) →
-      (i : ℕ) → i < y.procs → Done rule kind job y s words i → Done rule kind job y s later i
-  done_by Common Compute e still i proc d = raised_later i proc d
-  done_by Common Apply e still i proc d = carried_later i d
-  done_by Common Verify e still i proc d = stays_later i d
-  done_by Priority Compute e still i proc d = raised_later i proc d
-  done_by Priority Apply e still i proc d = claim_later Priority e (λ r. absurd (cc)) i d
-  done_by Priority Verify e still i proc d = won_later i d
-  done_by Crew Compute e still i proc d = raised_later i proc d
-  done_by Crew Apply e still i proc d =
+      (i : ℕ) → i < y.procs → CompactDone rule kind job y s words i →
+      CompactDone rule kind job y s later i
+  compact_by Common Compute e still i proc d = raised_later i proc d
+  compact_by Common Apply e still i proc d = carried_later i d
+  compact_by Common Verify e still i proc d = stays_later i d
+  compact_by Priority Compute e still i proc d = raised_later i proc d
+  compact_by Priority Apply e still i proc d = claim_later Priority e (λ r. absurd (cc)) i d
+  compact_by Priority Verify e still i proc d = won_later i d
+  compact_by Crew Compute e still i proc d = raised_later i proc d
+  compact_by Crew Apply e still i proc d =
       (carried_later i d.0, claim_later Crew e (λ r. absurd (cc)) i d.1)
-  done_by Crew Verify e still i proc d =
+  compact_by Crew Verify e still i proc d =
       claim_stays_later Crew e (λ r. absurd (cc)) (still refl) i d
+
+  wide_by : (rule : Rule) (kind : Kind) → job.rule ≡ rule →
+      (kind ≡ Verify → (c : ℕ) → IsWord y (Claim c) →
+      held y later (Claim c) ≡ held y words (Claim c)) →
+      (i : ℕ) → WideDone rule kind job y s words i → WideDone rule kind job y s later i
+  wide_by Common Compute e still i d = own_later i d
+  wide_by Common Apply e still i d = tt
+  wide_by Common Verify e still i d = (cell_later i d.0, stays_later i d.1)
+  wide_by Priority Compute e still i d =
+      (own_later i d.0, claim_later Priority e (λ r. absurd (cc)) i d.1)
+  wide_by Priority Apply e still i d = tt
+  wide_by Priority Verify e still i d = cell_later i d
+  wide_by Crew Compute e still i d =
+      (own_later i d.0, claim_later Crew e (λ r. absurd (cc)) i d.1)
+  wide_by Crew Apply e still i d = tt
+  wide_by Crew Verify e still i d =
+      (cell_later i d.0, claim_stays_later Crew e (λ r. absurd (cc)) (still refl) i d.1)
+
+  done_by : (form : Form) (kind : Kind) →
+      (kind ≡ Verify → (c : ℕ) → IsWord y (Claim c) →
+      held y later (Claim c) ≡ held y words (Claim c)) → (i : ℕ) → i < y.procs →
+      DoneIn form job.rule kind job y s words i → DoneIn form job.rule kind job y s later i
+  done_by Compact kind still i proc d = compact_by job.rule kind refl still i proc d
+  done_by (Wide g) kind still i proc d = wide_by job.rule kind refl still i d
 
   pub done_later : (kind : Kind) →
       (kind ≡ Verify → (c : ℕ) → IsWord y (Claim c) →
       held y later (Claim c) ≡ held y words (Claim c)) → (i : ℕ) → i < y.procs →
       Done job.rule kind job y s words i → Done job.rule kind job y s later i
-  done_later kind still i proc d = done_by job.rule kind refl still i proc d
+  done_later kind still i proc d = done_by y.form kind still i proc d
 
 -- ---- a higher root
 
-new_up : (job : JobData) (f r s p word : ℕ) → r ≤ s → IsNew job f r p word → IsNew job f s p word
-new_up job f r s p word h n = record {
+new_up : (form : Form) (job : JobData) (f r s p word : ℕ) → r ≤ s →
+    IsNew form job f r p word → IsNew form job f s p word
+new_up form job f r s p word h n = record {
   stamp = n.stamp;
   writer = n.writer;
-  asks = n.asks;
+  lands = n.lands;
   wins = n.wins;
-  stands = (let k = n.stands in omega arith);
+  stands = (let k = n.stands in let l = next_rises form r s h in omega arith);
 }
 
-pub pair_up : (job : JobData) (f r s p a b : ℕ) → r ≤ s →
-    IsPair job f r p a b → IsPair job f s p a b
-pair_up job f r s p a b h (newer_first e g) = newer_first e g
-pair_up job f r s p a b h (newer_second e g some) = newer_second e g some
-pair_up job f r s p a b h (new_first n e) = new_first (new_up job f r s p a h n) e
-pair_up job f r s p a b h (new_second n e some) = new_second (new_up job f r s p b h n) e some
+pub pair_up : (form : Form) (job : JobData) (f r s p a b : ℕ) → r ≤ s →
+    IsPair form job f r p a b → IsPair form job f s p a b
+pair_up form job f r s p a b h (newer_first e g) = newer_first e g
+pair_up form job f r s p a b h (newer_second e g some) = newer_second e g some
+pair_up form job f r s p a b h (new_first n e) = new_first (new_up form job f r s p a h n) e
+pair_up form job f r s p a b h (new_second n e some) =
+    new_second (new_up form job f r s p b h n) e some
 
-pub claimed_up : (job : JobData) (f r s c word : ℕ) → r ≤ s →
-    IsClaimed job f r c word → IsClaimed job f s c word
-claimed_up job f r s c word h (claimed_before e g) = claimed_before e g
-claimed_up job f r s c word h (claimed_now e g low) = claimed_now e g (omega arith)
+pub claimed_up : (form : Form) (job : JobData) (f r s c word : ℕ) → r ≤ s →
+    IsClaimed form job f r c word → IsClaimed form job f s c word
+claimed_up form job f r s c word h (claimed_before e g) = claimed_before e g
+claimed_up form job f r s c word h (claimed_now e g low) =
+    claimed_now e g (let l = next_rises form r s h in omega arith)
 
 -- ---- the root over a third pass without conflict: one step more is finished
 
@@ -179,22 +220,23 @@ module _ (job : JobData) (y : LayoutData) (words : List ℕ) (f : ℕ) (limits :
 
   -- a new word is the settled one of the step
   new_settled : (p word : ℕ) → p < places_of y →
-      IsNew job f (root y words) p word → word ≡ settled job (suc f) p
+      IsNew y.form job f (root y words) p word → word ≡ settled y.form job (suc f) p
   new_settled p word place n =
-      let last : last_write job (suc f) p ≡ suc f =
-      last_new job f p (record { writer = n.writer; value = payload_of word; asks = n.asks }) in
+      let last : last_landing y.form job (suc f) p ≡ suc f =
+      last_new y.form job limits f p
+      (record { writer = n.writer; value = payload_of word; lands = n.lands }) in
       let value : slice_index (state_after job (suc f)) p ≡ payload_of word =
       written_value job f p n.writer (payload_of word) limits
       (place_below job y words f limits sizes layout lawful low high p place)
-      agrees n.asks n.wins in
+      agrees n.lands.asks n.wins in
       let e = n.stamp in
       let here : word ≡ word_of_step job (suc f) p = omega arith in
       here ∙ ap (λ (n : ℕ). word_of_step job n p) (sym last)
 
-  next_pair : (p a b : ℕ) → p < places_of y → (IsWritten job f p → IsLate y f p words) →
+  next_pair : (p a b : ℕ) → p < places_of y → (IsLanded y.form job f p → IsLate y f p words) →
       a ≡ held y words (Stored p 0) → b ≡ held y words (Stored p 1) →
-      IsPair job f (root y words) p a b → IsPair job (suc f) (root y words) p a b
-  next_pair p a b place late ea eb pair = elim (write_cases job f p) [
+      IsPair y.form job f (root y words) p a b → IsPair y.form job (suc f) (root y words) p a b
+  next_pair p a b place late ea eb pair = elim (landing_cases y.form job limits f p) [
     | inl l ↦ next_left p a b l pair
     | inr w ↦ next_set p a b place w (elim (late w.written) [
       | inl h ↦ (let g = ap stamp_of ea in inl (omega arith))
@@ -202,70 +244,79 @@ module _ (job : JobData) (y : LayoutData) (words : List ℕ) (f : ℕ) (limits :
     ]) pair
   ]
     where
-      next_left : (p a b : ℕ) → Left job f p → IsPair job f (root y words) p a b →
-          IsPair job (suc f) (root y words) p a b
+      next_left : (p a b : ℕ) → Left y.form job f p → IsPair y.form job f (root y words) p a b →
+          IsPair y.form job (suc f) (root y words) p a b
       next_left p a b l (newer_first e g) =
           newer_first (e ∙ ap (λ (n : ℕ). word_of_step job n p) (sym l.last))
-          (g ∙ ap (λ (n : ℕ). word_of_step job (write_before job n p) p) (sym l.last))
+          (g ∙ ap (λ (n : ℕ). word_of_step job (landing_before y.form job n p) p) (sym l.last))
       next_left p a b l (newer_second e g some) =
           newer_second (e ∙ ap (λ (n : ℕ). word_of_step job n p) (sym l.last))
-          (g ∙ ap (λ (n : ℕ). word_of_step job (write_before job n p) p) (sym l.last)) some
+          (g ∙ ap (λ (n : ℕ). word_of_step job (landing_before y.form job n p) p) (sym l.last)) some
       next_left p a b l (new_first n e) =
-          absurd (l.none (record { writer = n.writer; value = payload_of a; asks = n.asks }))
+          absurd (l.none (record { writer = n.writer; value = payload_of a; lands = n.lands }))
       next_left p a b l (new_second n e some) =
-          absurd (l.none (record { writer = n.writer; value = payload_of b; asks = n.asks }))
+          absurd (l.none (record { writer = n.writer; value = payload_of b; lands = n.lands }))
 
-      before_now : (p word : ℕ) → Set job f p → word ≡ settled job f p →
-          word ≡ settled_before job (suc f) p
+      before_now : (p word : ℕ) → Set y.form job f p → word ≡ settled y.form job f p →
+          word ≡ settled_before y.form job (suc f) p
       before_now p word w e =
-          e ∙ ap (λ (n : ℕ). word_of_step job (write_before job n p) p) (sym w.last)
+          e ∙ ap (λ (n : ℕ). word_of_step job (landing_before y.form job n p) p) (sym w.last)
 
-      low_stamp : (t p : ℕ) → stamp_of (settled job t p) ≡ last_write job t p
-      low_stamp t p = stamp_step job (last_write job t p) p limits
+      low_stamp : (t p : ℕ) → stamp_of (settled y.form job t p) ≡ last_landing y.form job t p
+      low_stamp t p = stamp_step y.form job limits (last_landing y.form job t p) p
 
-      next_set : (p a b : ℕ) → p < places_of y → Set job f p → (f < stamp_of a) ⊎ (f < stamp_of b) →
-          IsPair job f (root y words) p a b → IsPair job (suc f) (root y words) p a b
+      next_set : (p a b : ℕ) → p < places_of y → Set y.form job f p → (f < stamp_of a) ⊎
+          (f < stamp_of b) →
+          IsPair y.form job f (root y words) p a b → IsPair y.form job (suc f) (root y words) p a b
       next_set p a b place w late (newer_first e g) = absurd (not_late p a b e g late)
         where
-          not_late : (p a b : ℕ) → a ≡ settled job f p → b ≡ settled_before job f p →
+          not_late : (p a b : ℕ) → a ≡ settled y.form job f p → b ≡ settled_before y.form job f p →
               (f < stamp_of a) ⊎ (f < stamp_of b) → ⊥
           not_late p a b e g (inl h) =
-              let s : stamp_of a ≡ last_write job f p = ap stamp_of e ∙ low_stamp f p in
-              let m = last_most job f p in omega arith
+              let s : stamp_of a ≡ last_landing y.form job f p = ap stamp_of e ∙ low_stamp f p in
+              let m = last_most y.form job limits f p in omega arith
           not_late p a b e g (inr h) =
-              let s : stamp_of b ≡ write_before job (last_write job f p) p =
-              ap stamp_of g ∙ stamp_step job (write_before job (last_write job f p) p) p limits in
-              let m = last_most job f p in
-              let k = before_most job (last_write job f p) p in omega arith
+              let s : stamp_of b ≡ landing_before y.form job (last_landing y.form job f p) p =
+              ap stamp_of g ∙ stamp_step y.form job limits
+              (landing_before y.form job (last_landing y.form job f p) p) p in
+              let m = last_most y.form job limits f p in
+              let k = before_most y.form job limits (last_landing y.form job f p) p in omega arith
       next_set p a b place w late (newer_second e g some) = absurd (not_late p a b e g late)
         where
-          not_late : (p a b : ℕ) → b ≡ settled job f p → a ≡ settled_before job f p →
+          not_late : (p a b : ℕ) → b ≡ settled y.form job f p → a ≡ settled_before y.form job f p →
               (f < stamp_of a) ⊎ (f < stamp_of b) → ⊥
           not_late p a b e g (inr h) =
-              let s : stamp_of b ≡ last_write job f p = ap stamp_of e ∙ low_stamp f p in
-              let m = last_most job f p in omega arith
+              let s : stamp_of b ≡ last_landing y.form job f p = ap stamp_of e ∙ low_stamp f p in
+              let m = last_most y.form job limits f p in omega arith
           not_late p a b e g (inl h) =
-              let s : stamp_of a ≡ write_before job (last_write job f p) p =
-              ap stamp_of g ∙ stamp_step job (write_before job (last_write job f p) p) p limits in
-              let m = last_most job f p in
-              let k = before_most job (last_write job f p) p in omega arith
+              let s : stamp_of a ≡ landing_before y.form job (last_landing y.form job f p) p =
+              ap stamp_of g ∙ stamp_step y.form job limits
+              (landing_before y.form job (last_landing y.form job f p) p) p in
+              let m = last_most y.form job limits f p in
+              let k = before_most y.form job limits (last_landing y.form job f p) p in omega arith
       next_set p a b place w late (new_first n e) =
           newer_first (new_settled p a place n) (before_now p b w e)
       next_set p a b place w late (new_second n e some) =
           newer_second (new_settled p b place n) (before_now p a w e) some
 
-  next_claim : (c word : ℕ) →
+  next_claim : (c word : ℕ) → c < job.cells →
       ((i v : ℕ) → Asks job f c i v → stamped_word (suc f) (claim_of job i) ≤ word) →
-      IsClaimed job f (root y words) c word →
-      IsClaimed job (suc f) (root y words) c word
-  next_claim c word high_claims (claimed_before e g) = elim (write_cases job f c) [
-    | inl l ↦ claimed_before (e ∙ sym l.last) g
-    | inr w ↦ absurd (let h = high_claims w.written.writer w.written.value w.written.asks in
-        let m = last_most job f c in omega arith)
-  ]
-  next_claim c word high_claims (claimed_now e g l) =
-      let last : last_write job (suc f) c ≡ suc f =
-      last_new job f c (record { writer = g.writer; value = g.value; asks = g.asks }) in
+      IsClaimed y.form job f (root y words) c word →
+      IsClaimed y.form job (suc f) (root y words) c word
+  next_claim c word cell high_claims (claimed_before e g) =
+      elim (landing_cases y.form job limits f c) [
+        | inl l ↦ claimed_before (e ∙ sym l.last) g
+        | inr w ↦ absurd
+            (let h = high_claims w.written.writer w.written.value w.written.lands.asks in
+            let m = last_most y.form job limits f c in omega arith)
+      ]
+  next_claim c word cell high_claims (claimed_now e g l) =
+      let last : last_landing y.form job (suc f) c ≡ suc f =
+      last_new y.form job limits f c (record {
+        writer = g.writer;
+        value = g.value;
+        lands = cell_lands y.form job f c g.writer g.value cell g.asks;
+      }) in
       claimed_before (e ∙ sym last) (λ s h.
       let same : f ≡ s = omega arith in
       subst (λ (s : ℕ). ClaimsFor job s c (payload_of word)
@@ -280,15 +331,18 @@ module _ (job : JobData) (y : LayoutData) (words : List ℕ) (f : ℕ) (limits :
   root_over = record {
     reached = reached_more job f lawful.reached agrees;
     tree = lawful.tree;
-    asked = λ i j proc part. let a = lawful.asked i j proc part in
-        let r =
-        raised job y words f limits sizes layout lawful low high f i j proc part (omega arith) in
+    asked = λ compact i j proc part. let a = lawful.asked compact i j proc part in
+        let r = raised job y words f limits sizes layout lawful low high compact f i j proc part
+        (omega arith) in
         record { low = omega arith; high = (let h = a.high in omega arith); part = a.part };
     stored = λ p place. next_pair p _ _ place (λ w. late job y words f limits
-        sizes layout lawful low high f p place (let h = phase_high job.rule f in omega arith) w)
+        sizes layout lawful low high f p place (let h = phase_high y.form job p f in omega arith) w)
         refl refl (lawful.stored p place);
-    claimed = λ c is. next_claim c _ (λ i v asks. claim_high job y words f limits
-        sizes layout lawful low high f c i v is (omega arith) asks) (lawful.claimed c is);
+    claimed = λ c is. next_claim c _
+        (let cells = same_cells job y (board job y words f limits sizes layout lawful low high) in
+        let l = is.1 in omega arith) (λ i v asks. claim_high job y words f limits
+        sizes layout lawful low high f c i v is (let h = claim_most y.form f in omega arith) asks)
+        (lawful.claimed c is);
     done = λ i kind proc h. absurd (none_done i kind proc h);
     named = record { first = λ s e. absurd (omega arith); near = λ s e. absurd (omega arith) };
   }
@@ -332,4 +386,7 @@ settle job y words f limits sizes layout lawful low high flat =
         conflict y words ≢ suc f → conflict y words ≡ 0
     no_conflict zero g e other = g
     no_conflict (suc s) g e other =
-        absurd (elim (lawful.named.near s g) [ inl r ↦ omega arith | inr r ↦ other (omega arith) ])
+        absurd (let n = next_above y.form (root y words) in
+        let m = n.0 in
+        let k = n.1 in
+        elim (lawful.named.near s g) [ inl r ↦ omega arith | inr r ↦ other (omega arith) ])

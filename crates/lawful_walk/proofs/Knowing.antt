@@ -1,26 +1,26 @@
 -- What a record that the words bear out has heard, shows and knows: it was so, and is so now.
-use Rattle.std.proofs.Common.{◌≡◌, ◌≢◌, ℕ, suc, ◌+◌, ◌*◌, ◌≤◌, List, [], ◌∷◌}
-use Rattle.std.proofs.Common.{slice_index, sym, ap, ◌∙◌, inl, inr, arith}
+use Rattle.std.proofs.Common.{◌≡◌, ◌≢◌, ℕ, suc, ◌+◌, ◌*◌, ◌≤◌, List, [], ◌∷◌, slice_index, sym, ap}
+use Rattle.std.proofs.Common.{◌∙◌, inl, inr, arith}
 use Rattle.std.proofs.lemmas.Bool.{cases_lt}
 use Rattle.pram_job.specs.Job.{JobData}
+use Rattle.pram_step.proofs.LawFixed.{reached_down}
 use Rattle.pram_step.specs.Runs.{IsReached, AgreesAfter}
-use Rattle.pram_words.specs.declared.words.Word.{Word}
-use Rattle.pram_words.specs.declared.words.Word.TheVariants.{Conflict, Node, Stored}
 use Rattle.pram_words.specs.Stamps.{stamp_of}
 use Rattle.pram_words.specs.Words.{LayoutData, IsWord, number_of}
-use Rattle.walkx.specs.declared.operation.Op.{Op}
-use Rattle.walkx.specs.declared.operation.Op.TheVariants.{Load, Store, Max, Swap, Over}
+use Rattle.pram_words.specs.declared.words.Word.{Word}
+use Rattle.pram_words.specs.declared.words.Word.TheVariants.{Conflict, Node, Stored}
+use Rattle.walkx.proofs.Knowing.{has_more}
 use Rattle.walkx.specs.Operations.{words_after, answer}
 use Rattle.walkx.specs.Records.{Record, after, Has}
-use Rattle.walkx.proofs.Knowing.{has_more}
-use Rattle.pram_step.proofs.LawFixed.{reached_down}
-use Rattle.lawful_walk.specs.Board.{held, root, conflict, stamp_at, finished, Stands, Grows}
-use Rattle.lawful_walk.specs.Moments.{Backed}
-use Rattle.lawful_walk.specs.Seen.{Hears, Heard, HeardThen, Shows, KnowsStep}
-use Rattle.lawful_walk.proofs.Values.{phase_low}
+use Rattle.walkx.specs.declared.operation.Op.{Op}
+use Rattle.walkx.specs.declared.operation.Op.TheVariants.{Load, Store, Max, Swap, Over}
 use Rattle.lawful_walk.proofs.Moments.{onward, find}
+use Rattle.lawful_walk.specs.Board.{held, root, conflict, stamp_at, finished, Grows, Stands}
+use Rattle.lawful_walk.specs.Seen.{Hears, Heard, HeardThen, Shows, KnowsStep}
 use Rattle.lawful_walk.proofs.Facts.{facts}
 use Rattle.lawful_walk.proofs.Growths.{root_up, growth_shows}
+use Rattle.lawful_walk.proofs.Values.{under_way}
+use Rattle.lawful_walk.specs.Moments.{Backed}
 
 -- ---- what was heard of a word is what it held
 
@@ -164,9 +164,9 @@ shown_now job y r t now stands backed (inr (inr s)) = let e : t ≡ 0 = s.0 in o
 pub stamp_known : (job : JobData) (y : LayoutData) (p k t : ℕ) (now : List ℕ) → Stands job y now →
     IsWord y (Stored p k) → stamp_at y now p k ≡ suc t → t ≤ finished y now
 stamp_known job y p k t now stands is e =
-    let b = ((facts job y now stands).stored_from t p k is e).2 in
-    let low = phase_low job.rule t in
-    (facts job y now stands).root_finished t (omega arith)
+    let from = (facts job y now stands).stored_from t p k is e in
+    let begun = under_way y.form job p t (root y now) from.2 in
+    (facts job y now stands).reached_finished t begun from.0
 
 -- Known steps are reached, and finished: now, and so whenever the words bear the record out.
 pub known_now : (job : JobData) (y : LayoutData) (r : Record) (t : ℕ) (now : List ℕ) →

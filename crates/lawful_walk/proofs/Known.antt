@@ -1,23 +1,23 @@
--- What a script may take for known at its head: a fact without words that its history shows, and
--- that job and board are within their limits.
-use Rattle.std.proofs.Common.{◌≡◌, ℕ, ◌+◌, ◌<◌, ◌≤◌, max, List, ◌∷◌, get_or-set_same, length, arith}
+-- What a script may take for known at its head: a fact without words that its history shows.
+use Rattle.std.proofs.Common.{◌≡◌, ℕ, ◌<◌, ◌≤◌, max, List, ◌∷◌, get_or-set_same, length, arith}
 use Rattle.pram_job.specs.Job.{JobData}
-use Rattle.pram_words.specs.declared.words.Word.{Word}
-use Rattle.pram_words.specs.Words.{LayoutData, IsWord, number_of}
+use Rattle.pram_words.proofs.NextPhases.{next_rises}
 use Rattle.pram_words.proofs.Numbering.{numbering}
-use Rattle.walkx.specs.declared.operation.Op.{Op}
-use Rattle.walkx.specs.declared.operation.Op.TheVariants.{Max}
+use Rattle.pram_words.specs.Words.{LayoutData, IsWord, number_of}
+use Rattle.pram_words.specs.declared.words.Word.{Word}
 use Rattle.walkx.specs.Operations.{words_after}
 use Rattle.walkx.specs.Scripts.{Script, asks, ends}
 use Rattle.walkx.specs.Walk.{Then, begins, turns, works, stops, IsBoard}
-use Rattle.lawful_walk.specs.Writes.{Floor, Does}
-use Rattle.lawful_walk.specs.Board.{held, root, Stands, Grows}
-use Rattle.lawful_walk.specs.Moments.{Moment}
+use Rattle.walkx.specs.declared.operation.Op.{Op}
+use Rattle.walkx.specs.declared.operation.Op.TheVariants.{Max}
 use Rattle.lawful_walk.proofs.Moments.{onward}
+use Rattle.lawful_walk.specs.Board.{held, root, Grows, Stands}
 use Rattle.lawful_walk.proofs.Growths.{root_up}
-use Rattle.lawful_walk.proofs.Sees.{Sees, Lasts, always, so, heard, later}
-use Rattle.lawful_walk.specs.Walks.{Goes}
 use Rattle.lawful_walk.proofs.Scripts.{Aim, Safe, goes_of}
+use Rattle.lawful_walk.proofs.Sees.{Sees, Lasts, so, heard, later}
+use Rattle.lawful_walk.specs.Moments.{Moment}
+use Rattle.lawful_walk.specs.Walks.{Goes}
+use Rattle.lawful_walk.specs.Writes.{Floor, Does}
 
 -- a fact in which no words stand, once seen, is a premise
 pub safe_known : (job : JobData)
@@ -37,17 +37,11 @@ safe_known job y w q aim (ends (works n p rank)) history K sees each =
     λ words stands chain. each (sees words stands chain) words stands chain
 safe_known job y w q aim (ends (stops e)) history K sees each = tt
 
+-- job and board are within their limits
 pub board_of : (job : JobData) (y : LayoutData) (words : List ℕ) →
     Stands job y words → IsBoard job y
 board_of job y words stands =
     record { limits = stands.limits; layout = stands.sizes; is = stands.layout }
-
-pub safe_board : (job : JobData)
-    (y : LayoutData) (w q : ℕ) (aim : Aim) (script : Script Then) (history : List (Op × ℕ)) →
-    (IsBoard job y → Safe job y w q aim script history) → Safe job y w q aim script history
-safe_board job y w q aim script history each =
-    safe_known job y w q aim script history (IsBoard job y)
-    (always job y history (λ words. IsBoard job y) (board_of job y)) each
 
 -- ---- what lasts
 
@@ -58,7 +52,9 @@ both_last job y P Q p q =
 
 pub floor_lasts : (job : JobData) (y : LayoutData) (q x : ℕ) → Lasts job y (Floor job y q x)
 floor_lasts job y q x = λ words later a b up floor. let r = root_up job y words later a up in
-    let low = floor.root in record { root = omega arith; reached = floor.reached }
+    let low = floor.root in
+    let s = next_rises y.form (root y words) (root y later) r in
+    record { root = omega arith; reached = floor.reached; is_phase = floor.is_phase }
 
 -- ---- how a task ends: what follows it is safe where the phase is over, and where this holds if it
 -- is not
@@ -71,14 +67,14 @@ StaleSafe job y w q aim x after = (longer : List (Op × ℕ)) →
 abbrev pub EndSafe : JobData → LayoutData → ℕ → ℕ → Aim → ℕ →
     (List ℕ → Type 0) → Script Then → Type 0
 EndSafe job y w q aim x D after = (longer : List (Op × ℕ)) →
-    Sees job y longer (λ words. Floor job y q x words × (root y words + 1 ≡ q → D words)) →
+    Sees job y longer (λ words. Floor job y q x words × (root y words < q → D words)) →
     Safe job y w q aim after longer
 
 pub stale_end : (job : JobData) (y : LayoutData) (w q : ℕ) (aim : Aim) (x : ℕ) (D : List ℕ → Type 0)
     (after : Script Then) → EndSafe job y w q aim x D after → StaleSafe job y w q aim x after
 stale_end job y w q aim x D after done = λ longer sees. done longer
     (so job y longer (λ words. Floor job y q x words × (q ≤ root y words))
-    (λ words. Floor job y q x words × (root y words + 1 ≡ q → D words))
+    (λ words. Floor job y q x words × (root y words < q → D words))
     (λ words stands h. (h.0, λ live. absurd (let l = h.1 in omega arith))) sees)
 
 -- ---- a word that only rises is raised

@@ -1,7 +1,7 @@
 -- The leaf of a processor is a node of the tree.
-use Rattle.std.proofs.Common.{ℕ, ◌+◌, ◌/◌, ◌<◌, arith}
+use Rattle.std.proofs.Common.{ℕ, ◌<◌, arith}
 use Rattle.pram_words.specs.declared.words.Word.TheVariants.{Node}
-use Rattle.pram_words.specs.Words.{LayoutData, IsLayout, IsWord, grain}
+use Rattle.pram_words.specs.Words.{LayoutData, IsLayout, IsWord}
 use Rattle.pram_words.proofs.Blocks.{block_below}
 use Rattle.lawful_walk.specs.Board.{leaf_of}
 

@@ -1,38 +1,39 @@
 -- From safe scripts to a worker's step.
-use Rattle.std.proofs.Common.{◌≡◌, ℕ, zero, suc, ◌+◌, ◌-◌, ◌*◌, ◌<◌, ◌≤◌, List, [], ◌∷◌, ◌++◌}
-use Rattle.std.proofs.Common.{Option, unwrap_or, IsTrue, refl, sym, subst, arith}
+use Rattle.std.proofs.Common.{ℕ, ◌-◌, ◌*◌, ◌<◌, ◌≤◌, List, [], ◌∷◌, ◌++◌, Option, unwrap_or, IsTrue}
+use Rattle.std.proofs.Common.{refl, sym, subst, arith}
 use Rattle.pram_job.specs.Job.{JobData}
-use Rattle.pram_words.specs.Phases.{kind_at, step_at}
+use Rattle.pram_words.specs.Phases.{has_phase, kind_at, step_at}
 use Rattle.pram_words.specs.Words.{LayoutData}
 use Rattle.walkx.specs.declared.operation.Ended.TheVariants as ended
+use Rattle.walkx.specs.Doing as doing
+use Rattle.walkx.specs.Records.{HasBlock, HasPart, script_at_rank, Record}
+use Rattle.walkx.specs.Walk.{Fits, IsPhase, begun_phase, script_of, rest_of, ask_of, phase_begun}
+use Rattle.walkx.specs.Walk.{heard_of, Then, Walking, AllAdmitted, HearsAdmitted, IsBoard}
+use Rattle.walkx.specs.Walk.{IsInBlock, Matches, has_rank, node_of, processor_at, next_op}
+use Rattle.walkx.proofs.TaskAsking.{AllAsk}
+use Rattle.walkx.proofs.Asking.{all_left, asks_after, first_admitted, rank_asks}
+use Rattle.walkx.proofs.Firsts.{rank_parts, rank_there}
+use Rattle.walkx.specs.Doing.{Doing}
+use Rattle.walkx.specs.Playing.{rank_of}
+use Rattle.walkx.specs.Scripts.{Script, asks, ends, heard_in, op_with, rest}
 use Rattle.walkx.specs.declared.operation.Op.{Op}
 use Rattle.walkx.specs.declared.operation.Op.TheVariants.{Over}
-use Rattle.walkx.specs.Doing.{Doing}
-use Rattle.walkx.specs.Doing as doing
-use Rattle.walkx.specs.Playing.{rank_of}
-use Rattle.walkx.specs.Records.{Record, HasBlock, HasPart, script_at_rank}
-use Rattle.walkx.specs.Scripts.{Script, asks, ends, heard_in, op_with, rest}
-use Rattle.walkx.specs.Walk.{Then, Walking, AllAdmitted, Fits, HearsAdmitted, IsBoard, IsInBlock}
-use Rattle.walkx.specs.Walk.{IsPhase, Matches, begun_phase, has_rank, node_of, processor_at}
-use Rattle.walkx.specs.Walk.{script_of, rest_of, next_op, ask_of, phase_begun, heard_of}
-use Rattle.walkx.proofs.Asking.{AllAsk, all_left, asks_after, first_admitted, rank_asks}
-use Rattle.walkx.proofs.Firsts.{rank_parts, rank_there}
 use Rattle.walkx.proofs.Fitting.{node_range}
-use Rattle.lawful_walk.specs.WalkLaws.{WorkersKeepWordsLawful}
-use Rattle.lawful_walk.specs.Board.{Done, Stands, root}
-use Rattle.lawful_walk.specs.Moments.{Backed}
-use Rattle.lawful_walk.specs.Walks.{Goes, phase_now}
 use Rattle.lawful_walk.proofs.Moments.{same, backs}
-use Rattle.lawful_walk.proofs.Sees.{Chain, Sees, chain_of_has}
+use Rattle.lawful_walk.specs.Board.{root, Done, Stands}
 use Rattle.lawful_walk.proofs.Admitted.{answer_admitted}
 use Rattle.lawful_walk.proofs.Scripts.{Aim, Safe, safe_after, safe_first}
+use Rattle.lawful_walk.proofs.Sees.{Chain, Sees, chain_of_has}
+use Rattle.lawful_walk.specs.Moments.{Backed}
+use Rattle.lawful_walk.specs.WalkLaws.{WorkersKeepWordsLawful}
+use Rattle.lawful_walk.specs.Walks.{Goes, phase_now}
 
 -- ---- what a worker aims at
 
 -- In a phase, at the processor of a rank in the block of a leaf: those before it are done, and so
 -- is it with the end of its script.
 abbrev pub rank_done : JobData → LayoutData → ℕ → ℕ → ℕ → List ℕ → Type 0
-rank_done job y q n rank words = root y words + 1 ≡ q →
+rank_done job y q n rank words = root y words < q →
     Done job.rule (kind_at q) job y (step_at q - 1) words (processor_at y n rank)
 
 abbrev pub aim_at : JobData → LayoutData → ℕ → ℕ → ℕ → Aim
@@ -54,7 +55,7 @@ WorkerSafe = (job : JobData) (y : LayoutData) (w : Walking) → IsBoard job y �
 abbrev pub RankSafe : Type 0
 RankSafe = (job : JobData) (y : LayoutData) → IsBoard job y → (w n q rank : ℕ) →
     w < y.workers → y.leaves ≤ n → n < 2 * y.leaves → 1 ≤ q → q ≤ 3 * job.steps →
-    IsTrue (has_rank y n rank) →
+    IsTrue (has_phase y.form q) → IsTrue (has_rank y n rank) →
     Safe job y w q (aim_at job y q n rank) (script_at_rank job y w n q rank) (begun_phase y q)
 
 -- ---- what the processors before a worker's have done
@@ -92,27 +93,28 @@ chain_admitted job y script (found ∷ earlier) more now asked chain =
     (λ words before. chain_admitted job y script earlier more words asked before) chain
 
 shown_at : (job : JobData) (y : LayoutData) (board : IsBoard job y) (r : Record) (w n q rank : ℕ)
-    (words : List ℕ) → RankSafe → w < y.workers → 1 ≤ n → y.leaves ≤ n → n < 2 * y.leaves →
-    1 ≤ q → q ≤ 3 * job.steps → IsTrue (has_rank y n rank) → Stands job y words →
+    (words : List ℕ) → RankSafe → w < y.workers → 1 ≤ n → y.leaves ≤ n →
+    n < 2 * y.leaves → 1 ≤ q → q ≤ 3 * job.steps → IsTrue (has_phase y.form q) →
+    IsTrue (has_rank y n rank) → Stands job y words →
     Backed job y r words → HasPart job y r w n q rank → rank_done job y q n rank words
 shown_at job y board r w n q rank words safe worker some low high
-    first last there stands backed part =
+    first last formed there stands backed part =
     let script = script_at_rank job y w n q rank in
     let chain =
     chain_of_has job y r (heard_in script part.0 ++ begun_phase y q) words backed part.2 in
     let admitted = chain_admitted job y script part.0 (begun_phase y q) words
-    (rank_asks job y board w n q rank worker some low high first last there) chain in
+    (rank_asks job y board w n q rank worker some low high first last formed there) chain in
     let whole =
     safe_after job y w q (aim_at job y q n rank) script (begun_phase y q) part.0 admitted
-    (safe job y board w n q rank worker low high first last there) in
+    (safe job y board w n q rank worker low high first last formed there) in
     let shown = subst (λ (s : Script Then). Safe job y w q (aim_at job y q n rank) s
     (heard_in script part.0 ++ begun_phase y q)) part.1 whole in
     shown words stands chain
 
 given_of : (job : JobData) (y : LayoutData) (board : IsBoard job y) (r : Record) (w n : ℕ)
-    (now : Doing) (words : List ℕ) → RankSafe → w < y.workers → 1 ≤ n → n < 2 * y.leaves →
-    IsPhase job now → IsInBlock y n now → Stands job y words → Backed job y r words →
-    HasBlock job y r w n now → (aim_of job y n now).given words
+    (now : Doing) (words : List ℕ) → RankSafe → w < y.workers → 1 ≤ n →
+    n < 2 * y.leaves → IsPhase job y now → IsInBlock y n now → Stands job y words →
+    Backed job y r words → HasBlock job y r w n now → (aim_of job y n now).given words
 given_of job y board r w n doing.Back words safe worker some high phase block stands backed has =
     λ earlier less. absurd (omega arith)
 given_of job y board r w n doing.Begin words safe worker some high phase block stands backed has =
@@ -123,7 +125,7 @@ given_of job y board r w n (doing.Turn q)
 given_of job y board r w n (doing.Part q rank) words safe worker some high phase block stands
     backed has = λ earlier less.
     shown_at job y board r w n q earlier words safe worker some block.0 high phase.0 phase.1
-    (earlier_there y n rank earlier block.2 less) stands backed (has earlier less)
+    phase.2 (earlier_there y n rank earlier block.2 less) stands backed (has earlier less)
 given_of job y board r w n (doing.Over e)
     words safe worker some high phase block stands backed has =
     λ earlier less. absurd (omega arith)

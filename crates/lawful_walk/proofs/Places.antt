@@ -1,25 +1,29 @@
 -- What the two words of a place hold: the values of the steps that their stamps tell.
-use Rattle.std.proofs.Common.{◌≡◌, ℕ, suc, ◌<◌, ◌≤◌, ◌⊎◌, nat_le, false, List}
-use Rattle.std.proofs.Common.{slice_index, refl, sym, ap, ◌∙◌, inl, inr, lit<, arith}
+use Rattle.std.proofs.Common.{◌≡◌, ℕ, suc, ◌<◌, ◌≤◌, ◌⊎◌, nat_le, false, List, slice_index, refl}
+use Rattle.std.proofs.Common.{sym, ap, ◌∙◌, inl, inr, lit<, arith}
 use Rattle.std.proofs.lemmas.Bool.{lt-leb, or_from}
 use Rattle.pram_job.specs.Job.{IsJob, JobData}
-use Rattle.pram_step.specs.Runs.{IsReached, state_after}
-use Rattle.pram_step.specs.History.{last_write, write_before}
 use Rattle.pram_step.proofs.LawFixed.{reached_down}
-use Rattle.pram_step.proofs.Past.{last_most, value_between, written_value}
-use Rattle.pram_words.specs.declared.words.Word.TheVariants.{Stored}
+use Rattle.pram_step.proofs.Past.{written_value}
+use Rattle.pram_step.specs.Runs.{IsReached, state_after}
 use Rattle.pram_words.specs.Stamps.{stamp_of, payload_of}
 use Rattle.pram_words.specs.Words.{LayoutData, IsWord, places_of}
+use Rattle.pram_words.specs.declared.layout.Form.{Form}
+use Rattle.pram_words.specs.declared.layout.Form.TheVariants.{Compact, Wide}
+use Rattle.pram_words.specs.declared.words.Word.TheVariants.{Stored}
+use Rattle.walkx.specs.Counters.{worth}
 use Rattle.walkx.specs.Tasks.{is_late}
-use Rattle.lawful_walk.specs.Board.{held, root, stamp_at, finished, Stands, Grows, IsPair}
-use Rattle.lawful_walk.specs.Board.{newer_first, newer_second, new_first, new_second}
-use Rattle.lawful_walk.specs.Steps.{settled}
-use Rattle.lawful_walk.specs.WordLaws.{FinishedStepsAreHeld, LastFinishedStepIsHeld}
-use Rattle.lawful_walk.proofs.Values.{WordIs, is_settled, is_before}
-use Rattle.lawful_walk.proofs.Values.{is_new, stamp_step, payload_step}
+use Rattle.lawful_walk.proofs.Landings.{last_most, stamp_step, payload_step, worth_at_stamp}
+use Rattle.lawful_walk.proofs.Landings.{worth_between}
+use Rattle.lawful_walk.proofs.Winners.{cell_counter}
+use Rattle.lawful_walk.specs.Lands.{landing_before, last_landing, settled}
 use Rattle.lawful_walk.proofs.Moments.{same}
+use Rattle.lawful_walk.specs.Board.{held, root, stamp_at, finished, Grows, Stands, IsPair}
+use Rattle.lawful_walk.specs.Board.{newer_first, newer_second, new_first, new_second}
 use Rattle.lawful_walk.proofs.Facts.{facts, place_below, word_is}
 use Rattle.lawful_walk.proofs.Growths.{beside, place_as_heard}
+use Rattle.lawful_walk.proofs.Values.{WordIs, is_settled, is_before, is_new}
+use Rattle.lawful_walk.specs.WordLaws.{FinishedStepsAreHeld, LastFinishedStepIsHeld}
 
 -- a word with the stamp of a step that is reached
 pub word_value : (job : JobData) (y : LayoutData) (words : List ℕ) (x p k : ℕ) →
@@ -30,19 +34,20 @@ word_value job y words x p k stands is e reached =
     (word_is job y words (finished y words) stands.limits stands.sizes stands.layout stands.lawful
     (facts job y words stands).root_low (facts job y words stands).root_high p k is)
   where
-    by : (word : ℕ) → stamp_of word ≡ x → WordIs job (finished y words) (root y words) p word →
-        payload_of word ≡ slice_index (state_after job x) p
+    by : (word : ℕ) → stamp_of word ≡ x → WordIs y.form job (finished y words)
+        (root y words) p word → payload_of word ≡ slice_index (state_after job x) p
     by word s (is_settled w) =
-        let z : last_write job (finished y words) p ≡ x =
-        sym (stamp_step job (last_write job (finished y words) p) p stands.limits)
+        let z : last_landing y.form job (finished y words) p ≡ x =
+        sym (stamp_step y.form job stands.limits (last_landing y.form job (finished y words) p) p)
         ∙ sym (ap stamp_of w) ∙ s in
-        ap payload_of w ∙ payload_step job (last_write job (finished y words) p) p stands.limits
+        ap payload_of w ∙ payload_step y.form job stands.limits
+        (last_landing y.form job (finished y words) p) p
         ∙ ap (λ (n : ℕ). slice_index (state_after job n) p) z
     by word s (is_before w) =
-        let b = write_before job (last_write job (finished y words) p) p in
-        let z : write_before job (last_write job (finished y words) p) p ≡ x =
-        sym (stamp_step job b p stands.limits) ∙ sym (ap stamp_of w) ∙ s in
-        ap payload_of w ∙ payload_step job b p stands.limits
+        let b = landing_before y.form job (last_landing y.form job (finished y words) p) p in
+        let z : landing_before y.form job (last_landing y.form job (finished y words) p) p ≡ x =
+        sym (stamp_step y.form job stands.limits b p) ∙ sym (ap stamp_of w) ∙ s in
+        ap payload_of w ∙ payload_step y.form job stands.limits b p
         ∙ ap (λ (n : ℕ). slice_index (state_after job n) p) z
     by word s (is_new n) =
         let f = finished y words in
@@ -51,26 +56,28 @@ word_value job y words x p k stands is e reached =
         (finished y words) stands.limits stands.sizes stands.layout stands.lawful
         (facts job y words stands).root_low (facts job y words stands).root_high p is.0 in
         sym (written_value job f p n.writer (payload_of word) stands.limits below
-        (reached f (omega arith)) n.asks n.wins)
+        (reached f (omega arith)) n.lands.asks n.wins)
         ∙ ap (λ (n : ℕ). slice_index (state_after job n) p) z
 
 old_value : (job : JobData) (y : LayoutData) (words : List ℕ) (x p k : ℕ) →
     Stands job y words → IsWord y (Stored p k) → x ≤ finished y words →
-    stamp_at y words p k ≤ x → last_write job x p ≤ stamp_at y words p k →
-    payload_of (held y words (Stored p k)) ≡ slice_index (state_after job x) p
+    stamp_at y words p k ≤ x → last_landing y.form job x p ≤ stamp_at y words p k →
+    worth y.form job x p (held y words (Stored p k)) ≡ slice_index (state_after job x) p
 old_value job y words x p k stands is h low last =
     let z = stamp_at y words p k in
+    let word = held y words (Stored p k) in
     let below = place_below job y words (finished y words) stands.limits stands.sizes stands.layout
     stands.lawful (facts job y words stands).root_low (facts job y words stands).root_high p is.0 in
-    word_value job y words z p k stands is refl
-    (reached_down job z (finished y words) (omega arith) stands.lawful.reached)
-    ∙ sym (value_between job z x p stands.limits below low last)
+    let at : worth y.form job z p word ≡ slice_index (state_after job z) p =
+    worth_at_stamp y.form job p word ∙ word_value job y words z p k stands is refl
+    (reached_down job z (finished y words) (omega arith) stands.lawful.reached) in
+    worth_between y.form job stands.limits z x p word below low last (omega arith) at
 
 -- the first word is older than the step seen, the second one newer; and the other way
 pub first_value : (job : JobData) (y : LayoutData) (words : List ℕ) (x p : ℕ) →
     Stands job y words → p < places_of y → x ≤ finished y words →
     stamp_at y words p 0 ≤ x → x < stamp_at y words p 1 →
-    payload_of (held y words (Stored p 0)) ≡ slice_index (state_after job x) p
+    worth y.form job x p (held y words (Stored p 0)) ≡ slice_index (state_after job x) p
 first_value job y words x p stands place h low high =
     old_value job y words x p 0 stands (place, lit< tt) h low
     ((beside job y words x p _ _ stands (stands.lawful.stored p place) h).0 high)
@@ -78,7 +85,7 @@ first_value job y words x p stands place h low high =
 pub second_value : (job : JobData) (y : LayoutData) (words : List ℕ) (x p : ℕ) →
     Stands job y words → p < places_of y → x ≤ finished y words →
     stamp_at y words p 1 ≤ x → x < stamp_at y words p 0 →
-    payload_of (held y words (Stored p 1)) ≡ slice_index (state_after job x) p
+    worth y.form job x p (held y words (Stored p 1)) ≡ slice_index (state_after job x) p
 second_value job y words x p stands place h low high =
     old_value job y words x p 1 stands (place, lit< tt) h low
     ((beside job y words x p _ _ stands (stands.lawful.stored p place) h).1 high)
@@ -120,20 +127,30 @@ finished_held job y words x p stands place h =
           (is_early x (held y words (Stored p 0)) (held y words (Stored p 1)) first second)).value,
     )
 
-settled_low : (job : JobData) (f p word : ℕ) → IsJob job →
-    word ≡ settled job f p → stamp_of word ≤ f
-settled_low job f p word is e =
-    let stamp = ap stamp_of e ∙ stamp_step job (last_write job f p) p is in
-    omega (arith, stamp, last_most job f p)
+settled_low : (form : Form) (job : JobData) (f p word : ℕ) → IsJob job →
+    word ≡ settled form job f p → stamp_of word ≤ f
+settled_low form job f p word is e =
+    let stamp = ap stamp_of e ∙ stamp_step form job is (last_landing form job f p) p in
+    omega (arith, stamp, last_most form job is f p)
 
 -- of a place's two words one is settled
-one_low : (job : JobData) (f r p a b : ℕ) → IsJob job → IsPair job f r p a b →
+one_low : (form : Form) (job : JobData) (f r p a b : ℕ) → IsJob job → IsPair form job f r p a b →
     (stamp_of a ≤ f) ⊎ (stamp_of b ≤ f)
-one_low job f r p a b is (newer_first first second) = inl (settled_low job f p a is first)
-one_low job f r p a b is (newer_second second first some) = inr (settled_low job f p b is second)
-one_low job f r p a b is (new_first new second) = inr (settled_low job f p b is second)
-one_low job f r p a b is (new_second new first some) = inl (settled_low job f p a is first)
+one_low form job f r p a b is (newer_first first second) =
+    inl (settled_low form job f p a is first)
+one_low form job f r p a b is (newer_second second first some) =
+    inr (settled_low form job f p b is second)
+one_low form job f r p a b is (new_first new second) = inr (settled_low form job f p b is second)
+one_low form job f r p a b is (new_second new first some) =
+    inl (settled_low form job f p a is first)
 
 pub last_held : LastFinishedStepIsHeld
 last_held job y words p stands place =
-    one_low job (finished y words) (root y words) p _ _ stands.limits (stands.lawful.stored p place)
+    one_low y.form job (finished y words) (root y words) p _ _ stands.limits
+    (stands.lawful.stored p place)
+
+-- what a word of a cell stands for is its payload
+pub cell_worth : (form : Form) (job : JobData) (t p word : ℕ) → p < job.cells →
+    worth form job t p word ≡ payload_of word
+cell_worth Compact job t p word cell = refl
+cell_worth (Wide g) job t p word cell = rw (cell_counter job p cell) refl

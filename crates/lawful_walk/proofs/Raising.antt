@@ -1,27 +1,31 @@
 -- A node is raised to a phase.
-use Rattle.std.proofs.Common.{◌≡◌, ◌⊎◌, ℕ, suc, ◌+◌, ◌*◌, ◌%◌, ◌<◌, ◌≤◌, List}
-use Rattle.std.proofs.Common.{refl, sym, ap, subst, ◌∙◌, inl, inr, lit<, arith}
+use Rattle.std.proofs.Common.{◌≡◌, ◌⊎◌, ℕ, suc, ◌+◌, ◌*◌, ◌%◌, ◌<◌, ◌≤◌, IsTrue, List, refl, sym}
+use Rattle.std.proofs.Common.{ap, subst, ◌∙◌, inl, inr, lit<, arith}
 use Rattle.std.proofs.lemmas.Bool.{cases_eq, cases_lt, eq-eqb, ne_eqb}
 use Rattle.pram_job.specs.Job.{JobData}
+use Rattle.pram_job.specs.declared.instr.Rule.{Rule}
+use Rattle.pram_job.specs.declared.instr.Rule.TheVariants.{Common, Priority, Crew}
+use Rattle.pram_words.specs.declared.layout.Form.{Form}
+use Rattle.pram_words.specs.declared.layout.Form.TheVariants.{Compact, Wide}
 use Rattle.pram_words.specs.declared.phases.Kind.{Kind}
 use Rattle.pram_words.specs.declared.phases.Kind.TheVariants.{Compute, Apply, Verify}
 use Rattle.pram_words.specs.declared.words.Word.TheVariants.{Conflict, Node, Asked, Stored, Claim}
 use Rattle.pram_words.specs.Stamps.{stamp_of}
-use Rattle.pram_words.specs.Phases.{kind_at, step_at}
+use Rattle.pram_words.specs.Phases.{kind_at, step_at, has_phase, next_phase}
 use Rattle.pram_words.specs.Words.{LayoutData, IsWord, number_of, places_of}
+use Rattle.pram_words.proofs.NextPhases.{next_above, next_is, next_rises, next_step, next_within}
+use Rattle.pram_words.proofs.NextPhases.{wide_next_other}
 use Rattle.walkx.specs.declared.operation.Op.TheVariants.{Max}
-use Rattle.pram_step.specs.History.{last_write}
-use Rattle.pram_step.proofs.Past.{last_most, before_most}
-use Rattle.lawful_walk.specs.Writes.{Floor, Does}
-use Rattle.lawful_walk.specs.Board.{held, root, conflict, leaf, leaf_of, stamp_at, finished}
-use Rattle.lawful_walk.specs.Board.{LeafDone}
-use Rattle.lawful_walk.proofs.Leaves.{leaf_word}
-use Rattle.lawful_walk.specs.Board.{Done, phase_in, IsTree, IsAsked, IsNamed, IsPair}
-use Rattle.lawful_walk.specs.Board.{IsClaimed, LawfulFor, Lawful, Stands, Grows}
-use Rattle.lawful_walk.proofs.Values.{WordIs, is_settled, is_before, is_new}
+use Rattle.lawful_walk.specs.Board.{held, root, conflict, leaf, leaf_of, stamp_at, finished, Grows}
+use Rattle.lawful_walk.specs.Board.{IsAsked, phase_in, Done, DoneIn, IsTree, IsNamed, IsPair}
+use Rattle.lawful_walk.specs.Board.{IsClaimed, LawfulFor, Lawful, LeafDone, Stands}
 use Rattle.lawful_walk.proofs.Frames.{Only, only_grows, does_max}
-use Rattle.lawful_walk.proofs.Facts.{facts, word_is}
-use Rattle.lawful_walk.proofs.Facts.{stamp_settled, stamp_before, WordsShow}
+use Rattle.lawful_walk.proofs.Leaves.{leaf_word}
+use Rattle.lawful_walk.specs.Lands.{last_landing}
+use Rattle.lawful_walk.proofs.Landings.{before_most, last_most}
+use Rattle.lawful_walk.specs.Writes.{Floor, Does}
+use Rattle.lawful_walk.proofs.Values.{WordIs, is_settled, is_before, is_new}
+use Rattle.lawful_walk.proofs.Facts.{facts, word_is, stamp_settled, stamp_before, WordsShow}
 use Rattle.lawful_walk.proofs.Keeping.{done_later, pair_up, claimed_up, settle}
 
 pub kind_of : (x q : ℕ) (kind : Kind) → phase_in x kind ≡ q → kind_at q ≡ kind
@@ -31,6 +35,19 @@ kind_of x q Apply e =
     rw (ne_eqb (q % 3) 0 (λ n. omega arith), ne_eqb (q % 3) 1 (λ n. omega arith)) refl
 kind_of x q Verify e = rw (eq-eqb (q % 3) 0 (omega arith)) refl
 
+-- the wide form has nothing to do in the second phase of a step
+no_apply : (g : ℕ) (job : JobData) (y : LayoutData) (s : ℕ) (words : List ℕ) (i : ℕ) (rule : Rule) →
+    DoneIn (Wide g) rule Apply job y s words i
+no_apply g job y s words i Common = tt
+no_apply g job y s words i Priority = tt
+no_apply g job y s words i Crew = tt
+
+-- before the first phase of a step comes that phase
+wide_exact : (g r q f : ℕ) → 3 * f ≤ r → r < 3 * f + 1 → next_phase (Wide g) r ≡ q → 3 * f + 1 ≡ q
+wide_exact g r q f low less e =
+    let first = wide_next_other g r (λ k. absurd (omega (arith, k, low, less))) in
+    omega (arith, first, e, low, less)
+
 -- no stamp of a place is above the step after the finished ones
 pub stamps_most : (job : JobData) (y : LayoutData) (words : List ℕ) → Stands job y words →
     (p k : ℕ) → IsWord y (Stored p k) → stamp_at y words p k ≤ suc (finished y words)
@@ -39,18 +56,20 @@ stamps_most job y words stands p k is = most_of (held y words (Stored p k)) refl
     (facts job y words stands).root_low (facts job y words stands).root_high p k is)
   where
     most_of : (word : ℕ) → word ≡ held y words (Stored p k) →
-        WordIs job (finished y words) (root y words) p word → stamp_of word ≤ suc (finished y words)
+        WordIs y.form job (finished y words) (root y words) p word →
+        stamp_of word ≤ suc (finished y words)
     most_of word here (is_settled e) =
         let s = ap stamp_of e ∙ stamp_settled job y words (finished y words)
         stands.limits stands.sizes stands.layout stands.lawful (facts job y words stands).root_low
         (facts job y words stands).root_high (finished y words) p in
-        let m = last_most job (finished y words) p in omega arith
+        let m = last_most y.form job stands.limits (finished y words) p in omega arith
     most_of word here (is_before e) =
         let s = ap stamp_of e ∙ stamp_before job y words (finished y words)
         stands.limits stands.sizes stands.layout stands.lawful (facts job y words stands).root_low
         (facts job y words stands).root_high (finished y words) p in
-        let m = last_most job (finished y words) p in
-        let k = before_most job (last_write job (finished y words) p) p in
+        let m = last_most y.form job stands.limits (finished y words) p in
+        let k = before_most y.form job stands.limits
+        (last_landing y.form job (finished y words) p) p in
         omega arith
     most_of word here (is_new n) = let s = n.stamp in omega arith
 
@@ -61,19 +80,26 @@ module _ (job : JobData) (y : LayoutData) (words : List ℕ) (q x : ℕ) (stands
   shown = facts job y words stands
 
   pub finished_before : x ≤ finished y words
-  finished_before = let l = floor.root in shown.reached_finished x (omega arith) floor.reached
+  finished_before =
+      let l = floor.root in
+      let begun = next_step y.form (root y words) x (omega arith) in
+      shown.reached_finished x begun floor.reached
 
-  pub alive : root y words + 1 ≡ q → finished y words ≡ x
+  pub alive : root y words < q → finished y words ≡ x
   alive e = let l = finished_before in let m = shown.root_low in omega arith
+
+  -- then the phase is the next one
+  pub next : root y words < q → next_phase y.form (root y words) ≡ q
+  next e = next_is y.form (root y words) q floor.is_phase floor.root e
 
   module _ (n : ℕ) (is : IsWord y (Node n)) (children : n < y.leaves →
       (q ≤ held y words (Node (2 * n))) × (q ≤ held y words (Node (2 * n + 1))))
-      (ready : (i : ℕ) → i < y.procs → n ≡ leaf_of y i → root y words + 1 ≡ q →
+      (ready : (i : ℕ) → i < y.procs → n ≡ leaf_of y i → root y words < q →
       Done job.rule (kind_at q) job y x words i) where
     module _ (less : held y words (Node n) < q) (later : List ℕ)
         (only : Only y (Node n) q words later) where
-      live : root y words + 1 ≡ q
-      live = let l = floor.root in let d = shown.root_below n is in omega arith
+      live : root y words < q
+      live = let d = shown.root_below n is in omega arith
 
       gone : finished y words ≡ x
       gone = alive live
@@ -130,8 +156,8 @@ module _ (job : JobData) (y : LayoutData) (words : List ℕ) (q x : ℕ) (stands
               subst (λ (k : ℕ). held y later (Node m) ≤ held y later (Node (2 * k + 1)))
               (sym e.0) (omega arith))
         ];
-        near = λ m is_m. let r = root_up in
-            let l = live in elim (node_cases m is_m) [
+        near = λ m is_m. let r = next_rises y.form (root y words) (root y later) root_up in
+            let l = next live in elim (node_cases m is_m) [
               | inl e ↦ (let a = stands.lawful.tree.near m is_m in omega arith)
               | inr e ↦ (let h = e.1 in omega arith)
             ];
@@ -159,6 +185,38 @@ module _ (job : JobData) (y : LayoutData) (words : List ℕ) (q x : ℕ) (stands
       leaf_is : (i : ℕ) → i < y.procs → IsWord y (Node (leaf_of y i))
       leaf_is i proc = leaf_word y i stands.sizes proc
 
+      -- the leaf that is raised: what it stands for is done, or was before
+      ready_kind : (form : Form) → y.form ≡ form → (i : ℕ) (kind : Kind) → i < y.procs →
+          root y words < phase_in (finished y words) kind → phase_in (finished y words) kind ≤ q →
+          Done job.rule (kind_at q) job y (finished y words) words i →
+          Done job.rule kind job y (finished y words) words i
+      ready_kind Compact is i kind proc more most d =
+          let n : root y words + 1 ≡ q =
+          subst (λ (f : Form). next_phase f (root y words) ≡ q) is (next live) in
+          let k = kind_of (finished y words) q kind (omega arith) in
+          subst (λ (k : Kind). Done job.rule k job y (finished y words) words i) k d
+      ready_kind (Wide g) is i Apply proc more most d =
+          subst (λ (f : Form). DoneIn f job.rule Apply job y (finished y words) words i) (sym is)
+          (no_apply g job y (finished y words) words i job.rule)
+      ready_kind (Wide g) is i Compute proc more most d =
+          let l = live in
+          let low = shown.root_low in
+          let n = (next_above y.form (root y words)).1 in
+          let m = next live in
+          let phase = subst (λ (f : Form). IsTrue (has_phase f q)) is floor.is_phase in
+          let k = kind_of (finished y words) q Compute
+          (wide_exact g (root y words) q (finished y words) (omega arith) (omega arith)
+          (subst (λ (f : Form). next_phase f (root y words) ≡ q) is m)) in
+          subst (λ (k : Kind). Done job.rule k job y (finished y words) words i) k d
+      ready_kind (Wide g) is i Verify proc more most d =
+          let l = live in
+          let low = shown.root_low in
+          let high = shown.root_high in
+          let near = next_within y.form (root y words) (suc (finished y words)) (omega arith) in
+          let m = next live in
+          let k = kind_of (finished y words) q Verify (omega arith) in
+          subst (λ (k : Kind). Done job.rule k job y (finished y words) words i) k d
+
       done : (i : ℕ) (kind : Kind) →
           i < y.procs → phase_in (finished y words) kind ≤ leaf y later i →
           Done job.rule kind job y (finished y words) later i
@@ -169,29 +227,30 @@ module _ (job : JobData) (y : LayoutData) (words : List ℕ) (q x : ℕ) (stands
               (stands.lawful.done i kind proc
               (let l = shown.root_below (leaf_of y i) (leaf_is i proc) in omega arith))
           | inl c ↦ (let g = e.1 in
-              let l = live in
-              let phase : phase_in (finished y words) kind ≡ q = omega arith in
               let d = ready i proc (sym e.0) live in
-              let here : Done job.rule kind job y x words i = subst (λ (k : Kind).
-              Done job.rule k job y x words i) (kind_of (finished y words) q kind phase) d in
-              done_on i kind proc
-              (subst (λ (s : ℕ). Done job.rule kind job y s words i) (sym gone) here))
+              done_on i kind proc (ready_kind y.form refl i kind proc c (omega arith)
+              (subst (λ (s : ℕ). Done job.rule (kind_at q) job y s words i) (sym gone) d)))
         ]
       ]
 
-      named : IsNamed job (conflict y later) (root y later)
+      named : IsNamed y.form job (conflict y later) (root y later)
       named = record {
         first = λ s e. stands.lawful.named.first s (sym conflict_same ∙ e);
         near = λ s e. let c : conflict y words ≡ suc s = sym conflict_same ∙ e in
             elim (node_cases 1 root_is) [
               | inl r ↦ (elim (stands.lawful.named.near s c) [
-                | inl h ↦ inl (omega arith)
+                | inl h ↦ inl (ap (next_phase y.form) r ∙ h)
                 | inr h ↦ inr (omega arith)
               ])
-              | inr r ↦ (let g = r.1 in let l = live in elim (stands.lawful.named.near s c) [
-                | inl h ↦ inr (omega arith)
-                | inr h ↦ absurd ((stands.lawful.named.first s c).1 (floor.reached s (omega arith)))
-              ])
+              | inr r ↦ (let g = r.1 in let n = next live in
+                  elim (stands.lawful.named.near s c) [
+                    | inl h ↦ inr (omega arith)
+                    | inr h ↦ absurd ((stands.lawful.named.first s c).1
+                        (floor.reached s (let f = finished_before in
+                        let low = shown.root_low in
+                        let high = shown.root_high in
+                        let l = live in omega arith)))
+                  ])
             ];
       }
 
@@ -199,18 +258,19 @@ module _ (job : JobData) (y : LayoutData) (words : List ℕ) (q x : ℕ) (stands
       lawful_for = record {
         reached = stands.lawful.reached;
         tree = tree;
-        asked = λ i j proc part. subst (IsAsked job (finished y words) i j)
-            (sym (asked_same i j proc part)) (stands.lawful.asked i j proc part);
+        asked = λ compact i j proc part. subst (IsAsked job (finished y words) i j)
+            (sym (asked_same i j proc part)) (stands.lawful.asked compact i j proc part);
         stored =
-            λ p place. pair_up job (finished y words) (root y words) (root y later) p _ _ root_up
-            (subst (λ (w : ℕ). IsPair job (finished y words)
+            λ p place. pair_up y.form job (finished y words) (root y words)
+            (root y later) p _ _ root_up (subst (λ (w : ℕ). IsPair y.form job (finished y words)
             (root y words) p w (held y later (Stored p 1))) (sym (stored_same p 0 (place, lit< tt)))
             (subst (λ (w : ℕ).
-            IsPair job (finished y words) (root y words) p (held y words (Stored p 0)) w)
+            IsPair y.form job (finished y words) (root y words) p (held y words (Stored p 0)) w)
             (sym (stored_same p 1 (place, lit< tt))) (stands.lawful.stored p place)));
         claimed =
-            λ c is_c. claimed_up job (finished y words) (root y words) (root y later) c _ root_up
-            (subst (IsClaimed job (finished y words) (root y words) c)
+            λ c is_c. claimed_up y.form job (finished y words) (root y words)
+            (root y later) c _ root_up
+            (subst (IsClaimed y.form job (finished y words) (root y words) c)
             (sym (claim_same c is_c)) (stands.lawful.claimed c is_c));
         done = done;
         named = named;
@@ -222,6 +282,8 @@ module _ (job : JobData) (y : LayoutData) (words : List ℕ) (q x : ℕ) (stands
           let g = gone in
           let r = root_up in
           let low = shown.root_low in
+          let high = shown.root_high in
+          let step = step_most in
           settle job y later (finished y words) stands.limits
           stands.sizes stands.layout lawful_for (omega arith)
           (elim (node_cases 1 root_is) [
@@ -230,12 +292,17 @@ module _ (job : JobData) (y : LayoutData) (words : List ℕ) (q x : ℕ) (stands
           ])
           (λ full none i proc. elim (node_cases (leaf_of y i) (leaf_is i proc)) [
             | inl e ↦
-                (let a = stands.lawful.tree.near (leaf_of y i) (leaf_is i proc) in omega arith)
+                (let a = stands.lawful.tree.near (leaf_of y i) (leaf_is i proc) in
+                let m = next live in omega arith)
             | inr e ↦ (let h = e.1 in omega arith)
           ])
+        where
+          -- the phase is of the step after the finished ones
+          step_most : q ≤ 3 * finished y words + 3
+          step_most = let s = step in let g = gone in omega arith
 
     pub node_does : Does job y q (Max (number_of y (Node n)) q) words
-    node_does = does_max job y q (Node n) q words stands is most (λ h.
+    node_does = does_max job y q (Node n) q words stands is (most, floor.is_phase) (λ h.
         let d = shown.root_below n is in omega arith)
         (λ less. (omega arith, λ later only. node_lawful less later only))
 
@@ -247,7 +314,7 @@ module _ (job : JobData) (y : LayoutData) (words : List ℕ) (q x : ℕ) (stands
 
   -- a leaf whose processors' work is done
   pub leaf_does : (n : ℕ) → y.leaves ≤ n → n < 2 * y.leaves →
-      (root y words + 1 ≡ q → LeafDone job y x (kind_at q) n words) →
+      (root y words < q → LeafDone job y x (kind_at q) n words) →
       Does job y q (Max (number_of y (Node n)) q) words
   leaf_does n low high ready =
       let l = stands.sizes.leaves in

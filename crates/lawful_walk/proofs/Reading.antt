@@ -1,37 +1,38 @@
 -- Readers: each answer of the reader's script is a lawful read.
-use Rattle.std.proofs.Common.{◌≡◌, ◌≢◌, ℕ, zero, suc, ◌+◌, ◌*◌, ◌%◌, ◌<◌, ◌≤◌, ◌==◌}
-use Rattle.std.proofs.Common.{nat_le, false, List, [], ◌∷◌, ◌++◌, length, slice_index}
-use Rattle.std.proofs.Common.{refl, sym, ap, subst, ◌∙◌, inl, inr, lit<, arith}
+use Rattle.std.proofs.Common.{◌≡◌, ◌≢◌, ℕ, zero, suc, ◌+◌, ◌*◌, ◌%◌, ◌<◌, ◌≤◌, ◌==◌, nat_le, false}
+use Rattle.std.proofs.Common.{List, [], ◌∷◌, ◌++◌, length, slice_index, refl, sym, ap, subst, ◌∙◌}
+use Rattle.std.proofs.Common.{inl, inr, lit<, arith}
 use Rattle.std.proofs.lemmas.Bool.{cond_both, cases_lt, eqb-true, eqb-false, leb-true, leb-false}
 use Rattle.pram_job.specs.Job.{JobData}
+use Rattle.pram_step.proofs.LawFixed.{reached_down}
 use Rattle.pram_step.specs.Runs.{IsReached, state_after}
+use Rattle.pram_words.proofs.Numbering.{numbering}
+use Rattle.pram_words.specs.Stamps.{stamp_of, payload_of, newer_payload, newer_word}
+use Rattle.pram_words.specs.Words.{LayoutData, IsWord, number_of, places_of, IsLayout}
 use Rattle.pram_words.specs.declared.words.Word.{Word}
 use Rattle.pram_words.specs.declared.words.Word.TheVariants.{Conflict, Node, Stored}
-use Rattle.pram_words.specs.Stamps.{stamp_of, payload_of}
-use Rattle.pram_words.specs.Words.{LayoutData, IsWord, number_of, places_of, IsLayout}
+use Rattle.walkx.proofs.Boards.{same_cells}
+use Rattle.walkx.specs.Reads.{step_seen, lesser, told_at, read_script, reader_script}
+use Rattle.walkx.specs.Records.{Record, after}
+use Rattle.walkx.specs.Scripts.{Script, asks, ends, rest_after, rest, op_with, heard_in}
+use Rattle.walkx.specs.Tasks.{is_late}
 use Rattle.walkx.specs.declared.operation.Op.{Op}
 use Rattle.walkx.specs.declared.operation.Op.TheVariants.{Load, Store, Max, Swap, Over}
 use Rattle.walkx.specs.declared.operation.Reading.{Reading}
 use Rattle.walkx.specs.declared.operation.Reading.TheVariants.{At}
-use Rattle.walkx.specs.Scripts.{Script, asks, ends, rest_after, rest, op_with, heard_in}
-use Rattle.walkx.specs.Reads.{step_seen, lesser, told_at, read_script, reader_script}
-use Rattle.walkx.specs.Records.{Record, after}
-use Rattle.pram_words.specs.Stamps.{newer_payload}
-use Rattle.walkx.specs.Tasks.{is_late}
-use Rattle.pram_words.proofs.Numbering.{numbering}
-use Rattle.pram_step.proofs.LawFixed.{reached_down}
+use Rattle.lawful_walk.proofs.Moments.{same, onward, stamps_rise, backed_later}
+use Rattle.lawful_walk.proofs.Values.{fin}
 use Rattle.lawful_walk.specs.Board.{held, root, conflict, stamp_at, finished, Stands}
-use Rattle.lawful_walk.specs.Moments.{Moment, Backed, afters}
 use Rattle.lawful_walk.specs.Seen.{Hears, Heard, Shows, KnowsStep}
 use Rattle.lawful_walk.specs.Walks.{IsLawfulRead}
-use Rattle.lawful_walk.proofs.Values.{fin}
-use Rattle.lawful_walk.proofs.Places.{word_value, first_value, second_value}
-use Rattle.lawful_walk.proofs.Places.{is_early, apart_on, apart_back}
-use Rattle.lawful_walk.proofs.Moments.{same, onward, stamps_rise, backed_later}
 use Rattle.lawful_walk.proofs.Facts.{facts}
 use Rattle.lawful_walk.proofs.Growths.{growth_shows, changed, place_as_heard}
-use Rattle.lawful_walk.proofs.Knowing.{root_now, conflict_fin, shown_now}
-use Rattle.lawful_walk.proofs.Knowing.{known_now, heard_too, shows_too, fin_then}
+use Rattle.lawful_walk.proofs.Knowing.{root_now, conflict_fin, shown_now, known_now, heard_too}
+use Rattle.lawful_walk.proofs.Knowing.{shows_too, fin_then}
+use Rattle.lawful_walk.proofs.Known.{board_of}
+use Rattle.lawful_walk.proofs.Places.{word_value, first_value, second_value, cell_worth, is_early}
+use Rattle.lawful_walk.proofs.Places.{apart_on, apart_back}
+use Rattle.lawful_walk.specs.Moments.{Moment, Backed, afters}
 
 -- ---- the loads of the root and of word 0
 
@@ -380,6 +381,10 @@ lesser_read job y before longer c a b first second other =
 module _ (job : JobData) (y : LayoutData) (before r : Record) (c s : ℕ) (cell : c < y.cells)
     (glance : (words : List ℕ) → Stands job y words → Backed job y r words →
     Glanced job y before r s) where
+  in_job : (words : List ℕ) → Stands job y words → c < job.cells
+  in_job words stands =
+      let b = same_cells job y (board_of job y words stands) in omega arith
+
   abbrev One : ℕ → Record
   One a = after r (Load (number_of y (Stored c 0))) a
 
@@ -419,8 +424,9 @@ module _ (job : JobData) (y : LayoutData) (before r : Record) (c s : ℕ) (cell 
       let early : is_late (suc s) a b ≡ false = is_early s a b (omega arith) (omega arith) in
       seen_read job y before r (Two a b) c s (newer_payload a b)
       (glance first.words first.stands first.earlier) (extends_two a b stands.sizes) f.0
-      (place_as_heard job y s c a b first.words m.words words first.stands m.stands stands
-      first.since m.since place f.0 (let g = f.1 in omega arith) first.heard m.heard early).value
+      (sym (cell_worth y.form job s c (newer_word a b) (in_job words stands))
+      ∙ (place_as_heard job y s c a b first.words m.words words first.stands m.stands stands
+      first.since m.since place f.0 (let g = f.1 in omega arith) first.heard m.heard early).value)
 
   second_old : (a b : ℕ) → s < stamp_of a → stamp_of b ≤ s →
       Reads job y before c (ends (At s (payload_of b))) (Two a b)
@@ -435,6 +441,7 @@ module _ (job : JobData) (y : LayoutData) (before r : Record) (c s : ℕ) (cell 
       seen_read job y before r (Two a b) c s (payload_of b)
       (glance first.words first.stands first.earlier) (extends_two a b stands.sizes) f.0
       (ap payload_of m.heard
+      ∙ sym (cell_worth y.form job s c (held y m.words (Stored c 1)) (in_job words stands))
       ∙ second_value job y m.words s c m.stands place fin_m (omega arith) (omega arith))
 
   both_new : (a b : ℕ) → s < stamp_of a → s < stamp_of b →
@@ -480,6 +487,7 @@ module _ (job : JobData) (y : LayoutData) (before r : Record) (c s : ℕ) (cell 
       (extends_on y r (Two a b) c 0 again stands.sizes
       (place, lit< tt) (extends_two a b stands.sizes)) f.0
       (ap payload_of (ea ∙ still)
+      ∙ sym (cell_worth y.form job s c (held y m.words (Stored c 0)) (in_job words stands))
       ∙ first_value job y m.words s c m.stands place fin_m (omega arith) (omega arith))
 
   other_again : (a b again : ℕ) → s < stamp_of b → again ≢ a →

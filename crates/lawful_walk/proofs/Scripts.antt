@@ -3,18 +3,18 @@ use Rattle.std.proofs.Common.{◌≡◌, ℕ, List, [], ◌∷◌, ◌++◌, Som
 use Rattle.pram_job.specs.Job.{JobData}
 use Rattle.pram_words.specs.Words.{LayoutData, number_of}
 use Rattle.pram_words.specs.declared.words.Word.TheVariants.{Stored}
+use Rattle.walkx.proofs.Asking.{admitted_earlier}
+use Rattle.walkx.specs.Scripts.{Script, asks, ends, rest_after, rest, first_op, op_with, heard_in}
+use Rattle.walkx.specs.Tasks.{loads_both}
+use Rattle.walkx.specs.Walk.{Then, works, HearsAdmitted, AllAdmitted}
 use Rattle.walkx.specs.declared.operation.Op.{Op}
 use Rattle.walkx.specs.declared.operation.Op.TheVariants.{Load}
-use Rattle.walkx.specs.Scripts.{Script, asks, ends, rest_after, rest, first_op, op_with, heard_in}
-use Rattle.walkx.specs.Walk.{Then, works, HearsAdmitted, AllAdmitted}
-use Rattle.walkx.specs.Tasks.{loads_both}
-use Rattle.walkx.proofs.Asking.{admitted_earlier}
-use Rattle.lawful_walk.specs.Board.{Stands, held}
-use Rattle.lawful_walk.specs.Moments.{Moment}
-use Rattle.lawful_walk.specs.Writes.{Does}
+use Rattle.lawful_walk.specs.Board.{held, Stands}
 use Rattle.lawful_walk.proofs.Moments.{load_keeps}
-use Rattle.lawful_walk.specs.Walks.{Goes}
 use Rattle.lawful_walk.proofs.Sees.{Sees, always, heard}
+use Rattle.lawful_walk.specs.Moments.{Moment}
+use Rattle.lawful_walk.specs.Walks.{Goes}
+use Rattle.lawful_walk.specs.Writes.{Does}
 
 -- ---- one operation
 

@@ -2,12 +2,12 @@
 use Rattle.std.proofs.Common.{ℕ, List, [], ◌∷◌}
 use Rattle.pram_job.specs.Job.{JobData}
 use Rattle.pram_words.specs.Words.{LayoutData}
-use Rattle.walkx.specs.declared.operation.Op.{Op}
 use Rattle.walkx.specs.Operations.{words_after}
 use Rattle.walkx.specs.Records.{Record, Has}
-use Rattle.lawful_walk.specs.Board.{Stands, Grows}
+use Rattle.walkx.specs.declared.operation.Op.{Op}
+use Rattle.lawful_walk.proofs.Moments.{onward, Found, find}
+use Rattle.lawful_walk.specs.Board.{Grows, Stands}
 use Rattle.lawful_walk.specs.Moments.{Moment, Backed, afters}
-use Rattle.lawful_walk.proofs.Moments.{Found, find, onward}
 
 -- these steps were made one after the other, newest first, the first of them from words of which P
 -- holds

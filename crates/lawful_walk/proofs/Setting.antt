@@ -2,76 +2,82 @@
 -- word.
 use Rattle.std.proofs.Common.{◌≡◌, ◌≢◌, ◌⊎◌, ℕ, zero, suc, ◌+◌, ◌*◌, ◌<◌, ◌≤◌, ◌^◌, List, Option}
 use Rattle.std.proofs.Common.{Some, None, refl, sym, ap, subst, ◌∙◌, inl, inr, lit<, arith}
-use Rattle.std.proofs.lemmas.Bool.{cases_eq, cases_lt, cases_Bool, eq-eqb}
-use Rattle.std.proofs.lemmas.Bool.{leb-true, leb-false, lt-ltb, le-ltb}
+use Rattle.std.proofs.lemmas.Bool.{cases_eq, cases_lt, cases_Bool, eq-eqb, leb-true, leb-false}
+use Rattle.std.proofs.lemmas.Bool.{lt-ltb, le-ltb}
 use Rattle.pram_job.specs.Job.{JobData, IsJob}
 use Rattle.pram_machine.specs.declared.requests.Request.{Request}
 use Rattle.pram_machine.specs.Machine.{counter_place}
+use Rattle.pram_machine.specs.Instructions.{request_in, place_part, value_part, HasShape}
+use Rattle.pram_machine.proofs.Shapes.{request_shape}
 use Rattle.pram_step.specs.Steps.{written}
 use Rattle.pram_step.specs.Runs.{IsReached, AgreesAfter, state_after}
 use Rattle.pram_step.proofs.LawFits.{state_fits}
 use Rattle.pram_step.proofs.LawCounters.{counter_within}
 use Rattle.pram_step.proofs.LawPlaces.{writes_place, writer_is}
+use Rattle.pram_step.specs.History.{Asks, Wins, part_after}
+use Rattle.pram_step.proofs.Past.{conflict_above, asks_fit}
 use Rattle.pram_words.specs.declared.phases.Kind.{Kind}
 use Rattle.pram_words.specs.declared.phases.Kind.TheVariants.{Verify}
 use Rattle.pram_words.specs.declared.words.Word.{Word}
-use Rattle.pram_words.specs.declared.words.Word.TheVariants.{Conflict, Node, Asked}
-use Rattle.pram_words.specs.declared.words.Word.TheVariants.{Position, Stored, Claim}
-use Rattle.pram_words.specs.Stamps.{stamp_of, payload_of, stamped_word}
-use Rattle.pram_words.specs.Phases.{kind_at, step_at}
-use Rattle.pram_words.specs.Words.{LayoutData, IsWord, IsStamped, number_of}
-use Rattle.pram_words.specs.Words.{places_of, counters_of, most_asked, most_stored}
+use Rattle.pram_words.specs.declared.words.Word.TheVariants.{Conflict, Node, Asked, Position}
+use Rattle.pram_words.specs.declared.words.Word.TheVariants.{Stored, Claim}
+use Rattle.pram_words.specs.Stamps.{stamp_of, payload_of, stamped_word, first_is_older, older}
+use Rattle.pram_words.specs.Stamps.{older_word}
+use Rattle.pram_words.specs.Phases.{kind_at, step_at, next_phase}
+use Rattle.pram_words.specs.Words.{LayoutData, IsWord, IsStamped, number_of, places_of, counters_of}
+use Rattle.pram_words.specs.Words.{most_asked, most_stored}
+use Rattle.pram_words.specs.declared.layout.Form.{Form}
+use Rattle.pram_words.specs.declared.layout.Form.TheVariants.{Compact}
 use Rattle.walkx.specs.Walk.{IsBoard}
-use Rattle.pram_words.specs.Stamps.{first_is_older, older, older_word}
 use Rattle.walkx.specs.Tasks.{claim_of}
 use Rattle.walkx.specs.declared.operation.Op.TheVariants.{Max, Store, Swap}
 use Rattle.walkx.proofs.Boards.{same_cells, same_procs}
-use Rattle.pram_machine.specs.Instructions.{request_in, place_part, value_part, HasShape}
-use Rattle.pram_machine.proofs.Shapes.{request_shape}
-use Rattle.pram_step.specs.History.{Asks, Wins, last_write, write_before, part_after}
-use Rattle.pram_step.proofs.Past.{last_most, last_least, conflict_above, before_most, asks_fit}
-use Rattle.lawful_walk.specs.Writes.{PlaceAsHeard, Floor, Does}
-use Rattle.lawful_walk.specs.Steps.{phase_written, word_of_step, settled, settled_before}
+use Rattle.lawful_walk.specs.Board.{leaf_of, held, root, conflict, leaf, stamp_at, finished, Grows}
+use Rattle.lawful_walk.specs.Board.{IsAsked, phase_in, IsTree, IsNew, IsPair, newer_first}
+use Rattle.lawful_walk.specs.Board.{newer_second, new_first, new_second, IsClaimed, claimed_now}
+use Rattle.lawful_walk.specs.Board.{IsNamed, Lawful, Stands}
 use Rattle.lawful_walk.proofs.Leaves.{leaf_word}
-use Rattle.lawful_walk.specs.Board.{leaf_of, held, root, conflict, leaf, stamp_at, finished}
-use Rattle.lawful_walk.specs.Board.{phase_in, IsTree, IsAsked, IsNew, IsPair, newer_first}
-use Rattle.lawful_walk.specs.Board.{newer_second, new_first, new_second, IsClaimed}
-use Rattle.lawful_walk.specs.Board.{claimed_now, IsNamed, Lawful, Stands, Grows}
+use Rattle.lawful_walk.proofs.Frames.{Only, only_grows, same_or_other, does_max, does_swap}
+use Rattle.lawful_walk.proofs.Frames.{keeps_store}
+use Rattle.lawful_walk.specs.Lands.{Lands, landing_before, last_landing, phase_claimed}
+use Rattle.lawful_walk.specs.Lands.{phase_written, settled, settled_before, word_of_step}
+use Rattle.lawful_walk.proofs.Landings.{before_most, last_least, last_most, stamp_step}
+use Rattle.lawful_walk.specs.Writes.{PlaceAsHeard, Floor, Does}
 use Rattle.lawful_walk.specs.Moments.{Keeps}
-use Rattle.lawful_walk.proofs.Values.{before_less, stamp_step}
-use Rattle.lawful_walk.proofs.Frames.{Only, only_grows, does_max, does_swap}
-use Rattle.lawful_walk.proofs.Frames.{keeps_store, same_or_other}
+use Rattle.lawful_walk.proofs.Values.{before_less, claim_most}
 use Rattle.lawful_walk.proofs.Facts.{facts, board, late_of, claim_fits, WordsShow}
 use Rattle.lawful_walk.proofs.Keeping.{done_later, settle}
-use Rattle.lawful_walk.proofs.Raising.{finished_before, alive}
+use Rattle.lawful_walk.proofs.Raising.{finished_before, alive, next}
 
-settled_stamp : (job : JobData) (t p : ℕ) → IsJob job →
-    stamp_of (settled job t p) ≡ last_write job t p
-settled_stamp job t p limits = stamp_step job (last_write job t p) p limits
+settled_stamp : (form : Form) (job : JobData) (t p : ℕ) → IsJob job →
+    stamp_of (settled form job t p) ≡ last_landing form job t p
+settled_stamp form job t p limits = stamp_step form job limits (last_landing form job t p) p
 
-before_stamp : (job : JobData) (t p : ℕ) → IsJob job →
-    stamp_of (settled_before job t p) ≡ write_before job (last_write job t p) p
-before_stamp job t p limits = stamp_step job (write_before job (last_write job t p) p) p limits
+before_stamp : (form : Form) (job : JobData) (t p : ℕ) → IsJob job →
+    stamp_of (settled_before form job t p)
+    ≡ landing_before form job (last_landing form job t p) p
+before_stamp form job t p limits =
+    stamp_step form job limits (landing_before form job (last_landing form job t p) p) p
 
-pair_most : (job : JobData) (f r p a b : ℕ) → IsJob job → IsPair job f r p a b →
-    (stamp_of a ≤ suc f) × (stamp_of b ≤ suc f)
-pair_most job f r p a b limits (newer_first e g) =
-    let s = ap stamp_of e ∙ settled_stamp job f p limits in
-    let o = ap stamp_of g ∙ before_stamp job f p limits in
-    let m = last_most job f p in
-    let k = before_most job (last_write job f p) p in (omega arith, omega arith)
-pair_most job f r p a b limits (newer_second e g some) =
-    let s = ap stamp_of e ∙ settled_stamp job f p limits in
-    let o = ap stamp_of g ∙ before_stamp job f p limits in
-    let m = last_most job f p in
-    let k = before_most job (last_write job f p) p in (omega arith, omega arith)
-pair_most job f r p a b limits (new_first n e) =
-    let s = ap stamp_of e ∙ settled_stamp job f p limits in
-    let m = last_most job f p in
+pair_most : (form : Form) (job : JobData) (f r p a b : ℕ) → IsJob job →
+    IsPair form job f r p a b → (stamp_of a ≤ suc f) × (stamp_of b ≤ suc f)
+pair_most form job f r p a b limits (newer_first e g) =
+    let s = ap stamp_of e ∙ settled_stamp form job f p limits in
+    let o = ap stamp_of g ∙ before_stamp form job f p limits in
+    let m = last_most form job limits f p in
+    let k = before_most form job limits (last_landing form job f p) p in (omega arith, omega arith)
+pair_most form job f r p a b limits (newer_second e g some) =
+    let s = ap stamp_of e ∙ settled_stamp form job f p limits in
+    let o = ap stamp_of g ∙ before_stamp form job f p limits in
+    let m = last_most form job limits f p in
+    let k = before_most form job limits (last_landing form job f p) p in (omega arith, omega arith)
+pair_most form job f r p a b limits (new_first n e) =
+    let s = ap stamp_of e ∙ settled_stamp form job f p limits in
+    let m = last_most form job limits f p in
     let k = n.stamp in (omega arith, omega arith)
-pair_most job f r p a b limits (new_second n e some) =
-    let s = ap stamp_of e ∙ settled_stamp job f p limits in
-    let m = last_most job f p in
+pair_most form job f r p a b limits (new_second n e some) =
+    let s = ap stamp_of e ∙ settled_stamp form job f p limits in
+    let m = last_most form job limits f p in
     let k = n.stamp in (omega arith, omega arith)
 
 -- ---- one word that is no node
@@ -97,7 +103,7 @@ module _ (job : JobData) (y : LayoutData) (words later : List ℕ) (a : Word)
         let b = nodes_same (2 * n + 1) (omega arith, omega arith) in
         let h = stands.lawful.tree.right n low high in omega arith;
     near = λ n is. let a = nodes_same n is in
-        let b = root_same in
+        let b = ap (next_phase y.form) root_same in
         let h = stands.lawful.tree.near n is in omega arith;
     most = λ n is. let a = nodes_same n is in
         let h = stands.lawful.tree.most n is in omega arith;
@@ -105,46 +111,49 @@ module _ (job : JobData) (y : LayoutData) (words later : List ℕ) (a : Word)
 
   pub asked_if :
       ((i j : ℕ) → i < y.procs → j < 3 → held y later (Asked i j) ≡ held y words (Asked i j)) →
-      (i j : ℕ) → i < y.procs → j < 3 →
+      y.form ≡ Compact → (i j : ℕ) → i < y.procs → j < 3 →
       IsAsked job (finished y words) i j (held y later (Asked i j))
-  asked_if same i j proc part = subst (IsAsked job (finished y words) i j)
-      (sym (same i j proc part)) (stands.lawful.asked i j proc part)
+  asked_if same compact i j proc part = subst (IsAsked job (finished y words) i j)
+      (sym (same i j proc part)) (stands.lawful.asked compact i j proc part)
 
   pub stored_if :
       ((p k : ℕ) → IsWord y (Stored p k) → held y later (Stored p k) ≡ held y words (Stored p k)) →
       (p : ℕ) → p < places_of y →
-      IsPair job (finished y words) (root y words) p
+      IsPair y.form job (finished y words) (root y words) p
       (held y later (Stored p 0)) (held y later (Stored p 1))
   stored_if same p place =
       subst
-      (λ (w : ℕ). IsPair job (finished y words) (root y words) p w (held y later (Stored p 1)))
-      (sym (same p 0 (place, lit< tt)))
-      (subst (λ (w : ℕ). IsPair job (finished y words) (root y words) p (held y words (Stored p 0))
+      (λ (w : ℕ). IsPair y.form job (finished y words) (root y words) p w
+      (held y later (Stored p 1))) (sym (same p 0 (place, lit< tt)))
+      (subst (λ (w : ℕ). IsPair y.form job (finished y words) (root y words) p
+      (held y words (Stored p 0))
       w) (sym (same p 1 (place, lit< tt))) (stands.lawful.stored p place))
 
   pub claimed_if :
       ((c : ℕ) → IsWord y (Claim c) → held y later (Claim c) ≡ held y words (Claim c)) →
       (c : ℕ) → IsWord y (Claim c) →
-      IsClaimed job (finished y words) (root y words) c (held y later (Claim c))
-  claimed_if same c is = subst (IsClaimed job (finished y words) (root y words) c)
+      IsClaimed y.form job (finished y words) (root y words) c (held y later (Claim c))
+  claimed_if same c is = subst (IsClaimed y.form job (finished y words) (root y words) c)
       (sym (same c is)) (stands.lawful.claimed c is)
 
-  pub named_if : conflict y later ≡ conflict y words → IsNamed job (conflict y later) (root y words)
-  named_if same = subst (λ (u : ℕ). IsNamed job u (root y words)) (sym same) stands.lawful.named
+  pub named_if : conflict y later ≡ conflict y words →
+      IsNamed y.form job (conflict y later) (root y words)
+  named_if same = subst (λ (u : ℕ). IsNamed y.form job u (root y words)) (sym same)
+      stands.lawful.named
 
   pub full_if : conflict y later ≡ conflict y words →
       root y words ≡ 3 * finished y words + 3 → conflict y later ≡ 0 → ⊥
   full_if same e none = let u = (facts job y words stands).full_root e in omega arith
 
-  pub set_lawful : ((i j : ℕ) → i < y.procs →
+  pub set_lawful : (y.form ≡ Compact → (i j : ℕ) → i < y.procs →
       j < 3 → IsAsked job (finished y words) i j (held y later (Asked i j))) →
-      ((p : ℕ) → p < places_of y → IsPair job (finished y words) (root y words) p
+      ((p : ℕ) → p < places_of y → IsPair y.form job (finished y words) (root y words) p
       (held y later (Stored p 0)) (held y later (Stored p 1))) →
       ((c : ℕ) → IsWord y (Claim c) →
-      IsClaimed job (finished y words) (root y words) c (held y later (Claim c))) →
+      IsClaimed y.form job (finished y words) (root y words) c (held y later (Claim c))) →
       ((i : ℕ) → i < y.procs → 3 * finished y words + 3 ≤ leaf y words i →
       (c : ℕ) → IsWord y (Claim c) → held y later (Claim c) ≡ held y words (Claim c)) →
-      IsNamed job (conflict y later) (root y words) →
+      IsNamed y.form job (conflict y later) (root y words) →
       (root y words ≡ 3 * finished y words + 3 → conflict y later ≡ 0 → ⊥) → Lawful job y later
   set_lawful asked stored claimed still named full =
       let r = root_same in
@@ -154,20 +163,21 @@ module _ (job : JobData) (y : LayoutData) (words later : List ℕ) (a : Word)
         reached = stands.lawful.reached;
         tree = tree_same;
         asked = asked;
-        stored = λ p place. subst (λ (r : ℕ). IsPair job (finished y words) r p
+        stored = λ p place. subst (λ (r : ℕ). IsPair y.form job (finished y words) r p
             (held y later (Stored p 0)) (held y later (Stored p 1))) (sym r) (stored p place);
         claimed =
-            λ c is. subst (λ (r : ℕ). IsClaimed job (finished y words) r c (held y later (Claim c)))
-            (sym r) (claimed c is);
+            λ c is. subst (λ (r : ℕ). IsClaimed y.form job (finished y words) r c
+            (held y later (Claim c))) (sym r) (claimed c is);
         done = λ i kind proc h. done_later job y words later
-            (finished y words) stands.limits stands.sizes stands.layout up (λ p place. pair_most job
+            (finished y words) stands.limits stands.sizes stands.layout up
+            (λ p place. pair_most y.form job
             (finished y words) (root y words) p _ _ stands.limits (stored p place)) kind
             (λ e. still i proc (let l = leaf_same i proc in
             let k : phase_in (finished y words) Verify ≤ leaf y later i =
             subst (λ (k : Kind). phase_in (finished y words) k ≤ leaf y later i) e h in
             omega arith))
             i proc (stands.lawful.done i kind proc (let l = leaf_same i proc in omega arith));
-        named = subst (IsNamed job (conflict y later)) (sym r) named;
+        named = subst (IsNamed y.form job (conflict y later)) (sym r) named;
       }) (omega arith) (omega arith) (λ e none i proc. absurd (full (omega arith) none))
 
 -- ---- a position
@@ -200,6 +210,10 @@ module _ (job : JobData) (y : LayoutData) (words : List ℕ) (q x : ℕ) (stands
   ahead : x ≤ finished y words
   ahead = finished_before job y words q x stands some most step floor
 
+  -- a phase that is not over is the next one
+  coming : root y words < q → next_phase y.form (root y words) ≡ q
+  coming live = next job y words q x stands some most step floor live
+
   -- ---- word 0
 
   pub conflict_does : kind_at q ≡ Verify → (AgreesAfter job x → ⊥) → 3 * x + 3 ≡ q →
@@ -230,15 +244,18 @@ module _ (job : JobData) (y : LayoutData) (words : List ℕ) (q x : ℕ) (stands
               first = λ s e. let at = only.at in
                   let g : x ≡ s = omega arith in subst
                   (λ (s : ℕ). IsReached job s × (AgreesAfter job s → ⊥)) g (floor.reached, not);
-              near = λ s e. let at = only.at in elim (cases_eq (root y words)
-                  (3 * s + 3)) [ inl g ↦ inr g | inr g ↦ inl (omega arith) ];
+              near = λ s e. let at = only.at in elim (cases_lt (root y words) q) [
+                | inl live ↦ inl (let c = coming live in omega arith)
+                | inr past ↦ inr (omega arith)
+              ];
             })
             (λ e zero_now. let at = only.at in omega arith),
       ))
 
   -- ---- a claim word
 
-  pub claim_does : (c i v : ℕ) → IsWord y (Claim c) → 3 * x + 2 ≡ q → Asks job x c i v →
+  pub claim_does : (c i v : ℕ) → IsWord y (Claim c) → q ≡ phase_claimed y.form x →
+      Asks job x c i v →
       Does job y q (Max (number_of y (Claim c)) (stamped_word (suc x) (claim_of job i))) words
   claim_does c i v is phase asks =
       let l = ahead in
@@ -250,15 +267,16 @@ module _ (job : JobData) (y : LayoutData) (words : List ℕ) (q x : ℕ) (stands
       (omega arith, omega arith) in
       let stale : q ≤ root y words → stamped_word (suc x) (claim_of job i)
       ≤ held y words (Claim c) = λ h. shown.claims_high x c i v is (omega arith) asks in
+      let early = claim_most y.form x in
       does_max job y q (Claim c) (stamped_word (suc x) (claim_of job i)) words stands is range stale
       (λ less. (
         omega arith,
         λ later only.
             let up = only_grows y (Claim c) (stamped_word (suc x) (claim_of job i))
             words later stands.sizes is (omega arith) only in
-            let live : root y words + 1 ≡ q =
-            (let r = floor.root in elim (cases_lt (root y words) q) [
-              | inl k ↦ omega arith
+            let live : root y words < q =
+            (elim (cases_lt (root y words) q) [
+              | inl k ↦ k
               | inr k ↦ absurd (let s = stale k in omega arith)
             ]) in
             let gone = alive job y words q x stands some most step floor live in
@@ -271,20 +289,24 @@ module _ (job : JobData) (y : LayoutData) (words : List ℕ) (q x : ℕ) (stands
             up only (λ m e. absurd (cc)) (λ p k is. only.rest (Stored p k) is (λ e. absurd (cc))))
             (λ d is_d. elim (same_or_other y (Claim c) (Claim d) stands.sizes is is_d) [
               | inl e ↦ (let same : c ≡ d = claims_same c d e in
-                  let new : IsClaimed job (finished y words) (root y words) c
+                  let new : IsClaimed y.form job (finished y words) (root y words) c
                   (stamped_word (suc x) (claim_of job i)) = claimed_now (omega arith) (record {
                     writer = i;
                     value = v;
                     asks = subst (λ (s : ℕ). Asks job s c i v) (sym gone) asks;
                     is = omega arith;
-                  }) (omega arith) in subst (λ (d : ℕ).
-                  IsClaimed job (finished y words) (root y words) d (held y later (Claim d))) same
-                  (subst (IsClaimed job (finished y words) (root y words) c) (sym only.at) new))
-              | inr n ↦ subst (IsClaimed job (finished y words) (root y words) d)
+                  }) (subst (λ (s : ℕ). phase_claimed y.form s ≤ next_phase y.form (root y words))
+                  (sym gone) (let fl = floor.root in omega arith)) in subst (λ (d : ℕ).
+                  IsClaimed y.form job (finished y words) (root y words) d (held y later (Claim d)))
+                  same
+                  (subst (IsClaimed y.form job (finished y words) (root y words) c)
+                  (sym only.at) new))
+              | inr n ↦ subst (IsClaimed y.form job (finished y words) (root y words) d)
                   (sym (only.rest (Claim d) is_d n)) (stands.lawful.claimed d is_d)
             ])
             (λ i proc h c is. absurd (let n =
-            stands.lawful.tree.near (leaf_of y i) (leaf_word y i stands.sizes proc) in omega arith))
+            stands.lawful.tree.near (leaf_of y i) (leaf_word y i stands.sizes proc) in
+            let m = coming live in omega arith))
             (named_if job y words later (Claim c) (stamped_word (suc x) (claim_of job i)) stands
             up only (λ m e. absurd (cc)) (only.rest Conflict tt (λ e. absurd (cc))))
             (full_if job y words later (Claim c) (stamped_word (suc x) (claim_of job i))
@@ -371,36 +393,37 @@ part_most job y s i (suc (suc (suc j))) is proc part = absurd (omega arith)
 
 -- ---- the older of the two words of a place takes a new value
 
-swapped_first : (job : JobData) (f r p a b word : ℕ) →
-    IsJob job → IsPair job f r p a b → stamp_of a ≤ f → stamp_of b ≤ f → IsNew job f r p word →
-    stamp_of a ≤ stamp_of b → IsPair job f r p word b
-swapped_first job f r p a b word limits (newer_first e g) la lb n less =
-    let s = ap stamp_of e ∙ settled_stamp job f p limits in
-    let o = ap stamp_of g ∙ before_stamp job f p limits in
-    let k = before_most job (last_write job f p) p in
-    let none : last_write job f p ≡ 0 = (elim (cases_lt (last_write job f p) 1) [
+swapped_first : (form : Form) (job : JobData) (f r p a b word : ℕ) →
+    IsJob job → IsPair form job f r p a b → stamp_of a ≤ f → stamp_of b ≤ f →
+    IsNew form job f r p word → stamp_of a ≤ stamp_of b → IsPair form job f r p word b
+swapped_first form job f r p a b word limits (newer_first e g) la lb n less =
+    let s = ap stamp_of e ∙ settled_stamp form job f p limits in
+    let o = ap stamp_of g ∙ before_stamp form job f p limits in
+    let k = before_most form job limits (last_landing form job f p) p in
+    let none : last_landing form job f p ≡ 0 = (elim (cases_lt (last_landing form job f p) 1) [
       | inl c ↦ omega arith
-      | inr c ↦ absurd (let m = before_less job (last_write job f p) p c in omega arith)
+      | inr c ↦ absurd (let m = before_less form job limits (last_landing form job f p) p
+          c in omega arith)
     ]) in
     new_first n (g ∙ ap (λ (n : ℕ). word_of_step job n p) (omega arith))
-swapped_first job f r p a b word limits (newer_second e g some) la lb n less = new_first n e
-swapped_first job f r p a b word limits (new_first m e) la lb n less =
+swapped_first form job f r p a b word limits (newer_second e g some) la lb n less = new_first n e
+swapped_first form job f r p a b word limits (new_first m e) la lb n less =
     absurd (let s = m.stamp in omega arith)
-swapped_first job f r p a b word limits (new_second m e some) la lb n less =
+swapped_first form job f r p a b word limits (new_second m e some) la lb n less =
     absurd (let s = m.stamp in omega arith)
 
-swapped_second : (job : JobData) (f r p a b word : ℕ) →
-    IsJob job → IsPair job f r p a b → stamp_of a ≤ f → stamp_of b ≤ f → IsNew job f r p word →
-    stamp_of b < stamp_of a → IsPair job f r p a word
-swapped_second job f r p a b word limits (newer_first e g) la lb n less =
+swapped_second : (form : Form) (job : JobData) (f r p a b word : ℕ) →
+    IsJob job → IsPair form job f r p a b → stamp_of a ≤ f → stamp_of b ≤ f →
+    IsNew form job f r p word → stamp_of b < stamp_of a → IsPair form job f r p a word
+swapped_second form job f r p a b word limits (newer_first e g) la lb n less =
     new_second n e (omega arith)
-swapped_second job f r p a b word limits (newer_second e g some) la lb n less =
-    absurd (let s = ap stamp_of e ∙ settled_stamp job f p limits in
-    let o = ap stamp_of g ∙ before_stamp job f p limits in
-    let k = before_most job (last_write job f p) p in omega arith)
-swapped_second job f r p a b word limits (new_first m e) la lb n less =
+swapped_second form job f r p a b word limits (newer_second e g some) la lb n less =
+    absurd (let s = ap stamp_of e ∙ settled_stamp form job f p limits in
+    let o = ap stamp_of g ∙ before_stamp form job f p limits in
+    let k = before_most form job limits (last_landing form job f p) p in omega arith)
+swapped_second form job f r p a b word limits (new_first m e) la lb n less =
     absurd (let s = m.stamp in omega arith)
-swapped_second job f r p a b word limits (new_second m e some) la lb n less =
+swapped_second form job f r p a b word limits (new_second m e some) la lb n less =
     absurd (let s = m.stamp in omega arith)
 
 module _ (job : JobData) (y : LayoutData) (words : List ℕ) (q x : ℕ) (stands : Stands job y words)
@@ -417,8 +440,11 @@ module _ (job : JobData) (y : LayoutData) (words : List ℕ) (q x : ℕ) (stands
 
   -- ---- a word of a place
 
-  module _ (p i v : ℕ) (phase : q ≡ phase_written job.rule x) (asks : Asks job x p i v)
-      (wins : Wins job x p i) where
+  module _ (p i v : ℕ) (phase : q ≡ phase_written y.form job p x)
+      (lands : Lands y.form job x p i v) (wins : Wins job x p i) where
+    asks : Asks job x p i v
+    asks = lands.asks
+
     place : p < places_of y
     place =
         let a = (asks_fit job x p i v stands.limits asks).0 in
@@ -456,10 +482,10 @@ module _ (job : JobData) (y : LayoutData) (words : List ℕ) (q x : ℕ) (stands
           | inr c ↦ omega arith
           | inl c ↦ absurd (elim (late_of job y words (finished y words) stands.limits stands.sizes
               stands.layout stands.lawful facts_of.root_low facts_of.root_high x p place
-              (last_least job (finished y words) p x c (record {
+              (last_least y.form job stands.limits (finished y words) p x c (record {
                 writer = i;
                 value = v;
-                asks = asks;
+                lands = lands;
               }))) [ inl h ↦ omega arith | inr h ↦ omega arith ])
         ]
 
@@ -471,24 +497,24 @@ module _ (job : JobData) (y : LayoutData) (words : List ℕ) (q x : ℕ) (stands
         elim (facts_of.written_late x p place (omega arith) (record {
           writer = i;
           value = v;
-          asks = asks;
+          lands = lands;
         })) [ inl l ↦ omega arith | inr l ↦ omega arith ]
 
-    new : finished y words ≡ x → IsNew job (finished y words) (root y words) p value
+    new : finished y words ≡ x → IsNew y.form job (finished y words) (root y words) p value
     new same =
         let s = value_stamp in
         let fl = floor.root in
-        subst (λ (f : ℕ). IsNew job f (root y words) p value) (sym same) (record {
+        subst (λ (f : ℕ). IsNew y.form job f (root y words) p value) (sym same) (record {
           stamp = s;
           writer = i;
-          asks = subst (λ (n : ℕ). Asks job x p i n) (sym value_payload) asks;
+          lands = subst (λ (n : ℕ). Lands y.form job x p i n) (sym value_payload) lands;
           wins = wins;
           stands = omega arith;
         })
 
     module _ (k : ℕ) (two : k < 2) (early : Early)
         (later : List ℕ) (only : Only y (Stored p k) value words later)
-        (pair : IsPair job (finished y words) (root y words) p (held y later (Stored p 0))
+        (pair : IsPair y.form job (finished y words) (root y words) p (held y later (Stored p 0))
         (held y later (Stored p 1))) where
       up_stored : (k : ℕ) → (early : Early) → (held y words (Stored p k) ≡ value)
           ⊎ ((stamp_at y words p 0 < stamp_of value) × (stamp_at y words p 1 < stamp_of value))
@@ -502,17 +528,17 @@ module _ (job : JobData) (y : LayoutData) (words : List ℕ) (q x : ℕ) (stands
       grows_stored = only_grows y (Stored p k) value words later stands.sizes
           (place, two) (up_stored k early) only
 
-      each_pair : (r : ℕ) → r < places_of y → IsPair job (finished y words) (root y words) r
+      each_pair : (r : ℕ) → r < places_of y → IsPair y.form job (finished y words) (root y words) r
           (held y later (Stored r 0)) (held y later (Stored r 1))
       each_pair r place_r = elim (cases_eq r p) [
-        | inl e ↦ subst (λ (r : ℕ). IsPair job (finished y words) (root y words) r
+        | inl e ↦ subst (λ (r : ℕ). IsPair y.form job (finished y words) (root y words) r
             (held y later (Stored r 0)) (held y later (Stored r 1))) (sym e) pair
         | inr n ↦
             (let a = only.rest (Stored r 0) (place_r, lit< tt) (λ e. n (stored_same r 0 p k e)) in
             let b = only.rest (Stored r 1) (place_r, lit< tt) (λ e. n (stored_same r 1 p k e)) in
             subst (λ (w : ℕ).
-            IsPair job (finished y words) (root y words) r w (held y later (Stored r 1))) (sym a)
-            (subst (λ (w : ℕ). IsPair job (finished y words) (root y words) r
+            IsPair y.form job (finished y words) (root y words) r w (held y later (Stored r 1)))
+            (sym a) (subst (λ (w : ℕ). IsPair y.form job (finished y words) (root y words) r
             (held y words (Stored r 0)) w) (sym b) (stands.lawful.stored r place_r)))
       ]
         where
@@ -549,11 +575,11 @@ module _ (job : JobData) (y : LayoutData) (words : List ℕ) (q x : ℕ) (stands
         let same = early_now early in (
           inr (omega arith, omega arith),
           λ later only. stored_lawful 0 (lit< tt) early later only
-              (subst (λ (w : ℕ). IsPair job (finished y words) (root y words) p w
+              (subst (λ (w : ℕ). IsPair y.form job (finished y words) (root y words) p w
               (held y later (Stored p 1))) (sym only.at)
-              (subst (λ (w : ℕ). IsPair job (finished y words) (root y words) p value w)
+              (subst (λ (w : ℕ). IsPair y.form job (finished y words) (root y words) p value w)
               (sym (only.rest (Stored p 1) (place, lit< tt) (λ e. absurd (other_word p e))))
-              (swapped_first job (finished y words) (root y words) p _ _ value stands.limits
+              (swapped_first y.form job (finished y words) (root y words) p _ _ value stands.limits
               (stands.lawful.stored p place) (omega arith) (omega arith) (new same) s.1))),
         ))
       where
@@ -577,11 +603,11 @@ module _ (job : JobData) (y : LayoutData) (words : List ℕ) (q x : ℕ) (stands
         let same = early_now early in (
           inr (omega arith, omega arith),
           λ later only. stored_lawful 1 (lit< tt) early later only
-              (subst (λ (w : ℕ). IsPair job (finished y words)
+              (subst (λ (w : ℕ). IsPair y.form job (finished y words)
               (root y words) p (held y later (Stored p 0)) w) (sym only.at)
-              (subst (λ (w : ℕ). IsPair job (finished y words) (root y words) p w value)
+              (subst (λ (w : ℕ). IsPair y.form job (finished y words) (root y words) p w value)
               (sym (only.rest (Stored p 0) (place, lit< tt) (λ e. absurd (other_word p e))))
-              (swapped_second job (finished y words) (root y words) p _ _ value stands.limits
+              (swapped_second y.form job (finished y words) (root y words) p _ _ value stands.limits
               (stands.lawful.stored p place) (omega arith) (omega arith) (new same) s.1))),
         ))
       where
@@ -603,7 +629,8 @@ module _ (job : JobData) (y : LayoutData) (words : List ℕ) (q x : ℕ) (stands
 
   -- ---- a request word
 
-  module _ (i j : ℕ) (proc : i < y.procs) (part : j < 3) (phase : 3 * x + 1 ≡ q) where
+  module _ (compact : y.form ≡ Compact) (i j : ℕ) (proc : i < y.procs) (part : j < 3)
+      (phase : 3 * x + 1 ≡ q) where
     asked_value : ℕ
     asked_value = stamped_word (suc x) (part_after job x i j)
 
@@ -626,14 +653,15 @@ module _ (job : JobData) (y : LayoutData) (words : List ℕ) (q x : ℕ) (stands
     asked_low more =
         let s = asked_stamp in
         let l = asked_payload in elim (cases_eq (stamp_of (held y words (Asked i j))) (suc x)) [
-          | inl e ↦ (let h = ((stands.lawful.asked i j proc part).part x e).1 in omega arith)
+          | inl e ↦ (let h = ((stands.lawful.asked compact i j proc part).part x e).1 in
+              omega arith)
           | inr n ↦ omega arith
         ]
 
     asked_now : held y words (Asked i j) < asked_value → finished y words ≡ x
     asked_now less =
         let up = upward in
-        let low = (stands.lawful.asked i j proc part).low in
+        let low = (stands.lawful.asked compact i j proc part).low in
         elim (cases_lt x (stamp_of (held y words (Asked i j)))) [
           | inl c ↦ absurd (let h = asked_low c in omega arith)
           | inr c ↦ omega arith
@@ -657,14 +685,14 @@ module _ (job : JobData) (y : LayoutData) (words : List ℕ) (q x : ℕ) (stands
         let up = only_grows y (Asked i j) asked_value words later stands.sizes
         (proc, part) (omega arith) only in
         set_lawful job y words later (Asked i j) asked_value stands up only (λ m e. absurd (cc))
-        (λ k l proc_k part_l.
+        (λ same_form k l proc_k part_l.
         elim (same_or_other y (Asked i j) (Asked k l) stands.sizes (proc, part) (proc_k, part_l)) [
           | inl e ↦ subst (λ (w : Word).
               IsAsked job (finished y words) (asked_proc w) (asked_part w) (held y later w))
               (sym e) (subst (IsAsked job (finished y words) i j) (sym only.at) (new_asked same))
           | inr n ↦ subst (IsAsked job (finished y words) k l)
               (sym (only.rest (Asked k l) (proc_k, part_l) n))
-              (stands.lawful.asked k l proc_k part_l)
+              (stands.lawful.asked compact k l proc_k part_l)
         ])
         (stored_if job y words later (Asked i j) asked_value stands up only
         (λ m e. absurd (cc)) (λ p k is. only.rest (Stored p k) is (λ e. absurd (cc))))
@@ -688,5 +716,5 @@ module _ (job : JobData) (y : LayoutData) (words : List ℕ) (q x : ℕ) (stands
         (Max (number_of y (Asked i j)) (stamped_word (suc x) (part_after job x i j))) words
     unfolding asked_value
     asked_does = does_max job y q (Asked i j) asked_value words stands (proc, part) asked_range
-        (λ h. asked_low (facts_of.requests_raised x i j proc part (omega arith)))
+        (λ h. asked_low (facts_of.requests_raised compact x i j proc part (omega arith)))
         (λ less. (omega arith, asked_lawful less))

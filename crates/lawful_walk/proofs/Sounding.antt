@@ -137,8 +137,8 @@ was_place job y r p a b knows place was =
     final_place job y r p a b was.words was.stands knows place was.backed
 
 pub was_part : ConflictRequestsAreHeld
-was_part job y r s i j found heard proc part was =
-    final_part job y r s i j found was.words was.stands heard proc part was.backed
+was_part job y r s i j found compact heard proc part was =
+    final_part job y r s i j found was.words compact was.stands heard proc part was.backed
 
 -- what the own-step bound asks of any steps of a sound record
 pub sound_heard : (job : JobData) (y : LayoutData) (w : ℕ) (r : Record) (history : List (Op × ℕ)) →

@@ -1,29 +1,29 @@
 -- The words that a board starts with are lawful.
-use Rattle.std.proofs.Common.{◌≡◌, ℕ, ◌+◌, ◌-◌, ◌*◌, ◌<◌, ◌≤◌, List, length}
-use Rattle.std.proofs.Common.{slice_index, refl, sym, ◌∙◌, inl, inr, lit<, arith}
-use Rattle.std.specs.Prelude.{replicate}
+use Rattle.std.proofs.Common.{◌≡◌, ℕ, ◌-◌, ◌*◌, ◌<◌, ◌≤◌, List, length, slice_index, refl, sym}
+use Rattle.std.proofs.Common.{◌∙◌, inl, inr, lit<, arith}
 use Rattle.std.proofs.Math.ListN.{get_or-append}
 use Rattle.std.proofs.Math.Seq.{get_or-append_right}
-use Rattle.std.proofs.lemmas.List.{get_or-replicate, get_or_past}
 use Rattle.std.proofs.lemmas.Bool.{cases_lt}
+use Rattle.std.proofs.lemmas.List.{get_or-replicate, get_or_past}
+use Rattle.std.specs.Prelude.{replicate}
 use Rattle.pram_job.specs.Job.{JobData, IsJob}
 use Rattle.pram_machine.specs.Machine.{place_count}
 use Rattle.pram_step.specs.Runs.{state_after}
+use Rattle.pram_words.proofs.NextPhases.{next_above}
+use Rattle.pram_words.proofs.Starts.{starts_admitted, layout_of_limits}
+use Rattle.pram_words.specs.Start.{start_of, start_words, StartsAdmitted}
+use Rattle.pram_words.specs.Words.{LayoutData, IsGrain, IsLayout, IsWord, grain_of, layout_of}
+use Rattle.pram_words.specs.Words.{places_of}
+use Rattle.pram_words.specs.declared.layout.Form.{Form}
 use Rattle.pram_words.specs.declared.phases.Kind.{Kind}
 use Rattle.pram_words.specs.declared.phases.Kind.TheVariants.{Compute, Apply, Verify}
 use Rattle.pram_words.specs.declared.words.Word.{Word}
 use Rattle.pram_words.specs.declared.words.Word.TheVariants.{Conflict, Node, Asked, Stored, Claim}
-use Rattle.pram_words.specs.Start.{start_of, start_words, StartsAdmitted}
-use Rattle.pram_words.specs.Words.{LayoutData, IsGrain, IsLayout, IsWord, grain_of, layout_of}
-use Rattle.pram_words.specs.Words.{places_of}
-use Rattle.pram_words.proofs.Starts.{starts_admitted, layout_of_limits}
-use Rattle.pram_words.specs.declared.layout.Form.{Form}
-use Rattle.pram_step.specs.History.{last_write}
-use Rattle.pram_step.proofs.Past.{last_most}
-use Rattle.lawful_walk.specs.Steps.{settled}
+use Rattle.lawful_walk.proofs.Landings.{last_most}
+use Rattle.lawful_walk.specs.Lands.{last_landing, settled}
 use Rattle.lawful_walk.proofs.Leaves.{leaf_word}
-use Rattle.lawful_walk.specs.Board.{leaf_of, held, root, leaf, phase_in, LawfulFor}
-use Rattle.lawful_walk.specs.Board.{newer_first, claimed_before, Stands}
+use Rattle.lawful_walk.specs.Board.{leaf_of, held, root, leaf, phase_in, LawfulFor, newer_first}
+use Rattle.lawful_walk.specs.Board.{claimed_before, Stands}
 use Rattle.lawful_walk.proofs.Keeping.{settle}
 
 -- what a place holds before all steps
@@ -64,8 +64,9 @@ module _ (job : JobData) (form : Form) (workers : ℕ) (limits : IsJob job)
   root_zero : root y words ≡ 0
   root_zero = node_zero 1 (lit< tt, let l = sizes.leaves in omega arith)
 
-  stored_is : (p k : ℕ) → p < places_of y → k < 2 → held y words (Stored p k) ≡ settled job 0 p
-  unfolding y last_write
+  stored_is : (p k : ℕ) → p < places_of y → k < 2 →
+      held y words (Stored p k) ≡ settled form job 0 p
+  unfolding y last_landing
   stored_is p k place two =
       let v = start_value job p limits place in
       value (Stored p k) (place, two) ∙ sym v ∙ omega arith
@@ -79,20 +80,23 @@ module _ (job : JobData) (form : Form) (workers : ℕ) (limits : IsJob job)
   none_done i Verify proc h = let z = leaf_zero i proc in omega arith
 
   lawful : LawfulFor job y 0 words
+  unfolding y
   lawful = record {
     reached = λ s l. absurd (omega arith);
     tree = record {
       left = λ n low high. let a = node_zero n (low, omega arith) in omega arith;
       right = λ n low high. let a = node_zero n (low, omega arith) in omega arith;
-      near = λ n is. let a = node_zero n is in omega arith;
+      near = λ n is. let a = node_zero n is in let b = next_above y.form (root y words) in
+          let c = b.0 in omega arith;
       most = λ n is. let a = node_zero n is in omega arith;
     };
-    asked = λ i j proc part. let e = value (Asked i j) (proc, part) in
+    asked = λ compact i j proc part. let e = value (Asked i j) (proc, part) in
         record { low = omega arith; high = omega arith; part = λ s h. absurd (omega arith) };
     stored = λ p place. newer_first (stored_is p 0 place (lit< tt))
-        (stored_is p 1 place (lit< tt) ∙ unfold last_write in refl);
+        (stored_is p 1 place (lit< tt) ∙ unfold last_landing in refl);
     claimed = λ c is. let e = value (Claim c) is in
-        claimed_before (let m = last_most job 0 c in omega arith) (λ s h. absurd (omega arith));
+        claimed_before (let m = last_most form job limits 0 c in omega arith)
+        (λ s h. absurd (omega arith));
     done = λ i kind proc h. absurd (none_done i kind proc h);
     named = (let u = value Conflict tt in
         record { first = λ s e. absurd (omega arith); near = λ s e. absurd (omega arith) });

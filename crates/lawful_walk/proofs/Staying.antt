@@ -1,6 +1,4 @@
 -- What stays so, step after step: a known worker is known, and a record is borne out.
-use Rattle.pram_job.specs.Job.{JobData}
-use Rattle.pram_words.specs.Words.{LayoutData}
 use Rattle.walkx.specs.declared.operation.Op.TheVariants.{Load}
 use Rattle.walkx.specs.Operations.{answer}
 use Rattle.walkx.specs.Walk.{IsBoard, ask_of}
@@ -20,10 +18,10 @@ pub known_stays : KnownWorkersStayKnown
 known_stays job y r w words stands fits knows =
     let op = ask_of job y w in
     let board : IsBoard job y =
-    record { limits = stands.limits; layout = stands.sizes; is = stands.layout } in (
-      fits_told job y w (answer words op) board fits
-          (answer_admitted job y words op stands (all_ask job y w board fits)),
-      knows_next job y r w (answer words op) fits knows,
+    record { limits = stands.limits; layout = stands.sizes; is = stands.layout } in
+    let admitted = answer_admitted job y words op stands (all_ask job y w board fits) in (
+      fits_told job y w (answer words op) board fits admitted,
+      knows_next job y r w (answer words op) board fits knows admitted,
       λ other. knows_more job y r other op (answer words op),
     )
 

@@ -1,109 +1,61 @@
 -- The third pass of the rules common and crew: what a processor wrote, or its claim, still stands,
 -- or a conflict is reported.
-use Rattle.std.proofs.Common.{◌≡◌, ◌≢◌, ℕ, zero, suc, ◌+◌, ◌-◌, ◌*◌, ◌<◌, ◌≤◌, ◌==◌, ◌||◌}
-use Rattle.std.proofs.Common.{nat_lt, if◌then◌else◌, true, false, List, ◌∷◌, slice_index}
-use Rattle.std.proofs.Common.{IsTrue, refl, sym, ap, subst, ◌∙◌, inl, inr, lit<, arith}
-use Rattle.std.proofs.lemmas.Bool.{cond_both, cases_eq, cases_Bool, eq-eqb, ne_eqb}
-use Rattle.std.proofs.lemmas.Bool.{eqb-true, eqb-false, ltb-true, ltb-false, or_parts}
+use Rattle.std.proofs.Common.{◌≡◌, ℕ, zero, suc, ◌+◌, ◌-◌, ◌*◌, ◌<◌, ◌≤◌, ◌==◌, ◌||◌, nat_lt}
+use Rattle.std.proofs.Common.{if◌then◌else◌, true, false, List, ◌∷◌, IsTrue, refl, sym}
+use Rattle.std.proofs.Common.{ap, subst, ◌∙◌, inl, inr, lit<, arith}
+use Rattle.std.proofs.lemmas.Bool.{cond_both, cases_Bool, eqb-true}
+use Rattle.std.proofs.lemmas.Bool.{eqb-false, ltb-true, ltb-false, or_parts}
 use Rattle.pram_job.specs.Job.{JobData}
 use Rattle.pram_job.specs.declared.instr.Rule.{Rule}
 use Rattle.pram_job.specs.declared.instr.Rule.TheVariants.{Common, Priority, Crew}
-use Rattle.pram_step.specs.Runs.{AgreesAfter, state_after, requests_after}
 use Rattle.pram_step.proofs.LawNext.{crew_writer}
-use Rattle.pram_words.specs.declared.words.Word.TheVariants.{Stored, Claim}
-use Rattle.pram_words.specs.Phases.{step_at}
+use Rattle.pram_step.proofs.Past.{each_write, asks_fit}
+use Rattle.pram_step.specs.History.{Asks, part_after}
+use Rattle.pram_step.specs.Runs.{AgreesAfter, requests_after}
+use Rattle.pram_words.specs.Phases.{next_phase, step_at}
 use Rattle.pram_words.specs.Stamps.{stamp_of, payload_of, stamped_word}
 use Rattle.pram_words.specs.Words.{LayoutData, IsWord, number_of, places_of}
+use Rattle.pram_words.specs.declared.layout.Form.{Form}
+use Rattle.pram_words.specs.declared.layout.Form.TheVariants.{Compact}
+use Rattle.pram_words.specs.declared.words.Word.TheVariants.{Stored, Claim}
+use Rattle.walkx.proofs.Boards.{same_cells, same_procs}
+use Rattle.walkx.specs.Scripts.{Script, asks}
+use Rattle.walkx.specs.Tasks.{claim_of, differs, reports, hears_part, loads_both, verify_task}
+use Rattle.walkx.specs.Tasks.{crew_verify_task}
+use Rattle.walkx.specs.Walk.{Then, IsBoard}
 use Rattle.walkx.specs.declared.operation.Op.{Op}
 use Rattle.walkx.specs.declared.operation.Op.TheVariants.{Load}
-use Rattle.walkx.specs.Scripts.{Script, asks}
-use Rattle.walkx.specs.Tasks.{claim_of, differs, reports, hears_part}
-use Rattle.walkx.specs.Tasks.{loads_both, verify_task, crew_verify_task}
-use Rattle.walkx.specs.Walk.{Then, IsBoard}
-use Rattle.walkx.proofs.Boards.{same_cells, same_procs}
-use Rattle.pram_step.specs.History.{Asks, Wins, last_write, write_before, part_after}
-use Rattle.pram_step.proofs.Past.{written_value, each_write, asks_fit}
-use Rattle.lawful_walk.specs.Writes.{Floor}
-use Rattle.lawful_walk.specs.Steps.{phase_written, word_of_step}
-use Rattle.lawful_walk.specs.Board.{held, root, conflict, stamp_at, finished}
-use Rattle.lawful_walk.specs.Board.{HoldsNew, Stays, ClaimStays, Stands, Grows}
-use Rattle.lawful_walk.specs.Moments.{Moment}
+use Rattle.lawful_walk.specs.Lands.{phase_written, Lands, compact_phase_written, phase_claimed}
+use Rattle.lawful_walk.proofs.Winners.{wins_all}
 use Rattle.lawful_walk.proofs.Moments.{onward, stamps_rise}
-use Rattle.lawful_walk.proofs.Values.{stamp_step, payload_step, WordIs}
-use Rattle.lawful_walk.proofs.Values.{is_settled, is_before, is_new}
-use Rattle.lawful_walk.proofs.Facts.{facts, word_is}
+use Rattle.lawful_walk.specs.Board.{held, root, conflict, stamp_at, finished, HoldsNew, ClaimStays}
+use Rattle.lawful_walk.specs.Board.{Grows, Stays, Stands}
+use Rattle.lawful_walk.proofs.Agreed.{agreed_word, claimant, differs_is, differs_not}
+use Rattle.lawful_walk.proofs.Applying.{cell_written, data_asked}
+use Rattle.lawful_walk.proofs.Facts.{facts}
 use Rattle.lawful_walk.proofs.Growths.{growth_shows}
-use Rattle.lawful_walk.proofs.Raising.{stamps_most}
-use Rattle.lawful_walk.proofs.Sees.{Sees, so, heard, later}
-use Rattle.lawful_walk.proofs.Scripts.{Aim, Safe, load_safe, both_safe}
-use Rattle.lawful_walk.proofs.Known.{safe_known, floor_lasts, StaleSafe, EndSafe, stale_end}
 use Rattle.lawful_walk.proofs.Hearing.{hears, reports_end}
-use Rattle.lawful_walk.proofs.Applying.{wins_all, cell_written, data_asked}
-use Rattle.lawful_walk.proofs.Winning.{claimant}
-
--- ---- a word that differs
-
-differs_is : (t v a : ℕ) → differs t v a ≡ true → (stamp_of a ≡ t) × (payload_of a ≢ v)
-differs_is t v a h = elim (cases_eq (stamp_of a) t) [
-  | inl e ↦ elim (cases_eq (payload_of a) v) [
-    | inl g ↦ absurd
-        (let k : false ≡ true = rw (eq-eqb (stamp_of a) t e, eq-eqb (payload_of a) v g) at h in cc)
-    | inr n ↦ (e, n)
-  ]
-  | inr n ↦ absurd (let k : false ≡ true = rw (ne_eqb (stamp_of a) t n) at h in cc)
-]
-
-differs_not : (t v a : ℕ) → differs t v a ≡ false → stamp_of a ≡ t → payload_of a ≡ v
-differs_not t v a h e = elim (cases_eq (payload_of a) v) [
-  | inl g ↦ g
-  | inr n ↦ absurd
-      (let k : true ≡ false = rw (eq-eqb (stamp_of a) t e, ne_eqb (payload_of a) v n) at h in cc)
-]
-
--- ---- a word that was written in a step that agrees
-
-module _ (job : JobData) (x p i v : ℕ) (y : LayoutData) (board : IsBoard job y)
-    (agrees : AgreesAfter job x) (asked : Asks job x p i v) (wins : (j : ℕ) → Wins job x p j) where
-  step_value : slice_index (state_after job (suc x)) p ≡ v
-  step_value = written_value job x p i v board.limits
-      ((asks_fit job x p i v board.limits asked).0) agrees asked (wins i)
-
-  by_step : (t word : ℕ) → word ≡ word_of_step job t p → stamp_of word ≡ suc x → payload_of word ≡ v
-  by_step t word e s =
-      let same : t ≡ suc x = sym (stamp_step job t p board.limits) ∙ sym (ap stamp_of e) ∙ s in
-      ap payload_of e ∙ payload_step job t p board.limits
-      ∙ ap (λ (t : ℕ). slice_index (state_after job t) p) same ∙ step_value
-
-  by_new : (f word j : ℕ) → f ≡ x → Asks job f p j (payload_of word) → payload_of word ≡ v
-  by_new f word j e a =
-      let a_here : Asks job x p j (payload_of word) =
-      subst (λ (s : ℕ). Asks job s p j (payload_of word)) e a in
-      sym (written_value job x p j (payload_of word) board.limits
-      ((asks_fit job x p j (payload_of word) board.limits a_here).0) agrees a_here (wins j))
-      ∙ step_value
-
-  agreed : (f root word : ℕ) → WordIs job f root p word →
-      stamp_of word ≡ suc x → payload_of word ≡ v
-  agreed f root word (is_settled e) s = by_step (last_write job f p) word e s
-  agreed f root word (is_before e) s = by_step (write_before job (last_write job f p) p) word e s
-  agreed f root word (is_new n) s = let is = n.stamp in by_new f word n.writer (omega arith) n.asks
-
-  pub agreed_word : (words : List ℕ) (k : ℕ) → Stands job y words → IsWord y (Stored p k) →
-      stamp_at y words p k ≡ suc x → payload_of (held y words (Stored p k)) ≡ v
-  agreed_word words k stands is s =
-      let b = facts job y words stands in
-      agreed (finished y words) (root y words) (held y words (Stored p k))
-      (word_is job y words (finished y words) stands.limits stands.sizes stands.layout stands.lawful
-      b.root_low b.root_high p k is) s
+use Rattle.lawful_walk.proofs.Known.{safe_known, floor_lasts, StaleSafe, EndSafe, stale_end}
+use Rattle.lawful_walk.proofs.Raising.{stamps_most}
+use Rattle.lawful_walk.proofs.Scripts.{Aim, Safe, load_safe, both_safe}
+use Rattle.lawful_walk.proofs.Sees.{Sees, so, heard, later}
+use Rattle.lawful_walk.specs.Moments.{Moment}
+use Rattle.lawful_walk.specs.Writes.{Floor}
 
 module _ (job : JobData) (y : LayoutData)
     (w q : ℕ) (aim : Aim) (x i : ℕ) (some : 1 ≤ q) (most : q ≤ 3 * job.steps)
     (step : step_at q ≡ suc x) (board : IsBoard job y) (proc : i < y.procs)
-    (phase : 3 * x + 3 ≡ q) where
+    (compact : y.form ≡ Compact) (phase : 3 * x + 3 ≡ q) where
+  -- the step's second phase is over
+  second_over : (words : List ℕ) → Floor job y q x words → 3 * x + 2 ≤ root y words
+  second_over words floor =
+      let low = floor.root in
+      let next = subst (λ (f : Form). q ≤ next_phase f (root y words)) compact low in omega arith
+
   -- while the phase is not over, the root and the finished step have been the same
   live : (words later : List ℕ) → Stands job y words →
-      Stands job y later → Grows y words later → Floor job y q x words → root y later + 1 ≡ q →
-      (root y words + 1 ≡ q) × (finished y words ≡ x) × (finished y later ≡ x)
+      Stands job y later → Grows y words later → Floor job y q x words → root y later < q →
+      (root y words < q) × (finished y words ≡ x) × (finished y later ≡ x)
   live words later stands after up floor now =
       (growth_shows job y words later stands after up).same_phase x q floor.reached
       (omega arith) (omega arith) floor.root now
@@ -136,16 +88,16 @@ module _ (job : JobData) (y : LayoutData)
   stays_so p (suc (suc k)) words later is after up gone late = absurd (let h = is.1 in omega arith)
 
   no_data : (words : List ℕ) → part_after job x i 0 ≡ 0 → Stays job y x words i
-  no_data words none = inr (λ p v is. elim (each_write job x p i v is.0) [
-    | inl e ↦ absurd (is.1 e.0)
+  no_data words none = inr (λ p v asked cell. elim (each_write job x p i v asked) [
+    | inl e ↦ absurd (let g = e.0 in omega arith)
     | inr e ↦ absurd (let g = e.0 in omega arith)
   ])
 
   all_data : (words : List ℕ) → (part_after job x i 0 == 0) ≡ false →
       HoldsNew y words (part_after job x i 0 - 1) (suc x) (part_after job x i 1) →
       Stays job y x words i
-  all_data words some_data holds = inr (λ p v is. elim (each_write job x p i v is.0) [
-    | inl e ↦ absurd (is.1 e.0)
+  all_data words some_data holds = inr (λ p v asked cell. elim (each_write job x p i v asked) [
+    | inl e ↦ absurd (let g = e.0 in omega arith)
     | inr e ↦ (let g = e.0 in
         let f = eqb-false (part_after job x i 0) 0 some_data in
         let same : part_after job x i 0 - 1 ≡ p = omega arith in
@@ -194,7 +146,7 @@ module _ (job : JobData) (y : LayoutData)
   holds_new : (p v a b : ℕ) (words : List ℕ) →
       job.rule ≡ Common → Asks job x p i v → Stands job y words → Both p a b words →
       (differs (suc x) v a || differs (suc x) v b) ≡ false →
-      root y words + 1 ≡ q → HoldsNew y words p (suc x) v
+      root y words < q → HoldsNew y words p (suc x) v
   unfolding Both
   holds_new p v a b words rule asked stands m h now =
       let first = m.earlier in
@@ -204,10 +156,18 @@ module _ (job : JobData) (y : LayoutData)
       let then_live = live first.words words first.stands stands up first.earlier now in
       let gone : finished y words ≡ x = then_live.2 in
       let before = then_live.0 in
-      let low : phase_written job.rule x ≤ root y first.words =
-      subst (λ (r : Rule). phase_written r x ≤ root y first.words) (sym rule) (omega arith) in
+      let over = second_over first.words first.earlier in
+      let low : phase_written y.form job p x ≤ root y first.words =
+      subst (λ (f : Form). phase_written f job p x ≤ root y first.words) (sym compact)
+      (subst (λ (r : Rule). compact_phase_written r x ≤ root y first.words) (sym rule)
+      (omega arith)) in
       elim ((facts job y first.words first.stands).written_late x p place low
-      (record { writer = i; value = v; asks = asked })) [
+      (record {
+        writer = i;
+        value = v;
+        lands = subst (λ (f : Form). Lands f job x p i v) (sym compact)
+            (record { asks = asked; told = refl });
+      })) [
         | inl late ↦ (
             let s = stays_so p 0 first.words words (place, lit< tt) stands up gone late in
             let same : payload_of a ≡ v =
@@ -243,16 +203,17 @@ module _ (job : JobData) (y : LayoutData)
       then reports y (suc x) after else after in
       let compares = λ (place : ℕ).
       hears_part y (suc x) i 1 after (λ value. loads_both y (place - 1) (judges place value)) in
-      hears job y w q aim x i some most step board proc 0 (lit< tt) (omega arith) after
+      hears job y w q aim x i some most step board proc compact 0 (lit< tt) (omega arith) after
       (λ place. if place == 0 then after else compares place) history stale sees (λ longer more.
       cond_both (part_after job x i 0 == 0) after
       (compares (part_after job x i 0)) (λ (s : Script Then). Safe job y w q aim s longer)
       (λ e. done longer (so job y longer (Floor job y q x)
-      (λ words. Floor job y q x words × (root y words + 1 ≡ q → Stays job y x words i))
+      (λ words. Floor job y q x words × (root y words < q → Stays job y x words i))
       (λ words stands f. (f, λ now. no_data words (eqb-true (part_after job x i 0) 0 e))) more))
       (λ e.
-      let asked = data_asked job y w q aim x i some most step board proc e in
-      hears job y w q aim x i some most step board proc 1 (lit< tt) (omega arith) after (λ value.
+      let asked = data_asked job y w q aim x i some most step board proc compact e in
+      hears job y w q aim x i some most step board proc compact 1 (lit< tt) (omega arith)
+      after (λ value.
       loads_both y p (judges (part_after job x i 0) value)) longer stale more (λ longer more.
       both_safe job y w q aim p
       (judges (part_after job x i 0) v) longer (Floor job y q x) more (λ a b longest known.
@@ -261,14 +222,14 @@ module _ (job : JobData) (y : LayoutData)
       (λ d. safe_known job y w q aim (reports y (suc x) after) longest
       (AgreesAfter job x → ⊥) (so job y longest (Both p a b) (λ words. AgreesAfter job x → ⊥)
       (λ words stands m. disagrees p v a b words rule asked m d) known) (λ not.
-      reports_end job y w q aim x i some most step board proc phase not after longest
+      reports_end job y w q aim x i some most step board proc compact phase not after longest
       (so job y longest (Both p a b)
       (Floor job y q x) (λ words stands m. both_floor p a b words stands m) known) (λ last reported.
-      done last (so job y last (λ words. Floor job y q x words × (root y words + 1 ≡ q →
-      conflict y words ≡ suc x)) (λ words. Floor job y q x words × (root y words + 1 ≡ q →
+      done last (so job y last (λ words. Floor job y q x words × (root y words < q →
+      conflict y words ≡ suc x)) (λ words. Floor job y q x words × (root y words < q →
       Stays job y x words i)) (λ words stands h. (h.0, λ now. inl (h.1 now))) reported))))
       (λ d. done longest (so job y longest (Both p a b)
-      (λ words. Floor job y q x words × (root y words + 1 ≡ q → Stays job y x words i))
+      (λ words. Floor job y q x words × (root y words < q → Stays job y x words i))
       (λ words stands m. (
         both_floor p a b words stands m,
         λ now. all_data words e (holds_new p v a b words rule asked stands m d now),
@@ -288,17 +249,21 @@ module _ (job : JobData) (y : LayoutData)
   other_claims p v found words rule has cell asked m h agrees =
       let is : IsWord y (Claim p) = (has, let c = same_cells job y board in omega arith) in
       let d = differs_is (suc x) (claim_of job i) found h in
-      let c = claimant job (finished y m.words) (root y m.words) x p
+      let c = claimant y.form job (finished y m.words) (root y m.words) x p
       (held y m.words (Claim p)) (m.stands.lawful.claimed p is) (sym (ap stamp_of m.heard) ∙ d.0) in
       let same : i ≡ c.writer =
       crew_writer job (requests_after job x) p i c.writer v c.value rule agrees cell asked c.asks in
       d.1 (ap payload_of m.heard ∙ c.is ∙ ap (claim_of job) (sym same))
 
+  claimed_root : (words : List ℕ) → Floor job y q x words → phase_claimed y.form x ≤ root y words
+  claimed_root words floor = subst (λ (f : Form). phase_claimed f x ≤ root y words) (sym compact)
+      (second_over words floor)
+
   -- the claim that was heard is the processor's: it still is
   claim_now : (p v found : ℕ) (words : List ℕ) → IsTrue y.claims →
       p < job.cells → Asks job x p i v → Stands job y words →
       Moment job y (Load (number_of y (Claim p))) found (Floor job y q x) words →
-      differs (suc x) (claim_of job i) found ≡ false → root y words + 1 ≡ q →
+      differs (suc x) (claim_of job i) found ≡ false → root y words < q →
       payload_of (held y words (Claim p)) ≡ claim_of job i
   claim_now p v found words has cell asked stands m h now =
       let is : IsWord y (Claim p) = (has, let c = same_cells job y board in omega arith) in
@@ -306,7 +271,7 @@ module _ (job : JobData) (y : LayoutData)
       let then_live = live m.words words m.stands stands m.since m.earlier now in
       let before = then_live.0 in
       let mine : stamped_word (suc x) (claim_of job i) ≤ held y m.words (Claim p) =
-      b.claims_high x p i v is (omega arith) asked in
+      b.claims_high x p i v is (claimed_root m.words m.earlier) asked in
       let here : found ≡ held y m.words (Claim p) = m.heard in
       let up : held y m.words (Claim p) ≤ held y words (Claim p) = m.since (Claim p) is in
       let stamp_then : stamp_of (held y m.words (Claim p)) ≡ suc x =
@@ -315,9 +280,9 @@ module _ (job : JobData) (y : LayoutData)
       stamp_is words stands is (omega arith) (omega arith) in
       let payload : payload_of found ≡ claim_of job i =
       differs_not (suc x) (claim_of job i) found h (ap stamp_of m.heard ∙ stamp_then) in
-      let c = claimant job (finished y words)
+      let c = claimant y.form job (finished y words)
       (root y words) x p (held y words (Claim p)) (stands.lawful.claimed p is) stamp_now in
-      let his = b.claims_high x p c.writer c.value is (omega arith) c.asks in
+      let his = b.claims_high x p c.writer c.value is (claimed_root m.words m.earlier) c.asks in
       let is_his = c.is in omega arith
     where
       stamp_is : (words : List ℕ) → Stands job y words → IsWord y (Claim p) →
@@ -329,7 +294,10 @@ module _ (job : JobData) (y : LayoutData)
               stamp_of (held y words (Claim p)) ≡ suc x
           by_stamp zero e h = absurd (omega arith)
           by_stamp (suc s) e h =
-              let l = ((facts job y words stands).claim_from s p is e).2 in omega arith
+              let l = ((facts job y words stands).claim_from s p is e).2 in
+              let m : 3 * s + 2 ≤ root y words + 1 = subst
+              (λ (f : Form). phase_claimed f s ≤ next_phase f (root y words)) compact l in
+              omega arith
 
   all_claims : (words : List ℕ) → (part_after job x i 0 == 0) ≡ false →
       payload_of (held y words (Claim (part_after job x i 0 - 1))) ≡ claim_of job i →
@@ -353,18 +321,18 @@ module _ (job : JobData) (y : LayoutData)
       if differs (suc x) (claim_of job i) found then reports y (suc x) after else after in
       let owns = λ (place : ℕ). if nat_lt (place - 1) job.cells
       then asks (Load (number_of y (Claim (place - 1)))) judges else after in
-      hears job y w q aim x i some most step board proc 0 (lit< tt) (omega arith) after
+      hears job y w q aim x i some most step board proc compact 0 (lit< tt) (omega arith) after
       (λ place. if place == 0 then after else owns place) history stale sees (λ longer more.
       cond_both (part_after job x i 0 == 0) after
       (owns (part_after job x i 0)) (λ (s : Script Then). Safe job y w q aim s longer)
       (λ e. done longer (so job y longer (Floor job y q x)
-      (λ words. Floor job y q x words × (root y words + 1 ≡ q → ClaimStays job y x words i))
+      (λ words. Floor job y q x words × (root y words < q → ClaimStays job y x words i))
       (λ words stands f. (
         f,
         λ now. no_claims words (λ c v asked cell. let is = cell_written job x c i v asked cell in
             let none = eqb-true (part_after job x i 0) 0 e in omega arith),
       )) more)) (λ e.
-      let asked = data_asked job y w q aim x i some most step board proc e in
+      let asked = data_asked job y w q aim x i some most step board proc compact e in
       cond_both (nat_lt p job.cells) (asks (Load (number_of y (Claim p))) judges) after
       (λ (s : Script Then). Safe job y w q aim s longer) (λ l.
       let cell = ltb-true (part_after job x i 0 - 1) job.cells l in
@@ -380,21 +348,21 @@ module _ (job : JobData) (y : LayoutData)
       (AgreesAfter job x → ⊥) (so job y longest (Moment job y (Load (number_of y (Claim p))) found
       (Floor job y q x)) (λ words. AgreesAfter job x → ⊥) (λ words stands m.
       other_claims p (part_after job x i 1) found words rule has cell asked m d) moment) (λ not.
-      reports_end job y w q aim x i some most step board proc phase not after longest now_floor
-      (λ last reported.
-      done last (so job y last (λ words. Floor job y q x words × (root y words + 1 ≡ q →
-      conflict y words ≡ suc x)) (λ words. Floor job y q x words × (root y words + 1 ≡ q →
+      reports_end job y w q aim x i some most step board proc compact phase not after
+      longest now_floor (λ last reported.
+      done last (so job y last (λ words. Floor job y q x words × (root y words < q →
+      conflict y words ≡ suc x)) (λ words. Floor job y q x words × (root y words < q →
       ClaimStays job y x words i)) (λ words stands h. (h.0, λ now. inl (h.1 now))) reported))))
       (λ d. done longest
       (so job y longest (Moment job y (Load (number_of y (Claim p))) found (Floor job y q x))
-      (λ words. Floor job y q x words × (root y words + 1 ≡ q → ClaimStays job y x words i))
+      (λ words. Floor job y q x words × (root y words < q → ClaimStays job y x words i))
       (λ words stands m. (
         floor_lasts job y q x m.words words m.stands stands m.since m.earlier,
         λ now. all_claims words e
             (claim_now p (part_after job x i 1) found words has cell asked stands m d now),
       )) moment))))
       (λ l. done longer (so job y longer (Floor job y q x)
-      (λ words. Floor job y q x words × (root y words + 1 ≡ q → ClaimStays job y x words i))
+      (λ words. Floor job y q x words × (root y words < q → ClaimStays job y x words i))
       (λ words stands f. (
         f,
         λ now. no_claims words (λ c v asked cell. let is = cell_written job x c i v asked cell in

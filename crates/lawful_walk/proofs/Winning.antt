@@ -1,46 +1,43 @@
 -- The task of rule priority that carries requests out: a cell is written by the processor whose
 -- claim is the greatest.
-use Rattle.std.proofs.Common.{◌≡◌, ◌≢◌, ℕ, zero, suc, ◌+◌, ◌-◌, ◌*◌, ◌<◌, ◌≤◌}
-use Rattle.std.proofs.Common.{◌==◌, nat_lt, if◌then◌else◌, false, List, ◌∷◌}
-use Rattle.std.proofs.Common.{IsTrue, refl, sym, ap, subst, ◌∙◌, inl, inr, arith}
+use Rattle.std.proofs.Common.{◌≡◌, ◌≢◌, ℕ, zero, suc, ◌+◌, ◌-◌, ◌*◌, ◌<◌, ◌≤◌, ◌==◌, nat_lt}
+use Rattle.std.proofs.Common.{if◌then◌else◌, false, List, ◌∷◌, IsTrue, refl, sym, ap, subst, ◌∙◌}
+use Rattle.std.proofs.Common.{inl, inr, arith}
 use Rattle.std.proofs.lemmas.Bool.{cond_both, cases_lt, eqb-true, eqb-false, ltb-true, ltb-false}
 use Rattle.pram_job.specs.Job.{JobData}
 use Rattle.pram_job.specs.declared.instr.Rule.TheVariants.{Priority}
 use Rattle.pram_machine.specs.Machine.{counter_place}
-use Rattle.pram_words.specs.declared.words.Word.TheVariants.{Claim}
-use Rattle.pram_words.specs.Phases.{step_at}
+use Rattle.pram_step.proofs.Past.{counter_write, each_write}
+use Rattle.pram_step.specs.History.{Asks, Wins, part_after}
+use Rattle.pram_words.proofs.NextPhases.{next_step}
+use Rattle.pram_words.specs.Phases.{next_phase, step_at}
 use Rattle.pram_words.specs.Stamps.{stamp_of, payload_of, stamped_word}
 use Rattle.pram_words.specs.Words.{LayoutData, IsWord, number_of}
-use Rattle.walkx.specs.declared.operation.Op.{Op}
-use Rattle.walkx.specs.declared.operation.Op.TheVariants.{Load}
+use Rattle.pram_words.specs.declared.layout.Form.{Form}
+use Rattle.pram_words.specs.declared.layout.Form.TheVariants.{Compact}
+use Rattle.pram_words.specs.declared.words.Word.TheVariants.{Claim}
+use Rattle.walkx.proofs.Boards.{same_cells}
 use Rattle.walkx.specs.Scripts.{Script, asks}
 use Rattle.walkx.specs.Tasks.{carries, claim_of, priority_apply_task}
 use Rattle.walkx.specs.Walk.{Then, IsBoard}
-use Rattle.walkx.proofs.Boards.{same_cells}
-use Rattle.pram_step.specs.History.{Asks, Wins, part_after}
-use Rattle.pram_step.proofs.Past.{counter_write, each_write}
-use Rattle.lawful_walk.specs.Writes.{Floor}
-use Rattle.lawful_walk.specs.Steps.{phase_written}
+use Rattle.walkx.specs.declared.operation.Op.{Op}
+use Rattle.walkx.specs.declared.operation.Op.TheVariants.{Load}
+use Rattle.lawful_walk.specs.Lands.{phase_written, Lands, phase_claimed}
+use Rattle.lawful_walk.proofs.Winners.{counts_first, wins_own, wins_least}
 use Rattle.lawful_walk.specs.Board.{held, root, finished, IsLate, Carried, CarriedWon}
-use Rattle.lawful_walk.specs.Board.{ClaimsFor, IsClaimed, claimed_before, claimed_now, Stands}
-use Rattle.lawful_walk.specs.Moments.{Moment}
+use Rattle.lawful_walk.specs.Board.{Stands}
+use Rattle.lawful_walk.proofs.Agreed.{claimant}
+use Rattle.lawful_walk.proofs.Applying.{cell_written, data_asked, proc_job, carried_safe}
 use Rattle.lawful_walk.proofs.Facts.{facts}
 use Rattle.lawful_walk.proofs.Growths.{root_up}
-use Rattle.lawful_walk.proofs.Sees.{Sees, so, heard, later}
-use Rattle.lawful_walk.proofs.Scripts.{Aim, Safe, load_safe}
-use Rattle.lawful_walk.proofs.Writing.{writes_safe}
-use Rattle.lawful_walk.proofs.Known.{safe_known, floor_lasts, StaleSafe, EndSafe, stale_end}
 use Rattle.lawful_walk.proofs.Hearing.{hears_all}
-use Rattle.lawful_walk.proofs.Applying.{counts_least, wins_own, wins_least, cell_written}
-use Rattle.lawful_walk.proofs.Applying.{data_asked, proc_job, carried_safe}
-
--- a claim word of the step is some writer's
-pub claimant : (job : JobData) (f root x c word : ℕ) → IsClaimed job f root c word →
-    stamp_of word ≡ suc x → ClaimsFor job x c (payload_of word)
-claimant job f root x c word (claimed_before is claims) e = (claims x e).0
-claimant job f root x c word (claimed_now is for low) e =
-    let same : f ≡ x = omega arith in
-    subst (λ (s : ℕ). ClaimsFor job s c (payload_of word)) same for
+use Rattle.lawful_walk.proofs.Known.{safe_known, floor_lasts, StaleSafe, EndSafe, stale_end}
+use Rattle.lawful_walk.proofs.Scripts.{Aim, Safe, load_safe}
+use Rattle.lawful_walk.proofs.Sees.{Sees, so, heard, later}
+use Rattle.lawful_walk.proofs.Values.{claim_low}
+use Rattle.lawful_walk.proofs.Writing.{writes_safe}
+use Rattle.lawful_walk.specs.Moments.{Moment}
+use Rattle.lawful_walk.specs.Writes.{Floor}
 
 -- a claim that was heard tells whether the processor wins
 record Judged (job : JobData) (x i p found : ℕ) : Type 0 where
@@ -50,21 +47,30 @@ record Judged (job : JobData) (x i p found : ℕ) : Type 0 where
 module _ (job : JobData) (y : LayoutData)
     (w q : ℕ) (aim : Aim) (x i : ℕ) (some : 1 ≤ q) (most : q ≤ 3 * job.steps)
     (step : step_at q ≡ suc x) (board : IsBoard job y) (proc : i < y.procs)
+    (compact : y.form ≡ Compact)
     (rule : job.rule ≡ Priority) (has : IsTrue y.claims) (phase : 3 * x + 3 ≡ q)
-    (written : q ≡ phase_written job.rule x) where
+    (written : (p : ℕ) → q ≡ phase_written y.form job p x) where
   won : (words : List ℕ) → Carried job y x words i → CarriedWon job y x words i
-  won words carried p v asked wins = carried p v asked
+  won words carried p v lands wins = carried p v lands
 
   -- the processor's data place is a cell that it doesn't win: the counter alone is carried out
   counts_alone : (words : List ℕ) →
       job.rule ≡ Priority → (Wins job x (part_after job x i 0 - 1) i → ⊥) →
       IsLate y x (counter_place job i) words → CarriedWon job y x words i
-  counts_alone words rule lost late p v asked wins = elim (each_write job x p i v asked) [
+  counts_alone words rule lost late p v lands wins = elim (each_write job x p i v lands.asks) [
     | inl e ↦ subst (λ (p : ℕ). IsLate y x p words) (sym e.0) late
     | inr e ↦ absurd (let g = e.0 in
         let same : p ≡ part_after job x i 0 - 1 = omega arith in
         lost (subst (λ (p : ℕ). Wins job x p i) same wins))
   ]
+
+  -- the claims of the step are made
+  claimed_root : (words : List ℕ) → Floor job y q x words →
+      phase_claimed y.form x ≤ root y words
+  claimed_root words floor =
+      let low = floor.root in
+      subst (λ (f : Form). phase_claimed f x ≤ root y words) (sym compact)
+      (let next = subst (λ (f : Form). q ≤ next_phase f (root y words)) compact low in omega arith)
 
   judged : (p v found : ℕ) (words : List ℕ) →
       p < job.cells → Asks job x p i v → stamp_of found ≤ suc x →
@@ -73,18 +79,18 @@ module _ (job : JobData) (y : LayoutData)
   judged p v found words cell asked high m =
       let is : IsWord y (Claim p) = (has, let c = same_cells job y board in omega arith) in
       let b = facts job y m.words m.stands in
-      let low = m.earlier.root in
+      let low = claimed_root m.words m.earlier in
       let here : found ≡ held y m.words (Claim p) = m.heard in
       let top : (j u : ℕ) → Asks job x p j u → stamped_word (suc x) (claim_of job j)
-      ≤ held y m.words (Claim p) = λ j u a. b.claims_high x p j u is (omega arith) a in
+      ≤ held y m.words (Claim p) = λ j u a. b.claims_high x p j u is low a in
       let mine = top i v asked in
-      let proc_of = proc_job job y w q aim x i some most step board proc in
+      let proc_of = proc_job job y w q aim x i some most step board proc compact in
       let few = board.limits.procs.1 in
       let stamp : stamp_of (held y m.words (Claim p)) ≡ suc x = omega arith in
       record {
-        won = λ e. counts_least job x p i job.rule (λ j u a. let t = top j u a in omega arith);
+        won = λ e. counts_first job x p i job.rule (λ j u a. let t = top j u a in omega arith);
         lost = λ n wins.
-            let c = claimant job (finished y m.words)
+            let c = claimant y.form job (finished y m.words)
             (root y m.words) x p (held y m.words (Claim p)) (m.stands.lawful.claimed p is) stamp in
             let is_his = c.is in
             let first = wins_least job x p i c.writer c.value rule wins c.asks in n (omega arith);
@@ -105,6 +111,8 @@ module _ (job : JobData) (y : LayoutData)
           let is : IsWord y (Claim p) = (has, let c = same_cells job y board in omega arith) in
           let low =
           ((facts job y m.words m.stands).claim_from s p is (sym (ap stamp_of m.heard) ∙ e)).2 in
+          let first = claim_low y.form s in
+          let begun = next_step y.form (root y m.words) s (omega arith) in
           let up = root_up job y m.words words m.stands m.since in
           omega arith
 
@@ -122,10 +130,10 @@ module _ (job : JobData) (y : LayoutData)
       Safe job y w q aim (carries job y (suc x) i (part_after job x i 0)
       (part_after job x i 1) (part_after job x i 2) after) history
   whole_safe each after done history sees =
-      carried_safe job y w q aim x i some most step board proc written (wins_if each) after
+      carried_safe job y w q aim x i some most step board proc compact written (wins_if each) after
       (Floor job y q x) (floor_lasts job y q x) (λ words f. f) history sees (λ longer more.
       done longer (so job y longer (λ words. Floor job y q x words × Carried job y x words i)
-      (λ words. Floor job y q x words × (root y words + 1 ≡ q → CarriedWon job y x words i))
+      (λ words. Floor job y q x words × (root y words < q → CarriedWon job y x words i))
       (λ words stands h. (h.0, λ live. won words h.1)) more))
 
   counter_safe : (Wins job x (part_after job x i 0 - 1) i → ⊥) →
@@ -134,15 +142,17 @@ module _ (job : JobData) (y : LayoutData)
       Safe job y w q aim
       (carries job y (suc x) i 0 (part_after job x i 1) (part_after job x i 2) after) history
   counter_safe lost after done history sees =
-      let asked = counter_write job x i (proc_job job y w q aim x i some most step board proc) in
+      let asked = counter_write job x i (proc_job job y w q aim x i some most step board
+      proc compact) in
       writes_safe job y w q aim x (counter_place job i) i
-      (part_after job x i 2) some most step written
+      (part_after job x i 2) some most step (written (counter_place job i))
       (Floor job y q x) (floor_lasts job y q x) (λ words f. f) (λ words f. (
-        asked,
+        subst (λ (f : Form). Lands f job x (counter_place job i) i (part_after job x i 2))
+            (sym compact) (record { asks = asked; told = refl }),
         wins_own job y x (counter_place job i) i (part_after job x i 2) board (omega arith) asked,
       )) after history sees (λ longer more. done longer
       (so job y longer (λ words. Floor job y q x words × IsLate y x (counter_place job i) words)
-      (λ words. Floor job y q x words × (root y words + 1 ≡ q → CarriedWon job y x words i))
+      (λ words. Floor job y q x words × (root y words < q → CarriedWon job y x words i))
       (λ words stands h. (h.0, λ live. counts_alone words rule lost h.1)) more))
 
   cell_win : (part_after job x i 0 == 0) ≡ false → Wins job x (part_after job x i 0 - 1) i →
@@ -180,7 +190,7 @@ module _ (job : JobData) (y : LayoutData)
       history (Judged job x i p found)
       (so job y history (Moment job y (Load (number_of y (Claim p))) found (Floor job y q x))
       (λ words. Judged job x i p found) (λ words stands m. judged p (part_after job x i 1)
-      found words cell (data_asked job y w q aim x i some most step board proc some_data)
+      found words cell (data_asked job y w q aim x i some most step board proc compact some_data)
       (let l = ltb-false (suc x) (stamp_of found) e in omega arith) m) moment) (λ judge.
       cond_both (payload_of found == claim_of job i)
       (part_after job x i 0) 0 (λ (place : ℕ). Safe job y w q aim (script place) history)
@@ -203,7 +213,7 @@ module _ (job : JobData) (y : LayoutData)
       let a = part_after job x i 0 in
       let b = part_after job x i 1 in
       let c = part_after job x i 2 in
-      hears_all job y w q aim x i some most step board proc (omega arith) after
+      hears_all job y w q aim x i some most step board proc compact (omega arith) after
       (λ place value next. if place == 0 then all place value next else (if nat_lt
       (place - 1) job.cells then claimed place value next else all place value next)) history
       (stale_end job y w q aim x (λ words. CarriedWon job y x words i) after done) sees

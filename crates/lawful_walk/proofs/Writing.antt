@@ -1,34 +1,35 @@
 -- One block of a task, by the lemmas on words: a place is written.
 use Rattle.std.proofs.Common.{◌≡◌, ℕ, zero, suc, ◌*◌, ◌<◌, ◌≤◌, true, false, nat_le, List, ◌∷◌}
 use Rattle.std.proofs.Common.{length, sym, ap, subst, inl, inr, get_or-set_same, lit<, arith}
-use Rattle.std.specs.Prelude.{slice_set}
 use Rattle.std.proofs.lemmas.Bool.{cond_both, cases_eq, cases_Bool, eq-eqb, leb-true}
+use Rattle.std.specs.Prelude.{slice_set}
 use Rattle.pram_job.specs.Job.{JobData}
-use Rattle.pram_words.specs.declared.words.Word.TheVariants.{Stored}
-use Rattle.pram_words.specs.Phases.{step_at}
-use Rattle.pram_words.specs.Stamps.{stamp_of, stamped_word}
-use Rattle.pram_words.specs.Words.{LayoutData, number_of, places_of}
+use Rattle.pram_step.proofs.Past.{asks_fit}
+use Rattle.pram_step.specs.History.{Wins}
+use Rattle.pram_words.proofs.NextPhases.{next_step}
 use Rattle.pram_words.proofs.Numbering.{numbering}
-use Rattle.walkx.specs.declared.operation.Op.{Op}
-use Rattle.walkx.specs.declared.operation.Op.TheVariants.{Load, Swap}
+use Rattle.pram_words.specs.Phases.{step_at}
+use Rattle.pram_words.specs.Stamps.{stamp_of, stamped_word, first_is_older, older, older_word}
+use Rattle.pram_words.specs.Words.{LayoutData, number_of, places_of}
+use Rattle.pram_words.specs.declared.words.Word.TheVariants.{Stored}
+use Rattle.walkx.proofs.Boards.{same_cells, same_procs}
 use Rattle.walkx.specs.Operations.{words_after}
 use Rattle.walkx.specs.Scripts.{Script, asks}
-use Rattle.pram_words.specs.Stamps.{first_is_older, older, older_word}
 use Rattle.walkx.specs.Tasks.{is_late, writes_place}
-use Rattle.pram_step.specs.History.{Asks, Wins}
-use Rattle.pram_step.proofs.Past.{asks_fit}
-use Rattle.lawful_walk.specs.Writes.{PlaceAsHeard, Floor}
-use Rattle.lawful_walk.specs.Steps.{phase_written}
-use Rattle.lawful_walk.specs.Board.{held, stamp_at, IsLate, Stands, Grows}
-use Rattle.lawful_walk.specs.Moments.{Moment}
-use Rattle.lawful_walk.proofs.Moments.{onward, stamps_rise}
 use Rattle.walkx.specs.Walk.{Then, IsBoard}
-use Rattle.walkx.proofs.Boards.{same_cells, same_procs}
-use Rattle.lawful_walk.proofs.Growths.{place_as_heard}
+use Rattle.walkx.specs.declared.operation.Op.{Op}
+use Rattle.walkx.specs.declared.operation.Op.TheVariants.{Load, Swap}
+use Rattle.lawful_walk.specs.Lands.{Lands, phase_written}
+use Rattle.lawful_walk.proofs.Moments.{onward, stamps_rise}
+use Rattle.lawful_walk.specs.Board.{held, root, stamp_at, IsLate, Grows, Stands}
 use Rattle.lawful_walk.proofs.Effects.{writes_keep}
-use Rattle.lawful_walk.proofs.Sees.{Sees, Lasts, so, heard}
-use Rattle.lawful_walk.specs.Walks.{Goes}
+use Rattle.lawful_walk.proofs.Growths.{place_as_heard}
 use Rattle.lawful_walk.proofs.Scripts.{Aim, Safe, both_safe, goes_of}
+use Rattle.lawful_walk.proofs.Sees.{Sees, Lasts, so, heard}
+use Rattle.lawful_walk.proofs.Values.{phase_low}
+use Rattle.lawful_walk.specs.Moments.{Moment}
+use Rattle.lawful_walk.specs.Walks.{Goes}
+use Rattle.lawful_walk.specs.Writes.{PlaceAsHeard, Floor}
 
 pub late_later : (y : LayoutData) (x p : ℕ) (words after : List ℕ) → p < places_of y →
     Grows y words after → IsLate y x p words → IsLate y x p after
@@ -38,7 +39,7 @@ late_later y x p words after place up late = elim late [
 ]
 
 -- a word of a place takes a stamp above x
-set_late : (job : JobData) (y : LayoutData) (x p k w : ℕ) (words : List ℕ) →
+pub set_late : (job : JobData) (y : LayoutData) (x p k w : ℕ) (words : List ℕ) →
     p < places_of y → k < 2 → Stands job y words → x < stamp_of w →
     IsLate y x p (slice_set words (number_of y (Stored p k)) w)
 set_late job y x p zero w words place two stands more =
@@ -57,20 +58,20 @@ set_late job y x p (suc zero) w words place two stands more =
     inr (subst (λ (a : ℕ). x < stamp_of a) (sym is) more)
 set_late job y x p (suc (suc k)) w words place two stands more = absurd (omega arith)
 
-older_two : (a b : ℕ) → older a b < 2
+pub older_two : (a b : ℕ) → older a b < 2
 older_two a b = cond_both (first_is_older a b) 0 1 (λ k. k < 2) (λ e. lit< tt) (λ e. lit< tt)
 
 module _ (job : JobData) (y : LayoutData)
     (w q : ℕ) (aim : Aim) (x p i v : ℕ)
     (some : 1 ≤ q) (most : q ≤ 3 * job.steps) (step : step_at q ≡ suc x)
-    (phase : q ≡ phase_written job.rule x) (P : List ℕ → Type 0) (lasts : Lasts job y P)
+    (phase : q ≡ phase_written y.form job p x) (P : List ℕ → Type 0) (lasts : Lasts job y P)
     (floor : (words : List ℕ) → P words → Floor job y q x words)
-    (asked : (words : List ℕ) → P words → Asks job x p i v × Wins job x p i) where
+    (asked : (words : List ℕ) → P words → Lands y.form job x p i v × Wins job x p i) where
   place_by : (words : List ℕ) → Stands job y words → P words → p < places_of y
   place_by words stands k =
       let is_board : IsBoard job y =
       record { limits = stands.limits; layout = stands.sizes; is = stands.layout } in
-      let a = (asks_fit job x p i v stands.limits (asked words k).0).0 in
+      let a = (asks_fit job x p i v stands.limits (asked words k).0.asks).0 in
       let b = same_cells job y is_board in
       let c = same_procs job y is_board in omega arith
 
@@ -118,8 +119,10 @@ module _ (job : JobData) (y : LayoutData)
       let place = place_by first.words first.stands first.earlier in
       let reached = (floor first.words first.earlier).reached in
       let low = (floor first.words first.earlier).root in
+      let low_phase = phase_low y.form job p x in
+      let begun = next_step y.form (root y first.words) x (omega arith) in
       place_as_heard job y x p a b first.words m.words words first.stands m.stands stands
-      first.since m.since place reached (omega arith) first.heard m.heard early
+      first.since m.since place reached begun first.heard m.heard early
 
   -- after the swap the place is late, whether it succeeded or not
   swapped : (a b found : ℕ) (words : List ℕ) → Stands job y words →

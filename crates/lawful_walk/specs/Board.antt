@@ -3,21 +3,24 @@ use Rattle.std.specs.Prelude.{◌≡◌, ◌≢◌, ◌⊎◌, ℕ, suc, ◌+◌
 use Rattle.pram_job.specs.Job.{JobData, IsJob}
 use Rattle.pram_job.specs.declared.instr.Rule.{Rule}
 use Rattle.pram_job.specs.declared.instr.Rule.TheVariants.{Common, Priority, Crew}
-use Rattle.pram_machine.specs.Machine.{counter_place}
 use Rattle.pram_step.specs.Runs.{IsReached, AgreesAfter}
+use Rattle.pram_step.specs.History.{Asks, Wins, part_after}
 use Rattle.pram_words.specs.declared.phases.Kind.{Kind}
 use Rattle.pram_words.specs.declared.phases.Kind.TheVariants.{Compute, Apply, Verify}
 use Rattle.pram_words.specs.declared.words.Word.{Word}
 use Rattle.pram_words.specs.declared.words.Word.TheVariants.{Conflict, Node, Asked, Position}
 use Rattle.pram_words.specs.declared.words.Word.TheVariants.{Stored, Claim, Spare}
 use Rattle.pram_words.specs.Stamps.{stamp_of, payload_of, stamped_word}
-use Rattle.pram_words.specs.Words.{LayoutData, IsLayout, IsWord, IsAdmitted}
-use Rattle.pram_words.specs.Words.{grain, number_of, places_of}
+use Rattle.pram_words.specs.Words.{LayoutData, IsLayout, IsWord, IsAdmitted, grain, number_of}
+use Rattle.pram_words.specs.Words.{places_of}
+use Rattle.pram_words.specs.declared.layout.Form.{Form}
+use Rattle.pram_words.specs.declared.layout.Form.TheVariants.{Compact, Wide}
+use Rattle.pram_words.specs.Phases.{next_phase}
 use Rattle.walkx.specs.Tasks.{claim_of}
 use Rattle.walkx.specs.Walk.{IsLayoutOf}
 use Rattle.walkx.specs.Reads.{step_seen}
-use Rattle.pram_step.specs.History.{Asks, Wins, last_write, part_after}
-use Rattle.lawful_walk.specs.Steps.{phase_written, settled, settled_before}
+use Rattle.lawful_walk.specs.Lands.{Lands, last_landing, settled, settled_before, phase_claimed}
+use Rattle.lawful_walk.specs.Lands.{phase_written}
 
 -- what a word of the board holds
 abbrev pub held : LayoutData → List ℕ → Word → ℕ
@@ -61,29 +64,35 @@ HoldsNew layout words place stamp value =
 abbrev pub Raised : JobData → LayoutData → ℕ → List ℕ → ℕ → Type 0
 Raised job layout t words i = (j : ℕ) → j < 3 → t < stamp_of (held layout words (Asked i j))
 
--- all places that i writes are written
+-- all that i writes and that gets a word is written
 abbrev pub Carried : JobData → LayoutData → ℕ → List ℕ → ℕ → Type 0
 Carried job layout t words i =
-    (place value : ℕ) → Asks job t place i value → IsLate layout t place words
+    (place value : ℕ) → Lands layout.form job t place i value → IsLate layout t place words
 
--- all places that i writes where its write wins are written
+-- the same where its write wins
 abbrev pub CarriedWon : JobData → LayoutData → ℕ → List ℕ → ℕ → Type 0
-CarriedWon job layout t words i =
-    (place value : ℕ) → Asks job t place i value → Wins job t place i → IsLate layout t place words
+CarriedWon job layout t words i = (place value : ℕ) → Lands layout.form job t place i value →
+    Wins job t place i → IsLate layout t place words
+
+-- of its own places alone, and of cells alone
+abbrev pub CarriedOwn : JobData → LayoutData → ℕ → List ℕ → ℕ → Type 0
+CarriedOwn job layout t words i = (place value : ℕ) → Lands layout.form job t place i value →
+    job.cells ≤ place → IsLate layout t place words
+
+abbrev pub CarriedCell : JobData → LayoutData → ℕ → List ℕ → ℕ → Type 0
+CarriedCell job layout t words i = (cell value : ℕ) → Asks job t cell i value →
+    cell < job.cells → Wins job t cell i → IsLate layout t cell words
 
 -- the cell that i writes is claimed by it, or more strongly
 abbrev pub Claimed : JobData → LayoutData → ℕ → List ℕ → ℕ → Type 0
 Claimed job layout t words i = (cell value : ℕ) → Asks job t cell i value → cell < job.cells →
     stamped_word (suc t) (claim_of job i) ≤ held layout words (Claim cell)
 
--- i's data write: the place is no counter
-abbrev pub Data : JobData → ℕ → ℕ → ℕ → ℕ → Type 0
-Data job t i place value = Asks job t place i value × (place ≢ counter_place job i)
-
--- the step is known to be a conflict, or what i wrote stands
+-- the step is known to be a conflict, or what i stored stands
 abbrev pub Stays : JobData → LayoutData → ℕ → List ℕ → ℕ → Type 0
 Stays job layout t words i = (conflict layout words ≡ suc t)
-    ⊎ ((place value : ℕ) → Data job t i place value → HoldsNew layout words place (suc t) value)
+    ⊎ ((cell value : ℕ) → Asks job t cell i value → cell < job.cells →
+    HoldsNew layout words cell (suc t) value)
 
 -- the step is known to be a conflict, or i's claim stands
 abbrev pub ClaimStays : JobData → LayoutData → ℕ → List ℕ → ℕ → Type 0
@@ -91,16 +100,41 @@ ClaimStays job layout t words i = (conflict layout words ≡ suc t)
     ⊎ ((cell value : ℕ) → Asks job t cell i value → cell < job.cells →
     payload_of (held layout words (Claim cell)) ≡ claim_of job i)
 
+-- in the three passes of the compact form
+abbrev pub CompactDone : Rule → Kind → JobData → LayoutData → ℕ → List ℕ → ℕ → Type 0
+CompactDone Common Compute job layout t words i = Raised job layout t words i
+CompactDone Common Apply job layout t words i = Carried job layout t words i
+CompactDone Common Verify job layout t words i = Stays job layout t words i
+CompactDone Priority Compute job layout t words i = Raised job layout t words i
+CompactDone Priority Apply job layout t words i = Claimed job layout t words i
+CompactDone Priority Verify job layout t words i = CarriedWon job layout t words i
+CompactDone Crew Compute job layout t words i = Raised job layout t words i
+CompactDone Crew Apply job layout t words i =
+    Carried job layout t words i × Claimed job layout t words i
+CompactDone Crew Verify job layout t words i = ClaimStays job layout t words i
+
+-- and in the two of the wide form, which have the first and the last phase of a step
+abbrev pub WideDone : Rule → Kind → JobData → LayoutData → ℕ → List ℕ → ℕ → Type 0
+WideDone Common Compute job layout t words i = CarriedOwn job layout t words i
+WideDone Common Apply job layout t words i = Unit {0}
+WideDone Common Verify job layout t words i =
+    CarriedCell job layout t words i × Stays job layout t words i
+WideDone Priority Compute job layout t words i =
+    CarriedOwn job layout t words i × Claimed job layout t words i
+WideDone Priority Apply job layout t words i = Unit {0}
+WideDone Priority Verify job layout t words i = CarriedCell job layout t words i
+WideDone Crew Compute job layout t words i =
+    CarriedOwn job layout t words i × Claimed job layout t words i
+WideDone Crew Apply job layout t words i = Unit {0}
+WideDone Crew Verify job layout t words i =
+    CarriedCell job layout t words i × ClaimStays job layout t words i
+
+abbrev pub DoneIn : Form → Rule → Kind → JobData → LayoutData → ℕ → List ℕ → ℕ → Type 0
+DoneIn Compact rule kind job layout t words i = CompactDone rule kind job layout t words i
+DoneIn (Wide grain) rule kind job layout t words i = WideDone rule kind job layout t words i
+
 abbrev pub Done : Rule → Kind → JobData → LayoutData → ℕ → List ℕ → ℕ → Type 0
-Done Common Compute job layout t words i = Raised job layout t words i
-Done Common Apply job layout t words i = Carried job layout t words i
-Done Common Verify job layout t words i = Stays job layout t words i
-Done Priority Compute job layout t words i = Raised job layout t words i
-Done Priority Apply job layout t words i = Claimed job layout t words i
-Done Priority Verify job layout t words i = CarriedWon job layout t words i
-Done Crew Compute job layout t words i = Raised job layout t words i
-Done Crew Apply job layout t words i = Carried job layout t words i × Claimed job layout t words i
-Done Crew Verify job layout t words i = ClaimStays job layout t words i
+Done rule kind job layout = DoneIn layout.form rule kind job layout
 
 -- the task of this kind is done for all processors of the block of a leaf
 abbrev pub LeafDone : JobData → LayoutData → ℕ → Kind → ℕ → List ℕ → Type 0
@@ -121,7 +155,7 @@ pub record IsTree (job : JobData) (layout : LayoutData) (words : List ℕ) : Typ
   pub right : (node : ℕ) → 1 ≤ node → node < layout.leaves →
       held layout words (Node node) ≤ held layout words (Node (2 * node + 1))
   pub near : (node : ℕ) → IsWord layout (Node node) →
-      held layout words (Node node) ≤ root layout words + 1
+      held layout words (Node node) ≤ next_phase layout.form (root layout words)
   pub most : (node : ℕ) → IsWord layout (Node node) → held layout words (Node node) ≤ 3 * job.steps
 
 -- a request word of processor i, part j
@@ -132,25 +166,25 @@ pub record IsAsked (job : JobData) (steps i j word : ℕ) : Type 0 where
       IsReached job t × (payload_of word ≡ part_after job t i j)
 
 -- a word that was written in the step after these steps, while that may be
-pub record IsNew (job : JobData) (steps root place word : ℕ) : Type 0 where
+pub record IsNew (form : Form) (job : JobData) (steps root place word : ℕ) : Type 0 where
   pub stamp : stamp_of word ≡ suc steps
   pub writer : ℕ
-  pub asks : Asks job steps place writer (payload_of word)
+  pub lands : Lands form job steps place writer (payload_of word)
   pub wins : Wins job steps place writer
-  pub stands : phase_written job.rule steps ≤ root + 1
+  pub stands : phase_written form job place steps ≤ next_phase form root
 
 -- The two words of a place: the last two settled ones, in either order, or the
 -- last one and a new one. The second word is written only when the first one was.
-pub data IsPair (job : JobData) (steps root place first second : ℕ) : Type 0 where
-  newer_first : first ≡ settled job steps place → second ≡ settled_before job steps place →
-      IsPair job steps root place first second
-  newer_second : second ≡ settled job steps place →
-      first ≡ settled_before job steps place → 1 ≤ stamp_of first →
-      IsPair job steps root place first second
-  new_first : IsNew job steps root place first → second ≡ settled job steps place →
-      IsPair job steps root place first second
-  new_second : IsNew job steps root place second → first ≡ settled job steps place →
-      1 ≤ stamp_of first → IsPair job steps root place first second
+pub data IsPair (form : Form) (job : JobData) (steps root place first second : ℕ) : Type 0 where
+  newer_first : first ≡ settled form job steps place →
+      second ≡ settled_before form job steps place → IsPair form job steps root place first second
+  newer_second : second ≡ settled form job steps place →
+      first ≡ settled_before form job steps place → 1 ≤ stamp_of first →
+      IsPair form job steps root place first second
+  new_first : IsNew form job steps root place first → second ≡ settled form job steps place →
+      IsPair form job steps root place first second
+  new_second : IsNew form job steps root place second → first ≡ settled form job steps place →
+      1 ≤ stamp_of first → IsPair form job steps root place first second
 
 -- in the step after t steps a writer of the cell has this claim
 pub record ClaimsFor (job : JobData) (t cell payload : ℕ) : Type 0 where
@@ -161,37 +195,38 @@ pub record ClaimsFor (job : JobData) (t cell payload : ℕ) : Type 0 where
 
 -- A claim word: the greatest claim of the last step that wrote the cell (none with stamp 0), or one
 -- of the step after these steps.
-pub data IsClaimed (job : JobData) (steps root cell word : ℕ) : Type 0 where
-  claimed_before : stamp_of word ≡ last_write job steps cell →
+pub data IsClaimed (form : Form) (job : JobData) (steps root cell word : ℕ) : Type 0 where
+  claimed_before : stamp_of word ≡ last_landing form job steps cell →
       ((t : ℕ) → stamp_of word ≡ suc t → ClaimsFor job t cell (payload_of word)
       × ((i value : ℕ) → Asks job t cell i value → claim_of job i ≤ payload_of word)) →
-      IsClaimed job steps root cell word
-  claimed_now : stamp_of word ≡ suc steps →
-      ClaimsFor job steps cell (payload_of word) → 3 * steps + 1 ≤ root →
-      IsClaimed job steps root cell word
+      IsClaimed form job steps root cell word
+  claimed_now : stamp_of word ≡ suc steps → ClaimsFor job steps cell (payload_of word) →
+      phase_claimed form steps ≤ next_phase form root → IsClaimed form job steps root cell word
 
--- word 0, if it is not 0, names the first conflict
-pub record IsNamed (job : JobData) (found root : ℕ) : Type 0 where
+-- word 0, if it is not 0, names the first conflict, and the last phase of its step comes or is over
+pub record IsNamed (form : Form) (job : JobData) (found root : ℕ) : Type 0 where
   pub first : (t : ℕ) → found ≡ suc t → IsReached job t × (AgreesAfter job t → ⊥)
-  pub near : (t : ℕ) → found ≡ suc t → (root ≡ 3 * t + 2) ⊎ (root ≡ 3 * t + 3)
+  pub near : (t : ℕ) → found ≡ suc t →
+      (next_phase form root ≡ 3 * t + 3) ⊎ (root ≡ 3 * t + 3)
 
 -- Words with so many finished steps: their state is reached; no node is above its children, nor far
 -- above the root; request words, places and claims are of these steps or of the one after them;
--- what the raised leaves stand for is done; word 0 names the first conflict, if any.
+-- what the raised leaves stand for is done; word 0 names the first conflict, if any. The wide form
+-- has no requests.
 pub record LawfulFor (job : JobData) (layout : LayoutData) (steps : ℕ)
     (words : List ℕ) : Type 0 where
   pub reached : IsReached job steps
   pub tree : IsTree job layout words
-  pub asked : (i j : ℕ) → i < layout.procs → j < 3 →
+  pub asked : layout.form ≡ Compact → (i j : ℕ) → i < layout.procs → j < 3 →
       IsAsked job steps i j (held layout words (Asked i j))
   pub stored : (place : ℕ) → place < places_of layout →
-      IsPair job steps (root layout words) place (held layout words (Stored place 0))
+      IsPair layout.form job steps (root layout words) place (held layout words (Stored place 0))
       (held layout words (Stored place 1))
   pub claimed : (cell : ℕ) → IsWord layout (Claim cell) →
-      IsClaimed job steps (root layout words) cell (held layout words (Claim cell))
+      IsClaimed layout.form job steps (root layout words) cell (held layout words (Claim cell))
   pub done : (i : ℕ) (kind : Kind) → i < layout.procs → phase_in steps kind ≤ leaf layout words i →
       Done job.rule kind job layout steps words i
-  pub named : IsNamed job (conflict layout words) (root layout words)
+  pub named : IsNamed layout.form job (conflict layout words) (root layout words)
 
 -- *lawful* words
 abbrev pub Lawful : JobData → LayoutData → List ℕ → Type 0

@@ -4,14 +4,15 @@ use prog.Atomic.{either}
 use Rattle.pram_job.specs.Job.{JobData}
 use Rattle.pram_step.specs.History.{Asks, Wins, part_after}
 use Rattle.pram_step.specs.Runs.{IsReached, state_after}
+use Rattle.pram_words.specs.Stamps.{stamp_of, payload_of}
+use Rattle.pram_words.specs.Words.{LayoutData, IsWord, number_of}
+use Rattle.pram_words.specs.declared.layout.Form.TheVariants.{Compact}
 use Rattle.pram_words.specs.declared.words.Word.{Word}
 use Rattle.pram_words.specs.declared.words.Word.TheVariants.{Conflict, Node, Asked, Position}
 use Rattle.pram_words.specs.declared.words.Word.TheVariants.{Stored, Claim, Spare}
-use Rattle.pram_words.specs.Stamps.{stamp_of, payload_of}
-use Rattle.pram_words.specs.Words.{LayoutData, IsWord, number_of}
+use Rattle.walkx.specs.Records.{Record, empty, after, both, Has}
 use Rattle.walkx.specs.declared.operation.Op.{Op}
 use Rattle.walkx.specs.declared.operation.Op.TheVariants.{Load, Store, Max, Swap, Over}
-use Rattle.walkx.specs.Records.{Record, empty, after, both, Has}
 use Rattle.lawful_walk.specs.Board.{held}
 use Rattle.lawful_walk.specs.Seen.{Hears}
 
@@ -71,8 +72,8 @@ pub record IsFaithful (job : JobData) (layout : LayoutData) (past : Record) (op 
     Type 0 where
   pub later : (word : Word) → IsWord layout word → Hears op (number_of layout word) →
       IsAfter layout past word found
-  pub asked : (i j : ℕ) → i < layout.procs → j < 3 → Hears op (number_of layout (Asked i j)) →
-      IsPart job i j found
+  pub asked : layout.form ≡ Compact → (i j : ℕ) → i < layout.procs → j < 3 →
+      Hears op (number_of layout (Asked i j)) → IsPart job i j found
   pub stored : (place which : ℕ) →
       IsWord layout (Stored place which) → Hears op (number_of layout (Stored place which)) →
       IsValue job place found

@@ -1,4 +1,4 @@
-pub mod Steps
+pub mod Lands
 pub mod Board
 pub mod Moments
 pub mod Seen

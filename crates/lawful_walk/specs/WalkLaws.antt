@@ -4,10 +4,11 @@ use Rattle.pram_job.specs.Job.{JobData}
 use Rattle.pram_step.specs.History.{part_after}
 use Rattle.pram_step.specs.Runs.{IsReached, state_after}
 use Rattle.pram_words.specs.declared.words.Word.{Word}
-use Rattle.pram_words.specs.declared.words.Word.TheVariants.{Conflict, Node, Asked}
-use Rattle.pram_words.specs.declared.words.Word.TheVariants.{Position, Stored}
-use Rattle.pram_words.specs.Stamps.{stamp_of, payload_of}
+use Rattle.pram_words.specs.declared.words.Word.TheVariants.{Conflict, Node, Asked, Position}
+use Rattle.pram_words.specs.declared.words.Word.TheVariants.{Stored}
+use Rattle.pram_words.specs.Stamps.{stamp_of, payload_of, newer_word}
 use Rattle.pram_words.specs.Words.{LayoutData, IsWord, number_of, places_of}
+use Rattle.pram_words.specs.declared.layout.Form.TheVariants.{Compact}
 use Rattle.walkx.specs.declared.operation.Ended.TheVariants as ended
 use Rattle.walkx.specs.declared.operation.Op.{Op}
 use Rattle.walkx.specs.declared.operation.Op.TheVariants.{Load}
@@ -18,13 +19,13 @@ use Rattle.walkx.specs.Operations.{words_after, answer}
 use Rattle.walkx.specs.Reads.{step_seen, reader_script}
 use Rattle.walkx.specs.Records.{Record, after, both, Has, Knows}
 use Rattle.walkx.specs.Scripts.{ends, rest, heard_in}
-use Rattle.pram_words.specs.Stamps.{newer_payload}
 use Rattle.walkx.specs.Walk.{Walking, Fits, IsBoard, IsGoing, ask_of, told}
+use Rattle.walkx.specs.Counters.{worth}
 use Rattle.lawful_walk.specs.Board.{Stands, Grows, held, root, finished}
 use Rattle.lawful_walk.specs.Moments.{Backed, WasBacked, Sound, afters}
 use Rattle.lawful_walk.specs.Seen.{Heard, KnowsStep}
-use Rattle.lawful_walk.specs.Walks.{Moves, IsLawfulRead, DoneWell, IsConflict}
-use Rattle.lawful_walk.specs.Walks.{ProgressWell, phase_now, steps_heard}
+use Rattle.lawful_walk.specs.Walks.{Moves, IsLawfulRead, DoneWell, IsConflict, ProgressWell}
+use Rattle.lawful_walk.specs.Walks.{phase_now, steps_heard}
 
 -- ---- a worker that a record knows, where the words bear the record out
 
@@ -139,11 +140,12 @@ FinalValuesAreHeld =
     KnowsStep layout past job.steps → place < places_of layout →
     WasBacked job layout (after (after past (Load (number_of layout (Stored place 0))) first)
     (Load (number_of layout (Stored place 1))) second) →
-    newer_payload first second ≡ slice_index (state_after job job.steps) place
+    worth layout.form job job.steps place (newer_word first second)
+    ≡ slice_index (state_after job job.steps) place
 
--- a request word, word 0 having been heard as t + 1
+-- a request word of the compact form, word 0 having been heard as t + 1
 abbrev pub ConflictRequestsAreHeld : Type 0
 ConflictRequestsAreHeld = (job : JobData) (layout : LayoutData) (past : Record) (t i j found : ℕ) →
-    Heard layout past Conflict (suc t) → i < layout.procs → j < 3 →
+    layout.form ≡ Compact → Heard layout past Conflict (suc t) → i < layout.procs → j < 3 →
     WasBacked job layout (after past (Load (number_of layout (Asked i j))) found) →
     (stamp_of found ≡ suc t) × (payload_of found ≡ part_after job t i j)

@@ -1,19 +1,27 @@
 -- What the laws of lawful words say.
 use Rattle.std.specs.Prelude.{◌≡◌, ◌⊎◌, ℕ, suc, ◌*◌, ◌<◌, ◌≤◌, List, slice_index}
 use Rattle.pram_job.specs.Job.{JobData, IsJob}
+use Rattle.pram_machine.specs.Machine.{place_count}
 use Rattle.pram_step.specs.Runs.{state_after}
 use Rattle.pram_words.specs.declared.layout.Form.{Form}
 use Rattle.pram_words.specs.declared.words.Word.TheVariants.{Stored}
 use Rattle.pram_words.specs.Phases.{step_at}
-use Rattle.pram_words.specs.Stamps.{payload_of}
 use Rattle.pram_words.specs.Start.{start_words}
 use Rattle.pram_words.specs.Words.{LayoutData, IsGrain, grain_of, layout_of, places_of}
+use Rattle.pram_words.specs.Stamps.{newer_word}
+use Rattle.walkx.specs.Counters.{worth}
 use Rattle.walkx.specs.Records.{Record}
-use Rattle.pram_words.specs.Stamps.{newer_payload}
-use Rattle.lawful_walk.specs.Board.{Stands, held, stamp_at, finished}
+use Rattle.lawful_walk.specs.Board.{held, stamp_at, finished, Stands}
 use Rattle.lawful_walk.specs.Faithful.{FaithfulAnswers, Faithful}
 use Rattle.lawful_walk.specs.Moments.{Backed, Sound}
 use Rattle.lawful_walk.specs.Writes.{Floor, MayWrite}
+use Rattle.lawful_walk.specs.Lands.{settled}
+
+-- the settled word of a place stands for what it holds
+abbrev pub SettledWordsTell : Type 0
+SettledWordsTell = (form : Form) (job : JobData) (t place : ℕ) → IsJob job →
+    place < place_count job →
+    worth form job t place (settled form job t place) ≡ slice_index (state_after job t) place
 
 -- the words that a board starts with stand
 abbrev pub StartWordsAreLawful : Type 0
@@ -28,16 +36,20 @@ WritesKeepWordsLawful = (job : JobData) (layout : LayoutData) (words : List ℕ)
     Stands job layout words → 1 ≤ phase → phase ≤ 3 * job.steps →
     step_at phase ≡ suc t → Floor job layout phase t words → MayWrite job layout words phase t
 
--- Of a place after step t, the newest word that is no newer than t has the value, if there is one.
+-- Of a place after step t, the newest word that is no newer than t stands for the value, if there
+-- is one.
 abbrev pub FinishedStepsAreHeld : Type 0
 FinishedStepsAreHeld = (job : JobData) (layout : LayoutData) (words : List ℕ) (t place : ℕ) →
     Stands job layout words → place < places_of layout → t ≤ finished layout words →
     (stamp_at layout words place 0 ≤ t → t < stamp_at layout words place 1 →
-    payload_of (held layout words (Stored place 0)) ≡ slice_index (state_after job t) place)
+    worth layout.form job t place (held layout words (Stored place 0))
+    ≡ slice_index (state_after job t) place)
     × (stamp_at layout words place 1 ≤ t → t < stamp_at layout words place 0 →
-    payload_of (held layout words (Stored place 1)) ≡ slice_index (state_after job t) place)
+    worth layout.form job t place (held layout words (Stored place 1))
+    ≡ slice_index (state_after job t) place)
     × (stamp_at layout words place 0 ≤ t → stamp_at layout words place 1 ≤ t →
-    newer_payload (held layout words (Stored place 0)) (held layout words (Stored place 1))
+    worth layout.form job t place
+    (newer_word (held layout words (Stored place 0)) (held layout words (Stored place 1)))
     ≡ slice_index (state_after job t) place)
 
 -- and after the last finished step there is one

@@ -1,29 +1,31 @@
 -- What a worker may write while the words stand: its phase is of the step after t steps.
-use Rattle.std.specs.Prelude.{◌≡◌, ◌≢◌, ℕ, suc, ◌+◌, ◌*◌, ◌≤◌, ◌<◌, List, slice_index}
+use Rattle.std.specs.Prelude.{◌≡◌, ◌≢◌, ℕ, suc, ◌+◌, ◌*◌, ◌≤◌, ◌<◌, IsTrue, List, slice_index}
 use Rattle.pram_job.specs.Job.{JobData}
+use Rattle.pram_step.specs.History.{Asks, Wins, part_after}
 use Rattle.pram_step.specs.Runs.{IsReached, AgreesAfter, state_after}
-use Rattle.pram_words.specs.declared.phases.Kind.TheVariants.{Compute, Apply, Verify}
+use Rattle.pram_words.specs.declared.layout.Form.TheVariants.{Compact}
+use Rattle.pram_words.specs.declared.phases.Kind.TheVariants.{Compute, Verify}
 use Rattle.pram_words.specs.declared.words.Word.{Word}
 use Rattle.pram_words.specs.declared.words.Word.TheVariants.{Conflict, Node, Asked, Position}
 use Rattle.pram_words.specs.declared.words.Word.TheVariants.{Stored, Claim}
-use Rattle.pram_words.specs.Stamps.{stamped_word}
-use Rattle.pram_words.specs.Phases.{kind_at}
+use Rattle.pram_words.specs.Stamps.{stamped_word, first_is_older, older, older_word, newer_word}
+use Rattle.pram_words.specs.Phases.{kind_at, has_phase, next_phase}
 use Rattle.pram_words.specs.Words.{LayoutData, IsWord, number_of}
 use Rattle.walkx.specs.declared.operation.Op.{Op}
 use Rattle.walkx.specs.declared.operation.Op.TheVariants.{Store, Max, Swap}
 use Rattle.walkx.specs.Operations.{words_after}
-use Rattle.pram_words.specs.Stamps.{first_is_older, newer_payload, older, older_word}
 use Rattle.walkx.specs.Tasks.{claim_of}
-use Rattle.pram_step.specs.History.{Asks, Wins, part_after}
-use Rattle.lawful_walk.specs.Steps.{phase_written}
+use Rattle.walkx.specs.Counters.{worth}
 use Rattle.lawful_walk.specs.Board.{held, root, stamp_at, IsLate, LeafDone}
+use Rattle.lawful_walk.specs.Lands.{Lands, phase_claimed, phase_written}
 use Rattle.lawful_walk.specs.Moments.{Keeps}
 
--- Of a place whose two words were heard: the older one as heard still stands, or the place was
--- written in step t + 1 or later.
+-- Of a place whose two words were heard: the newer one stands for the value after t steps, and the
+-- older one as heard still stands, or the place was written in step t + 1 or later.
 pub record PlaceAsHeard (job : JobData) (layout : LayoutData) (t place first second : ℕ)
     (now : List ℕ) : Type 0 where
-  pub value : newer_payload first second ≡ slice_index (state_after job t) place
+  pub value : worth layout.form job t place (newer_word first second)
+      ≡ slice_index (state_after job t) place
   pub stands : held layout now (Stored place (older first second)) ≡ older_word first second →
       (stamp_at layout now place 0 ≤ t) × (stamp_at layout now place 1 ≤ t)
       × (first_is_older (held layout now (Stored place 0)) (held layout now (Stored place 1))
@@ -33,8 +35,9 @@ pub record PlaceAsHeard (job : JobData) (layout : LayoutData) (t place first sec
 
 -- the floor of the phase: the words stand in it or after it
 pub record Floor (job : JobData) (layout : LayoutData) (phase t : ℕ) (words : List ℕ) : Type 0 where
-  pub root : phase ≤ root layout words + 1
+  pub root : phase ≤ next_phase layout.form (root layout words)
   pub reached : IsReached job t
+  pub is_phase : IsTrue (has_phase layout.form phase)
 
 -- The operation keeps the words, and where the phase is over, they stay as they are.
 pub record Does (job : JobData) (layout : LayoutData) (phase : ℕ) (op : Op)
@@ -50,12 +53,14 @@ pub record MovesPosition (job : JobData) (layout : LayoutData) (worker node : �
       held layout (words_after words (Store (number_of layout (Position worker)) node)) word
       ≡ held layout words word
 
--- A part of a request; a node whose children are finished; a leaf whose processors' work is
--- done; a place, by a write that wins; the step, as a conflict; the claim of a cell that is
--- written; a worker's position, as a node.
+-- A part of a request, in the compact form; a node whose children are finished; a leaf whose
+-- processors' work is done; a place, by a write that gets a word and wins, in its phase; the step,
+-- as a conflict, in its last phase; the claim of a cell that is written, in its phase; a worker's
+-- position, as a node.
 pub record MayWrite (job : JobData) (layout : LayoutData)
     (words : List ℕ) (phase t : ℕ) : Type 0 where
-  pub request : (i j : ℕ) → i < layout.procs → j < 3 → kind_at phase ≡ Compute →
+  pub request : layout.form ≡ Compact →
+      (i j : ℕ) → i < layout.procs → j < 3 → kind_at phase ≡ Compute →
       Does job layout phase
       (Max (number_of layout (Asked i j)) (stamped_word (suc t) (part_after job t i j))) words
   pub inner : (node : ℕ) →
@@ -63,18 +68,18 @@ pub record MayWrite (job : JobData) (layout : LayoutData)
       phase ≤ held layout words (Node (2 * node + 1)) →
       Does job layout phase (Max (number_of layout (Node node)) phase) words
   pub leaf : (node : ℕ) → layout.leaves ≤ node → node < 2 * layout.leaves →
-      (root layout words + 1 ≡ phase → LeafDone job layout t (kind_at phase) node words) →
+      (root layout words < phase → LeafDone job layout t (kind_at phase) node words) →
       Does job layout phase (Max (number_of layout (Node node)) phase) words
   pub place : (place i value first second : ℕ) →
-      phase ≡ phase_written job.rule t → Asks job t place i value → Wins job t place i →
-      PlaceAsHeard job layout t place first second words →
+      phase ≡ phase_written layout.form job place t → Lands layout.form job t place i value →
+      Wins job t place i → PlaceAsHeard job layout t place first second words →
       Does job layout phase
       (Swap (number_of layout (Stored place (older first second))) (older_word first second)
       (stamped_word (suc t) value)) words
   pub conflict : kind_at phase ≡ Verify → (AgreesAfter job t → ⊥) →
       Does job layout phase (Swap (number_of layout Conflict) 0 (suc t)) words
   pub claim : (cell i value : ℕ) → IsWord layout (Claim cell) →
-      kind_at phase ≡ Apply → Asks job t cell i value →
+      phase ≡ phase_claimed layout.form t → Asks job t cell i value →
       Does job layout phase
       (Max (number_of layout (Claim cell)) (stamped_word (suc t) (claim_of job i))) words
   pub position : (worker node : ℕ) → worker < layout.workers → 1 ≤ node → node < 2 * layout.leaves →

@@ -88,14 +88,14 @@ pub fn progress_is_true()
     ensures { ProgressIsTrue }
 {}
 
-/// Where the last step is known, the newer of a place's two words, loaded one after the other, has
-/// what the place holds in the end.
+/// Where the last step is known, the newer of a place's two words, loaded one after the other,
+/// stands for what the place holds in the end.
 pub fn final_values_are_held()
     ensures { FinalValuesAreHeld }
 {}
 
-/// Where word 0 was heard as a step, a request word has its part of the request that its processor
-/// makes in that step.
+/// Where word 0 was heard as a step, a request word of the compact form has its part of the request
+/// that its processor makes in that step.
 pub fn conflict_requests_are_held()
     ensures { ConflictRequestsAreHeld }
 {}

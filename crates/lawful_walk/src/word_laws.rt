@@ -1,7 +1,14 @@
 //! Laws of lawful words: each function here does nothing, and its contract is the law.
-ghost use Rattle.lawful_walk.specs.WordLaws.{StartWordsAreLawful, WritesKeepWordsLawful};
+ghost use Rattle.lawful_walk.specs.WordLaws.{SettledWordsTell, StartWordsAreLawful};
+ghost use Rattle.lawful_walk.specs.WordLaws.{WritesKeepWordsLawful};
 ghost use Rattle.lawful_walk.specs.WordLaws.{FinishedStepsAreHeld, LastFinishedStepIsHeld};
 ghost use Rattle.lawful_walk.specs.WordLaws.{BackedIsFaithful, SoundIsFaithful};
+
+/// The settled word of a place stands for what the place holds: its payload, or, of a counter that
+/// is not written where it goes on by one, what that has become since.
+pub fn settled_words_tell()
+    ensures { SettledWordsTell }
+{}
 
 /// The words that a board starts with are lawful.
 pub fn start_words_are_lawful()
@@ -16,9 +23,8 @@ pub fn writes_keep_words_lawful()
 {}
 
 /// Lawful words hold what a place held after a finished step, as long as one of its two words has
-/// a stamp up to that step: the payload of the newest such word. Of an older step both may have
+/// a stamp up to that step: the newest such word stands for it. Of an older step both may have
 /// been written since.
-#[tactic(auto, using(crate::proofs::Places::finished_held))]
 pub fn finished_steps_are_held()
     ensures { FinishedStepsAreHeld }
 {}

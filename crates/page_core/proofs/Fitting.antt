@@ -2,6 +2,7 @@
 use Rattle.std.proofs.Common.{arith, ◌≡◌, ℕ, slice_get, Option, Some, None, refl, subst}
 use Rattle.std.specs.Option.{option_map}
 use Rattle.pram_job.specs.Job.{JobData, IsJob}
+use Rattle.pram_words.specs.Words.{LayoutData}
 use Rattle.walkx.specs.Activities.{activity_of}
 use Rattle.walkx.specs.Doing.{Doing}
 use Rattle.walkx.specs.Doing as doing
@@ -12,19 +13,19 @@ use Rattle.pram_world.specs.Standings.{standing_of}
 use Rattle.pram_world.specs.Worlds.{Body, walks, stopped, WorldData}
 use Rattle.page_core.specs.Scenes.{ActivityFits, PhaseFits}
 
-fits_activity : (job : JobData) (d : Doing) → IsJob job →
-    IsPhase job d → ActivityFits (activity_of d)
-fits_activity job doing.Back limits phase = tt
-fits_activity job doing.Begin limits phase = tt
-fits_activity job (doing.Turn q) limits phase = let few = limits.steps in omega arith
-fits_activity job (doing.Part q rank) limits phase = let few = limits.steps in omega arith
-fits_activity job (doing.Over e) limits phase = tt
+fits_activity : (job : JobData) (y : LayoutData) (d : Doing) → IsJob job →
+    IsPhase job y d → ActivityFits (activity_of d)
+fits_activity job y doing.Back limits phase = tt
+fits_activity job y doing.Begin limits phase = tt
+fits_activity job y (doing.Turn q) limits phase = let few = limits.steps in omega arith
+fits_activity job y (doing.Part q rank) limits phase = let few = limits.steps in omega arith
+fits_activity job y (doing.Over e) limits phase = tt
 
 fits_body : (s : WorldData) (b : ℕ) (body : Body) → IsInterleaved s →
     slice_get s.bodies b ≡ Some body → PhaseFits (standing_of body)
 fits_body s b (stopped n) h is = tt
 fits_body s b (walks w) h is =
-    fits_activity s.job w.now h.1.lawful.limits (h.1.known b w is).1.phase
+    fits_activity s.job s.layout w.now h.1.lawful.limits (h.1.known b w is).1.phase
 
 fits_option : (s : WorldData) (b : ℕ) (o : Option Body) (x : Standing) → IsInterleaved s →
     slice_get s.bodies b ≡ o → option_map standing_of o ≡ Some x → PhaseFits x

@@ -1,16 +1,21 @@
 -- What loads of the request words give once word 0 was heard to name a step.
-use Rattle.std.proofs.Common.{◌≡◌, ◌≢◌, ℕ, suc, ◌+◌, ◌^◌, ◌<◌, List, [], ◌∷◌}
-use Rattle.std.proofs.Common.{◌++◌, map, sym, ap, ap₂, subst, ◌∙◌, arith}
+use Rattle.std.proofs.Common.{◌≡◌, ◌≢◌, ℕ, suc, ◌+◌, ◌^◌, ◌<◌, List, [], ◌∷◌, ◌++◌, map, sym, ap}
+use Rattle.std.proofs.Common.{ap₂, subst, ◌∙◌, arith, ◌≤◌}
 use Rattle.std.specs.List.{range_with_len}
 use Rattle.std.proofs.lemmas.List.FromFn.{map-range_with_len_more}
 use Rattle.pram_job.specs.Job.{JobData}
 use Rattle.pram_machine.specs.declared.requests.Request.{Request}
-use Rattle.pram_step.specs.History.{part_after}
 use Rattle.pram_machine.specs.Instructions.{request_in, requests_in}
-use Rattle.pram_step.specs.Runs.{AreConflicting, requests_after, state_after}
+use Rattle.pram_step.specs.History.{part_after}
+use Rattle.pram_step.specs.Runs.{AreConflicting, requests_after, state_after, IsFault}
+use Rattle.pram_step.specs.declared.arrival.Arrival.{Arrival}
+use Rattle.pram_step.specs.declared.arrival.Arrival.TheVariants.{Disputed}
+use Rattle.pram_step.specs.Arrivals.{IsArrival}
+use Rattle.pram_step.specs.declared.answer.Fault.{Fault}
 use Rattle.pram_words.specs.declared.words.Word.TheVariants.{Asked, Conflict}
 use Rattle.pram_words.specs.Stamps.{stamped_word, stamp_of, payload_of}
 use Rattle.pram_words.specs.Words.{number_of}
+use Rattle.pram_words.specs.declared.layout.Form.TheVariants.{Compact}
 use Rattle.walkx.specs.declared.operation.Op.TheVariants.{Load}
 use Rattle.walkx.specs.Records.{Record, after}
 use Rattle.walkx.specs.Requests.{AreWordsOf}
@@ -20,6 +25,7 @@ use Rattle.lawful_walk.specs.Moments.{Sound, WasBacked}
 use Rattle.lawful_walk.specs.Seen.{Heard}
 use Rattle.lawful_walk.proofs.Knowing.{conflict_now}
 use Rattle.lawful_walk.proofs.Sounding.{sound_conflict, was_part}
+use Rattle.lawful_walk.specs.Walks.{IsConflict}
 use Rattle.pram_board.specs.declared.task.Task.{Task}
 use Rattle.pram_board.specs.Seats.{SeatData, hears, HasLoaded, KnowsConflict}
 use Rattle.pram_board.proofs.Begins.{heard_afters}
@@ -44,17 +50,18 @@ named_again t p q k found u at is sound some heard =
 -- ---- a request
 
 pub part_heard : (t : Task) (p q : SeatData) (k i j found s : ℕ) → IsBoard t.job t.layout →
+    t.layout.form ≡ Compact →
     i < t.job.procs → j < 3 → k ≡ number_of t.layout (Asked i j) → q ≡ hears p (Load k) found →
     Sound t.job t.layout q.record_of →
     Heard t.layout p.record_of Conflict (suc s) →
     (stamp_of found ≡ suc s) × (payload_of found ≡ part_after t.job s i j)
-part_heard t p q k i j found s board below few at is sound heard =
+part_heard t p q k i j found s board compact below few at is sound heard =
     let procs = same_procs t.job t.layout board in
     let was : WasBacked t.job t.layout
     (after p.record_of (Load (number_of t.layout (Asked i j))) found) =
     subst (λ (n : ℕ). Sound t.job t.layout (after p.record_of (Load n) found)) at
     (subst (λ (z : SeatData). Sound t.job t.layout z.record_of) is sound) in
-    was_part t.job t.layout p.record_of s i j found heard (omega arith) few was
+    was_part t.job t.layout p.record_of s i j found compact heard (omega arith) few was
 
 whole : (word t part : ℕ) → stamp_of word ≡ t → payload_of word ≡ part →
     (part < 2 ^ 32) × (word ≡ stamped_word t part)
@@ -112,3 +119,20 @@ conflicting t r named n requests sound knows same all are =
       against = λ agrees. agrees c.fault.cell c.fault.first c.fault.second (first.dispute.clash);
       are = are first.before heard ∙ all_requests t.job first.before n all;
     }
+
+-- whatever word 0 is heard as once it was heard as a step, it is the first conflict
+pub named_conflict : (t : Task) (r : Record) (named : ℕ) → Sound t.job t.layout r →
+    KnowsConflict t.layout r → ((u : ℕ) → u ≢ 0 → Heard t.layout r Conflict u → named ≡ u) →
+    IsConflict t.job named
+named_conflict t r named sound knows same =
+    subst (IsConflict t.job) (sym (same knows.step knows.some knows.heard))
+    (sound_conflict t.job t.layout r knows.step sound knows.heard knows.some)
+
+-- which is what the machine comes upon
+pub fault_met : (job : JobData) (step most : ℕ) → IsConflict job step → (came : Arrival) →
+    IsArrival job step most came → (fault : Fault) → came ≡ Disputed fault → IsFault job fault
+fault_met job step most c came is fault e =
+    let there = subst (IsArrival job step most) e is in
+    let low = there.1 in
+    let within = c.is.within in
+    let same = c.step in record { first = there.0; within = omega arith }

@@ -1,20 +1,21 @@
 -- What the cells hold in the end.
-use Rattle.std.proofs.Common.{◌≡◌, ℕ, ◌+◌, ◌<◌, List, [], ◌∷◌, ◌++◌, length-append}
-use Rattle.std.proofs.Common.{take, slice_index, refl, sym, ap, ap₂, subst, ◌∙◌, arith}
+use Rattle.std.proofs.Common.{◌≡◌, ℕ, ◌+◌, ◌<◌, List, [], ◌∷◌, ◌++◌, length-append, take}
+use Rattle.std.proofs.Common.{slice_index, refl, sym, ap, ap₂, subst, ◌∙◌, arith}
 use Rattle.std.specs.List.{AllByRecursion}
 use Rattle.std.proofs.lemmas.List.{take_more}
 use Rattle.pram_step.proofs.LawFixed.{length-state_after}
 use Rattle.pram_step.specs.Runs.{state_after}
 use Rattle.pram_words.specs.Words.{LayoutData, number_of, places_of}
 use Rattle.pram_words.specs.declared.words.Word.TheVariants.{Stored}
+use Rattle.pram_words.specs.Stamps.{newer_payload, newer_word}
 use Rattle.walkx.specs.declared.operation.Op.{Op}
 use Rattle.walkx.specs.declared.operation.Op.TheVariants.{Load}
 use Rattle.walkx.specs.Records.{Record, after}
 use Rattle.walkx.specs.Walk.{IsBoard}
-use Rattle.pram_words.specs.Stamps.{newer_payload}
 use Rattle.lawful_walk.specs.Moments.{Sound, afters}
 use Rattle.lawful_walk.specs.Seen.{KnowsStep}
 use Rattle.lawful_walk.proofs.Sounding.{was_place}
+use Rattle.lawful_walk.proofs.Places.{cell_worth}
 use Rattle.pram_board.specs.declared.task.Task.{Task}
 use Rattle.pram_board.specs.Seats.{SeatData, hears, hears_all, IsLoad, HasLoaded}
 use Rattle.pram_board.proofs.Begins.{knows_afters}
@@ -27,19 +28,20 @@ cell_place t p board cell =
 
 -- both words were loaded, one after the other
 pub loaded : (t : Task) (q second : SeatData) (p word a b : ℕ) →
-    KnowsStep t.layout q.record_of t.job.steps → p < places_of t.layout →
+    KnowsStep t.layout q.record_of t.job.steps → p < t.job.cells → p < places_of t.layout →
     word ≡ number_of t.layout (Stored p 0) → word + 1 ≡ number_of t.layout (Stored p 1) →
     second ≡ hears (hears q (Load word) a) (Load (word + 1)) b →
     Sound t.job t.layout second.record_of →
     newer_payload a b ≡ slice_index (state_after t.job t.job.steps) p
-loaded t q second p word a b knows place e f is sound =
+loaded t q second p word a b knows cell place e f is sound =
     let s : Sound t.job t.layout (after (after q.record_of (Load word) a) (Load (word + 1)) b) =
     subst (λ (z : SeatData). Sound t.job t.layout z.record_of) is sound in
     let u : Sound t.job t.layout (after (after q.record_of
     (Load (number_of t.layout (Stored p 0))) a) (Load (number_of t.layout (Stored p 1))) b) =
     subst (λ (x : ℕ × ℕ). Sound t.job t.layout
     (after (after q.record_of (Load x.0) a) (Load x.1) b)) (λ i. (e i, f i)) s in
-    was_place t.job t.layout q.record_of p a b knows place u
+    sym (cell_worth t.layout.form t.job t.job.steps p (newer_word a b) cell)
+    ∙ was_place t.job t.layout q.record_of p a b knows place u
 
 -- ---- loads, one after the other
 

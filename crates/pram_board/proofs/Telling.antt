@@ -89,8 +89,8 @@ told_known : (t : Task) (r : Record) (w : Walking) (answers : List ℕ) → IsBo
 told_known t r w [] board fits all knows = knows
 told_known t r w (found ∷ earlier) board fits all knows =
     knows_next t.job t.layout (afters r (steps_heard t.job t.layout w earlier))
-    (told_all t.job t.layout w earlier) found (told_fits t w earlier board fits all.1)
-    (told_known t r w earlier board fits all.1 knows)
+    (told_all t.job t.layout w earlier) found board (told_fits t w earlier board fits all.1)
+    (told_known t r w earlier board fits all.1 knows) all.0
 
 module _ (t : Task) (w : Walking) (p q : Driving) (end : Then) (now : Walking)
     (fresh : w.heard ≡ []) (going : IsGoing w.now) (here : IsAt t q) (fits : Fits t.job t.layout w)
@@ -146,11 +146,11 @@ asks_some op next end e =
     let no : Some op ≡ None = ap (λ (s : Script Then). first_op s) e in absurd (cc)
 
 script_asks : (job : JobData) (y : LayoutData) (w n q rank : ℕ) (end : Then) →
-    script_of job y (working w n q rank) ≡ ends end → ⊥
+    Fits job y (working w n q rank) → script_of job y (working w n q rank) ≡ ends end → ⊥
 unfolding turn_script
-script_asks job y w n q zero end e = asks_some _ _ end e
-script_asks job y w n q (suc rank) end e =
-    let first = part_first job y n q (suc rank) in
+script_asks job y w n q zero end fits e = asks_some _ _ end e
+script_asks job y w n q (suc rank) end fits e =
+    let first = part_first job y n q (suc rank) fits.phase.2 in
     let none : first_op (ends end) ≡ Some first.0 = sym (ap first_op e) ∙ first.1 in cc
 
 -- a task in a block leads to one of a later rank
@@ -180,7 +180,8 @@ led_script at p z next walks drives = by next played
         Led (task_at at) p (working_at at) z now
     goes end now leads_to plays = led (task_at at) (working_at at) p z end now refl
         (working_goes at.phase at.rank) drives.here walks.fits walks.knows
-        (script_asks at.job at.layout at.worker at.node at.phase at.rank end) leads_to plays
+        (script_asks at.job at.layout at.worker at.node at.phase at.rank end walks.fits) leads_to
+        plays
 
     by : (to : Turned) → PlaysScript (task_at at) (script_of at.job at.layout (working_at at)) p
         (ends (leads at to)) z → Led (task_at at) p (working_at at) z (led_to at to)

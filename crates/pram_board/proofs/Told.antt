@@ -1,6 +1,6 @@
 -- A worker that has been told the answer of its step, and one that is over.
-use Rattle.std.proofs.Common.{◌≡◌, ℕ, ◌==◌, if◌then◌else◌, Option}
-use Rattle.std.proofs.Common.{Some, None, refl, sym, ap, subst, ◌∙◌}
+use Rattle.std.proofs.Common.{◌≡◌, ℕ, ◌==◌, if◌then◌else◌, Option, Some, None, refl, sym, ap, subst}
+use Rattle.std.proofs.Common.{◌∙◌}
 use Rattle.pram_words.specs.declared.words.Word.TheVariants.{Conflict, Node}
 use Rattle.pram_words.specs.Words.{number_of}
 use Rattle.walkx.specs.declared.operation.Ended.{Ended}
@@ -10,7 +10,7 @@ use Rattle.walkx.specs.Doing.{Doing}
 use Rattle.walkx.specs.Doing as doing
 use Rattle.walkx.specs.Reads.{step_seen}
 use Rattle.walkx.specs.Records.{Record, after, Knows}
-use Rattle.walkx.specs.Walk.{Walking, Fits, IsGoing, end_of}
+use Rattle.walkx.specs.Walk.{Walking, Fits, IsGoing, end_of, AsksAdmitted, IsBoard, ask_of}
 use Rattle.walkx.proofs.Knowing.{knows_next}
 use Rattle.lawful_walk.specs.Moments.{Sound}
 use Rattle.lawful_walk.specs.Walks.{ProgressWell}
@@ -19,6 +19,7 @@ use Rattle.pram_board.specs.declared.look.Progress.{Progress}
 use Rattle.pram_board.specs.declared.task.Task.{Task}
 use Rattle.pram_board.specs.Seats.{SeatData, hears, Progressed}
 use Rattle.pram_board.specs.Worked.{EndShows, Ticked}
+use Rattle.pram_board.proofs.Steps.{admits}
 
 pub going_of : (d : Doing) → end_of d ≡ None → IsGoing d
 going_of doing.Back e = tt
@@ -29,12 +30,20 @@ going_of (doing.Over x) e = absurd (cc)
 
 -- it stays known
 pub knows_told : (t : Task) (p : SeatData) (w : Walking) (q : SeatData) (now : Walking) →
-    Ticked t p w q now → Fits t.job t.layout w → Knows t.job t.layout p.record_of w →
-    Knows t.job t.layout q.record_of now
-knows_told t p w q now made fits knows =
+    Ticked t p w q now → Sound t.job t.layout q.record_of →
+    AsksAdmitted t.job t.layout (ask_of t.job t.layout w) → Fits t.job t.layout w →
+    Knows t.job t.layout p.record_of w → Knows t.job t.layout q.record_of now
+knows_told t p w q now made sound ok fits knows =
+    let op = ask_of t.job t.layout w in
+    let was : Sound t.job t.layout (after p.record_of op made.found) =
+    subst (λ (x : SeatData). Sound t.job t.layout x.record_of) made.seat sound in
+    let stands = was.stands in
+    let board : IsBoard t.job t.layout =
+    record { limits = stands.limits; layout = stands.sizes; is = stands.layout } in
     subst (λ (x : SeatData × Walking). Knows t.job t.layout x.0.record_of x.1)
     (λ i. (sym made.seat i, sym made.worker i))
-    (knows_next t.job t.layout p.record_of w made.found fits knows)
+    (knows_next t.job t.layout p.record_of w made.found board fits knows
+    (admits t p.record_of op made.found was ok))
 
 -- what a known worker that is over has heard
 end_shown : (t : Task) (r : Record) (w : Walking) (d : Doing) → d ≡ w.now → Sound t.job t.layout r →

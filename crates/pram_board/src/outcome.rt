@@ -4,8 +4,8 @@ ghost use Rattle.std.specs.Prelude.{◌≡◌};
 use crate::board::Board;
 use crate::seat::Seat;
 use pram_machine::Request;
-use pram_step::{Fault, fault_of};
-use pram_words::newer_payload;
+use pram_step::{Arrival, Fault, fault_of, go_to};
+use pram_words::{Form, newer_payload};
 use std::alloc::{AllocError, Global};
 use walkx::{Op, request_of};
 
@@ -15,7 +15,9 @@ impl Board {
     ghost use Rattle.pram_machine.specs.Instructions.{request_in};
     ghost use Rattle.pram_step.specs.Runs.{IsAnswer, IsFault, state_after};
     ghost use Rattle.pram_step.specs.declared.answer.RunAnswer.TheVariants.{Final};
+    ghost use Rattle.pram_words.specs.Forms.{by_form};
     ghost use Rattle.pram_words.specs.Words.{length_of, number_of, places_of};
+    ghost use Rattle.pram_words.specs.declared.layout.Form.TheVariants.{Compact};
     ghost use Rattle.pram_words.specs.Stamps.{payload_of, stamp_of};
     ghost use Rattle.pram_words.specs.declared.words.Word.TheVariants.{Conflict, Stored};
     ghost use Rattle.lawful_walk.specs.Moments.{Sound};
@@ -44,11 +46,46 @@ impl Board {
     }
 
     /// The first step that is against the rule, and who disputes what in it. The seat is to have
-    /// heard that there is one. It takes one load and three more a processor; where memory is
-    /// refused, some of them.
+    /// heard that there is one. It takes one load, and in the compact form three more a processor;
+    /// where memory is refused, some of them. In the wide form the plain machine makes the steps up
+    /// to that one.
     pub fn fault(&self, alloc: Global, seat: &mut Seat) -> Result<Fault, AllocError>
         requires desk { seat.old.desk ≡ self.now }
         requires knows { KnowsConflict self.now.task.layout seat.old.record_of }
+        ensures fault { IfOk result (IsFault self.now.task.job) }
+        ensures loads { IfOk result (λ fault. HasLoaded (by_form self.now.task.layout.form
+            (1 + 3 * self.now.task.job.procs) 1) seat.old seat.new) }
+        ensures refused { IfErr result (λ refusal. (n : ℕ) × HasLoaded n seat.old seat.new) }
+        ensures later { IsLater self.now seat.old seat.new }
+    {
+        match self.task.layout.form() {
+            Form::Compact => self.asked_fault(alloc, seat),
+            Form::Wide(_) => self.replayed_fault(alloc, seat),
+        }
+    }
+
+    // That of the wide form.
+    fn replayed_fault(&self, alloc: Global, seat: &mut Seat) -> Result<Fault, AllocError>
+        requires desk { seat.old.desk ≡ self.now }
+        requires knows { KnowsConflict self.now.task.layout seat.old.record_of }
+        ensures fault { IfOk result (IsFault self.now.task.job) }
+        ensures loads { HasLoaded 1 seat.old seat.new }
+        ensures later { IsLater self.now seat.old seat.new }
+    {
+        seat.facts();
+        let named = self.named(seat);
+        let job = &self.task.job;
+        match go_to(alloc, job, named, job.steps())? {
+            Arrival::Disputed(fault) => Ok(fault),
+            Arrival::Reached(_) | Arrival::TooFar => unreachable!(),
+        }
+    }
+
+    // That of the compact form, whose request words tell it.
+    fn asked_fault(&self, alloc: Global, seat: &mut Seat) -> Result<Fault, AllocError>
+        requires desk { seat.old.desk ≡ self.now }
+        requires knows { KnowsConflict self.now.task.layout seat.old.record_of }
+        requires compact { self.now.task.layout.form ≡ Compact }
         ensures fault { IfOk result (IsFault self.now.task.job) }
         ensures loads { IfOk result (λ fault. HasLoaded (1 + 3 * self.now.task.job.procs) seat.old
             seat.new) }
@@ -79,6 +116,7 @@ impl Board {
     // The request of a processor in the step that word 0 was heard to name, after s steps.
     fn request(&self, seat: &mut Seat, processor: u32) -> Request
         requires desk { seat.old.desk ≡ self.now }
+        requires compact { self.now.task.layout.form ≡ Compact }
         requires processor { processor < self.now.task.job.procs }
         ensures is { (s : ℕ) → Heard self.now.task.layout seat.old.record_of Conflict (suc s) →
             result ≡ request_in self.now.task.job (state_after self.now.task.job s) processor }
@@ -94,6 +132,7 @@ impl Board {
     // The word of a part of that request.
     fn part(&self, seat: &mut Seat, processor: u32, part: u32) -> u64
         requires desk { seat.old.desk ≡ self.now }
+        requires compact { self.now.task.layout.form ≡ Compact }
         requires processor { processor < self.now.task.job.procs }
         requires part { part < 3 }
         ensures is { (s : ℕ) → Heard self.now.task.layout seat.old.record_of Conflict (suc s) →

@@ -1,5 +1,6 @@
 pub mod Blocks
 pub mod Halvings
+pub mod NextPhases
 pub mod Numbering
 pub mod Starts
 pub mod Ways

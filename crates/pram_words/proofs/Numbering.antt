@@ -18,7 +18,8 @@ use Rattle.pram_words.specs.Words.{IsNumbering, HasRanges, Admits, counters_of, 
 use Rattle.pram_words.specs.Words.{positions_at, places_at, claims_at, compact_number}
 use Rattle.pram_words.specs.Words.{compact_word, grain, first_word, lines_at, lines_word, cells_at}
 use Rattle.pram_words.specs.Words.{wide_claims_at, wide_number}
-use Rattle.pram_words.specs.Words.{wide_word, by_form, number_of, length_of, word_at}
+use Rattle.pram_words.specs.Forms.{by_form}
+use Rattle.pram_words.specs.Words.{wide_word, number_of, length_of, word_at}
 
 pub cases_form : (f : Form) → (f ≡ Compact) ⊎ ((grain : ℕ) × (f ≡ Wide grain))
 cases_form Compact = inl refl

@@ -1,5 +1,5 @@
 -- The words that a board starts with.
-use Rattle.std.proofs.Common.{◌≡◌, ℕ, ◌+◌, ◌-◌, ◌^◌, ◌<◌, ◌≤◌, length, get_or}
+use Rattle.std.proofs.Common.{◌≡◌, ℕ, ◌+◌, ◌-◌, ◌^◌, ◌<◌, ◌≤◌, IsTrue, length, get_or}
 use Rattle.std.proofs.Common.{inl, inr, refl, sym, ap, subst, ◌∙◌, arith, lit<}
 use Rattle.std.proofs.lemmas.Bool.{cases_lt, lt-ltb, le-ltb}
 use Rattle.std.proofs.lemmas.List.{get_or_past}
@@ -7,9 +7,11 @@ use Rattle.std.proofs.lemmas.List.Elements.{All-get_or}
 use Rattle.std.proofs.lemmas.List.FromFn.{length-map-range_with_len, get_or-map-range_with_len}
 use Rattle.pram_job.specs.Job.{JobData, IsJob}
 use Rattle.pram_words.specs.declared.layout.Form.{Form}
+use Rattle.pram_words.specs.declared.layout.Form.TheVariants.{Compact, Wide}
 use Rattle.pram_words.specs.declared.words.Word.{Word}
 use Rattle.pram_words.specs.declared.words.Word.TheVariants.{Conflict, Node, Asked}
 use Rattle.pram_words.specs.declared.words.Word.TheVariants.{Position, Stored, Claim, Spare}
+use Rattle.pram_words.specs.Phases.{has_phase}
 use Rattle.pram_words.specs.Words.{LayoutData, IsLayout, IsWord, IsInRange, IsStamped}
 use Rattle.pram_words.specs.Words.{IsGrain, grain_of, layout_of}
 use Rattle.pram_words.specs.Words.{counters_of, most_stored, number_of, length_of, word_at}
@@ -52,12 +54,16 @@ stored_starts y job p is same = elim (cases_lt p (counters_of y)) [
       (plain job.steps (length job.code + 1) 0 (lit< tt) (omega arith))
 ]
 
+none_first : (form : Form) → IsTrue (has_phase form 0)
+none_first Compact = refl
+none_first (Wide grain) = refl
+
 -- each start value is in its word's range
 starts_in_range : (job : JobData) (form : Form) (workers : ℕ) (a : Word) →
     IsJob job → IsLayout (layout_of job form workers) →
     IsInRange (layout_of job form workers) job a (start_of (layout_of job form workers) job a)
 starts_in_range job form workers Conflict is limits = omega arith
-starts_in_range job form workers (Node n) is limits = omega arith
+starts_in_range job form workers (Node n) is limits = (omega arith, none_first form)
 starts_in_range job form workers (Asked i j) is limits = plain job.steps _ 0 (lit< tt) (omega arith)
 starts_in_range job form workers (Position w) is limits =
     let leaf = first_leaf (layout_of job form workers) w limits in

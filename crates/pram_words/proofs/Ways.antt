@@ -7,7 +7,8 @@ use Rattle.std.proofs.lemmas.Nat.{mod_below, pow_pos}
 use Rattle.std.specs.Int.{from_bool}
 use Rattle.pram_words.specs.declared.layout.Form.TheVariants.{Compact}
 use Rattle.pram_words.specs.Tree.{digits_of, depth_of, first_leaf_of, turns_right}
-use Rattle.pram_words.specs.Words.{LayoutData, IsLayout, by_form}
+use Rattle.pram_words.specs.Forms.{by_form}
+use Rattle.pram_words.specs.Words.{LayoutData, IsLayout}
 use Rattle.pram_words.specs.Ways.{turn_bits, turns_right_wide, IsTurnWide}
 use Rattle.pram_words.specs.Ways.{turns_right_in, way_of, first_leaf_in}
 use Rattle.pram_words.proofs.Halvings.{double, digits, exponents, depth_unique}

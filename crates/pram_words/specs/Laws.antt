@@ -1,10 +1,11 @@
 -- Laws of stamps, phases, words and workers' ways.
-use Rattle.std.specs.Prelude.{◌≡◌, ℕ, ◌*◌, ◌^◌, ◌<◌, ◌≤◌}
+use Rattle.std.specs.Prelude.{◌≡◌, ℕ, ◌*◌, ◌^◌, ◌<◌, ◌≤◌, IsTrue}
 use Rattle.pram_job.specs.Job.{JobData, IsJob}
 use Rattle.pram_words.specs.declared.layout.Form.{Form}
 use Rattle.pram_words.specs.declared.phases.Kind.{Kind}
 use Rattle.pram_words.specs.Stamps.{stamped_word, stamp_of, payload_of}
 use Rattle.pram_words.specs.Phases.{phase_of, step_at, kind_at}
+use Rattle.pram_words.specs.Phases.{has_phase, next_phase, phase_before}
 use Rattle.pram_words.specs.Tree.{depth_of}
 use Rattle.pram_words.specs.Words.{LayoutData, IsLayout, IsNumbering, HasRanges}
 use Rattle.pram_words.specs.Words.{IsGrain, grain_of, layout_of}
@@ -24,6 +25,14 @@ PhasesUndo =
     ((step : ℕ) (kind : Kind) → 1 ≤ step → (step_at (phase_of step kind) ≡ step)
     × (kind_at (phase_of step kind) ≡ kind))
     × ((phase : ℕ) → 1 ≤ phase → phase_of (step_at phase) (kind_at phase) ≡ phase)
+
+-- the phase that comes is the least one of the form above what the root holds
+abbrev pub PhasesFollow : Type 0
+PhasesFollow =
+    (form : Form) (root : ℕ) →
+    IsTrue (has_phase form (next_phase form root)) × (root < next_phase form root)
+    × ((phase : ℕ) → IsTrue (has_phase form phase) → root < phase → next_phase form root ≤ phase)
+    × (IsTrue (has_phase form root) → phase_before form (next_phase form root) ≡ root)
 
 -- no two things share a word, and the words have the numbers from 0 up to the length
 abbrev pub WordsKeepApart : Type 0

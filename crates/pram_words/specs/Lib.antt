@@ -1,4 +1,5 @@
 pub mod Stamps
+pub mod Forms
 pub mod Phases
 pub mod Tree
 pub mod Words

@@ -23,6 +23,9 @@ older first second = if first_is_older first second then 0 else 1
 abbrev pub older_word : ℕ → ℕ → ℕ
 older_word first second = if first_is_older first second then first else second
 
--- the payload of the newer one
+-- the newer one, and its payload
+abbrev pub newer_word : ℕ → ℕ → ℕ
+newer_word first second = if first_is_older first second then second else first
+
 abbrev pub newer_payload : ℕ → ℕ → ℕ
-newer_payload first second = payload_of (if first_is_older first second then second else first)
+newer_payload first second = payload_of (newer_word first second)

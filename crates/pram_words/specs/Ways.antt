@@ -5,7 +5,8 @@ use Rattle.std.specs.Int.{bit_at, from_bool}
 use Rattle.pram_words.specs.declared.layout.Form.{Form}
 use Rattle.pram_words.specs.declared.layout.Form.TheVariants.{Compact, Wide}
 use Rattle.pram_words.specs.Tree.{digits_of, depth_of, first_leaf_of, turns_right, IsTurn}
-use Rattle.pram_words.specs.Words.{LayoutData, by_form}
+use Rattle.pram_words.specs.Forms.{by_form}
+use Rattle.pram_words.specs.Words.{LayoutData}
 
 -- the least number of bits that number all workers
 abbrev pub turn_bits : ℕ → ℕ

@@ -14,6 +14,8 @@ use Rattle.pram_words.specs.declared.layout.Form.TheVariants.{Compact, Wide}
 use Rattle.pram_words.specs.declared.words.Word.{Word}
 use Rattle.pram_words.specs.declared.words.Word.TheVariants.{Conflict, Node, Asked, Position}
 use Rattle.pram_words.specs.declared.words.Word.TheVariants.{Stored, Claim, Spare}
+use Rattle.pram_words.specs.Forms.{by_form}
+use Rattle.pram_words.specs.Phases.{has_phase}
 use Rattle.pram_words.specs.Stamps.{stamp_of, payload_of}
 use Rattle.pram_words.specs.Tree.{leaves_of}
 
@@ -193,10 +195,6 @@ wide_word layout number =
 
 -- ---- both forms
 
-abbrev pub by_form : {A : Type 0} → Form → A → A → A
-by_form Compact compact wide = compact
-by_form (Wide grain) compact wide = wide
-
 -- the number of a word
 unfoldable pub number_of : LayoutData → Word → ℕ
 number_of layout word = by_form layout.form (compact_number layout word) (wide_number layout word)
@@ -248,10 +246,11 @@ abbrev pub most_stored : LayoutData → JobData → ℕ → ℕ
 most_stored layout job place =
     if nat_lt place (counters_of layout) then 2 ^ 32 - 1 else length job.code + 1
 
--- the values that a word may have
+-- the values that a word may have; a node has phases of the form
 abbrev pub IsInRange : LayoutData → JobData → Word → ℕ → Type 0
 IsInRange layout job Conflict value = value ≤ job.steps
-IsInRange layout job (Node node) value = value ≤ 3 * job.steps
+IsInRange layout job (Node node) value =
+    (value ≤ 3 * job.steps) × IsTrue (has_phase layout.form value)
 IsInRange layout job (Asked i j) value = IsStamped job.steps (most_asked layout job j) value
 IsInRange layout job (Position worker) value = (1 ≤ value) × (value < 2 * layout.leaves)
 IsInRange layout job (Stored place which) value =

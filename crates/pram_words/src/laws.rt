@@ -1,5 +1,5 @@
 //! Laws of the words, each the contract of a function that does nothing.
-ghost use Rattle.pram_words.specs.Laws.{PhasesUndo, StampsUndo, WordsHaveRanges};
+ghost use Rattle.pram_words.specs.Laws.{PhasesFollow, PhasesUndo, StampsUndo, WordsHaveRanges};
 ghost use Rattle.pram_words.specs.Laws.{WordsKeepApart, WordsStartAdmitted, WorkersBeginAtLeaves};
 
 /// A word and its two halves give each other back.
@@ -10,6 +10,11 @@ pub fn stamps_undo()
 /// A phase and its step and kind give each other back.
 pub fn phases_undo()
     ensures { PhasesUndo }
+{}
+
+/// The phase that comes is the least one of the form above what the root holds.
+pub fn phases_follow()
+    ensures { PhasesFollow }
 {}
 
 /// No two things share a word, and the words have the numbers from 0 up to the length.

@@ -4,6 +4,7 @@ ghost use Rattle.std.specs.Prelude.{◌≡◌, ℕ, ◌+◌, ◌*◌, ◌<◌, �
 ghost use Rattle.pram_words.specs.declared.layout.Form.TheVariants.{Compact, Wide};
 ghost use Rattle.pram_words.specs.declared.words.Word.TheVariants.{Asked, Claim, Conflict};
 ghost use Rattle.pram_words.specs.declared.words.Word.TheVariants.{Node, Position, Stored};
+ghost use Rattle.pram_words.specs.Phases.{has_phase, next_phase};
 ghost use Rattle.pram_words.specs.Start.{start_of, start_words};
 ghost use Rattle.pram_words.specs.Tree.{depth_of, leaves_of};
 ghost use Rattle.pram_words.specs.Ways.{IsTurnInForm, first_leaf_in, turns_right_in, way_of};
@@ -17,6 +18,7 @@ ghost use Rattle.pram_words.specs.Words.{IsGrain, grain_for, cells_at, first_wor
 ghost use Rattle.pram_words.specs.Words.{line_word, lines_at, lines_word};
 ghost use Rattle.pram_words.specs.Words.{wide_claims_at, wide_place, wide_word};
 
+use crate::phases::LAST_PHASE;
 use crate::stamps::{payload, stamp};
 use crate::tree::{first_leaf, goes_right, goes_right_wide, leaves};
 use crate::words::Word;
@@ -30,13 +32,15 @@ use std::marker::Model;
 pub enum Form {
     /// One kind after the other: the conflict (word 0), the nodes (1 to 2L - 1), three request
     /// words a processor, a position word a worker, two words a place, and, under the rules
-    /// priority and crew, a claim word a cell. A worker turns by the high bits of its number.
+    /// priority and crew, a claim word a cell. A worker turns by the high bits of its number. A
+    /// step has three phases.
     Compact,
     /// On lines of 8 words: the conflict, each inner node and each position on a line of its own,
     /// what belongs to one processor together on two lines, then the cells and the claims; the
     /// words between are spare. A leaf stands for a block of so many processors, a power of two up
     /// to 64; its node lies on the lines of the first. A worker turns by its number's low bits, so
-    /// that workers start far apart and walk towards each other.
+    /// that workers start far apart and walk towards each other. A step has two phases, numbered as
+    /// the first and the last of three, and no request is written.
     Wide(u32),
 }
 
@@ -321,6 +325,29 @@ impl Layout {
         }
     }
 
+    /// Whether the form has this phase: in the wide form the second phase of a step is none.
+    #[inline(always)]
+    pub fn has_phase(&self, phase: u64) -> bool
+        ensures { result ≡ has_phase self.now.form phase }
+    {
+        match self.form {
+            Form::Compact => true,
+            Form::Wide(_) => phase % 3 != 2,
+        }
+    }
+
+    /// The phase that comes where the root holds this one.
+    #[inline(always)]
+    pub fn next_phase(&self, root: u64) -> u64
+        requires { root ≤ LAST_PHASE }
+        ensures { result ≡ next_phase self.now.form root }
+    {
+        match self.form {
+            Form::Wide(_) if root % 3 == 1 => root + 2,
+            _ => root + 1,
+        }
+    }
+
     /// Whether the word of this number may have this value; false for a number past the last word.
     /// The layout is to be the job's.
     pub fn admits(&self, job: &Job, word: u32, value: u64) -> bool
@@ -367,7 +394,7 @@ impl Layout {
         let past_code = job.code().len() as u32 + 1;
         match word {
             Word::Conflict => value <= u64::from(steps),
-            Word::Node(_) => value <= 3 * u64::from(steps),
+            Word::Node(_) => value <= 3 * u64::from(steps) && self.has_phase(value),
             Word::Asked(_, 0) => is_stamped(steps, counters, value),
             Word::Asked(_, 1) => is_stamped(steps, u32::MAX, value),
             Word::Asked(_, _) => is_stamped(steps, past_code, value),

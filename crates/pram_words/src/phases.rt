@@ -5,7 +5,8 @@ ghost use Rattle.pram_words.specs.Phases.{phase_of, step_at, kind_at};
 /// The last phase that a job can have: the third pass of step 4,294,967,295.
 pub const LAST_PHASE: u64 = 12_884_901_885;
 
-/// What a pass does, in the order of the passes of a step.
+/// What a pass does, in the order of the passes of a step. The wide form has the first and the
+/// last: in the first a processor writes what is its own, in the last its store.
 #[derive(Clone, Copy, Debug, PartialEq, Eq)]
 pub enum Kind {
     /// Computes the request of each processor.

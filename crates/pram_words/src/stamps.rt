@@ -1,7 +1,7 @@
 //! Stamped words: the number of a step above a payload, in one word.
 ghost use Rattle.std.specs.Prelude.{◌≡◌};
 ghost use Rattle.pram_words.specs.Stamps.{stamped_word, stamp_of, payload_of};
-ghost use Rattle.pram_words.specs.Stamps.{newer_payload, older};
+ghost use Rattle.pram_words.specs.Stamps.{newer_payload, newer_word, older};
 
 /// The word with this stamp in its upper 32 bits and this payload in its lower 32. Words compare by
 /// their stamps first.
@@ -33,14 +33,22 @@ pub fn older(first: u64, second: u64) -> u32
     u32::from(stamp(first) > stamp(second))
 }
 
+/// The newer of the two words of a place.
+#[inline(always)]
+pub fn newer(first: u64, second: u64) -> u64
+    ensures { result ≡ newer_word first second }
+{
+    if stamp(first) <= stamp(second) {
+        second
+    } else {
+        first
+    }
+}
+
 /// The payload of the newer of the two words of a place.
 #[inline(always)]
 pub fn newer_payload(first: u64, second: u64) -> u32
     ensures { result ≡ newer_payload first second }
 {
-    if stamp(first) <= stamp(second) {
-        payload(second)
-    } else {
-        payload(first)
-    }
+    payload(newer(first, second))
 }

@@ -39,12 +39,6 @@ pub moves : (job : JobData) (y : LayoutData) (r : Record) (w : Walking) (words :
 moves job y r w words stands backed knows fits =
     workers_keep job y r w words stands fits knows backed
 
--- it stays known
-pub known_on : (job : JobData) (y : LayoutData) (r : Record) (w : Walking) (found : ℕ) →
-    Knows job y r w → Fitting job y w →
-    Knows job y (after r (ask_of job y w) found) (told job y w found)
-known_on job y r w found knows fits = knows_next job y r w found fits knows
-
 -- other workers stay known
 pub more : (job : JobData) (y : LayoutData) (r : Record) (op : Op) (found : ℕ) (w : Walking) →
     Knows job y r w → Knows job y (after r op found) w
@@ -61,7 +55,16 @@ pub hears_admitted : (job : JobData) (y : LayoutData) (words : List ℕ) (w : Wa
 hears_admitted job y words w stands fits = answer_admitted job y words (ask_of job y w) stands
     (all_ask job y w (board_of job y words stands) fits)
 
--- so it fits on
+-- so it stays known
+pub known_on : (job : JobData) (y : LayoutData) (r : Record) (w : Walking) (words : List ℕ) →
+    Stands job y words → Knows job y r w → Fitting job y w →
+    Knows job y (after r (ask_of job y w) (answer words (ask_of job y w)))
+    (told job y w (answer words (ask_of job y w)))
+known_on job y r w words stands knows fits =
+    knows_next job y r w (answer words (ask_of job y w)) (board_of job y words stands) fits knows
+    (hears_admitted job y words w stands fits)
+
+-- and fits on
 pub fits_on : (job : JobData) (y : LayoutData) (words : List ℕ) (w : Walking) → Stands job y words →
     Fitting job y w → Fitting job y (told job y w (answer words (ask_of job y w)))
 fits_on job y words w stands fits = fits_told job y w (answer words (ask_of job y w))

@@ -105,7 +105,7 @@ holds_step s made b w is h =
     let k = h.known b w is in
     let m = moves s.job s.layout made w s.words h.stands h.backed k.0 k.1 in
     let new = told s.job s.layout w (answer s.words (ask_of s.job s.layout w)) in
-    let knows = known_on s.job s.layout made w found k.0 k.1 in
+    let knows = known_on s.job s.layout made w s.words h.stands k.0 k.1 in
     let fits = fits_on s.job s.layout s.words w h.stands k.1 in
     record {
       stands = ((m.goes).keeps).stands;

@@ -1,38 +1,37 @@
 -- Lawful words show the machine: what a place held after each finished step, and which stamps are
 -- new.
-use Rattle.std.proofs.Common.{◌≡◌, ℕ, suc, ◌+◌, ◌-◌, ◌*◌, ◌<◌, ◌≤◌, List, slice_index}
-use Rattle.std.proofs.Common.{Some, IfSome, ap, subst, ◌∙◌, inl, inr, arith}
+use Rattle.std.proofs.Common.{◌≡◌, ℕ, suc, ◌-◌, ◌<◌, ◌≤◌, List, Some, IfSome, subst, inl, inr, refl}
+use Rattle.std.proofs.Common.{arith}
 use Rattle.std.proofs.lemmas.Bool.{cases_lt, le-leb, lt-leb}
 use Rattle.pram_job.specs.Job.{JobData}
-use Rattle.pram_step.specs.History.{IsWritten, last_write}
-use Rattle.pram_step.specs.Runs.{state_after}
-use Rattle.pram_step.proofs.Past.{last_most}
+use Rattle.pram_step.specs.History.{IsWritten}
 use Rattle.pram_words.specs.declared.words.Word.TheVariants.{Stored}
-use Rattle.pram_words.specs.Stamps.{stamp_of, payload_of}
+use Rattle.pram_words.specs.Phases.{next_phase}
+use Rattle.pram_words.specs.Stamps.{stamp_of, newer_word}
 use Rattle.pram_words.specs.Words.{LayoutData, IsWord, places_of}
-use Rattle.pram_words.specs.Stamps.{newer_payload}
 use Rattle.lawful_walk.specs.Board.{Stands, root, stamp_at, finished}
-use Rattle.lawful_walk.proofs.Facts.{WordsShow, facts, stamp_settled}
-use Rattle.lawful_walk.proofs.Places.{finished_held}
-use Rattle.lawful_walk.proofs.Values.{has_settled, phase_low}
-use Rattle.pram_world.specs.Interleavings.{ShowsMachine, newest_by, newest_upto}
+use Rattle.lawful_walk.specs.Lands.{phase_written}
+use Rattle.lawful_walk.proofs.Facts.{WordsShow, facts}
+use Rattle.lawful_walk.proofs.Places.{finished_held, last_held}
+use Rattle.lawful_walk.proofs.Values.{under_way}
+use Rattle.lawful_walk.proofs.Winners.{written_of}
+use Rattle.pram_world.specs.Interleavings.{ShowsMachine, Tells, newest_by, newest_upto}
 
 -- ---- the newest of two words up to a step, by the cases of their stamps
 
 newest_both : (x a b : ℕ) → stamp_of a ≤ x → stamp_of b ≤ x →
-    newest_by x a b ≡ Some (newer_payload a b)
-newest_both x a b low also = rw (le-leb (stamp_of a) x low, le-leb (stamp_of b) x also)
+    newest_by x a b ≡ Some (newer_word a b)
+newest_both x a b low also = rw (le-leb (stamp_of a) x low, le-leb (stamp_of b) x also) refl
 
-newest_first : (x a b : ℕ) → stamp_of a ≤ x → x < stamp_of b → newest_by x a b ≡ Some (payload_of a)
-newest_first x a b low high = rw (le-leb (stamp_of a) x low, lt-leb (stamp_of b) x high)
+newest_first : (x a b : ℕ) → stamp_of a ≤ x → x < stamp_of b → newest_by x a b ≡ Some a
+newest_first x a b low high = rw (le-leb (stamp_of a) x low, lt-leb (stamp_of b) x high) refl
 
-newest_second : (x a b : ℕ) → x < stamp_of a → stamp_of b ≤ x →
-    newest_by x a b ≡ Some (payload_of b)
-newest_second x a b high low = rw (lt-leb (stamp_of a) x high, le-leb (stamp_of b) x low)
+newest_second : (x a b : ℕ) → x < stamp_of a → stamp_of b ≤ x → newest_by x a b ≡ Some b
+newest_second x a b high low = rw (lt-leb (stamp_of a) x high, le-leb (stamp_of b) x low) refl
 
-newest_none : (x a b v : ℕ) → x < stamp_of a → x < stamp_of b →
-    IfSome (newest_by x a b) (λ u. u ≡ v)
-newest_none x a b v high also = rw (lt-leb (stamp_of a) x high, lt-leb (stamp_of b) x also) tt
+newest_none : (x a b : ℕ) (P : ℕ → Type 0) → x < stamp_of a → x < stamp_of b →
+    IfSome (newest_by x a b) P
+newest_none x a b P high also = rw (lt-leb (stamp_of a) x high, lt-leb (stamp_of b) x also) tt
 
 -- ---- words that stand
 
@@ -40,46 +39,33 @@ module _ (job : JobData) (y : LayoutData) (words : List ℕ) (stands : Stands jo
   shown : WordsShow job y words
   shown = facts job y words stands
 
-  -- one of the words of a place has a stamp up to the finished steps
-  one_low : (p : ℕ) → p < places_of y → finished y words < stamp_at y words p 0 →
-      finished y words < stamp_at y words p 1 → ⊥
-  one_low p place high also =
-      let most = last_most job (finished y words) p in
-      let settles = stamp_settled job y words (finished y words) stands.limits stands.sizes
-      stands.layout stands.lawful shown.root_low shown.root_high (finished y words) p in
-      elim (has_settled job _ _ p _ _ (stands.lawful.stored p place)) [
-        | inl e ↦ absurd (let s : stamp_at y words p 0 ≡ last_write job (finished y words) p =
-            ap stamp_of e ∙ settles in omega arith)
-        | inr e ↦ absurd (let s : stamp_at y words p 1 ≡ last_write job (finished y words) p =
-            ap stamp_of e ∙ settles in omega arith)
-      ]
-
-  some_is : (v u : ℕ) → v ≡ u → Some v ≡ Some u
-  some_is v u e = ap Some e
-
-  pub holds_now : (p : ℕ) → p < places_of y → newest_upto y words (finished y words) p
-      ≡ Some (slice_index (state_after job (finished y words)) p)
+  pub holds_now : (p : ℕ) → p < places_of y → (word : ℕ)
+      × (newest_upto y words (finished y words) p ≡ Some word)
+      × Tells job y (finished y words) p word
   holds_now p place =
       let x = finished y words in
       let h = finished_held job y words x p stands place (omega arith) in
       elim (cases_lt x (stamp_at y words p 0)) [
         | inl high ↦ elim (cases_lt x (stamp_at y words p 1)) [
-          | inl also ↦ absurd (one_low p place high also)
-          | inr low ↦ newest_second x _ _ high low ∙ some_is _ _ (h.1 low high)
+          | inl also ↦ absurd (elim (last_held job y words p stands place) [
+            | inl l ↦ omega (arith, l, high)
+            | inr l ↦ omega (arith, l, also)
+          ])
+          | inr low ↦ (_, newest_second x _ _ high low, h.1 low high)
         ]
         | inr low ↦ elim (cases_lt x (stamp_at y words p 1)) [
-          | inl high ↦ newest_first x _ _ low high ∙ some_is _ _ (h.0 low high)
-          | inr also ↦ newest_both x _ _ low also ∙ some_is _ _ (h.2 low also)
+          | inl high ↦ (_, newest_first x _ _ low high, h.0 low high)
+          | inr also ↦ (_, newest_both x _ _ low also, h.2 low also)
         ]
       ]
 
   pub holds_before : (x p : ℕ) → x ≤ finished y words → p < places_of y →
-      IfSome (newest_upto y words x p) (λ v. v ≡ slice_index (state_after job x) p)
+      IfSome (newest_upto y words x p) (Tells job y x p)
   holds_before x p upto place =
       let h = finished_held job y words x p stands place upto in
       elim (cases_lt x (stamp_at y words p 0)) [
         | inl high ↦ elim (cases_lt x (stamp_at y words p 1)) [
-          | inl also ↦ newest_none x _ _ _ high also
+          | inl also ↦ newest_none x _ _ (Tells job y x p) high also
           | inr low ↦ rw (newest_second x _ _ high low) (h.1 low high)
         ]
         | inr low ↦ elim (cases_lt x (stamp_at y words p 1)) [
@@ -90,16 +76,19 @@ module _ (job : JobData) (y : LayoutData) (words : List ℕ) (stands : Stands jo
 
   pub new_next : (p k : ℕ) → IsWord y (Stored p k) → finished y words < stamp_at y words p k →
       (stamp_at y words p k ≡ suc (finished y words)) × IsWritten job (finished y words) p
-      × (3 * finished y words + 1 ≤ root y words)
+      × (phase_written y.form job p (finished y words) ≤ next_phase y.form (root y words))
   new_next p k is less =
       let x = stamp_at y words p k - 1 in
       let e : stamp_at y words p k ≡ suc x = omega arith in
       let from = shown.stored_from x p k is e in
-      let low = phase_low job.rule x in
-      let late = from.2 in
-      let upto = shown.root_finished x (omega arith) in
-      let same : x ≡ finished y words = omega arith in
-      (omega arith, subst (λ (n : ℕ). IsWritten job n p) same from.1, omega arith)
+      let begun = under_way y.form job p x (root y words) from.2 in
+      let upto = shown.reached_finished x begun from.0 in
+      let same : x ≡ finished y words = omega arith in (
+        omega (arith, e, same),
+        subst (λ (n : ℕ). IsWritten job n p) same (written_of y.form job x p from.1),
+        subst (λ (n : ℕ). phase_written y.form job p n ≤ next_phase y.form (root y words)) same
+            from.2,
+      )
 
   pub shows_machine : ShowsMachine job y words (finished y words)
   shows_machine = record {

@@ -1,42 +1,48 @@
 -- What holds of a world at every moment of every run.
-use Rattle.std.specs.Prelude.{◌≡◌, ℕ, suc, ◌+◌, ◌*◌, ◌<◌, ◌≤◌, nat_le}
-use Rattle.std.specs.Prelude.{if◌then◌else◌, List, slice_index, Option, Some, None, IfSome}
+use Rattle.std.specs.Prelude.{◌≡◌, ℕ, suc, ◌+◌, ◌*◌, ◌<◌, ◌≤◌, nat_le, if◌then◌else◌, List}
+use Rattle.std.specs.Prelude.{slice_index, Option, Some, None, IfSome}
 use Rattle.pram_job.specs.Job.{JobData}
 use Rattle.pram_step.specs.History.{IsWritten}
 use Rattle.pram_step.specs.Runs.{IsReached, state_after}
 use Rattle.pram_words.specs.declared.words.Word.TheVariants.{Stored}
-use Rattle.pram_words.specs.Stamps.{stamp_of, payload_of}
+use Rattle.pram_words.specs.Stamps.{stamp_of, newer_word}
 use Rattle.pram_words.specs.Words.{LayoutData, IsWord, places_of}
+use Rattle.pram_words.specs.Phases.{next_phase}
 use Rattle.walkx.specs.declared.operation.Ended.{Ended}
 use Rattle.walkx.specs.declared.operation.Ended.TheVariants.{Done, Conflict}
 use Rattle.walkx.specs.Doing as doing
 use Rattle.walkx.specs.Records.{Record, Knows}
-use Rattle.pram_words.specs.Stamps.{newer_payload}
 use Rattle.walkx.specs.Walk.{Walking, Fits}
+use Rattle.walkx.specs.Counters.{worth}
 use Rattle.lawful_walk.specs.Board.{Grows, held, root, conflict, stamp_at, finished}
 use Rattle.lawful_walk.specs.Moments.{Backed}
 use Rattle.lawful_walk.specs.Walks.{IsConflict}
+use Rattle.lawful_walk.specs.Lands.{phase_written}
 use Rattle.pram_world.specs.declared.event.Event.{Event}
 use Rattle.pram_world.specs.Worlds.{WorldData, Walks, IsLawful, StaleChangesNothing, happens}
 
 -- ---- what the words show of the machine
 
--- of the two words of a place the payload of the newest with a stamp up to this step
+-- of the two words of a place the newest with a stamp up to this step
 abbrev pub newest_by : ℕ → ℕ → ℕ → Option ℕ
 newest_by step first second =
     if nat_le (stamp_of first) step
-    then (if nat_le (stamp_of second) step then Some (newer_payload first second)
-    else Some (payload_of first))
-    else (if nat_le (stamp_of second) step then Some (payload_of second) else None)
+    then (if nat_le (stamp_of second) step then Some (newer_word first second) else Some first)
+    else (if nat_le (stamp_of second) step then Some second else None)
 
 abbrev pub newest_upto : LayoutData → List ℕ → ℕ → ℕ → Option ℕ
 newest_upto layout words step place =
     newest_by step (held layout words (Stored place 0)) (held layout words (Stored place 1))
 
+-- the word stands for what the place holds after the step
+abbrev pub Tells : JobData → LayoutData → ℕ → ℕ → ℕ → Type 0
+Tells job layout step place word =
+    worth layout.form job step place word ≡ slice_index (state_after job step) place
+
 -- The words show t steps to be finished: the root is 3t, 3t + 1 or 3t + 2, or it is 3t + 3 and word
 -- 0 names step t + 1. These steps are reached, and the words hold the machine's state after the
 -- last of them, and of the earlier ones what they still have of it. A greater stamp is that of the
--- next step, which writes the place, and there is none while the root is 3t.
+-- next step, which writes the place, and there is none before the phase in which it does.
 pub record ShowsMachine (job : JobData) (layout : LayoutData) (words : List ℕ) (t : ℕ) :
     Type 0 where
   pub low : 3 * t ≤ root layout words
@@ -44,14 +50,13 @@ pub record ShowsMachine (job : JobData) (layout : LayoutData) (words : List ℕ)
   pub full : root layout words ≡ 3 * t + 3 → conflict layout words ≡ suc t
   pub reached : IsReached job t
   pub now : (place : ℕ) → place < places_of layout →
-      newest_upto layout words t place ≡ Some (slice_index (state_after job t) place)
+      (word : ℕ) × (newest_upto layout words t place ≡ Some word) × Tells job layout t place word
   pub before : (step place : ℕ) → step ≤ t → place < places_of layout →
-      IfSome (newest_upto layout words step place)
-      (λ value. value ≡ slice_index (state_after job step) place)
+      IfSome (newest_upto layout words step place) (Tells job layout step place)
   pub next : (place which : ℕ) → IsWord layout (Stored place which) →
       t < stamp_at layout words place which →
       (stamp_at layout words place which ≡ suc t) × IsWritten job t place
-      × (3 * t + 1 ≤ root layout words)
+      × (phase_written layout.form job place t ≤ next_phase layout.form (root layout words))
 
 -- ---- a world between two events
 

@@ -1,17 +1,19 @@
 //! What the words of a board answer.
 ghost use Rattle.std.specs.Prelude.{◌≡◌, ◌≢◌, ◌*◌, ◌<◌, length, IfOk};
-ghost use Rattle.pram_step.specs.Runs.{IsAnswer};
+ghost use Rattle.pram_step.specs.Runs.{IsAnswer, IsFault};
 ghost use Rattle.pram_step.specs.declared.answer.RunAnswer.TheVariants.{Conflict as Disputed};
 ghost use Rattle.pram_words.specs.Words.{length_of, places_of};
+ghost use Rattle.pram_words.specs.declared.layout.Form.TheVariants.{Compact};
 ghost use Rattle.pram_words.specs.declared.words.Word.TheVariants.{Asked, Stored};
 ghost use Rattle.lawful_walk.specs.Board.{Stands, conflict as conflict_in, held, root};
+ghost use Rattle.lawful_walk.specs.Walks.{IsConflict};
 ghost use Rattle.pram_world.specs.Inner.Telling.{AreNamed, Says, last_cells, newest_of};
 ghost use Rattle.pram_world.specs.Outcomes.{IsTold};
 
 use pram_job::Job;
 use pram_machine::Request;
-use pram_step::{Cells, Fault, RunAnswer, fault_of};
-use pram_words::{Layout, newer_payload, stamp};
+use pram_step::{Arrival, Cells, Fault, RunAnswer, fault_of, go_to};
+use pram_words::{Form, Layout, newer_payload, stamp};
 use std::alloc::{AllocError, Global};
 use walkx::request_of;
 
@@ -96,18 +98,35 @@ fn conflict(alloc: Global, job: &Job, layout: &Layout, words: &[u64]) -> Result<
     ensures { IfOk result (λ fault. IsAnswer job.now (Disputed fault)) }
 {
     let (named, _) = glance(layout, words);
-    let requests = requests(alloc, job, layout, words)?;
-    fault_of(alloc, job, named as u32, requests.as_slice())
+    match layout.form() {
+        Form::Compact => {
+            let requests = requests(alloc, job, layout, words)?;
+            fault_of(alloc, job, named as u32, requests.as_slice())
+        }
+        Form::Wide(_) => replayed(alloc, job, named as u32),
+    }
 }
 
-// The requests of the step that word 0 names.
+// The conflict of a step, as the plain machine comes upon it.
+fn replayed(alloc: Global, job: &Job, step: u32) -> Result<Fault, AllocError>
+    requires { IsConflict job.now step }
+    ensures { IfOk result (IsFault job.now) }
+{
+    match go_to(alloc, job, step, job.steps())? {
+        Arrival::Disputed(fault) => Ok(fault),
+        Arrival::Reached(_) | Arrival::TooFar => unreachable!(),
+    }
+}
+
+// The requests of the step that word 0 names, which the compact form has.
 fn requests(
     alloc: Global,
     job: &Job,
     layout: &Layout,
     words: &[u64],
 ) -> Result<Vec<Request>, AllocError>
-    requires { Stands job.now layout.now words.now }
+    requires stands { Stands job.now layout.now words.now }
+    requires compact { layout.now.form ≡ Compact }
     ensures each { IfOk result (λ requests. length requests.items ≡ job.now.procs) }
     ensures are { IfOk result (λ requests. AreNamed job.now layout.now words.now requests.items) }
 {

@@ -1,5 +1,5 @@
 -- A job's board: words and what they may have.
-use Rattle.std.proofs.Common.{◌≡◌, ℕ, ◌+◌, ◌*◌, ◌^◌, ◌<◌, ◌≤◌, Bool, true, false}
+use Rattle.std.proofs.Common.{◌≡◌, ℕ, ◌+◌, ◌*◌, ◌^◌, ◌<◌, ◌≤◌, Bool, true, false, IsTrue}
 use Rattle.std.proofs.Common.{if◌then◌else◌, Option, Some, None, ap, refl, inl, inr, arith}
 use Rattle.pram_job.specs.Job.{JobData}
 use Rattle.pram_machine.specs.declared.requests.Request.{Request}
@@ -8,7 +8,7 @@ use Rattle.pram_machine.specs.Machine.{IsDataPlace}
 use Rattle.pram_words.proofs.Numbering.{ranges, numbering, cases_form, form_wide}
 use Rattle.pram_words.specs.declared.words.Word.{Word}
 use Rattle.pram_words.specs.declared.words.Word.TheVariants.{Conflict, Node, Asked, Position}
-use Rattle.pram_words.specs.Phases.{step_at}
+use Rattle.pram_words.specs.Phases.{step_at, has_phase}
 use Rattle.pram_words.specs.Stamps.{stamped_word, payload_of}
 use Rattle.pram_words.specs.Words.{LayoutData, IsLayout, IsWord, IsInRange, IsStamped, Admits}
 use Rattle.pram_words.specs.Words.{number_of, length_of, claims_at, wide_claims_at, most_asked}
@@ -34,7 +34,17 @@ is_below job y a board is = (numbering y board.layout).below a is
 pub root_most : (job : JobData) (y : LayoutData) (root : ℕ) → IsBoard job y →
     Admits y job (number_of y (Node 1)) root → root ≤ 3 * job.steps
 root_most job y root board admitted =
-    in_range job y (Node 1) root board (omega arith, omega (arith, board.layout.leaves)) admitted
+    let range =
+    in_range job y (Node 1) root board (omega arith, omega (arith, board.layout.leaves)) admitted in
+    range.0
+
+-- and a phase of the form
+pub root_formed : (job : JobData) (y : LayoutData) (root : ℕ) → IsBoard job y →
+    Admits y job (number_of y (Node 1)) root → IsTrue (has_phase y.form root)
+root_formed job y root board admitted =
+    let range =
+    in_range job y (Node 1) root board (omega arith, omega (arith, board.layout.leaves)) admitted in
+    range.1
 
 pub conflict_most : (job : JobData) (y : LayoutData) (u : ℕ) → IsBoard job y →
     Admits y job (number_of y Conflict) u → u ≤ job.steps

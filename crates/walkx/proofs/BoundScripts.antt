@@ -1,5 +1,5 @@
 -- What each script of a worker leads to, and that its operations are few.
-use Rattle.std.proofs.Common.{◌≡◌, ℕ, ◌+◌, ◌-◌, ◌*◌, ◌%◌, ◌<◌, ◌≤◌, ◌==◌, List, ◌∷◌}
+use Rattle.std.proofs.Common.{◌≡◌, ℕ, ◌+◌, ◌-◌, ◌*◌, ◌%◌, ◌<◌, ◌≤◌, ◌==◌, IsTrue, List, ◌∷◌}
 use Rattle.std.proofs.Common.{refl, ap, ◌∙◌, inl, inr, min, add-mul, mul-le-mul_right, arith}
 use Rattle.std.proofs.Math.Nat.{mul-add}
 use Rattle.std.proofs.lemmas.Bool.{cases_lt, cond_both, eq-eqb, eqb-false}
@@ -7,7 +7,9 @@ use Rattle.pram_job.specs.Job.{JobData}
 use Rattle.pram_words.specs.Tree.{leaves_of}
 use Rattle.pram_words.specs.Words.{LayoutData, IsLayout, grain, number_of}
 use Rattle.pram_words.proofs.Blocks.{tasks_fit}
+use Rattle.pram_words.proofs.NextPhases.{has_next, next_above, next_within}
 use Rattle.pram_words.proofs.Numbering.{grain_some}
+use Rattle.pram_words.specs.Phases.{has_phase, next_phase}
 use Rattle.pram_words.specs.declared.words.Word.TheVariants.{Conflict, Node, Position}
 use Rattle.walkx.specs.declared.operation.Op.{Op}
 use Rattle.walkx.specs.declared.operation.Op.TheVariants.{Load, Max}
@@ -68,10 +70,11 @@ abbrev pub To : JobData → LayoutData → ℕ → Then → List (Op × ℕ) →
 To job y most (begins n) history =
     (1 ≤ n) × (n < 2 * y.leaves) × (later_weight job y history n doing.Begin + 2 ≤ most)
 To job y most (turns n q) history = (1 ≤ n) × (n < 2 * y.leaves) × (1 ≤ q) × (q ≤ 3 * job.steps)
-    × (later_weight job y history n (doing.Turn q) + 16 ≤ most)
+    × (later_weight job y history n (doing.Turn q) + 16 ≤ most) × IsTrue (has_phase y.form q)
 To job y most (works n q rank) history = (1 ≤ n) × (y.leaves ≤ n) × (n < 2 * y.leaves) × (1 ≤ q)
     × (q ≤ 3 * job.steps) × (1 ≤ rank) × (rank ≤ others y)
     × (later_weight job y history n (doing.Part q rank) + 16 ≤ most)
+    × IsTrue (has_phase y.form q)
 To job y most (stops e) history = Unit {0}
 
 -- ---- weights of phases
@@ -177,8 +180,17 @@ begin_leads job y w n before leaves some inside = (
   where
     enters : (history : List (Op × ℕ)) (root : ℕ) →
         low_of y before 1 ≤ root → root < 3 * job.steps →
-        To job y (later_weight job y before n doing.Begin) (turns n (root + 1)) history
+        To job y (later_weight job y before n doing.Begin)
+        (turns n (next_phase y.form root)) history
     enters history root rises h =
+        let above = (next_above y.form root).0 in
+        let within = next_within y.form root job.steps h in
         let phase = phase_enters job y history n
-        (root + 1) (3 * job.steps - low_of y before 1) leaves (omega arith) in
-        (some, inside, omega arith, omega arith, unfold later_weight in omega arith)
+        (next_phase y.form root) (3 * job.steps - low_of y before 1) leaves (omega arith) in (
+          some,
+          inside,
+          omega arith,
+          within,
+          unfold later_weight in omega arith,
+          has_next y.form root,
+        )

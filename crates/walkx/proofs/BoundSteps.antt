@@ -26,7 +26,7 @@ use Rattle.walkx.proofs.BoundWalk.{Sound, Less, after_weight, step}
 
 -- each script leads from its start to what follows it
 script_leads : (job : JobData) (y : LayoutData) (w n : ℕ) (now : Doing) (before : List (Op × ℕ)) →
-    IsLayout y → 1 ≤ n → n < 2 * y.leaves → IsPhase job now → IsInBlock y n now → IsGoing now →
+    IsLayout y → 1 ≤ n → n < 2 * y.leaves → IsPhase job y now → IsInBlock y n now → IsGoing now →
     Leads job y w (To job y (later_weight job y before n now))
     (script_by job y w n now) (longest now) before
 script_leads job y w n doing.Back before limits some inside phase block going =
@@ -34,9 +34,9 @@ script_leads job y w n doing.Back before limits some inside phase block going =
 script_leads job y w n doing.Begin before limits some inside phase block going =
     begin_leads job y w n before limits some inside
 script_leads job y w n (doing.Turn q) before limits some inside phase block going =
-    turn_leads job y w n q before some inside phase.0 phase.1
+    turn_leads job y w n q before some inside phase.0 phase.1 phase.2
 script_leads job y w n (doing.Part q rank) before limits some inside phase block going =
-    part_leads job y w n q rank before some block.0 inside phase.0 phase.1
+    part_leads job y w n q rank before some block.0 inside phase.0 phase.1 phase.2
 script_leads job y w n (doing.Over e) before limits some inside phase block going = absurd going
 
 -- and from where these answers bring it
@@ -190,7 +190,7 @@ lighter job y w leaves fits (found ∷ earlier) going may =
 -- ---- the weight at the start
 
 start_weight : (job : JobData) (y : LayoutData)
-    (history : List (Op × ℕ)) (n heard : ℕ) (now : Doing) → IsLayout y → IsPhase job now →
+    (history : List (Op × ℕ)) (n heard : ℕ) (now : Doing) → IsLayout y → IsPhase job y now →
     IsInBlock y n now →
     later_weight job y history n now + (longest now - heard)
     ≤ 288 * leaves_of y.procs * job.steps + 3

@@ -1,4 +1,4 @@
--- How many operations the tasks have before what follows them.
+-- How many operations the tasks of the compact form have before what follows them.
 use Rattle.std.proofs.Common.{ℕ, ◌+◌, ◌-◌, ◌*◌, ◌≤◌, Bool, ◌||◌, ◌==◌, nat_lt, if◌then◌else◌}
 use Rattle.std.proofs.Common.{List, [], ◌∷◌, ◌++◌, length, slice_get, Option, Some, None, arith}
 use Rattle.std.proofs.lemmas.Bool.{cond_both}
@@ -36,24 +36,24 @@ pub record IsWithin {R : Type 0} (G : ℕ → Script R → Type 0) : Type 0 wher
       ((found : ℕ) → G k (next found)) → G j (asks op next)
   pub more : (j k : ℕ) (script : Script R) → k ≤ j → G k script → G j script
 
-one_of : {R : Type 0} (G : ℕ → Script R → Type 0) (k : ℕ) (b : Bool) (s t : Script R) → G k s →
+pub one_of : {R : Type 0} (G : ℕ → Script R → Type 0) (k : ℕ) (b : Bool) (s t : Script R) → G k s →
     G k t → G k (if b then s else t)
 one_of G k b s t p q = cond_both b s t (G k) (λ _. p) (λ _. q)
 
-loads_both_within : {R : Type 0} (G : ℕ → Script R → Type 0) →
+pub loads_both_within : {R : Type 0} (G : ℕ → Script R → Type 0) →
     IsWithin G → (k : ℕ) (y : LayoutData) (p : ℕ) (next : ℕ → ℕ → Script R) →
     ((a b : ℕ) → G k (next a b)) → G (k + 2) (loads_both y p next)
 loads_both_within G is k y p next each =
     is.step (k + 2) (k + 1) _ _ (omega arith)
     (λ a. is.step (k + 1) k _ _ (omega arith) (λ b. each a b))
 
-reads_place_within : {R : Type 0} (G : ℕ → Script R → Type 0) →
+pub reads_place_within : {R : Type 0} (G : ℕ → Script R → Type 0) →
     IsWithin G → (k : ℕ) (y : LayoutData) (t p : ℕ) (after : Script R) (next : ℕ → Script R) →
     G k after → ((v : ℕ) → G k (next v)) → G (k + 2) (reads_place y t p after next)
 reads_place_within G is k y t p after next late each =
     loads_both_within G is k y p _ (λ a b. one_of G k _ _ _ late (each _))
 
-writes_place_within : {R : Type 0} (G : ℕ → Script R → Type 0) →
+pub writes_place_within : {R : Type 0} (G : ℕ → Script R → Type 0) →
     IsWithin G → (k : ℕ) (y : LayoutData) (t p value : ℕ) (after : Script R) →
     G k after → G (k + 3) (writes_place y t p value after)
 writes_place_within G is k y t p value after late =
@@ -68,7 +68,7 @@ one_among : (operand : Operand) → length (registers_in operand) ≤ 1
 one_among (Register r) = omega arith
 one_among (Number n) = omega arith
 
-few_among : (operands : Operands) → length (read_by operands) ≤ 2
+pub few_among : (operands : Operands) → length (read_by operands) ≤ 2
 few_among Bare = omega arith
 few_among (Target r) = omega arith
 few_among (TargetNumber r k) = omega arith
@@ -86,7 +86,7 @@ few_among (Index index) = omega arith
 sources_few : (instr : Instr) → length (sources_of instr) ≤ 2
 sources_few instr = few_among (row_of instr).1
 
-reads_registers_within : {R : Type 0} (G : ℕ → Script R → Type 0) → IsWithin G →
+pub reads_registers_within : {R : Type 0} (G : ℕ → Script R → Type 0) → IsWithin G →
     (j k : ℕ) (job : JobData) (y : LayoutData)
     (t i : ℕ) (rs values : List ℕ) (after : Script R) (next : List ℕ → Script R) →
     2 * length rs + k ≤ j → G k after → ((vs : List ℕ) → G k (next vs)) →
@@ -99,7 +99,7 @@ reads_registers_within G is j k job y t i (r ∷ rs) values after next fits late
     (λ v. reads_registers_within G is (j - 2) k job y t i rs
     (values ++ v ∷ []) after next (omega arith) late each))
 
-reads_cell_within : {R : Type 0} (G : ℕ → Script R → Type 0) → IsWithin G →
+pub reads_cell_within : {R : Type 0} (G : ℕ → Script R → Type 0) → IsWithin G →
     (k : ℕ) (y : LayoutData) (t : ℕ) (c : Option ℕ) (after : Script R) (next : ℕ → Script R) →
     G k after → ((v : ℕ) → G k (next v)) → G (k + 2) (reads_cell y t c after next)
 reads_cell_within G is k y t None after next late each = is.more (k + 2) k _ (omega arith) (each 0)
@@ -154,7 +154,7 @@ hears_all_within G is k y t i after next late each =
     hears_part_within G is (k + 1) y t i 1 after _ (is.more (k + 1) k after (omega arith) late)
     (λ b. hears_part_within G is k y t i 2 after _ late (λ c. each a b c)))
 
-claims_within : {R : Type 0} (G : ℕ → Script R → Type 0) → IsWithin G →
+pub claims_within : {R : Type 0} (G : ℕ → Script R → Type 0) → IsWithin G →
     (k : ℕ) (job : JobData) (y : LayoutData) (t i p : ℕ) (after : Script R) →
     G k after → G (k + 1) (claims job y t i p after)
 claims_within G is k job y t i p after late =
@@ -192,7 +192,7 @@ crew_apply_within G is k job y t i after late =
     one_of G (k + 3 + 3 + 1) (place == 0) _ _ (is.more (k + 3 + 3 + 1) (k + 3 + 3) _
     (omega arith) carried) (claims_within G is (k + 3 + 3) job y t i (place - 1) _ carried)))
 
-reports_within : {R : Type 0} (G : ℕ → Script R → Type 0) →
+pub reports_within : {R : Type 0} (G : ℕ → Script R → Type 0) →
     IsWithin G → (k : ℕ) (y : LayoutData) (t : ℕ) (b : Bool) (after : Script R) →
     G k after → G (k + 1) (if b then reports y t after else after)
 reports_within G is k y t b after late =

@@ -5,7 +5,7 @@ use Rattle.std.proofs.Common.{List, ◌∷◌, refl, sym, ◌∙◌, inl, inr, a
 use Rattle.std.proofs.lemmas.Bool.{cases_lt, cond_both, le-leb, lt-leb}
 use Rattle.std.proofs.lemmas.Bool.{eqb-true, eqb-false, leb-true, leb-false}
 use Rattle.pram_job.specs.Job.{JobData}
-use Rattle.pram_words.specs.Phases.{step_at, kind_at}
+use Rattle.pram_words.specs.Phases.{step_at, kind_at, has_phase}
 use Rattle.pram_words.specs.Ways.{turns_right_in}
 use Rattle.pram_words.specs.Words.{LayoutData, number_of}
 use Rattle.pram_words.specs.declared.words.Word.TheVariants.{Node, Position}
@@ -19,9 +19,13 @@ use Rattle.walkx.proofs.BoundWeight.{low_of, others, turns_left, later_weight}
 use Rattle.walkx.proofs.Firsts.{rank_parts}
 use Rattle.walkx.proofs.BoundTurns.{Grown, marked_less, up_less, down_less, first_less, next_less}
 use Rattle.walkx.proofs.BoundTurns.{last_less}
-use Rattle.walkx.proofs.BoundTasks.{task_within}
+use Rattle.walkx.proofs.BoundPasses.{form_within}
 use Rattle.walkx.proofs.BoundScripts.{Leads, LeadsOn, leads_more, leads_on_within, grown_more}
 use Rattle.walkx.proofs.BoundScripts.{grown_self, low_loaded, low_raised, phases_fewer, To}
+
+-- the phase is one of the form
+abbrev pub Formed : LayoutData → ℕ → Type 0
+Formed y q = IsTrue (has_phase y.form q)
 
 -- ---- what a turn leads to
 
@@ -31,12 +35,12 @@ turn_weight job y before n q = later_weight job y before n (doing.Turn q)
 
 -- the next turn, at node m
 turn_to : (job : JobData) (y : LayoutData) (before history : List (Op × ℕ)) (n m q : ℕ) →
-    1 ≤ m → m < 2 * y.leaves → 1 ≤ q → q ≤ 3 * job.steps →
+    1 ≤ m → m < 2 * y.leaves → 1 ≤ q → q ≤ 3 * job.steps → Formed y q →
     turns_left y history q m < turns_left y before q n →
     To job y (turn_weight job y before n q) (turns m q) history
 unfolding turn_weight later_weight
-turn_to job y before history n m q some inside first last less =
-    (some, inside, first, last, omega arith)
+turn_to job y before history n m q some inside first last formed less =
+    (some, inside, first, last, omega arith, formed)
 
 -- the next phase, which begins at the root
 next_to : (job : JobData) (y : LayoutData) (before history : List (Op × ℕ)) (n q : ℕ) →
@@ -51,45 +55,47 @@ next_to job y before history n q leaves done =
 -- the task of the next processor of a block
 first_to : (job : JobData) (y : LayoutData) (before history : List (Op × ℕ)) (n q : ℕ) →
     Grown before history → 1 ≤ n → y.leaves ≤ n → n < 2 * y.leaves → 1 ≤ q → q ≤ 3 * job.steps →
+    Formed y q →
     low_of y before n < q → 1 ≤ others y →
     To job y (turn_weight job y before n q) (works n q 1) history
 unfolding turn_weight later_weight
-first_to job y before history n q grown some leaf inside first last unmarked few =
+first_to job y before history n q grown some leaf inside first last formed unmarked few =
     let less = first_less y before history q n grown some leaf inside unmarked few in
-    (some, leaf, inside, first, last, omega arith, few, omega arith)
+    (some, leaf, inside, first, last, omega arith, few, omega arith, formed)
 
 next_part : (job : JobData) (y : LayoutData) (before history : List (Op × ℕ)) (n q rank : ℕ) →
     Grown before history → 1 ≤ n → y.leaves ≤ n → n < 2 * y.leaves → 1 ≤ q → q ≤ 3 * job.steps →
+    Formed y q →
     suc rank ≤ others y →
     To job y (later_weight job y before n (doing.Part q rank)) (works n q (suc rank)) history
 unfolding later_weight
-next_part job y before history n q rank grown some leaf inside first last few =
+next_part job y before history n q rank grown some leaf inside first last formed few =
     let less = next_less y before history q n rank grown some inside few in
-    (some, leaf, inside, first, last, omega arith, few, omega arith)
+    (some, leaf, inside, first, last, omega arith, few, omega arith, formed)
 
 -- the leaf is marked after the last one
 part_marked : (job : JobData) (y : LayoutData) (before history : List (Op × ℕ)) (n q rank : ℕ) →
-    Grown before history → 1 ≤ n → n < 2 * y.leaves → 1 ≤ q → q ≤ 3 * job.steps →
+    Grown before history → 1 ≤ n → n < 2 * y.leaves → 1 ≤ q → q ≤ 3 * job.steps → Formed y q →
     q ≤ low_of y history n →
     To job y (later_weight job y before n (doing.Part q rank)) (turns n q) history
 unfolding later_weight
-part_marked job y before history n q rank grown some inside first last done =
+part_marked job y before history n q rank grown some inside first last formed done =
     let less = last_less y before history q n rank grown some inside done in
-    (some, inside, first, last, omega arith)
+    (some, inside, first, last, omega arith, formed)
 
 -- ---- a node is marked
 
 marks_leads : (job : JobData) (y : LayoutData) (w : ℕ) (before : List (Op × ℕ)) (n q : ℕ) →
-    1 ≤ n → n < 2 * y.leaves → 1 ≤ q → q ≤ 3 * job.steps → low_of y before n < q →
+    1 ≤ n → n < 2 * y.leaves → 1 ≤ q → q ≤ 3 * job.steps → Formed y q → low_of y before n < q →
     LeadsOn job y w (To job y (turn_weight job y before n q)) before 1 (marks_node y n q)
-marks_leads job y w before n q some inside first last unmarked = λ history grown. (
+marks_leads job y w before n q some inside first last formed unmarked = λ history grown. (
   omega arith,
   λ found may.
       let longer = grown_more before history (Max (number_of y (Node n)) q) found grown in
       let less = marked_less y before ((Max (number_of y (Node n)) q, found) ∷ history) q
       n longer some inside unmarked (low_raised history (number_of y (Node n)) q found) in
       turn_to job y before ((Max (number_of y (Node n)) q, found) ∷ history)
-      n n q some inside first last less,
+      n n q some inside first last formed less,
 )
 
 -- ---- a leaf
@@ -101,44 +107,45 @@ part_leads_to : (job : JobData) (y : LayoutData) (w : ℕ) (before : List (Op ×
 unfolding part_script
 part_leads_to job y w before n q rank most next =
     let is = leads_on_within job y w (To job y most) before in
-    task_within (LeadsOn job y w (To job y most) before) is 1 job.rule (kind_at q) job y (step_at q)
-    (processor_at y n rank) (after_part y n q rank) next
+    form_within (LeadsOn job y w (To job y most) before) is y 1 y.form job.rule (kind_at q) job
+    (step_at q) (processor_at y n rank) (after_part y n q rank) next
 
 rank_few : (y : LayoutData) (n rank : ℕ) → IsTrue (has_rank y n (suc rank)) → suc rank ≤ others y
 rank_few y n rank there = let h = rank_parts y n (suc rank) there in omega (arith, h.0, h.1)
 
 leaf_leads : (job : JobData) (y : LayoutData) (w : ℕ) (before : List (Op × ℕ)) (n q : ℕ) →
-    1 ≤ n → y.leaves ≤ n → n < 2 * y.leaves → 1 ≤ q → q ≤ 3 * job.steps → low_of y before n < q →
+    1 ≤ n → y.leaves ≤ n → n < 2 * y.leaves → 1 ≤ q → q ≤ 3 * job.steps → Formed y q →
+    low_of y before n < q →
     LeadsOn job y w (To job y (turn_weight job y before n q)) before 12 (leaf_script job y n q)
-leaf_leads job y w before n q some leaf inside first last unmarked =
+leaf_leads job y w before n q some leaf inside first last formed unmarked =
     let to = To job y (turn_weight job y before n q) in
     let is = leads_on_within job y w to before in
-    let marked = marks_leads job y w before n q some inside first last unmarked in
+    let marked = marks_leads job y w before n q some inside first last formed unmarked in
     cond_both (has_rank y n 0) _ _ (λ script. LeadsOn job y w to before 12 script)
     (λ e. part_leads_to job y w before n q 0 (turn_weight job y before n q)
     (cond_both (has_rank y n 1) _ _ (λ script. LeadsOn job y w to before 1 script)
     (λ more history grown. let few = rank_few y n 0 more in
-    first_to job y before history n q grown some leaf inside first last unmarked few)
+    first_to job y before history n q grown some leaf inside first last formed unmarked few)
     (λ none. marked)))
     (λ e. is.more 12 1 (marks_node y n q) (omega arith) marked)
 
 -- the task of another processor
 pub part_leads : (job : JobData) (y : LayoutData) (w n q rank : ℕ) (before : List (Op × ℕ)) →
-    1 ≤ n → y.leaves ≤ n → n < 2 * y.leaves → 1 ≤ q → q ≤ 3 * job.steps →
+    1 ≤ n → y.leaves ≤ n → n < 2 * y.leaves → 1 ≤ q → q ≤ 3 * job.steps → Formed y q →
     Leads job y w (To job y (later_weight job y before n (doing.Part q rank)))
     (part_script job y n q rank) 16 before
-part_leads job y w n q rank before some leaf inside first last =
+part_leads job y w n q rank before some leaf inside first last formed =
     let most = later_weight job y before n (doing.Part q rank) in
     leads_more job y w (To job y most) (part_script job y n q rank) 16 12 before (omega arith)
     (part_leads_to job y w before n q rank most
     (cond_both (has_rank y n (suc rank)) _ _ (λ script. LeadsOn job y w (To job y most) before 1
     script) (λ more history grown. let few = rank_few y n rank more in
-    next_part job y before history n q rank grown some leaf inside first last few)
+    next_part job y before history n q rank grown some leaf inside first last formed few)
     (λ none history grown. (
       omega arith,
       λ found may. part_marked job y before ((Max (number_of y (Node n)) q, found) ∷ history) n q
           rank (grown_more before history (Max (number_of y (Node n)) q) found grown) some inside
-          first last (low_raised history (number_of y (Node n)) q found),
+          first last formed (low_raised history (number_of y (Node n)) q found),
     ))) before (grown_self before))
 
 -- ---- another node is stood at
@@ -153,12 +160,12 @@ stands_leads job y w before history n m q k h to =
 
 up_leads : (job : JobData) (y : LayoutData) (w : ℕ) (before history : List (Op × ℕ)) (n q k : ℕ) →
     Grown before history → 1 < n →
-    n < 2 * y.leaves → 1 ≤ q → q ≤ 3 * job.steps → q ≤ low_of y history n → 1 ≤ k →
+    n < 2 * y.leaves → 1 ≤ q → q ≤ 3 * job.steps → Formed y q → q ≤ low_of y history n → 1 ≤ k →
     Leads job y w (To job y (turn_weight job y before n q)) (stands_at y w (n / 2) q) k history
-up_leads job y w before history n q k grown some inside first last done h =
+up_leads job y w before history n q k grown some inside first last formed done h =
     stands_leads job y w before history n (n / 2) q k h (λ op found.
     turn_to job y before ((op, found) ∷ history) n (n / 2) q (omega arith) (omega arith) first last
-    (up_less y before ((op, found) ∷ history) q n
+    formed (up_less y before ((op, found) ∷ history) q n
     (grown_more before history op found grown) some inside (omega arith)))
 
 -- the child that is entered is an unfinished one
@@ -184,12 +191,13 @@ way_down_is y w n q l r some = elim (cases_lt l q) [
 
 down_leads : (job : JobData) (y : LayoutData)
     (w : ℕ) (before history : List (Op × ℕ)) (n q l r child k : ℕ) →
-    Grown before history → 1 ≤ n → n < y.leaves → 1 ≤ q → q ≤ 3 * job.steps →
+    Grown before history → 1 ≤ n → n < y.leaves → 1 ≤ q → q ≤ 3 * job.steps → Formed y q →
     low_of y before (2 * n) ≤ l → low_of y before (2 * n + 1) ≤ r →
     IsWayDown n q l r child → 1 ≤ k →
     Leads job y w (To job y (turn_weight job y before n q)) (stands_at y w child q) k history
 unfolding IsWayDown
-down_leads job y w before history n q l r child k grown some inner first last left right way h =
+down_leads job y w before history n q l r child k grown some inner first last formed left right way
+    h =
     stands_leads job y w before history n child q k h (λ op found. elim way [
       | inl c ↦ to op found child (omega arith) (omega arith) (rw c.0 (omega arith))
       | inr c ↦ to op found child (omega arith) (omega arith) (rw c.0 (omega arith))
@@ -198,7 +206,7 @@ down_leads job y w before history n q l r child k grown some inner first last le
     to : (op : Op) (found m : ℕ) → m / 2 ≡ n → m < 2 * y.leaves → low_of y before m < q →
         To job y (turn_weight job y before n q) (turns m q) ((op, found) ∷ history)
     to op found m parent inside unmarked =
-        turn_to job y before ((op, found) ∷ history) n m q (omega arith) inside first last
+        turn_to job y before ((op, found) ∷ history) n m q (omega arith) inside first last formed
         (down_less y before ((op, found) ∷ history) q n m
         (grown_more before history op found grown) some parent inside unmarked)
 
@@ -207,35 +215,35 @@ down_leads job y w before history n q l r child k grown some inner first last le
 -- what an inner node's children lead to, having been heard
 inner_leads : (job : JobData) (y : LayoutData) (w : ℕ)
     (before history : List (Op × ℕ)) (n q l r : ℕ) → Grown before history →
-    1 ≤ n → n < y.leaves → 1 ≤ q → q ≤ 3 * job.steps → low_of y before n < q →
+    1 ≤ n → n < y.leaves → 1 ≤ q → q ≤ 3 * job.steps → Formed y q → low_of y before n < q →
     low_of y before (2 * n) ≤ l → low_of y before (2 * n + 1) ≤ r →
     Leads job y w (To job y (turn_weight job y before n q))
     (if nat_le q l && nat_le q r then marks_node y n q else stands_at y w (way_down y w n q l r) q)
     13 history
-inner_leads job y w before history n q l r grown some inner first last unmarked left right =
+inner_leads job y w before history n q l r grown some inner first last formed unmarked left right =
     let to = To job y (turn_weight job y before n q) in
     cond_both (nat_le q l && nat_le q r) _ _ (λ script. Leads job y w to script 13 history)
     (λ e. leads_more job y w to (marks_node y n q) 13 1 history (omega arith)
-    (marks_leads job y w before n q some (omega arith) first last unmarked history grown))
+    (marks_leads job y w before n q some (omega arith) first last formed unmarked history grown))
     (λ e. down_leads job y w before history n q l r (way_down y w n q l r) 13 grown some inner first
-    last left right (way_down_is y w n q l r e) (omega arith))
+    last formed left right (way_down_is y w n q l r e) (omega arith))
 
 -- what an unfinished node leads to
 unfinished_leads : (job : JobData) (y : LayoutData)
     (w : ℕ) (before history : List (Op × ℕ)) (n q : ℕ) → Grown before history →
-    1 ≤ n → n < 2 * y.leaves → 1 ≤ q → q ≤ 3 * job.steps → low_of y before n < q →
+    1 ≤ n → n < 2 * y.leaves → 1 ≤ q → q ≤ 3 * job.steps → Formed y q → low_of y before n < q →
     Leads job y w (To job y (turn_weight job y before n q))
     (if nat_le y.leaves n then leaf_script job y n q
     else asks (Load (number_of y (Node (2 * n))))
     (λ l. asks (Load (number_of y (Node (2 * n + 1)))) (λ r.
     if nat_le q l && nat_le q r then marks_node y n q else stands_at y w (way_down y w n q l r) q)))
     15 history
-unfinished_leads job y w before history n q grown some inside first last unmarked =
+unfinished_leads job y w before history n q grown some inside first last formed unmarked =
     let to = To job y (turn_weight job y before n q) in
     cond_both (nat_le y.leaves n) _ _ (λ script. Leads job y w to script 15 history)
     (λ e. leads_more job y w to (leaf_script job y n q) 15 12 history
     (omega arith) (leaf_leads job y w before n q some (leb-true y.leaves n e) inside first last
-    unmarked history grown))
+    formed unmarked history grown))
     (λ e. let inner = leb-false y.leaves n e in (
       omega arith,
       λ l may.
@@ -250,30 +258,31 @@ unfinished_leads job y w before history n q grown some inside first last unmarke
                 ∷ (Load (number_of y (Node (2 * n))), l) ∷ history) n q l r
                 (grown_more before ((Load (number_of y (Node (2 * n))), l) ∷ history)
                 (Load (number_of y (Node (2 * n + 1)))) r more)
-                some inner first last unmarked (omega arith) (omega arith),
+                some inner first last formed unmarked (omega arith) (omega arith),
           ),
     ))
 
 -- what a finished node leads to
 finished_leads : (job : JobData) (y : LayoutData)
     (w : ℕ) (before history : List (Op × ℕ)) (n q : ℕ) → Grown before history →
-    1 ≤ n → n < 2 * y.leaves → 1 ≤ q → q ≤ 3 * job.steps → q ≤ low_of y history n →
+    1 ≤ n → n < 2 * y.leaves → 1 ≤ q → q ≤ 3 * job.steps → Formed y q → q ≤ low_of y history n →
     Leads job y w (To job y (turn_weight job y before n q))
     (if n == 1 then ends (begins 1) else stands_at y w (n / 2) q) 15 history
-finished_leads job y w before history n q grown some inside first last done =
+finished_leads job y w before history n q grown some inside first last formed done =
     let to = To job y (turn_weight job y before n q) in
     cond_both (n == 1) _ _ (λ script. Leads job y w to script 15 history)
     (λ e. let root : 1 ≡ n = sym (eqb-true n 1 e) in
     next_to job y before history n q (omega arith) (rw root done))
     (λ e. let other = eqb-false n 1 e in
-    up_leads job y w before history n q 15 grown (omega arith) inside first last done (omega arith))
+    up_leads job y w before history n q 15 grown (omega arith) inside first last formed done
+    (omega arith))
 
 pub turn_leads : (job : JobData) (y : LayoutData) (w n q : ℕ) (before : List (Op × ℕ)) →
-    1 ≤ n → n < 2 * y.leaves → 1 ≤ q → q ≤ 3 * job.steps →
+    1 ≤ n → n < 2 * y.leaves → 1 ≤ q → q ≤ 3 * job.steps → Formed y q →
     Leads job y w (To job y (later_weight job y before n (doing.Turn q)))
     (turn_script job y w n q) 16 before
 unfolding turn_script turn_weight
-turn_leads job y w n q before some inside first last = (
+turn_leads job y w n q before some inside first last formed = (
   omega arith,
   λ found may.
       let to = To job y (turn_weight job y before n q) in
@@ -284,7 +293,9 @@ turn_leads job y w n q before some inside first last = (
       let shows = low_loaded before (number_of y (Node n)) found in
       cond_both (nat_le q found) _ _ (λ script. Leads job y w to script 15 history)
       (λ e. let done = leb-true q found e in
-      finished_leads job y w before history n q grown some inside first last (le_trans done shows))
+      finished_leads job y w before history n q grown some inside first last formed
+      (le_trans done shows))
       (λ e. let short = leb-false q found e in
-      unfinished_leads job y w before history n q grown some inside first last (omega arith)),
+      unfinished_leads job y w before history n q grown some inside first last formed
+      (omega arith)),
 )

@@ -61,7 +61,7 @@ turns_less : (job : JobData) (y : LayoutData) (history : List (Op × ℕ)) (numb
 unfolding after_weight weight turn_script
 turns_less job y history number n q most k to some = record {
   sound = λ going. record {
-    leads = turn_leads job y number n q history to.0 to.1 to.2 to.3;
+    leads = turn_leads job y number n q history to.0 to.1 to.2 to.3 to.5;
     asking = record { op = _; first = refl };
   };
   less = omega (arith, to.4);
@@ -73,10 +73,10 @@ works_less : (job : JobData) (y : LayoutData) (history : List (Op × ℕ))
     (record { number = number; node = Some n; now = doing.Part q rank; heard = [] }) (most + k)
 unfolding after_weight weight
 works_less job y history number n q rank most k to some =
-    let first = part_first job y n q rank in
+    let first = part_first job y n q rank to.8 in
     record {
       sound = λ going. record {
-        leads = part_leads job y number n q rank history to.0 to.1 to.2 to.3 to.4;
+        leads = part_leads job y number n q rank history to.0 to.1 to.2 to.3 to.4 to.8;
         asking = record { op = first.0; first = first.1 };
       };
       less = omega (arith, to.7);

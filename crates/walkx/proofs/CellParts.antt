@@ -1,10 +1,13 @@
 -- A data place that is that of a cell, or not.
-use Rattle.std.proofs.Common.{◌≡◌, ◌-◌, ◌==◌, ◌&&◌, Bool, true, false}
-use Rattle.std.proofs.Common.{not, nat_lt, if◌then◌else◌, ℕ, refl, ap}
+use Rattle.std.proofs.Common.{◌≡◌, ◌≢◌, ◌-◌, ◌<◌, ◌==◌, ◌&&◌, Bool, true, false, IsTrue}
+use Rattle.std.proofs.Common.{not, nat_lt, if◌then◌else◌, ℕ, refl, sym, ap, subst, arith}
 use Rattle.pram_job.specs.declared.instr.Rule.{Rule}
+use Rattle.pram_job.specs.declared.instr.Rule.TheVariants.{Common, Priority, Crew}
+use Rattle.pram_words.specs.Words.{LayoutData, has_claims}
 use Rattle.walkx.specs.Scripts.{Script, asks}
-use Rattle.walkx.specs.Walk.{Then}
-use Rattle.walkx.specs.Inner.Posts.{PostData}
+use Rattle.walkx.proofs.Boards.{same_cells}
+use Rattle.walkx.specs.Walk.{Then, IsBoard}
+use Rattle.walkx.specs.Inner.Posts.{IsCellOf, PostData}
 use Rattle.walkx.specs.Parts.{is_cell_part, claims_data, claim_raised, claim_loaded}
 use Rattle.walkx.specs.Parts.{owns, after_claim, compares_claim, compares_own, readies}
 
@@ -13,6 +16,25 @@ cell_then : {A : Type 0} (b c : Bool) (n x : A) → (not b && c) ≡ true →
 cell_then true c n x is = absurd (cc)
 cell_then false true n x is = refl
 cell_then false false n x is = absurd (cc)
+
+claimed_by : (r : Rule) → r ≢ Common → IsTrue (has_claims r)
+claimed_by Common other = absurd (other refl)
+claimed_by Priority other = refl
+claimed_by Crew other = refl
+
+pub cell_of : (at : PostData) (cell : ℕ) → IsBoard at.job at.layout → cell < at.job.cells →
+    IsCellOf at cell
+cell_of at cell board below =
+    let same = same_cells at.job at.layout board in
+    record {
+      below = below;
+      place = omega arith;
+      claim = λ other. (
+        subst IsTrue (sym (ap (λ (z : LayoutData). z.claims) board.is))
+            (claimed_by at.job.rule other),
+        omega arith,
+      );
+    }
 
 module _ (at : PostData) (place : ℕ) (after : Script Then) where
   pub claims_it : (next : Unit {0} → Script Then) → is_cell_part at.job place ≡ true →

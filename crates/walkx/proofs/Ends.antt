@@ -1,11 +1,15 @@
 -- What the scripts end with, and what was heard in them.
-use Rattle.std.proofs.Common.{◌≡◌, ◌≢◌, ℕ, suc, IsTrue, ◌+◌, ◌-◌, ◌*◌, ◌%◌, ◌<◌, ◌≤◌, ◌==◌, ◌&&◌}
-use Rattle.std.proofs.Common.{nat_le, List, [], ◌∷◌, ◌++◌, refl, sym, ap, subst, arith}
+use Rattle.std.proofs.Common.{◌≡◌, ◌≢◌, ℕ, suc, IsTrue, ◌+◌, ◌*◌, ◌%◌, ◌<◌, ◌≤◌, ◌==◌, ◌&&◌}
+use Rattle.std.proofs.Common.{nat_le, if◌then◌else◌, List, [], ◌∷◌, ◌++◌, refl, sym, ap, subst}
+use Rattle.std.proofs.Common.{arith, ◌∙◌}
 use Rattle.std.proofs.lemmas.Bool.{cond_both, eqb-true, eqb-false}
 use Rattle.std.proofs.lemmas.Bool.{leb-true, leb-false, eq-eqb, ne_eqb}
 use Rattle.pram_job.specs.Job.{JobData}
+use Rattle.pram_words.specs.declared.layout.Form.{Form}
+use Rattle.pram_words.specs.declared.layout.Form.TheVariants.{Compact, Wide}
 use Rattle.pram_words.specs.Words.{LayoutData, number_of}
-use Rattle.pram_words.specs.Phases.{step_at, kind_at}
+use Rattle.pram_words.proofs.NextPhases.{before_next}
+use Rattle.pram_words.specs.Phases.{step_at, kind_at, has_phase, next_phase}
 use Rattle.pram_words.specs.Ways.{turns_right_in}
 use Rattle.pram_words.specs.declared.words.Word.TheVariants.{Conflict, Node, Position}
 use Rattle.walkx.specs.declared.operation.Ended.TheVariants as ended
@@ -14,11 +18,13 @@ use Rattle.walkx.specs.declared.operation.Op.TheVariants.{Load}
 use Rattle.walkx.specs.Doing.{Doing}
 use Rattle.walkx.specs.Doing as doing
 use Rattle.walkx.specs.Scripts.{Script, asks, ends, rest_after, rest, op_with, heard_in}
-use Rattle.walkx.specs.Walk.{Then, begins, turns, works, stops, Walking, HearsAdmitted, AllAdmitted}
+use Rattle.walkx.specs.Walk.{Then, begins, turns, works, stops, Walking, HearsAdmitted, HearsPhase}
+use Rattle.walkx.specs.Walk.{AllAdmitted}
 use Rattle.walkx.specs.Walk.{script_by, script_of, rest_of, node_of, phase_begun, heard_of}
 use Rattle.walkx.specs.Walk.{turn_script, begin_script, part_script, after_part, has_rank}
 use Rattle.walkx.specs.Walk.{begun_phase, processor_at, way_down}
-use Rattle.walkx.proofs.BoundTasks.{IsWithin, task_within}
+use Rattle.walkx.proofs.BoundTasks.{IsWithin}
+use Rattle.walkx.proofs.BoundPasses.{form_within}
 
 -- whatever is heard, this holds of what comes of the script and of its steps, the newest first
 abbrev pub AllEnds : {R : Type 0} → (R → List (Op × ℕ) → Type 0) → Script R → List (Op × ℕ) → Type 0
@@ -45,13 +51,26 @@ heard_root y root = (Load (number_of y (Node 1)), root) ∷ []
 abbrev pub heard_both : LayoutData → ℕ → ℕ → List (Op × ℕ)
 heard_both y root u = (Load (number_of y Conflict), u) ∷ heard_root y root
 
+-- the newest answer, if it is a root, is a phase of the form
+abbrev pub NewestPhase : LayoutData → List (Op × ℕ) → Type 0
+NewestPhase y [] = Unit {0}
+NewestPhase y (e ∷ es) = HearsPhase y e.0 e.1
+
+-- the last phase of a step is one of each form
+third_formed : (form : Form) (root : ℕ) → root % 3 ≡ 0 → IsTrue (has_phase form root)
+third_formed Compact root e = refl
+third_formed (Wide g) root e =
+    let other : root % 3 ≡ 2 → ⊥ = λ k. absurd (omega (arith, e, k)) in
+    rw (ne_eqb (root % 3) 2 other) refl
+
 -- a begin ends so at node n
 pub record BeginsTurn (job : JobData) (y : LayoutData) (n m q : ℕ)
     (history : List (Op × ℕ)) : Type 0 where
   pub node : m ≡ n
   pub root : ℕ
-  pub phase : q ≡ root + 1
-  pub is : history ≡ phase_begun y (doing.Turn q)
+  pub phase : q ≡ next_phase y.form root
+  pub is : IsTrue (has_phase y.form root) → history ≡ phase_begun y (doing.Turn q)
+  pub formed : NewestPhase y history → IsTrue (has_phase y.form root)
   pub less : root ≢ 3 * job.steps
   pub admitted : AllAdmitted job y history → HearsAdmitted job y (Load (number_of y (Node 1))) root
 
@@ -63,17 +82,26 @@ BeginEnds job y n (stops ended.Done) history = history ≡ heard_both y (3 * job
 BeginEnds job y n (stops (ended.Conflict u)) history =
     (u ≢ 0) × ((root : ℕ) × (history ≡ heard_both y root u))
 
-begun_none : (y : LayoutData) (root : ℕ) → root % 3 ≡ 0 →
-    heard_both y root 0 ≡ phase_begun y (doing.Turn (root + 1))
-begun_none y root e =
-    let same : root + 1 - 1 ≡ root = omega arith in
-    rw (same, eq-eqb (root % 3) 0 e) refl
+-- what was heard of the root, and of word 0 where the root ends a step
+abbrev begun_from : LayoutData → ℕ → List (Op × ℕ)
+begun_from y root =
+    (if root % 3 == 0 then (Load (number_of y Conflict), 0) ∷ [] else []) ++ heard_root y root
 
-begun_some : (y : LayoutData) (root : ℕ) → root % 3 ≢ 0 →
-    heard_root y root ≡ phase_begun y (doing.Turn (root + 1))
-begun_some y root n =
-    let same : root + 1 - 1 ≡ root = omega arith in
-    rw (same, ne_eqb (root % 3) 0 n) refl
+begun_next : (y : LayoutData) (root : ℕ) → IsTrue (has_phase y.form root) →
+    begun_from y root ≡ phase_begun y (doing.Turn (next_phase y.form root))
+begun_next y root is = ap (begun_from y) (sym (before_next y.form root is))
+
+begun_none : (y : LayoutData) (root : ℕ) → IsTrue (has_phase y.form root) → root % 3 ≡ 0 →
+    heard_both y root 0 ≡ phase_begun y (doing.Turn (next_phase y.form root))
+begun_none y root is e =
+    let both : heard_both y root 0 ≡ begun_from y root = rw (eq-eqb (root % 3) 0 e) refl in
+    both ∙ begun_next y root is
+
+begun_some : (y : LayoutData) (root : ℕ) → IsTrue (has_phase y.form root) → root % 3 ≢ 0 →
+    heard_root y root ≡ phase_begun y (doing.Turn (next_phase y.form root))
+begun_some y root is n =
+    let one : heard_root y root ≡ begun_from y root = rw (ne_eqb (root % 3) 0 n) refl in
+    one ∙ begun_next y root is
 
 pub begin_ends : (job : JobData) (y : LayoutData) (n : ℕ) →
     AllEnds (BeginEnds job y n) (begin_script job y n) []
@@ -92,8 +120,10 @@ begin_ends job y n = λ root. cond_both (root % 3 == 0) _ _
       node = refl;
       root = root;
       phase = refl;
-      is = subst (λ (v : ℕ). heard_both y root v ≡ phase_begun y (doing.Turn (root + 1)))
-          (sym (eqb-true u 0 none)) (begun_none y root (eqb-true (root % 3) 0 third));
+      is = λ formed. subst (λ (v : ℕ).
+          heard_both y root v ≡ phase_begun y (doing.Turn (next_phase y.form root)))
+          (sym (eqb-true u 0 none)) (begun_none y root formed (eqb-true (root % 3) 0 third));
+      formed = λ newest. third_formed y.form root (eqb-true (root % 3) 0 third);
       less = eqb-false root (3 * job.steps) part;
       admitted = λ all. all.1.0;
     }))
@@ -102,7 +132,8 @@ begin_ends job y n = λ root. cond_both (root % 3 == 0) _ _
       node = refl;
       root = root;
       phase = refl;
-      is = begun_some y root h;
+      is = λ formed. begun_some y root formed h;
+      formed = λ newest. newest refl;
       less = λ e. h (omega arith);
       admitted = λ all. all.0;
     })
@@ -156,9 +187,9 @@ pub part_ends : (Q : Then → Type 0) (job : JobData) (y : LayoutData) (n q rank
     Q (turns n q) → AllEnds (λ r h. Q r) (part_script job y n q rank) history
 unfolding part_script
 part_ends Q job y n q rank history more last =
-    task_within (λ k script. (longer : List (Op × ℕ)) → AllEnds (λ r h. Q r) script longer)
-    (ends_within (λ r h. Q r)) 0 job.rule
-    (kind_at q) job y (step_at q) (processor_at y n rank) (after_part y n q rank)
+    form_within (λ k script. (longer : List (Op × ℕ)) → AllEnds (λ r h. Q r) script longer)
+    (ends_within (λ r h. Q r)) y 0 y.form job.rule
+    (kind_at q) job (step_at q) (processor_at y n rank) (after_part y n q rank)
     (λ longer. cond_both (has_rank y n (suc rank)) _ _ (λ s. AllEnds (λ r h. Q r) s longer)
     (λ e. more e) (λ e. λ f. last)) history
 

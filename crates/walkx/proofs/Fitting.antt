@@ -9,6 +9,8 @@ use Rattle.pram_job.specs.Job.{JobData}
 use Rattle.pram_words.proofs.Halvings.{digits, double}
 use Rattle.pram_words.proofs.Numbering.{cases_form, form_wide}
 use Rattle.pram_words.proofs.Ways.{way_depth}
+use Rattle.pram_words.proofs.NextPhases.{has_next, next_above, next_within}
+use Rattle.pram_words.specs.Phases.{has_phase, next_phase}
 use Rattle.pram_words.specs.Tree.{digits_of, depth_of, first_leaf_of}
 use Rattle.pram_words.specs.Ways.{first_leaf_in, way_of}
 use Rattle.pram_words.specs.Words.{LayoutData}
@@ -98,39 +100,43 @@ node_range job y w some fits = by_node w.node fits.node
     by_node (Some n) h = h
 
 begun_fits : (job : JobData) (y : LayoutData) (number n m q : ℕ) (d : Doing) (xs : List (Op × ℕ)) →
-    IsBoard job y → IsGoing d → IsPhase job d →
+    IsBoard job y → IsGoing d → IsPhase job y d →
     1 ≤ n → n < 2 * y.leaves → Brings job y number n d (turns m q) (xs ++ phase_begun y d) →
     AllAdmitted job y (xs ++ phase_begun y d) →
-    ((1 ≤ m) × (m < 2 * y.leaves)) × ((1 ≤ q) × (q ≤ 3 * job.steps))
+    ((1 ≤ m) × (m < 2 * y.leaves)) × IsPhase job y (doing.Turn q)
     × AllAdmitted job y (phase_begun y (doing.Turn q))
 begun_fits job y number n m q doing.Back xs board going phase low high b all = absurd b
 begun_fits job y number n m q doing.Begin xs board going phase low high b all =
     let leaves = board.layout.leaves in
-    let range : b.root ≤ 3 * job.steps =
-    in_range job y (Node 1) b.root board (lit< tt, omega arith) (b.admitted all) in
+    let range = in_range job y (Node 1) b.root board (lit< tt, omega arith) (b.admitted all) in
     let other = b.less in
     let node = b.node in
-    let next = b.phase in (
+    let next = b.phase in
+    let above = (next_above y.form b.root).0 in (
       (omega arith, omega arith),
-      (omega arith, below b.root q other range next),
-      subst (AllAdmitted job y) b.is all,
+      (
+        omega arith,
+        below b.root q other range.0 next,
+        subst (λ (t : ℕ). IsTrue (has_phase y.form t)) (sym next) (has_next y.form b.root),
+      ),
+      subst (AllAdmitted job y) (b.is range.1) all,
     )
   where
     below : (root q : ℕ) → root ≢ 3 * job.steps → root ≤ 3 * job.steps →
-        q ≡ root + 1 → q ≤ 3 * job.steps
+        q ≡ next_phase y.form root → q ≤ 3 * job.steps
     below root q other range next = elim (cases_lt root (3 * job.steps)) [
-      | inl c ↦ omega arith
+      | inl c ↦ (let most = next_within y.form root job.steps c in omega arith)
       | inr c ↦ absurd (other (omega arith))
     ]
 begun_fits job y number n m q (doing.Turn p) xs board going phase low high b all = (
   b.1 low high,
-  subst (λ (t : ℕ). (1 ≤ t) × (t ≤ 3 * job.steps)) (sym b.0) phase,
+  subst (λ (t : ℕ). IsPhase job y (doing.Turn t)) (sym b.0) phase,
   subst (λ (t : ℕ). AllAdmitted job y (phase_begun y (doing.Turn t)))
       (sym b.0) (all_after job y xs (phase_begun y (doing.Turn p)) all),
 )
 begun_fits job y number n m q (doing.Part p rank) xs board going phase low high b all = (
   subst (λ (k : ℕ). (1 ≤ k) × (k < 2 * y.leaves)) (sym b.1) (low, high),
-  subst (λ (t : ℕ). (1 ≤ t) × (t ≤ 3 * job.steps)) (sym b.0) phase,
+  subst (λ (t : ℕ). IsPhase job y (doing.Turn t)) (sym b.0) phase,
   subst (λ (t : ℕ). AllAdmitted job y (begun_phase y t))
       (sym b.0) (all_after job y xs (begun_phase y p) all),
 )
@@ -139,17 +145,17 @@ begun_fits job y number n m q (doing.Over e) xs board going phase low high b all
 -- the next task in a block
 record Within (job : JobData) (y : LayoutData) (n m q rank : ℕ) : Type 0 where
   node : (1 ≤ m) × (m < 2 * y.leaves)
-  phase : (1 ≤ q) × (q ≤ 3 * job.steps)
+  phase : IsPhase job y (doing.Turn q)
   block : (y.leaves ≤ m) × (1 ≤ rank) × IsTrue (has_rank y m rank)
   admitted : AllAdmitted job y (begun_phase y q)
 
 within_by : (job : JobData) (y : LayoutData) (n m q p next rank : ℕ) (xs : List (Op × ℕ)) →
-    1 ≤ next → y.leaves ≤ n → (1 ≤ p) × (p ≤ 3 * job.steps) → 1 ≤ n → n < 2 * y.leaves →
+    1 ≤ next → y.leaves ≤ n → IsPhase job y (doing.Turn p) → 1 ≤ n → n < 2 * y.leaves →
     InBlock y n p next m q rank → AllAdmitted job y (xs ++ begun_phase y p) →
     Within job y n m q rank
 within_by job y n m q p next rank xs some leaf phase low high b all = record {
   node = rw b.node (low, high);
-  phase = rw b.phase phase;
+  phase = subst (λ (v : ℕ). IsPhase job y (doing.Turn v)) (sym b.phase) phase;
   block = (
     rw b.node leaf,
     rw b.next some,
@@ -160,7 +166,7 @@ within_by job y n m q p next rank xs some leaf phase low high b all = record {
 }
 
 works_fits : (job : JobData) (y : LayoutData) (number n m q rank : ℕ) (d : Doing)
-    (xs : List (Op × ℕ)) → IsGoing d → IsPhase job d → IsInBlock y n d →
+    (xs : List (Op × ℕ)) → IsGoing d → IsPhase job y d → IsInBlock y n d →
     1 ≤ n → n < 2 * y.leaves → Brings job y number n d (works m q rank) (xs ++ phase_begun y d) →
     AllAdmitted job y (xs ++ phase_begun y d) → Within job y n m q rank
 works_fits job y number n m q rank doing.Back xs going phase block low high b all = absurd b
@@ -232,7 +238,7 @@ fits_on job y w found (ends (works m q rank)) board going fits is each all =
       phase = b.phase;
       block = b.block;
       admitted = b.admitted;
-      matches = part_first job y m q rank;
+      matches = part_first job y m q rank b.phase.2;
     }
 fits_on job y w found (ends (stops e)) board going fits is each all =
     let from = stops_begin job y w.number (node_of y w) w.now e

@@ -12,9 +12,11 @@ use Rattle.walkx.specs.Records.{Record, empty, after, both, Has, HasPart, HasBlo
 use Rattle.walkx.specs.Records.{script_at_rank}
 use Rattle.walkx.specs.Scripts.{Script, asks, ends, rest_after, rest, heard_in}
 use Rattle.walkx.specs.Walk.{Then, begins, turns, works, stops, Walking, IsGoing, IsInBlock}
-use Rattle.walkx.specs.Walk.{begun_phase, part_script, script_by, script_of}
+use Rattle.walkx.specs.Walk.{Fits, HearsAdmitted, IsBoard, begun_phase, part_script, script_by}
+use Rattle.walkx.specs.Walk.{script_of, told}
 use Rattle.walkx.specs.Walk.{rest_of, node_of, ask_of, goes_on, phase_begun, heard_of}
-use Rattle.walkx.proofs.Ends.{AllEnds, Brings, worker_ends}
+use Rattle.walkx.proofs.Boards.{root_formed}
+use Rattle.walkx.proofs.Ends.{AllEnds, Brings, NewestPhase, worker_ends}
 use Rattle.walkx.specs.Playing.{hearing}
 use Rattle.walkx.proofs.Fitting.{heard_more, stops_begin}
 use Rattle.walkx.proofs.Going.{going_or_over, told_going, told_over}
@@ -61,16 +63,17 @@ has_newest (both r s) e es h =
 
 has_begun : (job : JobData) (y : LayoutData) (number n m q : ℕ) (d : Doing) (r : Record)
     (xs : List (Op × ℕ)) → IsGoing d → Brings job y number n d (turns m q) (xs ++ phase_begun y d) →
-    Has r (xs ++ phase_begun y d) → Has r (phase_begun y (doing.Turn q))
-has_begun job y number n m q doing.Back r xs going b has = absurd b
-has_begun job y number n m q doing.Begin r xs going b has =
-    subst (λ (es : List (Op × ℕ)). Has r es) b.is has
-has_begun job y number n m q (doing.Turn p) r xs going b has =
+    NewestPhase y (xs ++ phase_begun y d) → Has r (xs ++ phase_begun y d) →
+    Has r (phase_begun y (doing.Turn q))
+has_begun job y number n m q doing.Back r xs going b newest has = absurd b
+has_begun job y number n m q doing.Begin r xs going b newest has =
+    subst (λ (es : List (Op × ℕ)). Has r es) (b.is (b.formed newest)) has
+has_begun job y number n m q (doing.Turn p) r xs going b newest has =
     subst (λ (t : ℕ). Has r (phase_begun y (doing.Turn t))) (sym b.0)
     (has_after r xs (phase_begun y (doing.Turn p)) has)
-has_begun job y number n m q (doing.Part p rank) r xs going b has =
+has_begun job y number n m q (doing.Part p rank) r xs going b newest has =
     rw b.0 (has_after r xs (begun_phase y p) has)
-has_begun job y number n m q (doing.Over e) r xs going b has = absurd going
+has_begun job y number n m q (doing.Over e) r xs going b newest has = absurd going
 
 same_works : {m n q p rank next : ℕ} → m ≡ n → q ≡ p → rank ≡ next →
     ends (works m q rank) ≡ ends (works n p next)
@@ -155,39 +158,42 @@ known_on : (job : JobData) (y : LayoutData) (r : Record) (w : Walking)
     (found : ℕ) (t : Script Then) → IsGoing w.now → IsInBlock y (node_of y w) w.now →
     rest_after (rest_of job y w) found ≡ t →
     AllEnds (Brings job y w.number (node_of y w) w.now) t (heard_of job y (hearing w found)) →
+    NewestPhase y (heard_of job y (hearing w found)) →
     Has r (heard_of job y (hearing w found)) →
     HasBlock job y r w.number (node_of y w) w.now → Knows job y r (goes_on w found t)
-known_on job y r w found (asks op next) going block is each has before =
+known_on job y r w found (asks op next) going block is each newest has before =
     record { script = has; block = before }
-known_on job y r w found (ends (begins m)) going block is each has before =
+known_on job y r w found (ends (begins m)) going block is each newest has before =
     record { script = tt; block = tt }
-known_on job y r w found (ends (turns m q)) going block is each has before = record {
+known_on job y r w found (ends (turns m q)) going block is each newest has before = record {
   script = has_begun job y w.number (node_of y w) m q w.now r
-      (heard_in (script_of job y w) (found ∷ w.heard)) going each has;
+      (heard_in (script_of job y w) (found ∷ w.heard)) going each newest has;
   block = tt;
 }
-known_on job y r w found (ends (works m q rank)) going block is each has before = record {
+known_on job y r w found (ends (works m q rank)) going block is each newest has before = record {
   script = has_begun_too job y w.number (node_of y w) m q rank w.now r
       (heard_in (script_of job y w) (found ∷ w.heard)) going each has;
   block = works_block job y w.number (node_of y w) m q rank w.now r (found ∷ w.heard) going block
       each is has before;
 }
-known_on job y r w found (ends (stops e)) going block is each has before = record {
+known_on job y r w found (ends (stops e)) going block is each newest has before = record {
   script = subst (λ (d : Doing). Has r (heard_in (script_by job y w.number (node_of y w) d)
       (found ∷ w.heard) ++ phase_begun y d)) (stops_begin job y w.number (node_of y w) w.now e
       (heard_of job y (hearing w found)) going each) has;
   block = tt;
 }
 
-pub knows_next : KnownStayKnown
-knows_next job y r w found fits knows = elim (going_or_over w.now) [
+pub stay_known : KnownStayKnown
+stay_known job y r w found fits knows phase = elim (going_or_over w.now) [
   | inl going ↦ (let new = after r (ask_of job y w) found in
       let has : Has new (heard_of job y (hearing w found)) = subst (λ (es : List (Op × ℕ)).
       Has new es) (sym (heard_more job y w found going fits.matches)) (inl (refl, knows.script)) in
+      let newest : NewestPhase y (heard_of job y (hearing w found)) = subst (NewestPhase y)
+      (sym (heard_more job y w found going fits.matches)) phase in
       subst (λ (v : Walking). Knows job y new v)
       (sym (told_going w.now w found (rest_after (rest_of job y w) found) going))
       (known_on job y new w found (rest_after (rest_of job y w) found) going fits.block refl
-      (worker_ends job y (hearing w found)) has
+      (worker_ends job y (hearing w found)) newest has
       (block_more job y r w.number (node_of y w) w.now (ask_of job y w) found knows.block)))
   | inr over ↦ subst (λ (v : Walking). Knows job y (after r (ask_of job y w) found) v)
       (sym (told_over w found (rest_after (rest_of job y w) found) w.now over.0 over.1)) (record {
@@ -195,3 +201,11 @@ knows_next job y r w found fits knows = elim (going_or_over w.now) [
         block = block_more job y r w.number (node_of y w) w.now (ask_of job y w) found knows.block;
       })
 ]
+
+-- a root that a board admits is one
+pub knows_next : (job : JobData) (y : LayoutData) (r : Record) (w : Walking) (found : ℕ) →
+    IsBoard job y → Fits job y w → Knows job y r w → HearsAdmitted job y (ask_of job y w) found →
+    Knows job y (after r (ask_of job y w) found) (told job y w found)
+knows_next job y r w found board fits knows admitted = stay_known job y r w found fits knows
+    (λ root. root_formed job y found board
+    (subst (λ (op : Op). HearsAdmitted job y op found) root admitted))

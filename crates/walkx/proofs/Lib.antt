@@ -6,12 +6,17 @@ pub mod Ends
 pub mod Firsts
 pub mod Fitting
 pub mod Knowing
+pub mod Puts
+pub mod Counting
+pub mod TaskAsking
+pub mod WideAsking
 pub mod Asking
 pub mod Heard
 pub mod BoundWeight
 pub mod BoundWay
 pub mod BoundTurns
 pub mod BoundTasks
+pub mod BoundPasses
 pub mod BoundScripts
 pub mod BoundTurn
 pub mod BoundWalk
@@ -23,6 +28,7 @@ pub mod Settling
 pub mod Turning
 pub mod CellParts
 pub mod Passes
+pub mod WidePasses
 pub mod Short
 pub mod Comes
 pub mod Workers

@@ -1,5 +1,5 @@
 -- A script of a worker has at most thirteen operations.
-use Rattle.std.proofs.Common.{◌≡◌, ℕ, suc, ◌+◌, ◌-◌, ◌*◌, ◌%◌, ◌<◌, ◌≤◌, ◌&&◌}
+use Rattle.std.proofs.Common.{◌≡◌, ℕ, suc, ◌-◌, ◌*◌, ◌%◌, ◌<◌, ◌≤◌, ◌&&◌}
 use Rattle.std.proofs.Common.{◌==◌, nat_le, List, [], ◌∷◌, length, Some, arith}
 use Rattle.std.proofs.lemmas.Bool.{cond_both}
 use Rattle.pram_job.specs.Job.{JobData}
@@ -11,7 +11,8 @@ use Rattle.walkx.specs.Doing as doing
 use Rattle.walkx.specs.Scripts.{Script, asks, ends, rest_after, rest, first_op}
 use Rattle.walkx.specs.Walk.{Then, after_part, begin_script, has_rank, leaf_script, marks_node}
 use Rattle.walkx.specs.Walk.{part_script, processor_at, script_by, turn_script}
-use Rattle.walkx.proofs.BoundTasks.{IsWithin, task_within}
+use Rattle.walkx.proofs.BoundPasses.{form_within}
+use Rattle.walkx.proofs.BoundTasks.{IsWithin}
 
 -- it asks for no more than so many operations
 abbrev pub Short : Script Then → ℕ → Type 0
@@ -68,8 +69,9 @@ part_short : (job : JobData) (y : LayoutData) (n q rank : ℕ) →
     Short (part_script job y n q rank) 12
 unfolding part_script
 part_short job y n q rank =
-    task_within Within short_within 1 job.rule (kind_at q) job y (step_at q) (processor_at y n rank)
-    (after_part y n q rank) (cond_both (has_rank y n (suc rank)) _ _ (λ s. Short s 1) (λ _. tt)
+    form_within Within short_within y 1 y.form job.rule (kind_at q) job (step_at q)
+    (processor_at y n rank) (after_part y n q rank)
+    (cond_both (has_rank y n (suc rank)) _ _ (λ s. Short s 1) (λ _. tt)
     (λ _. marks_short y n q 1 (omega arith)))
 
 leaf_short : (job : JobData) (y : LayoutData) (n q : ℕ) → Short (leaf_script job y n q) 12

@@ -46,19 +46,20 @@ script_is job y number n (activity.Over e) held_op heard = refl
 
 -- ---- a worker that fits
 
-phase_small : (job : JobData) (d : Doing) → IsPhase job d → phase_of_doing d ≤ 3 * job.steps
-phase_small job doing.Back h = omega arith
-phase_small job doing.Begin h = omega arith
-phase_small job (doing.Turn q) h = h.1
-phase_small job (doing.Part q rank) h = h.1
-phase_small job (doing.Over e) h = omega arith
+phase_small : (job : JobData) (y : LayoutData) (d : Doing) → IsPhase job y d →
+    phase_of_doing d ≤ 3 * job.steps
+phase_small job y doing.Back h = omega arith
+phase_small job y doing.Begin h = omega arith
+phase_small job y (doing.Turn q) h = h.1
+phase_small job y (doing.Part q rank) h = h.1
+phase_small job y (doing.Over e) h = omega arith
 
 pub playable : (job : JobData) (y : LayoutData) (w : Walking) → IsBoard job y →
     Fits job y w → IsPlayable job y w
 playable job y w board fits = record {
   number = fits.number;
   node = node_range job y w board.layout.leaves.0 fits;
-  phase = phase_small job w.now fits.phase;
+  phase = phase_small job y w.now fits.phase;
   block = fits.block;
   admitted = all_left job y _ (phase_begun y w.now) fits.admitted;
 }
@@ -72,7 +73,7 @@ playable_more job y w found board fits going admitted =
     record {
       number = fits.number;
       node = node_range job y w board.layout.leaves.0 fits;
-      phase = phase_small job w.now fits.phase;
+      phase = phase_small job y w.now fits.phase;
       block = fits.block;
       admitted = all_left job y _ (phase_begun y w.now) all;
     }

@@ -3,6 +3,9 @@ pub mod Scripts
 pub mod Doing
 pub mod Activities
 pub mod Tasks
+pub mod Counters
+pub mod OwnWrites
+pub mod Passes
 pub mod Walk
 pub mod Turns
 pub mod Reads
@@ -15,5 +18,6 @@ pub mod Bound
 pub mod Laws
 pub mod Driving
 pub mod Parts
+pub mod WideParts
 pub mod Playing
 pub mod Rests

@@ -22,6 +22,7 @@ use Rattle.walkx.specs.Tasks.{compute_task}
 use Rattle.pram_words.specs.Stamps.{older, older_word}
 use Rattle.walkx.specs.Tasks.{is_late, loads_both, writes_place, hears_part}
 use Rattle.walkx.specs.Tasks.{if_data, carries, claim_of, claims, differs, reports, task_of}
+use Rattle.walkx.specs.Passes.{decides, task_in, wide_task_of}
 use Rattle.walkx.specs.Walk.{Then}
 use Rattle.walkx.specs.Inner.Posts.{PostData, step_of, processor_of, part_raised}
 use Rattle.walkx.specs.Driving.{Part}
@@ -164,12 +165,24 @@ abbrev pub compares_claims : PostData → Script Then → Script Then
 compares_claims at after =
     hears_request at 0 after (λ part. compares_claim at part after (λ done. after))
 
--- the task of a pass, and that of the phase
+-- the task of the phase
+abbrev pub does : PostData → Script Then → Script Then
+does at = task_in at.layout.form at.job.rule (kind_at at.phase) at.job at.layout (step_of at)
+    (processor_of at)
+
+-- in the compact form, that of a pass and that of the phase
 abbrev pub does_in : Kind → PostData → Script Then → Script Then
 does_in kind at = task_of at.job.rule kind at.job at.layout (step_of at) (processor_of at)
 
-abbrev pub does : PostData → Script Then → Script Then
-does at = does_in (kind_at at.phase) at
+abbrev pub does_compact : PostData → Script Then → Script Then
+does_compact at = does_in (kind_at at.phase) at
+
+-- in the wide form
+abbrev pub does_wide_in : Kind → PostData → Script Then → Script Then
+does_wide_in kind at = wide_task_of at.job.rule kind at.job at.layout (step_of at) (processor_of at)
+
+abbrev pub does_wide : PostData → Script Then → Script Then
+does_wide at = does_wide_in (kind_at at.phase) at
 
 -- ---- the compute task
 
@@ -201,13 +214,18 @@ abbrev pub executes_at : PostData → ℕ → Option Instr → Script Then → S
 executes_at at counter instr =
     executes at.job at.layout (step_of at) (processor_of at) counter instr
 
-abbrev pub after_cell : PostData → ℕ → Instr → Script Then → ℕ × ℕ → ℕ → Script Then
-after_cell at counter instr after held value =
-    raises at (decided at.job (processor_of at) counter instr held.0 held.1 value) after
+-- what the instruction at a counter asks for; its operands were heard, and the cell
+abbrev pub decides_at : PostData → ℕ → Instr → Part Request
+decides_at at counter instr = decides at.job at.layout (step_of at) (processor_of at) counter instr
 
-abbrev pub after_operands : PostData → ℕ → Instr → Script Then → ℕ × ℕ → Script Then
-after_operands at counter instr after held =
-    reads_cell_of at instr held.0 after (after_cell at counter instr after held)
+abbrev pub decides_with : PostData → ℕ → Instr → (Request → Script Then) → ℕ × ℕ → ℕ → Script Then
+decides_with at counter instr next held value =
+    next (decided at.job (processor_of at) counter instr held.0 held.1 value)
+
+abbrev pub decides_cell : PostData → ℕ → Instr → Script Then → (Request → Script Then) → ℕ × ℕ →
+    Script Then
+decides_cell at counter instr after next held =
+    reads_cell_of at instr held.0 after (decides_with at counter instr next held)
 
 abbrev pub computes : PostData → Script Then → Script Then
 computes at = compute_task at.job at.layout (step_of at) (processor_of at)

@@ -1,6 +1,7 @@
 -- What is left of a turn in its midst.
 use Rattle.std.specs.Prelude.{◌≡◌, ◌≤◌, ℕ, ◌*◌, ◌/◌, ◌%◌, ◌+◌, ◌&&◌, ◌==◌, nat_le, if◌then◌else◌}
 use Rattle.std.specs.Prelude.{Option, Some, None}
+use Rattle.pram_words.specs.Phases.{next_phase}
 use Rattle.pram_words.specs.declared.words.Word.TheVariants.{Conflict, Node}
 use Rattle.pram_words.specs.Words.{number_of}
 use Rattle.walkx.specs.declared.operation.Op.TheVariants.{Load}
@@ -82,14 +83,16 @@ begin_of at = begin_script at.job at.layout at.node
 abbrev pub after_conflict : PostData → ℕ → ℕ → Script Then
 after_conflict at root conflict =
     if conflict == 0 then (if root == 3 * at.job.steps then ends (stops ended.Done)
-    else ends (turns at.node (root + 1))) else ends (stops (ended.Conflict conflict))
+    else ends (turns at.node (next_phase at.layout.form root)))
+    else ends (stops (ended.Conflict conflict))
 
 abbrev pub conflict_rest : PostData → ℕ → Script Then
 conflict_rest at root = asks (Load (number_of at.layout Conflict)) (after_conflict at root)
 
 abbrev pub after_root : PostData → ℕ → Script Then
 after_root at root =
-    if root % 3 == 0 then conflict_rest at root else ends (turns at.node (root + 1))
+    if root % 3 == 0 then conflict_rest at root
+    else ends (turns at.node (next_phase at.layout.form root))
 
 -- the script of an activity; a worker that is over has heard a whole begin
 abbrev pub script_in : PostData → Activity → Script Then

@@ -4,7 +4,7 @@ use Rattle.std.specs.Prelude.{◌≤◌, ◌&&◌, ◌==◌, nat_le, nat_lt, if�
 use Rattle.std.specs.Prelude.{suc, Bool, IsTrue, ◌++◌, Option, Some, None, IfSome, unwrap_or}
 use Rattle.std.specs.List.{AllByRecursion}
 use Rattle.pram_job.specs.Job.{JobData, IsJob}
-use Rattle.pram_words.specs.Phases.{step_at, kind_at}
+use Rattle.pram_words.specs.Phases.{step_at, kind_at, has_phase, next_phase, phase_before}
 use Rattle.pram_words.specs.Ways.{first_leaf_in, turns_right_in}
 use Rattle.pram_words.specs.Words.{LayoutData, IsLayout, Admits, grain, number_of, length_of}
 use Rattle.pram_words.specs.Words.{layout_of}
@@ -16,7 +16,7 @@ use Rattle.walkx.specs.declared.operation.Op.TheVariants.{Load, Store, Max, Swap
 use Rattle.walkx.specs.Doing.{Doing}
 use Rattle.walkx.specs.Doing as doing
 use Rattle.walkx.specs.Scripts.{Script, asks, ends, rest_after, rest, first_op, heard_in}
-use Rattle.walkx.specs.Tasks.{task_of}
+use Rattle.walkx.specs.Passes.{task_in}
 
 -- ---- the scripts
 
@@ -39,8 +39,9 @@ unfoldable pub begin_script : JobData → LayoutData → ℕ → Script Then
 begin_script job layout node = asks (Load (number_of layout (Node 1))) (λ root.
     if root % 3 == 0 then asks (Load (number_of layout Conflict)) (λ conflict.
     if conflict == 0 then (if root == 3 * job.steps then ends (stops ended.Done)
-    else ends (turns node (root + 1))) else ends (stops (ended.Conflict conflict)))
-    else ends (turns node (root + 1)))
+    else ends (turns node (next_phase layout.form root)))
+    else ends (stops (ended.Conflict conflict)))
+    else ends (turns node (next_phase layout.form root)))
 
 -- the child of an inner node with an unfinished child to which the worker goes, its children having
 -- been heard
@@ -74,7 +75,8 @@ after_part layout node phase rank =
 
 unfoldable pub part_script : JobData → LayoutData → ℕ → ℕ → ℕ → Script Then
 part_script job layout node phase rank =
-    task_of job.rule (kind_at phase) job layout (step_at phase) (processor_at layout node rank)
+    task_in layout.form job.rule (kind_at phase) job layout (step_at phase)
+    (processor_at layout node rank)
     (after_part layout node phase rank)
 
 -- the work at an unfinished leaf, which begins with the first processor of its block; the leaves
@@ -168,8 +170,8 @@ end_of _ = None
 -- the begin of a phase
 abbrev pub begun_phase : LayoutData → ℕ → List (Op × ℕ)
 begun_phase layout phase =
-    (if (phase - 1) % 3 == 0 then (Load (number_of layout Conflict), 0) ∷ [] else [])
-    ++ (Load (number_of layout (Node 1)), phase - 1) ∷ []
+    (if phase_before layout.form phase % 3 == 0 then (Load (number_of layout Conflict), 0) ∷ []
+    else []) ++ (Load (number_of layout (Node 1)), phase_before layout.form phase) ∷ []
 
 abbrev pub phase_begun : LayoutData → Doing → List (Op × ℕ)
 phase_begun layout (doing.Turn phase) = begun_phase layout phase
@@ -185,6 +187,11 @@ heard_of job layout worker =
 abbrev pub HearsAdmitted : JobData → LayoutData → Op → ℕ → Type 0
 HearsAdmitted job layout (Load word) found = Admits layout job word found
 HearsAdmitted job layout _ found = Unit {0}
+
+-- a root that was loaded is a phase of the form
+abbrev pub HearsPhase : LayoutData → Op → ℕ → Type 0
+HearsPhase layout op found =
+    op ≡ Load (number_of layout (Node 1)) → IsTrue (has_phase layout.form found)
 
 abbrev pub AllAdmitted : JobData → LayoutData → List (Op × ℕ) → Type 0
 AllAdmitted job layout heard =
@@ -222,11 +229,13 @@ abbrev pub IsGoing : Doing → Type 0
 IsGoing (doing.Over end) = ⊥
 IsGoing _ = Unit {0}
 
--- the phase is one of the job's
-abbrev pub IsPhase : JobData → Doing → Type 0
-IsPhase job (doing.Turn phase) = (1 ≤ phase) × (phase ≤ 3 * job.steps)
-IsPhase job (doing.Part phase rank) = (1 ≤ phase) × (phase ≤ 3 * job.steps)
-IsPhase job _ = Unit {0}
+-- the phase is one of the job's, in the form
+abbrev pub IsPhase : JobData → LayoutData → Doing → Type 0
+IsPhase job layout (doing.Turn phase) =
+    (1 ≤ phase) × (phase ≤ 3 * job.steps) × IsTrue (has_phase layout.form phase)
+IsPhase job layout (doing.Part phase rank) =
+    (1 ≤ phase) × (phase ≤ 3 * job.steps) × IsTrue (has_phase layout.form phase)
+IsPhase job layout _ = Unit {0}
 
 -- the node is a leaf with a processor of this rank, which is not the first one
 abbrev pub IsInBlock : LayoutData → ℕ → Doing → Type 0
@@ -244,7 +253,7 @@ Matches _ script = (op : Op) × (first_op script ≡ Some op)
 pub record Fits (job : JobData) (layout : LayoutData) (worker : Walking) : Type 0 where
   pub number : worker.number < layout.workers
   pub node : IfSome worker.node (λ node. (1 ≤ node) × (node < 2 * layout.leaves))
-  pub phase : IsPhase job worker.now
+  pub phase : IsPhase job layout worker.now
   pub block : IsInBlock layout (node_of layout worker) worker.now
   pub admitted : AllAdmitted job layout (heard_of job layout worker)
   pub matches : Matches worker.now (rest_of job layout worker)

@@ -1,5 +1,6 @@
 //! The scripts back and begin.
-ghost use Rattle.std.specs.Prelude.{◌≡◌, ◌+◌, ◌*◌, ◌%◌, ◌≤◌, ◌==◌};
+ghost use Rattle.std.specs.Prelude.{◌≡◌, ◌*◌, ◌%◌, ◌≤◌, ◌==◌};
+ghost use Rattle.pram_words.specs.Phases.{next_phase};
 ghost use Rattle.pram_words.specs.Words.{Admits, number_of};
 ghost use Rattle.pram_words.specs.declared.words.Word.TheVariants.{Conflict, Node, Position};
 ghost use Rattle.walkx.specs.Inner.Posts.{IsPost};
@@ -104,9 +105,9 @@ fn at_node(post: &Post, found: u64) -> Next
 #[inline(always)]
 fn next_turn(post: &Post, root: u64) -> Next
     requires { root ≤ 3 * post.now.job.steps }
-    ensures { then_of result ≡ turns post.now.node (root + 1) }
+    ensures { then_of result ≡ turns post.now.node (next_phase post.now.layout.form root) }
 {
-    Next::Turns(post.node, root + 1)
+    Next::Turns(post.node, post.layout.next_phase(root))
 }
 
 // What follows the conflict, the root being this.
@@ -124,6 +125,6 @@ fn begun(post: &Post, root: u64, conflict: u64) -> Next
     } else if root == last {
         Next::Stops(Ended::Done)
     } else {
-        Next::Turns(post.node, root + 1)
+        next_turn(post, root)
     }
 }

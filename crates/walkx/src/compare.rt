@@ -87,9 +87,9 @@ pub(crate) fn compare_claims<S: Steps>(steps: &mut S, leaf: &Leaf) -> Result<(),
     compare_claim(steps, leaf, place)
 }
 
-// One of the two words is of the step and has another payload.
+/// One of the two words is of the step and has another payload.
 #[inline(always)]
-fn either_differs(leaf: &Leaf, value: u32, first: u64, second: u64) -> bool
+pub(crate) fn either_differs(leaf: &Leaf, value: u32, first: u64, second: u64) -> bool
     ensures { result ≡ either_differs leaf.now value (first, second) }
 {
     leaf.differs(value, first) || leaf.differs(value, second)

@@ -7,7 +7,7 @@ pub struct Stopped;
 /// Why a part of a task was left.
 #[derive(Clone, Copy, Debug, PartialEq, Eq)]
 pub(crate) enum Left {
-    /// The worker is late: the rest of the task is not for it.
+    /// The rest of the task is not for the worker: it is late, or the processor asks for nothing.
     Late,
     /// The walk is held.
     Held,

@@ -19,6 +19,9 @@ mod scripts;
 mod steps;
 mod tasks;
 pub mod turns;
+mod wide_own;
+mod wide_request;
+mod wide_store;
 mod words;
 mod worker;
 

@@ -65,9 +65,9 @@ pub(crate) fn write_place<S: Steps>(
     Ok(())
 }
 
-// The older of the two words is swapped for the value.
+/// The older of the two words is swapped for the value.
 #[inline(always)]
-fn older_swap(leaf: &Leaf, place: u32, value: u32, first: u64, second: u64) -> Op
+pub(crate) fn older_swap(leaf: &Leaf, place: u32, value: u32, first: u64, second: u64) -> Op
     requires { place < places_of leaf.now.layout }
     ensures { result ≡ swap_of leaf.now place value first second }
 {

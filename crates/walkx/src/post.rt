@@ -1,6 +1,6 @@
 //! Where a worker stands.
 ghost use Rattle.std.specs.Prelude.{◌≡◌, ◌≢◌, ◌↔◌, IsTrue, ◌+◌, ◌-◌, ◌^◌, ◌<◌, ◌≤◌, ◌==◌, nat_lt};
-ghost use Rattle.pram_words.specs.Stamps.{stamp_of};
+ghost use Rattle.pram_words.specs.Stamps.{payload_of, stamp_of};
 ghost use Rattle.walkx.specs.Tasks.{is_late};
 ghost use Rattle.pram_machine.specs.Machine.{counter_place, register_place};
 ghost use Rattle.pram_words.specs.Phases.{kind_at};
@@ -16,7 +16,7 @@ ghost use Rattle.walkx.specs.Walk.{IsBoard, IsLayoutOf};
 
 use crate::operation::Op;
 use pram_job::{Job, Rule};
-use pram_words::{Kind, Layout, kind_of, payload, stamp, stamped, step_of};
+use pram_words::{Form, Kind, Layout, kind_of, payload, stamp, stamped, step_of};
 use std::marker::Model;
 
 /// Says to a proof that a job and the layout of its board are within their limits. It does nothing.
@@ -161,6 +161,15 @@ impl<'a> Leaf<'a> {
         kind_of(self.phase)
     }
 
+    /// The form of the board.
+    #[inline(always)]
+    pub(crate) fn form(&self) -> Form
+        ensures value { result ≡ self.now.layout.form }
+        ensures limits { IsLeafPost self.now }
+    {
+        self.layout.form()
+    }
+
     #[inline(always)]
     pub(crate) fn rule(&self) -> Rule
         ensures value { result ≡ self.now.job.rule }
@@ -286,6 +295,14 @@ impl<'a> Leaf<'a> {
         Op::Swap(self.layout.conflict_word(), 0, u64::from(self.step()))
     }
 
+    /// The claim is the processor's own.
+    #[inline(always)]
+    pub(crate) fn is_own(&self, claim: u64) -> bool
+        ensures { result ≡ (payload_of claim == claim_of self.now.job (processor_of self.now)) }
+    {
+        payload(claim) == self.claim()
+    }
+
     /// The word is of a later step.
     #[inline(always)]
     pub(crate) fn is_past(&self, word: u64) -> bool
@@ -308,10 +325,6 @@ impl<'a> Leaf<'a> {
         ensures value { result ≡ owner_place self.now place claim }
         ensures most { result ≤ place }
     {
-        if payload(claim) == self.claim() {
-            place
-        } else {
-            0
-        }
+        if self.is_own(claim) { place } else { 0 }
     }
 }

@@ -1,12 +1,12 @@
 //! The compute task.
-ghost use Rattle.std.specs.Prelude.{◌≡◌, ◌<◌, ◌^◌, length, slice_get, IfSome, Some};
+ghost use Rattle.std.specs.Prelude.{◌≡◌, ◌<◌, ◌^◌, length, slice_get, IfOk, IfSome, Some};
 ghost use Rattle.pram_job.specs.Job.{IsInstr};
-ghost use Rattle.pram_machine.specs.Instructions.{cell_read, decided, place_part};
+ghost use Rattle.pram_machine.specs.Instructions.{HasShape, cell_read, decided, place_part};
 ghost use Rattle.pram_machine.specs.Machine.{register_place};
 ghost use Rattle.pram_words.specs.Words.{places_of};
 ghost use Rattle.walkx.specs.Inner.Posts.{IsLeafPost, processor_of};
 ghost use Rattle.walkx.specs.Driving.{Ends, IsDue, IsNextPart, Plays};
-ghost use Rattle.walkx.specs.Parts.{computes, executes_at, raises, raises_part, reads};
+ghost use Rattle.walkx.specs.Parts.{computes, decides_at, executes_at, raises, raises_part, reads};
 ghost use Rattle.walkx.specs.Parts.{reads_cell_of, reads_operands};
 
 use crate::left::Left;
@@ -125,6 +125,27 @@ pub(crate) fn raise_request<S: Steps>(
     raise_part(steps, leaf, 2, request.next)
 }
 
+/// What the instruction at the counter asks for.
+#[inline(always)]
+pub(crate) fn decide<S: Steps>(
+    steps: &mut S,
+    leaf: &Leaf,
+    counter: u32,
+    instr: Instr,
+) -> Result<Request, Left>
+    requires counter { counter < length leaf.now.job.code }
+    requires instr { IsInstr leaf.now.job.cells (length leaf.now.job.code) instr }
+    requires next { IsNextPart (S.stands leaf.now) steps.old (decides_at leaf.now counter instr) }
+    ensures shape { IfOk result (λ asked. HasShape leaf.now.job (processor_of leaf.now) asked) }
+    ensures fits { IfOk result (λ asked. place_part asked < 2 ^ 32) }
+    ensures plays { Plays (S.stands leaf.now) steps.old (decides_at leaf.now counter instr)
+        steps.new result }
+{
+    let (a, b) = read_operands(steps, leaf, instr)?;
+    let value = read_cell(steps, leaf, instr, a)?;
+    Ok(request(leaf, counter, instr, Found { a, b, value }))
+}
+
 /// The instruction at the counter is computed, and its request raised.
 #[inline(always)]
 pub(crate) fn execute<S: Steps>(
@@ -139,13 +160,8 @@ pub(crate) fn execute<S: Steps>(
     ensures ends { Ends (S.stands leaf.now) steps.old (executes_at leaf.now counter (Some instr))
         steps.new result }
 {
-    let (a, b) = read_operands(steps, leaf, instr)?;
-    let value = read_cell(steps, leaf, instr, a)?;
-    raise_request(
-        steps,
-        leaf,
-        request(leaf, counter, instr, Found { a, b, value }),
-    )
+    let request = decide(steps, leaf, counter, instr)?;
+    raise_request(steps, leaf, request)
 }
 
 /// The compute task.
@@ -161,9 +177,9 @@ pub(crate) fn compute<S: Steps>(steps: &mut S, leaf: &Leaf) -> Result<(), Left>
     }
 }
 
-// The instruction at a counter, if there is one.
+/// The instruction at a counter, if there is one.
 #[inline(always)]
-fn fetch(leaf: &Leaf, counter: u32) -> Option<Instr>
+pub(crate) fn fetch(leaf: &Leaf, counter: u32) -> Option<Instr>
     ensures value { result ≡ slice_get leaf.now.job.code counter }
     ensures fits { IfSome result (λ instr. (counter < length leaf.now.job.code)
         × IsInstr leaf.now.job.cells (length leaf.now.job.code) instr) }
@@ -192,6 +208,7 @@ fn request(leaf: &Leaf, counter: u32, instr: Instr, found: Found) -> Request
     requires instr { IsInstr leaf.now.job.cells (length leaf.now.job.code) instr }
     ensures value { result ≡ decided leaf.now.job (processor_of leaf.now) counter instr found.a
         found.b found.value }
+    ensures shape { HasShape leaf.now.job (processor_of leaf.now) result }
     ensures fits { place_part result < 2 ^ 32 }
     ensures limits { IsLeafPost leaf.now }
 {

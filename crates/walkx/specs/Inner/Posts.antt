@@ -1,10 +1,11 @@
 -- Where a worker stands, with the job and its board.
-use Rattle.std.specs.Prelude.{◌≡◌, IsTrue, ℕ, suc, ◌*◌, ◌<◌, ◌≤◌, Option, Some, None}
+use Rattle.std.specs.Prelude.{◌≡◌, ◌≢◌, IsTrue, ℕ, suc, ◌*◌, ◌<◌, ◌≤◌, Option, Some, None}
 use Rattle.std.specs.Prelude.{if◌then◌else◌}
+use Rattle.pram_job.specs.declared.instr.Rule.TheVariants.{Common}
 use Rattle.pram_job.specs.Job.{JobData}
 use Rattle.pram_words.specs.Phases.{step_at}
 use Rattle.pram_words.specs.Stamps.{stamped_word}
-use Rattle.pram_words.specs.Words.{LayoutData, grain, number_of}
+use Rattle.pram_words.specs.Words.{LayoutData, grain, number_of, places_of}
 use Rattle.pram_words.specs.declared.words.Word.TheVariants.{Asked}
 use Rattle.walkx.specs.declared.operation.Op.{Op}
 use Rattle.walkx.specs.declared.operation.Op.TheVariants.{Max}
@@ -76,3 +77,9 @@ part_raised at j payload =
 -- a cell with a claim word
 abbrev pub IsCell : LayoutData → ℕ → Type 0
 IsCell layout cell = IsTrue layout.claims × (cell < layout.cells)
+
+-- a cell of the job: a place of the board, with a claim word but under the rule common
+pub record IsCellOf (at : PostData) (cell : ℕ) : Type 0 where
+  pub below : cell < at.job.cells
+  pub place : cell < places_of at.layout
+  pub claim : at.job.rule ≢ Common → IsCell at.layout cell

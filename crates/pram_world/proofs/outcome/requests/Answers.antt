@@ -8,7 +8,8 @@ loop-i-preserved c = record {
   each = ap length c.in_ok-push.ensures.items
       ∙ length-append _ _ ∙ ap (λ n. n + 1) c.loop-i.invariant.each;
   are = requests_more c.args.job.now c.args.layout.now c.args.words.now _ _ c.loop-i.i _ _ _
-      _ c.requires (omega arith) c.loop-i.invariant.are c.asked-place.ensures c.asked-value.ensures
+      _ c.requires.stands c.requires.compact (omega arith) c.loop-i.invariant.are
+      c.asked-place.ensures c.asked-value.ensures
       c.asked-next.ensures c.request_of.ensures.value c.in_ok-push.ensures.items;
 }
 

@@ -1,5 +1,5 @@
-use Rattle.walkx.proofs.Knowing.{knows_next}
+use Rattle.walkx.proofs.Knowing.{stay_known}
 use Rattle.walkx.proofs.laws.known_stay_known.Goals as goal
 
 pub returns : goal.returns
-returns c = knows_next
+returns c = stay_known

@@ -1,4 +1,4 @@
-use Rattle.std.proofs.Common.{◌≡◌, ◌≤◌, sym, ◌∙◌, arith}
+use Rattle.std.proofs.Common.{◌≡◌, ◌≤◌, sym, ◌∙◌}
 use Rattle.walkx.proofs.Turning.{moved, rank_is, script_first, script_later, some_rank}
 use Rattle.walkx.proofs.turns.reach.Goals as goal
 

@@ -2,7 +2,7 @@ use Rattle.std.proofs.Common.{[], ◌∷◌, refl, ap, sym, subst, ◌∙◌}
 use Rattle.walkx.specs.declared.operation.Op.{Op}
 use Rattle.walkx.specs.Records.{after}
 use Rattle.walkx.specs.Serving.{Serves}
-use Rattle.walkx.specs.Walk.{HearsAdmitted, IsStepOn, ask_of, told}
+use Rattle.walkx.specs.Walk.{HearsAdmitted, IsStepOn, ask_of, told, AsksAdmitted}
 use Rattle.lawful_walk.specs.Moments.{Sound}
 use Rattle.pram_board.specs.Seats.{Desk, SeatData, hears}
 use Rattle.pram_board.proofs.Keeps.{may_as}
@@ -66,5 +66,7 @@ returns-clause-works c =
           c.tell.ensures.serves;
       knows = knows_told c.args.self.now.task c.args.seat.now c.args.worker.now.walking
           c.step-answer.new.seat c.tell.new.self.walking (returns-clause-ticked c)
-          works.serves.fits works.knows;
+          c.step-answer.ensures.sound
+          (subst (AsksAdmitted c.args.self.now.task.job c.args.self.now.task.layout)
+          c.requires.next.is c.requires.next.admitted) works.serves.fits works.knows;
     }

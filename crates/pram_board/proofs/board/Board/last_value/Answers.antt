@@ -26,8 +26,8 @@ pub returns-clause-value : goal.returns-clause-value
 returns-clause-value c =
     c.newer_payload.ensures ∙ loaded c.args.self.now.task c.args.seat.now c.step-second.new.seat
     c.args.cell c.cell_word-word.result c.step-first.result c.step-second.result c.requires.knows
-    c.cell_word-word.ensures.place c.cell_word-word.ensures.first c.cell_word-word.ensures.second
-    (c.step-second.ensures.grows
+    c.requires.cell c.cell_word-word.ensures.place c.cell_word-word.ensures.first
+    c.cell_word-word.ensures.second (c.step-second.ensures.grows
     ∙ ap (λ (z : SeatData). hears z (Load (c.cell_word-word.result + 1))
     c.step-second.result) c.step-first.ensures.grows) c.step-second.ensures.sound
 

@@ -24,7 +24,8 @@ pub returns-clause-is : goal.returns-clause-is
 returns-clause-is c = λ s heard.
     part_heard c.args.self.now.task c.args.seat.now c.step.new.seat
     c.request_word.result c.args.processor
-    c.args.part c.step.result s c.facts.ensures c.requires.processor c.requires.part
+    c.args.part c.step.result s c.facts.ensures c.requires.compact c.requires.processor
+    c.requires.part
     (subst (λ (d : Desk). c.request_word.result ≡ number_of d.task.layout
     (Asked c.args.processor c.args.part)) c.self.view_is c.request_word.ensures.value)
     c.step.ensures.grows c.step.ensures.sound heard

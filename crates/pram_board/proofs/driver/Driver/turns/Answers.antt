@@ -1,4 +1,4 @@
-use Rattle.std.proofs.Common.{refl, ◌∙◌}
+use Rattle.std.proofs.Common.{[], refl, ◌∙◌, arith}
 use Rattle.walkx.specs.declared.turns.Turned.TheVariants as turned
 use Rattle.pram_board.proofs.Next.{none_of}
 use Rattle.pram_board.proofs.Stepping.{working_goes}
@@ -6,6 +6,19 @@ use Rattle.pram_board.proofs.Telling.{went_more}
 use Rattle.pram_board.proofs.Working.{led_from, led_more, led_on, sound_at, turns_on}
 use Rattle.pram_board.proofs.driver.Driver.turns.Goals as goal
 use Rattle.pram_board.proofs.driver.Driver.turns.Goals.{in-To, in-Within}
+
+pub loop-next-init : goal.loop-next-init
+loop-next-init g c = record {
+  same = refl;
+  walks = c.requires.walks;
+  went = record {
+    ticks = 0;
+    ran = record { answers = []; count = refl; seat = refl; worker = refl };
+    desk = refl;
+    count = omega arith;
+    small = λ h. h;
+  };
+}
 
 pub loop-next-preserved : goal.loop-next-preserved
 loop-next-preserved g c =

@@ -5,7 +5,7 @@ use Rattle.pram_step.specs.Runs.{state_after}
 use Rattle.pram_words.specs.declared.words.Word.TheVariants.{Conflict}
 use Rattle.lawful_walk.specs.Seen.{Heard}
 use Rattle.pram_board.specs.Seats.{HasLoaded}
-use Rattle.pram_board.proofs.board.Board.fault.Given as goal
+use Rattle.pram_board.proofs.board.Board.asked_fault.Given as goal
 
 abbrev pub invariant-loop-processor : goal.invariant-loop-processor
 invariant-loop-processor l = record {

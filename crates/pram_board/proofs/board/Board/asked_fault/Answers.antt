@@ -5,7 +5,7 @@ use Rattle.pram_board.specs.Seats.{Desk, HasLoaded}
 use Rattle.pram_board.proofs.Memory.{more_loads}
 use Rattle.pram_board.proofs.Faults.{still_heard, requests_more, conflicting}
 use Rattle.pram_board.proofs.Remembering.{later_loads}
-use Rattle.pram_board.proofs.board.Board.fault.Goals as goal
+use Rattle.pram_board.proofs.board.Board.asked_fault.Goals as goal
 
 pub loop-processor-preserved : goal.loop-processor-preserved
 loop-processor-preserved c =
