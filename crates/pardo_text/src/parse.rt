@@ -362,7 +362,7 @@ fn used(around: &Around<'_, '_>, thing: Named, exprs: &mut Exprs, tokens: &mut C
 
 // Reads two indices, to their `]`: the place in so many rows and columns.
 #[cycle(operand)]
-#[tactic(auto, unfolding(crate::specs::Operations::is_division))]
+#[tactic(auto, unfolding(pardo_program::specs::Operations::is_division))]
 fn indices(
     around: &Around<'_, '_>,
     rows: u32,
