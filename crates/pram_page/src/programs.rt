@@ -10,7 +10,8 @@ use page_core::program::{LineRow, ProgramTold, compiled, lines_of, put, put_rows
 use std::alloc::Global;
 
 /// Tells the job of the program that a text spells: a text of the machine that spells the job, and
-/// the number of the line that each of its instructions came from.
+/// the number of the line that each of its instructions came from, 0 for the first one. The program
+/// is run, up to 1,048,576 steps.
 #[unsafe(no_mangle)]
 pub extern "C" fn pram_page_compile(
     alloc: Global,
@@ -31,7 +32,7 @@ pub extern "C" fn pram_page_compile(
     };
 }
 
-/// Tells the lines of code of the program that a text spells.
+/// Tells the lines of code of the program that a text spells, in their order.
 #[unsafe(no_mangle)]
 pub extern "C" fn pram_page_lines(
     alloc: Global,
@@ -50,7 +51,8 @@ pub extern "C" fn pram_page_lines(
 }
 
 /// Tells the names of the cells of the program that a text spells: the names one after the other,
-/// and a row for each array and for each row of cells, in their order.
+/// and a row for each array and for each row of cells, in their order. Loops, masks and parts of
+/// long lines have no names.
 #[unsafe(no_mangle)]
 pub extern "C" fn pram_page_names(
     alloc: Global,

@@ -13,7 +13,7 @@ use page_core::steps::{StepRow, steps};
 use std::alloc::Global;
 
 /// Tells what became of the processors in all steps of a text's job. None is made after one that
-/// changes nothing.
+/// changes nothing. There is no limit: call it where the answer is told.
 #[unsafe(no_mangle)]
 pub extern "C" fn pram_page_fates(alloc: Global, text: &[u8], told: &mut FatesTold)
     ensures { AreFatesTold text.now told.new }
@@ -22,7 +22,7 @@ pub extern "C" fn pram_page_fates(alloc: Global, text: &[u8], told: &mut FatesTo
 }
 
 /// Tells what the run of a text's job costs: all of its steps, or those up to its first conflict.
-/// None is made after one that changes nothing.
+/// None is made after one that changes nothing. There is no limit: call it where the answer is told.
 #[unsafe(no_mangle)]
 pub extern "C" fn pram_page_cost(alloc: Global, text: &[u8], told: &mut CostTold)
     ensures { IsCostTold text.now told.new }
@@ -31,7 +31,9 @@ pub extern "C" fn pram_page_cost(alloc: Global, text: &[u8], told: &mut CostTold
 }
 
 /// Tells what the steps after these do, a row each: as many as there is room for, up to the last
-/// one, or up to the first conflict, that one too. At most `most` steps are made before them.
+/// one, or up to the first conflict, that one too: `told.step` is `from` and `told.count`. The last
+/// row of a conflict is its step's; there is none where it comes before. At most `most` steps are
+/// made before them.
 #[unsafe(no_mangle)]
 pub extern "C" fn pram_page_steps(
     alloc: Global,
@@ -48,7 +50,7 @@ pub extern "C" fn pram_page_steps(
 }
 
 /// Tells what each processor executed last in so many steps, or in those up to the first conflict,
-/// that one too. No more than `most` steps are made.
+/// that one too, and in which step. No more than `most` steps are made.
 #[unsafe(no_mangle)]
 pub extern "C" fn pram_page_last(
     alloc: Global,
