@@ -23,7 +23,7 @@ use std::alloc::Global;
 /// third.
 #[unsafe(no_mangle)]
 pub extern "C" fn ks_version() -> u32
-    ensures { result ≡ 256 * 7 }
+    ensures { result ≡ 65536 * 0 + 256 * 7 + 0 }
 {
     7 << 8
 }
