@@ -33,8 +33,8 @@ no job~ \
 -- a file is named by its word
 $ pramx check plan --explain
  | 2 text line=1 kind=BadHeader~\
-    plan:1:1: a program begins with the line `pardo 1`, and a text of the machine with `pram 3`~    \
-    worker,act,ticks~    ^~
+    plan:1:1: a program begins with the line `pardo 1`, and a text of the machine with \
+    `pram 3`~    worker,act,ticks~    ^~
 $ pramx compile job
 pardo 1~rule crew~procs i < 2~shared A[2]~code~A[i] := i + 7~ \
     | 0 pram 3~cells 2~procs 2~steps 4~rule crew~array A 0 2~code~pid r3~add r0 r3 7~st A r3 r0~\

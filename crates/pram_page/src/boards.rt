@@ -18,8 +18,8 @@ use std::alloc::Global;
 /// events did as `rows` has room for. And tells what a reader of each cell answers that makes its
 /// loads then: each is a lawful read.
 ///
-/// There is no room where words or bodies are too few (there are as many bodies as workers and twins
-/// so far): a call with both empty learns the sizes. `read` is told by itself.
+/// There is no room where words or bodies are too few (there are as many bodies as workers and
+/// twins so far): a call with both empty learns the sizes. `read` is told by itself.
 #[unsafe(no_mangle)]
 pub extern "C" fn pram_page_scene(
     alloc: Global,

@@ -40,10 +40,10 @@ pub extern "C" fn pram_page_answer(
 /// step after it, and whether that step is against the rule, and where. At most `most` steps are
 /// made.
 ///
-/// Each is told by itself. `state` is a conflict where step `state.step`, at most `step`, is against
-/// the rule. `asked` says that there is no step where the job has none after these; it is a conflict
-/// with the rows where that step is against the rule, and one with a lesser `asked.step` and none
-/// where it is not reached.
+/// Each is told by itself. `state` is a conflict where step `state.step`, at most `step`, is
+/// against the rule. `asked` says that there is no step where the job has none after these; it is a
+/// conflict with the rows where that step is against the rule, and one with a lesser `asked.step`
+/// and none where it is not reached.
 #[unsafe(no_mangle)]
 pub extern "C" fn pram_page_moment(
     alloc: Global,

@@ -22,7 +22,8 @@ pub extern "C" fn pram_page_fates(alloc: Global, text: &[u8], told: &mut FatesTo
 }
 
 /// Tells what the run of a text's job costs: all of its steps, or those up to its first conflict.
-/// None is made after one that changes nothing. There is no limit: call it where the answer is told.
+/// None is made after one that changes nothing. There is no limit: call it where the answer is
+/// told.
 #[unsafe(no_mangle)]
 pub extern "C" fn pram_page_cost(alloc: Global, text: &[u8], told: &mut CostTold)
     ensures { IsCostTold text.now told.new }
