@@ -1,7 +1,7 @@
 pub mod Cells
 pub mod Digits
 pub mod Rows
-pub mod Costed
+pub mod CostsMade
 pub mod Lined
 pub mod LineFinding
 pub mod ArrayNames

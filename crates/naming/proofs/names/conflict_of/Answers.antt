@@ -1,6 +1,6 @@
 use Rattle.std.proofs.Common.{subst}
 use Rattle.pram_step.specs.Runs.{IsAnswer}
-use Rattle.naming.proofs.Costed.{length_conflict, length_final}
+use Rattle.naming.proofs.CostsMade.{length_conflict, length_final}
 use Rattle.naming.proofs.names.conflict_of.Goals as goal
 
 pub returns-in-Final : goal.returns-in-Final

@@ -1,6 +1,6 @@
 use Rattle.std.proofs.Common.{◌≡◌, ◌∙◌, ◌<◌, ◌^◌, ap, arith, length, map, vec_len}
 use Rattle.pardo_job.specs.declared.ended.Ended.{Ended}
-use Rattle.naming.proofs.Costed.{made_costs}
+use Rattle.naming.proofs.CostsMade.{made_costs}
 use Rattle.naming.proofs.Lined.{made_lines, made_small}
 use Rattle.naming.proofs.names.cost_program.Goals as goal
 
