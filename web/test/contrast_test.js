@@ -37,6 +37,8 @@ const USES = {
   "button[aria-pressed='true'] | background": text('paper'),
   "button[aria-pressed='true'] | color": text('accent'),
   ':focus-visible | outline': edge,
+  '.at-hand | background': text('ink'),
+  '.at-hand | border-top': edge,
   '.bad | color': text(...SURFACES, 'bad-ground'),
   '.said | background': text('ink', 'bad'),
   '.said.bad | background': text('bad'),
