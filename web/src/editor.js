@@ -1,5 +1,6 @@
 // The editor: a plain text area, with line numbers beside it and marks behind it. A long text is
 // shown by a window on its lines, and of these only those in sight have a number drawn.
+import { openAtWork } from './at_work.js';
 import { byId, fit, make, setAttribute, setText } from './dom.js';
 import { Sheet } from './sheet.js';
 import { movedLines } from './text_lines.js';
@@ -55,6 +56,7 @@ export class Editor {
     this.marks = new Map();
     this.stops = new Set();
     this.isChosen = false;
+    this.showAtWork = openAtWork();
     this.sight = openWindow('line', WINDOW, (line) => this.moveTo(line), 1);
     byId('lines').append(this.sight.bar);
     this.listen();
@@ -257,6 +259,7 @@ export class Editor {
   mark(byLine) {
     if (byLine.size === 0 && this.marks.size === 0) return;
     this.marks = byLine;
+    this.showAtWork(byLine, this.sheet.text);
     this.draw();
   }
 

@@ -4,10 +4,16 @@ import { grouped } from './numbers.js';
 
 const HEIGHT = 100;
 const PARTS = [
-  { name: 'running', left: 0, width: 1 },
-  { name: 'reading', left: 0.1, width: 0.4 },
-  { name: 'writing', left: 0.5, width: 0.4 },
+  { name: 'running', pathOf: shapeOf },
+  { name: 'reading', pathOf: barsOf, left: 0.1, width: 0.4 },
+  { name: 'writing', pathOf: barsOf, left: 0.5, width: 0.4 },
 ];
+
+// A shape with a step for each, whose edge is drawn.
+function shapeOf(list, procs, { name }) {
+  const tops = list.map((row) => `V${HEIGHT - (HEIGHT * row[name]) / procs}h1`);
+  return `M0 ${HEIGHT}${tops.join('')}V${HEIGHT}z`;
+}
 
 // Bars of one kind, as one path.
 function barsOf(list, procs, { name, left, width }) {
@@ -49,7 +55,7 @@ export function openPlot(onStep) {
       const { first, list } = told;
       if (list !== shown.list) {
         setAttribute(plot, 'viewBox', `0 0 ${Math.max(list.length, 1)} ${HEIGHT}`);
-        paths.forEach((path, k) => path.setAttribute('d', barsOf(list, procs, PARTS[k])));
+        paths.forEach((path, k) => path.setAttribute('d', PARTS[k].pathOf(list, procs, PARTS[k])));
       }
       shown = told;
       setAttribute(now, 'x', step - first);

@@ -6,6 +6,7 @@ import { readFileSync, readdirSync, writeFileSync } from 'node:fs';
 import { tmpdir } from 'node:os';
 import { join } from 'node:path';
 import { statesAt } from '../src/activity.js';
+import { atWorkInWords } from '../src/at_work.js';
 import {
   CODE, END, JOB_FAULT, LIMIT, MODELS, OP, PROGRAM_FAULT, TEXT_FAULT,
 } from '../src/declared.js';
@@ -258,6 +259,15 @@ function momentsInWords(core, text) {
     const states = statesAt(job, places, line);
     return lineInWords({ ...app, step: at }, { line, number, places, states, requests: [] });
   });
+}
+
+function testAtWork() {
+  const text = 'code\nA[i] := 1  ; one\nB[i] := 2\n';
+  const [first, second] = [[2, { badge: 'P0-3' }], [3, { badge: '' }]];
+  is('no line at work', atWorkInWords(new Map(), text), '');
+  is('one', atWorkInWords(new Map([second]), text), '3: B[i] := 2');
+  is('the first of two', atWorkInWords(new Map([second, first]), text),
+    '2: A[i] := 1 (P0-3), and other lines');
 }
 
 function testLoopsInWords(core) {
@@ -530,6 +540,7 @@ testFile();
 testNames(core);
 testHiddenRows(core);
 testPardoRefusals(core);
+testAtWork();
 testLoopsInWords(core);
 testActs();
 testPlan(core);

@@ -195,6 +195,54 @@ export async function testPhone() {
   await page.resize(1280, 900);
 }
 
+// What is said beside a button, if both are in sight; `top` is how far the page is scrolled down.
+const besideAt = (button, top) => `(() => {
+  scrollTo(0, ${top} * document.documentElement.scrollHeight);
+  const button = document.querySelector('${button}');
+  const said = button.parentElement.querySelector('.at-work');
+  const isInSight = (one) => {
+    const { left, top, width, height } = one.getBoundingClientRect();
+    return one.contains(document.elementFromPoint(left + width / 2, top + height / 2)) &&
+      top >= 0 && top + height <= innerHeight && left >= 0 && left + width <= innerWidth;
+  };
+  return [button, said].every(isInSight) ? said.textContent : 'out of sight';
+})()`;
+
+// How high above the bar of a button an element ends.
+const above = (button, selector) => page.evaluate(`(() => {
+  const end = document.querySelector('${selector}').getBoundingClientRect().bottom;
+  return document.querySelector('${button}').parentElement.getBoundingClientRect().top - end;
+})()`);
+
+const AT_HAND = [
+  ['lockstep', '#step-on', '12: A[i] := A[i] + A[i - 1 << h] (P1-7)', '14: end (P0-7)'],
+  ['workers', '#all-1', '10: for h = 0 to lg(n) - 1 (step 1)', '10: for h = 0 to lg(n) - 1 (step 1)'],
+];
+
+// The button of a step is in sight with the line that is at work, wherever the page is scrolled to.
+export async function testPhoneSteps() {
+  for (const [width, height] of [[360, 640], [390, 844]]) {
+    await page.resize(width, height);
+    for (const [view, button, before, after] of AT_HAND) {
+      const what = `${view}, ${width} x ${height}`;
+      await open(`#example=prefix.pardo&view=${view}&workers=4${SHOWN.replace('14', '12')}`);
+      await page.until('document.querySelector(".at-work").textContent !== ""', 5);
+      for (const top of [1, 0.5, 0]) {
+        is(`${what}: step and line at ${top}`, await page.evaluate(besideAt(button, top)), before);
+        await page.sightPicture(`phone-${width}-${view}-${top}`);
+      }
+      const line = await above(button, '.mark.current');
+      is(`${what}: with the line in the text`, line >= 0 || line, true);
+      await page.click(button);
+      is(`${what}: a step`, await page.evaluate(besideAt(button, 1)), after);
+      const last = await above(button, 'main');
+      is(`${what}: nothing stays below`, last >= 0 || last, true);
+    }
+  }
+  await page.resize(1280, 900);
+  is('on a wide screen the text has it alone', await isShown('.at-work'), false);
+}
+
 export async function testFocus() {
   await open('#example=maximum');
   await page.click('#step-end');

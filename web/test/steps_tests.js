@@ -121,6 +121,43 @@ export async function testSeeking() {
   await has('a click on a change', '#steps li', 'swaps the');
 }
 
+const KEYS = [['a', 'KeyA', 'a'], ['n', 'KeyN', 'n'], ['1', 'Digit1', '1'], [' ', 'Space', ' '],
+  ['ArrowRight']];
+
+// Where they do not act they are the browser's, which scrolls for a moment.
+async function pressSome() {
+  await page.evaluate('document.querySelector("[role=tabpanel]:not([hidden])").focus()');
+  for (const key of KEYS) await page.press(...key);
+  await page.until('false', 0.5);
+}
+
+async function switchKeys() {
+  for (const part of ['.keys summary', '#single-keys', '.keys summary']) await page.click(part);
+}
+
+// Keys without Control are off, also where the page is opened anew, until they are on again.
+export async function testKeysOff() {
+  await open('#example=prefix&view=workers&workers=3');
+  await switchKeys();
+  await pressSome();
+  is('by workers none acts', await text('#moment-said'), '0 of 0');
+  await page.click('#all-1');
+  await page.chord('z');
+  is('but with Control', await text('#moment-said'), '0 of 0');
+  await page.chord('y');
+  is('each does', await text('#moment-said'), '3 of 3');
+  await open('#example=maximum');
+  await pressSome();
+  is('in lockstep none acts', await valueOf('#step'), '0');
+  await switchKeys();
+  await page.evaluate('document.getElementById("lockstep").focus()');
+  await page.press('ArrowRight');
+  is('on again', await valueOf('#step'), '1');
+  await open('#example=maximum');
+  await page.press('ArrowRight');
+  is('and when opened anew', await valueOf('#step'), '1');
+}
+
 export async function testFreshKeys() {
   await open();
   await page.until('!document.getElementById("machine").hidden', 5);
