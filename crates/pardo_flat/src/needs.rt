@@ -2,7 +2,7 @@
 ghost use Rattle.std.specs.Prelude.{◌≡◌, ◌<◌, ◌++◌, ◌∷◌, [], ◌&&◌, ◌||◌, false, max, vec_len};
 ghost use Rattle.std.specs.Prelude.{if◌then◌else◌, IfOk, OnOk};
 ghost use Rattle.pardo_flat.specs.Flat.{applied_shape, computed_shape, first_need, fits, has_room};
-ghost use Rattle.pardo_flat.specs.Flat.{is_beside, operation_need, shape_of, taken};
+ghost use Rattle.pardo_flat.specs.Flat.{gives_truth, is_beside, operation_need, shape_of, taken};
 ghost use Rattle.pardo_flat.specs.Inner.Splits.{CanShape, ShapesNode};
 
 use pardo_program::{Expr, Node, Op, Statement, Target};
