@@ -136,7 +136,7 @@ def make_copy(to, *words):
     (to / ".git").mkdir(parents=True)
     (to / "crates.txt").write_text("".join(f"{line}\n" for line in lines))
     shutil.copy(TOP / "HANDLES", to)
-    left_out = shutil.ignore_patterns("out", "must-fail")
+    left_out = shutil.ignore_patterns("out", "must-fail", "wrong-bodies")
     for name in map(name_of, lines):
         shutil.copytree(TOP / "crates" / name, to / "crates" / name, ignore=left_out, symlinks=True)
     return lines
