@@ -23,7 +23,7 @@
 #include <time.h>
 #include <unistd.h>
 
-enum { MOST_BYTES = 16777216, MOST_CHILDREN = 64 + MOST_EVENTS };
+enum { MOST_BYTES = 67108864, MOST_CHILDREN = 64 + MOST_EVENTS };
 enum act { GO, SLEEP, BACK, STOP };
 
 struct child {

@@ -116,7 +116,7 @@ static void end(struct thread *thread, struct tally *tally) {
 
 /* Writes the answer as pramx does, by cells. */
 static void tell(FILE *to, ks_seat *seat) {
-  static uint32_t cells[65536];
+  static uint32_t cells[1048576];
   struct ks_fault fault;
   struct ks_progress seen;
   ks_progress(seat, &seen);
@@ -125,7 +125,7 @@ static void tell(FILE *to, ks_seat *seat) {
             fault.second);
     return;
   }
-  if (ks_memory(seat, cells, 65536)) fail("there is no answer");
+  if (ks_memory(seat, cells, 1048576)) fail("there is no answer");
   fprintf(to, "done steps=%u\n", seen.steps);
   for (size_t i = 0; i < seen.cells; i++) fprintf(to, "%zu: %u\n", i, cells[i]);
 }

@@ -5,6 +5,11 @@ import { readFileSync, readdirSync, writeFileSync } from 'node:fs';
 import { dirname, join } from 'node:path';
 import { fileURLToPath } from 'node:url';
 import { deflateRawSync } from 'node:zlib';
+import { CHINESE } from '../src/chinese.js';
+import { FRENCH } from '../src/french.js';
+import { GERMAN } from '../src/german.js';
+import { LANGUAGES } from '../src/languages.js';
+import { SPANISH } from '../src/spanish.js';
 import { declaredModule } from './declared_module.js';
 
 const source = join(dirname(fileURLToPath(import.meta.url)), '..', 'src');
@@ -51,6 +56,14 @@ function examplesOf(folder) {
     }));
 }
 
+// By language its texts, in one order.
+function textsOfLanguages() {
+  const tables = { de: GERMAN, fr: FRENCH, es: SPANISH, 'zh-Hans': CHINESE };
+  const texts = Object.keys(GERMAN).sort();
+  return Object.fromEntries(LANGUAGES.map(({ tag }) =>
+    [tag, texts.map((text) => tables[tag]?.[text] ?? text)]));
+}
+
 const hash = (text) => `'sha256-${createHash('sha256').update(text).digest('base64')}'`;
 
 // No resource from outside, and no script or style but the page's own; its thread is made of the
@@ -67,6 +80,7 @@ const parts = {
   POLICY: policyOf(style, script),
   STYLE: style,
   EXAMPLES: packed(JSON.stringify(examplesOf(examples))),
+  WORDS: packed(JSON.stringify(textsOfLanguages())),
   FAR: bundleOf('far_core'),
   CORE: packed(readFileSync(core)),
   PAGE: script,

@@ -3,8 +3,11 @@
 import { STATUS } from './kinds.js';
 import { counterPlace } from './places.js';
 import { statusOf } from './processors.js';
+import { english } from './words.js';
 
-export const STATE = { ACTIVE: 'active', WAITS: 'waits', GONE: 'gone', DONE: 'done' };
+export const STATE = {
+  ACTIVE: english('active'), WAITS: english('waits'), GONE: english('gone'), DONE: english('done'),
+};
 
 export function statesAt(job, places, line) {
   return Array.from({ length: job.procs }, (_, processor) => {

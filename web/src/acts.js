@@ -2,6 +2,7 @@
 // page's own, since a sleeping worker is one that makes no step.
 import { EVENT } from './declared.js';
 import { TWIN } from './kinds.js';
+import { phrase } from './words.js';
 
 export const ACT = {
   GO: EVENT.GO, LOSE: EVENT.STOP, BACK: EVENT.BACK, TWIN, SLEEP: TWIN + 1, WAKE: TWIN + 2,
@@ -62,7 +63,7 @@ export function writeActs(acts, most = Infinity) {
 
 function readAct(word) {
   const [, letter, digits] = /^([lbtsw]?)(\d{1,2})$/.exec(word) ?? [];
-  if (digits === undefined) throw new RangeError('an act of a schedule is unknown');
+  if (digits === undefined) throw new RangeError(phrase('an act of a schedule is unknown'));
   return actOf(KINDS[letter], Number(digits));
 }
 
@@ -71,9 +72,11 @@ function checkActs(workers, acts) {
   let bodies = workers;
   for (const act of acts) {
     const isTwin = kindOf(act) === ACT.TWIN;
-    if (bodyOf(act) >= (isTwin ? workers : bodies)) throw new RangeError('no such worker');
+    if (bodyOf(act) >= (isTwin ? workers : bodies)) {
+      throw new RangeError(phrase('no such worker'));
+    }
     if (isTwin) bodies += 1;
-    if (bodies > MOST_BODIES) throw new RangeError('too many twins');
+    if (bodies > MOST_BODIES) throw new RangeError(phrase('too many twins'));
   }
 }
 
@@ -82,10 +85,12 @@ export function readActs(workers, text) {
   const acts = [];
   for (const run of text === '' ? [] : text.split('~')) {
     const [, words, times] = /^([^*]+)(?:\*(\d{1,6}))?$/.exec(run) ?? [];
-    if (words === undefined) throw new RangeError('a schedule is not written so');
+    if (words === undefined) throw new RangeError(phrase('a schedule is not written so'));
     const piece = words.split('.').map(readAct);
     const count = Number(times ?? 1);
-    if (acts.length + piece.length * count > MOST_ACTS) throw new RangeError('too many acts');
+    if (acts.length + piece.length * count > MOST_ACTS) {
+      throw new RangeError(phrase('too many acts'));
+    }
     for (let k = 0; k < count; k += 1) for (const act of piece) acts.push(act);
   }
   checkActs(workers, acts);

@@ -4,6 +4,7 @@ import { MOST_WORKERS, readActs, writeActs } from './acts.js';
 import { LIMIT } from './declared.js';
 import { pack, unpack } from './packing.js';
 import { Schedule } from './schedule.js';
+import { phrase } from './words.js';
 
 const MOST_ADDRESS = 60000;
 const MOST_TEXT = LIMIT.TEXT_MOST;
@@ -50,7 +51,9 @@ function readNumber(fields, name, least, most, otherwise) {
   const digits = fields.get(name);
   if (digits === null) return otherwise;
   const number = /^\d{1,10}$/.test(digits) ? Number(digits) : NaN;
-  if (!(number >= least && number <= most)) throw new RangeError(`${name} is out of its limits`);
+  if (!(number >= least && number <= most)) {
+    throw new RangeError(phrase('{0} is out of its limits', name));
+  }
   return number;
 }
 
@@ -60,7 +63,7 @@ async function readText(fields, examples) {
   if (packed !== null) return unpackText(packed);
   if (name === null) return undefined;
   const example = examples.find((candidate) => candidate.name === name);
-  if (!example) throw new RangeError('there is no such example');
+  if (!example) throw new RangeError(phrase('there is no such example'));
   return example.text;
 }
 

@@ -2,6 +2,7 @@
 import { setText } from './dom.js';
 import { grouped, shortened } from './numbers.js';
 import { lineOf } from './text_lines.js';
+import { phrase } from './words.js';
 
 const NARROW = '(max-width: 40rem)';
 const MOST_CHARACTERS = 80;
@@ -12,8 +13,8 @@ export function atWorkInWords(marks, text) {
   const line = Math.min(...marks.keys());
   const { badge } = marks.get(line);
   const words = shortened(lineOf(text, line).split(';', 1)[0].trim(), MOST_CHARACTERS);
-  const others = marks.size === 1 ? '' : ', and other lines';
-  return `${grouped(line)}: ${words}${badge && ` (${badge})`}${others}`;
+  const said = `${grouped(line)}: ${words}${badge && ` (${badge})`}`;
+  return marks.size === 1 ? said : phrase('{0}, and other lines', said);
 }
 
 // Gives what shows the marks of a text. It is out of sight on a wide screen, and is not made there.

@@ -1,8 +1,14 @@
 // Cells as a row of boxes of one size, a window of them at a time.
 import { byId, fit, make, setAttribute, setText } from './dom.js';
 import { openWindow } from './window.js';
+import { english } from './words.js';
 
 const IN_SIGHT = 64;
+const SIGHT = {
+  from: english('from cell {0}'),
+  earlier: english('earlier cells'),
+  later: english('later cells'),
+};
 
 function makeBox() {
   return make('li', { class: 'cell' },
@@ -31,7 +37,7 @@ function showBox(box, cell, { label, isFirst, value, note, kind = '' }) {
 
 // A row of boxes in the element of this id. `boxOf(cell)` gives a cell's value, note and class.
 export function openCells(id, label, onMove) {
-  const sight = openWindow('cell', IN_SIGHT, onMove);
+  const sight = openWindow(SIGHT, IN_SIGHT, onMove);
   const list = make('ol', { class: 'cells', 'aria-label': label });
   byId(id).append(sight.bar, list);
   return {

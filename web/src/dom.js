@@ -1,4 +1,6 @@
 // Small helpers over the document. Text only ever enters as text, never as markup.
+import { SPOKEN, followAttribute } from './following.js';
+
 const SVG = 'http://www.w3.org/2000/svg';
 
 export function byId(id) {
@@ -8,13 +10,15 @@ export function byId(id) {
 function fill(element, attributes, children) {
   for (const [name, value] of Object.entries(attributes)) {
     if (typeof value === 'function') element.addEventListener(name, value);
+    else if (SPOKEN.includes(name)) followAttribute(element, name, value);
     else if (value !== false) element.setAttribute(name, value === true ? '' : value);
   }
   element.append(...children);
   return element;
 }
 
-// An element; an attribute that is a function is a listener.
+// An element; an attribute that is a function is a listener, and one that is said is given by its
+// English words.
 export function make(tag, attributes = {}, ...children) {
   return fill(document.createElement(tag), attributes, children);
 }

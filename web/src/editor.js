@@ -5,15 +5,21 @@ import { byId, fit, make, setAttribute, setText } from './dom.js';
 import { Sheet } from './sheet.js';
 import { movedLines } from './text_lines.js';
 import { openWindow } from './window.js';
+import { english } from './words.js';
 
 const QUIET = 30;
 const LARGE = 20000;
 const WINDOW = 400;
+const SIGHT = {
+  from: english('from line {0}'),
+  earlier: english('earlier lines'),
+  later: english('later lines'),
+};
 
 const makeMark = () => make('div', { class: 'mark' }, make('span', { class: 'badge' }));
 const makeNumber = () => make('div', { class: 'line-number' },
-  make('span', { class: 'stop', title: 'Stop here, or no more' }),
-  make('span', { class: 'number', title: 'To this line' }));
+  make('span', { class: 'stop', title: english('Stop here, or no more') }),
+  make('span', { class: 'number', title: english('To this line') }));
 
 function drawNumbers(gutter, first, count, marks, stops) {
   fit(gutter, count, makeNumber).forEach((row, k) => {
@@ -57,7 +63,7 @@ export class Editor {
     this.stops = new Set();
     this.isChosen = false;
     this.showAtWork = openAtWork();
-    this.sight = openWindow('line', WINDOW, (line) => this.moveTo(line), 1);
+    this.sight = openWindow(SIGHT, WINDOW, (line) => this.moveTo(line), 1);
     byId('lines').append(this.sight.bar);
     this.listen();
   }

@@ -3,6 +3,7 @@
 import { MODEL } from './declared.js';
 import { GREATEST, POWERS, SIZES, indices, listsWith, valuesWith } from './exercise_inputs.js';
 import { CONSTANT, LOGARITHMIC } from './growth.js';
+import { english } from './words.js';
 
 const { EREW, CREW, COMMON_CRCW: COMMON } = MODEL;
 
@@ -27,70 +28,73 @@ const OF_POWERS = valuesWith(7, POWERS);
 // are the lines that one begins with.
 export const EXERCISES = [
   {
-    title: 'own numbers',
-    task: 'A[i] becomes i.',
+    title: english('own numbers'),
+    task: english('A[i] becomes i.'),
     growth: CONSTANT, model: EREW, shared: ['A[n]'], inputs: ANY, begin: ['A[i] := A[i]'],
     want: (a) => indices(a.length),
   },
   {
-    title: 'double',
-    task: 'B[i] becomes twice A[i], modulo 2^32.',
+    title: english('double'),
+    task: english('B[i] becomes twice A[i], modulo 2^32.'),
     growth: CONSTANT, model: EREW, shared: ['A[n]', 'B[n]'], inputs: ANY,
     begin: ['B[i] := A[i]'],
     want: (a) => a.map((value) => (2 * value) % 2 ** 32),
   },
   {
-    title: 'reverse',
-    task: 'B becomes A in reverse: B[0] is A[n - 1].',
+    title: english('reverse'),
+    task: english('B becomes A in reverse: B[0] is A[n - 1].'),
     growth: CONSTANT, model: EREW, shared: ['A[n]', 'B[n]'], inputs: ANY,
     begin: ['B[i] := A[i]'],
     want: (a) => [...a].reverse(),
   },
   {
-    title: 'neighbours',
-    task: 'B[i] becomes A[i] + A[i + 1], and B[n - 1] becomes A[n - 1] + A[0], modulo 2^32.',
+    title: english('neighbours'),
+    task: english(
+      'B[i] becomes A[i] + A[i + 1], and B[n - 1] becomes A[n - 1] + A[0], modulo 2^32.'),
     growth: CONSTANT, model: EREW, shared: ['A[n]', 'B[n]'], inputs: ANY,
     begin: ['B[i] := A[i]'],
     want: (a) => a.map((value, i) => sumOf([value, a[(i + 1) % a.length]])),
   },
   {
-    title: 'broadcast',
-    task: 'Each A[i] becomes A[0]. No two may read it in one step: copies make copies.',
+    title: english('broadcast'),
+    task: english('Each A[i] becomes A[0]. No two may read it in one step: copies make copies.'),
     growth: LOGARITHMIC, model: EREW, shared: ['A[n]'], inputs: ANY, begin: ['A[i] := A[i]'],
     want: (a) => a.map(() => a[0]),
   },
   {
-    title: 'is a seven among them',
-    task: 'found becomes 1 if some A[i] is 7, and else stays 0.',
+    title: english('is a seven among them'),
+    task: english('found becomes 1 if some A[i] is 7, and else stays 0.'),
     growth: CONSTANT, model: COMMON, shared: ['A[n]', 'found'], inputs: ANY,
     begin: ['found := 0'],
     want: (a) => [a.includes(7) ? 1 : 0],
   },
   {
-    title: 'sum',
-    task: 'total becomes the sum of all A[i], modulo 2^32. n is a power of two. A may change.',
+    title: english('sum'),
+    task: english(
+      'total becomes the sum of all A[i], modulo 2^32. n is a power of two. A may change.'),
     growth: LOGARITHMIC, model: EREW, shared: ['A[n]', 'total'], inputs: OF_POWERS,
     begin: ALONE('total'),
     want: (a) => [sumOf(a)],
   },
   {
-    title: 'maximum',
-    task: 'greatest becomes the greatest of all A[i]. n is a power of two. A may change.',
+    title: english('maximum'),
+    task: english('greatest becomes the greatest of all A[i]. n is a power of two. A may change.'),
     growth: LOGARITHMIC, model: EREW, shared: ['A[n]', 'greatest'],
     inputs: valuesWith(GREATEST, POWERS), begin: ALONE('greatest'),
     want: (a) => [Math.max(...a)],
   },
   {
-    title: 'prefix sums',
-    task: 'A[i] becomes A[0] + .. + A[i], modulo 2^32. n is a power of two.',
+    title: english('prefix sums'),
+    task: english('A[i] becomes A[0] + .. + A[i], modulo 2^32. n is a power of two.'),
     growth: LOGARITHMIC, model: EREW, shared: ['A[n]'], inputs: OF_POWERS,
     begin: ['A[i] := A[i]'],
     want: (a) => a.map((_, i) => sumOf(a.slice(0, i + 1))),
   },
   {
-    title: 'ranks in a list',
-    task: 'N[i] is the element after i in a list, and of its last one that itself. R[i] becomes ' +
-      'how many come after i. N may change.',
+    title: english('ranks in a list'),
+    task: english(
+      'N[i] is the element after i in a list, and of its last one that itself. R[i] becomes how ' +
+      'many come after i. N may change.'),
     growth: LOGARITHMIC, model: CREW, shared: ['N[n]', 'R[n]'], inputs: listsWith(SIZES),
     begin: ['R[i] := N[i]'],
     want: ranksOf,

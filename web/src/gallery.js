@@ -1,6 +1,7 @@
 // The programs in a menu: one's own, and those of examples/.
 import { byId, make } from './dom.js';
 import { shortened } from './numbers.js';
+import { english, phrase } from './words.js';
 
 const NEW = 'new';
 const LINKED = 'linked';
@@ -29,7 +30,8 @@ function titleOf(example) {
 
 function titleOfDraft(draft) {
   const [line] = draft.text.slice(0, 400).trimStart().split('\n', 1);
-  return `your own: ${shortened(sayingOf(draft.text) || line.trim() || 'empty', 60)}`;
+  const says = sayingOf(draft.text) || line.trim() || phrase('empty');
+  return phrase('your own: {0}', shortened(says, 60));
 }
 
 const OWN = 'own ';
@@ -40,11 +42,11 @@ const optionOf = (value, title) => make('option', { value }, title);
 // `choose` hears a text, and of an own program the number of its draft.
 export function openGallery(examples, drafts, choose) {
   const menu = byId('example');
-  const own = make('optgroup', { label: 'Your own' });
+  const own = make('optgroup', { label: english('Your own') });
   const groupOf = (label, isOf) => make('optgroup', { label },
     ...examples.filter(isOf).map((example) => optionOf(example.name, titleOf(example))));
-  menu.replaceChildren(own, groupOf('Gallery, in pardo', isProgram),
-    groupOf('Gallery, for the machine itself', (example) => !isProgram(example)));
+  menu.replaceChildren(own, groupOf(english('Gallery, in pardo'), isProgram),
+    groupOf(english('Gallery, for the machine itself'), (example) => !isProgram(example)));
   menu.addEventListener('change', () => {
     const example = examples.find((candidate) => candidate.name === menu.value);
     const draft = drafts.find(numberIn(menu.value));
@@ -64,11 +66,11 @@ export function openGallery(examples, drafts, choose) {
     // The menu names the program that stands in the editor.
     show(work) {
       const value = valueNow(work);
-      const title = work.name ?? 'the program of this link';
+      const title = work.name?.() ?? phrase('the program of this link');
       const linked = value === LINKED ? [optionOf(LINKED, title)] : [];
       own.replaceChildren(...linked,
         ...drafts.list.map((draft) => optionOf(valueOf(draft), titleOfDraft(draft))),
-        optionOf(NEW, 'a new program'));
+        optionOf(NEW, phrase('a new program')));
       menu.value = value;
     },
   };

@@ -1,12 +1,12 @@
 // Judges exercises: the core runs the learner's lines on hidden inputs, and says what they cost.
-import { MEETS } from './costs.js';
-import { CODE, JOB_FAULT, MODEL, MODELS } from './declared.js';
+import { CODE, JOB_FAULT, MODELS } from './declared.js';
 import { headerOf, keyOf, ruleOf } from './exercises.js';
 import { excessInWords, keepSteps } from './growth.js';
 import { grouped } from './numbers.js';
 import { wordsOfProgramFault } from './program_faults.js';
 import { Source } from './source.js';
 import { lineOf } from './text_lines.js';
+import { english, phrase } from './words.js';
 
 // Of so many steps at most it is looked up which line wrote a place last.
 const MOST_LOOKED = 2000;
@@ -25,27 +25,38 @@ export function withInput(text, exercise, input) {
   return { given: [...given, ...lines.slice(end)].join('\n') };
 }
 
-// Two processors that meet at a place: in which line, in which step.
-function meetingInWords({ lines }, source, { step, cell, first, second }, what) {
-  return `processors ${first} and ${second} ${what} ${source.nameOfCell(cell)} in line ` +
-    `${grouped(lines.get(step))}, step ${grouped(step)}`;
-}
+// Two processors that meet at a place: who, where, in which line, in which step.
+const partsOf = ({ lines }, source, { step, cell, first, second }) =>
+  [first, second, source.nameOfCell(cell), grouped(lines.get(step)), grouped(step)];
 
 function faultInWords({ code, fault, line }, text) {
-  if (code !== CODE.NO_JOB) return 'the page is out of memory.';
-  return `line ${grouped(line)}: ${wordsOfProgramFault(fault, lineOf(text, line))}`;
+  if (code !== CODE.NO_JOB) return phrase('the page is out of memory.');
+  return phrase('line {0}: {1}', grouped(line), wordsOfProgramFault(fault, lineOf(text, line)));
 }
+
+const CONFLICTS = {
+  crew: english('processors {0} and {1} write {2} in line {3}, step {4}, against the rule {5}.'),
+  common: english('processors {0} and {1} write different values to {2} in line {3}, step {4}, ' +
+    'against the rule {5}.'),
+};
 
 function conflictOf(exercise, trial, source) {
   if (trial.answer.code !== CODE.CONFLICT) return '';
   const rule = ruleOf(exercise);
-  const what = MEETS[rule === 'common' ? MODEL.COMMON_CRCW : MODEL.CREW];
-  return `${meetingInWords(trial, source, trial.answer, what)}, against the rule ${rule}.`;
+  return phrase(CONFLICTS[rule], ...partsOf(trial, source, trial.answer), rule);
 }
 
 function goneInWords({ fates: { lost: { processor, step } }, lines }) {
-  return step === 0 ? '' : ` Processor ${processor} is gone since line ${
-    grouped(lines.get(step))}, where its array has no such place.`;
+  return step === 0 ? ''
+    : phrase('Processor {0} is gone since line {1}, where its array has no such place.',
+      processor, grouped(lines.get(step)));
+}
+
+// A value that is wrong, with the line that wrote it, where that was looked up.
+function heldInWords(parts, { isKnown, line }) {
+  if (!isKnown) return phrase('{0} holds {1}, wanted {2}.', ...parts);
+  return line === undefined ? phrase('{0} holds {1}, wanted {2}; no line wrote it.', ...parts)
+    : phrase('{0} holds {1}, wanted {2}; line {3} wrote it last.', ...parts, grouped(line));
 }
 
 // The first place that is wrong, and which line wrote it last.
@@ -55,19 +66,25 @@ async function valueOf(ask, exercise, input, trial, source) {
   const wanted = exercise.want(input);
   const k = wanted.findIndex((value, at) => cells[base + at] !== value);
   if (k < 0) return '';
-  const held = `${source.nameOfCell(base + k)} holds ${grouped(cells[base + k])}, wanted ${
-    grouped(wanted[k])}`;
-  if (step > MOST_LOOKED) return `${held}.${goneInWords(trial)}`;
-  const line = await ask('lastWrite', [trial, base + k]);
-  const writer = line === undefined ? 'no line wrote it' : `line ${grouped(line)} wrote it last`;
-  return `${held}; ${writer}.${goneInWords(trial)}`;
+  const isKnown = step <= MOST_LOOKED;
+  const line = isKnown ? await ask('lastWrite', [trial, base + k]) : undefined;
+  const parts = [source.nameOfCell(base + k), grouped(cells[base + k]), grouped(wanted[k])];
+  return `${heldInWords(parts, { isKnown, line })} ${goneInWords(trial)}`.trim();
 }
+
+// By the model that it rules out, what two processors do with one place.
+const MEETINGS = [
+  english('it needs {5}: processors {0} and {1} read {2} in line {3}, step {4}.'),
+  english('it needs {5}: processors {0} and {1} write {2} in line {3}, step {4}.'),
+  english('it needs {5}: processors {0} and {1} write different values to {2} in line {3}, step ' +
+    '{4}.'),
+];
 
 function modelOf({ model }, trial, source) {
   const { needs, meetings } = trial.cost;
   const met = meetings.findIndex(({ step }, k) => k >= model && step > 0);
-  return needs <= model ? '' :
-    `it needs ${MODELS[needs]}: ${meetingInWords(trial, source, meetings[met], MEETS[met])}.`;
+  return needs <= model ? ''
+    : phrase(MEETINGS[met], ...partsOf(trial, source, meetings[met]), MODELS[needs]);
 }
 
 // `taken` has the steps of the inputs before, by their size.
@@ -79,27 +96,29 @@ async function troubleOf(ask, exercise, input, trial, taken) {
     excessInWords(exercise.growth, input.length, trial.answer.step, taken);
 }
 
-const notYet = (said, given) => ({ isRight: false, said: `Not yet${said}`, given });
+const notYet = (said, given) => ({ isRight: false, said, given });
 
 // Tries one input, and keeps how many steps it took; or tells why it is not right.
 async function tryInput(ask, exercise, text, k, taken) {
   const input = exercise.inputs[k];
   const { given, missing } = withInput(text, exercise, input);
   if (missing) {
-    return notYet(`: the line “${missing}” is missing. “Begin anew” brings it back.`);
+    return notYet(phrase('Not yet: the line “{0}” is missing. “Begin anew” brings it back.',
+      missing));
   }
-  const where = `, on input ${k + 1} of ${exercise.inputs.length} (n = ${
-    grouped(input.length)}): `;
+  const onInput = (said) => notYet(phrase('Not yet, on input {0} of {1} (n = {2}): {3}',
+    k + 1, exercise.inputs.length, grouped(input.length), said), given);
   const trial = await ask('trial', [given]);
   const { made } = trial;
   if (made.code !== CODE.DONE) {
     const said = faultInWords(made, given);
     // This one hangs on the input.
-    return notYet(made.fault === JOB_FAULT.ENDLESS ? where + said : `, ${said}`, given);
+    return made.fault === JOB_FAULT.ENDLESS ? onInput(said)
+      : notYet(phrase('Not yet, {0}', said), given);
   }
   const trouble = await troubleOf(ask, exercise, input, trial, taken);
   if (!trouble) keepSteps(taken, input.length, trial.answer.step);
-  return trouble ? notYet(where + trouble, given) : undefined;
+  return trouble ? onInput(trouble) : undefined;
 }
 
 // Tells whether all inputs come out right, in words, and the text with the first that does not.
@@ -111,7 +130,7 @@ export async function judgeExercise(ask, exercise, text) {
     const told = await tryInput(ask, exercise, text, k, taken);
     if (told) return told;
   }
-  const said = `Right on all ${inputs.length} inputs, under ${MODELS[model]}: ${
-    growth.tell(taken)}.`;
+  const said = phrase('Right on all {0} inputs, under {1}: {2}.', inputs.length, MODELS[model],
+    growth.tell(taken));
   return { isRight: true, said };
 }

@@ -8,45 +8,78 @@ import { judgeExercise } from './judge.js';
 import { grouped } from './numbers.js';
 import { PUZZLES, judgePuzzle } from './puzzles.js';
 import { TOUR } from './tour.js';
+import { english, phrase } from './words.js';
 
 const PAUSE = 50;
 
+// What is called how, and how its panel is headed.
+const KINDS = {
+  tour: { list: TOUR, name: english('Tour {0}'), head: english('Tour {0} of {1}: {2}') },
+  exercise: {
+    list: EXERCISES, name: english('Exercise {0}'), head: english('Exercise {0} of {1}: {2}'),
+  },
+  puzzle: {
+    list: PUZZLES, name: english('Find a schedule {0}'),
+    head: english('Find a schedule {0} of {1}: {2}'),
+  },
+};
+
 const group = (label, options) => make('optgroup', { label }, ...options);
 
-const optionsOf = (kind, list) => list.map(({ number, title }) =>
-  make('option', { value: `${kind} ${number}` }, `${number}: ${title}`));
+const optionsOf = (kind) => KINDS[kind].list.map(({ number, title }) =>
+  make('option', { value: `${kind} ${number}` }, `${number}: ${phrase(title)}`));
 
-function taskInWords(exercise) {
+function taskInWords({ task, growth, model, ...exercise }) {
   const sizes = sizesOf(exercise).map(grouped);
-  return `${exercise.task} Under ${MODELS[exercise.model]}, ${exercise.growth.words}. Judge ` +
-    `tries your lines on inputs that you do not see, with n = ${
-      sizes.slice(0, -1).join(', ')} and ${sizes.at(-1)}.`;
+  const others = sizes.slice(0, -1).join(', ');
+  return phrase(growth.task, phrase(task), MODELS[model], others, sizes.at(-1));
 }
 
 class Lessons {
   constructor(app) {
     Object.assign(this, { app, kind: '', stop: 0, far: new Far(app.far.bytes) });
     const menu = byId('lesson');
-    menu.append(make('option', { value: 'tour 1' }, 'A tour: losing a worker'),
-      group('Exercises', optionsOf('exercise', EXERCISES)),
-      group('Find a schedule', optionsOf('puzzle', PUZZLES)));
+    this.first = menu.firstElementChild;
+    this.fillMenu();
     menu.addEventListener('change', () => this.choose(menu.value));
     onClick('lesson-back', () => this.moveBy(-1));
     onClick('lesson-on', () => this.moveBy(1));
     onClick('lesson-anew', () => this.begin(true));
     onClick('judge', () => this.judge());
     onClick('lesson-try', () =>
-      app.choose(this.given, { name: `${this.name}, this input`, lesson: this.lesson }));
+      app.choose(this.given, {
+        name: this.nameOf(english('Exercise {0}, this input')), lesson: this.lesson,
+      }));
     onClick('lesson-close', () => this.close());
   }
 
-  get list() {
-    return { tour: TOUR, exercise: EXERCISES, puzzle: PUZZLES }[this.kind];
+  fillMenu() {
+    const menu = byId('lesson');
+    const { value } = menu;
+    menu.replaceChildren(this.first,
+      make('option', { value: 'tour 1' }, phrase('A tour: losing a worker')),
+      group(english('Exercises'), optionsOf('exercise')),
+      group(english('Find a schedule'), optionsOf('puzzle')));
+    menu.value = value;
   }
 
-  get name() {
-    const kind = { tour: 'Tour', exercise: 'Exercise', puzzle: 'Find a schedule' }[this.kind];
-    return `${kind} ${this.stop + 1}`;
+  // In another language. What was said of an attempt is said by judging it again.
+  redraw() {
+    const isJudged = !byId('lesson-said').hidden;
+    this.fillMenu();
+    if (byId('lesson-panel').hidden) return;
+    this.showPanel();
+    if (isJudged) this.judge();
+  }
+
+  get list() {
+    return KINDS[this.kind].list;
+  }
+
+  // The name of the lesson that is shown now, in the language that is spoken then.
+  nameOf(text) {
+    const number = this.stop + 1;
+    return () => phrase(text, number);
   }
 
   // Which one is shown, as works keep it.
@@ -111,8 +144,10 @@ class Lessons {
   showPanel() {
     const lesson = this.list[this.stop];
     byId('lesson').value = this.kind === 'tour' ? 'tour 1' : `${this.kind} ${this.stop + 1}`;
-    setText(byId('lesson-title'), `${this.name} of ${this.list.length}: ${lesson.title}`);
-    setText(byId('lesson-text'), this.kind === 'exercise' ? taskInWords(lesson) : lesson.task);
+    setText(byId('lesson-title'),
+      phrase(KINDS[this.kind].head, this.stop + 1, this.list.length, phrase(lesson.title)));
+    setText(byId('lesson-text'),
+      this.kind === 'exercise' ? taskInWords(lesson) : phrase(lesson.task));
     byId('lesson-panel').hidden = false;
     this.stopJudging();
     setHidden(byId('judge'), this.kind === 'tour');
@@ -131,7 +166,8 @@ class Lessons {
       return;
     }
     const begun = isAnew ? undefined : app.drafts.list.find(({ text }) => isOf(exercise, text));
-    const more = { draft: begun?.number, name: this.name, lesson: this.lesson };
+    const name = this.nameOf(KINDS.exercise.name);
+    const more = { draft: begun?.number, name, lesson: this.lesson };
     app.choose(begun?.text ?? startOf(exercise), more);
   }
 
@@ -150,14 +186,14 @@ class Lessons {
     const lesson = this.list[this.stop];
     app.editor.look();
     if (this.kind === 'exercise') {
-      this.say({ isRight: false, said: 'It is being judged.' });
+      this.say({ isRight: false, said: phrase('It is being judged.') });
       this.say(await judgeExercise((...call) => this.ask(...call), lesson, app.text));
     } else if (app.isWaiting) {
       this.later = setTimeout(() => this.judge(), PAUSE);
     } else if (app.job) {
       this.say(judgePuzzle(lesson, app.views.workers.board, this.outcome()));
     } else {
-      this.say({ isRight: false, said: 'Not yet: the program has a fault.' });
+      this.say({ isRight: false, said: phrase('Not yet: the program has a fault.') });
     }
   }
 

@@ -3,28 +3,30 @@
 import { readAddress, writeAddress } from './address.js';
 import { byId, onClick, setText } from './dom.js';
 import { keepShown, shownAgain } from './leaving.js';
+import { english, phrase } from './words.js';
 
 const QUIET = 400;
 const LOCAL = /^(localhost|127\.|\[::1\]|192\.168\.|10\.)/;
 
-const COPIED = 'The link is copied.';
-const TOO_LONG = 'The program or the schedule is too long for a link: save it, and send the file.';
+const COPIED = english('The link is copied.');
+const TO_COPY = english('Copy it from the field.');
+const TOO_LONG =
+  english('The program or the schedule is too long for a link: save it, and send the file.');
+const FILE = english('This page is a file of yours, so what is copied is no whole link: others ' +
+  'need the file playground.html too, and open it with this, from # on, after its address.');
+const NEARBY = english('It works for those alone who reach this computer or its network.');
 
-// What another one needs besides the link, and how the link begins.
+// How the link begins, and what is said once it is copied, and where it is not: what another one
+// needs besides it, too.
 function whatIsMissing() {
   const { protocol, hostname, origin, pathname } = location;
   const page = origin + pathname;
   if (protocol !== 'http:' && protocol !== 'https:') {
-    return {
-      start: 'playground.html',
-      said: 'This page is a file of yours, so what is copied is no whole link: others need the ' +
-        'file playground.html too, and open it with this, from # on, after its address.',
-    };
+    return { start: 'playground.html', copied: [FILE], uncopied: [FILE, TO_COPY] };
   }
   const isLocal = LOCAL.test(hostname) || hostname.endsWith('.local');
-  const said = isLocal
-    ? `${COPIED} It works for those alone who reach this computer or its network.` : COPIED;
-  return { start: page, said };
+  const near = isLocal ? [NEARBY] : [];
+  return { start: page, copied: [COPIED, ...near], uncopied: [...near, TO_COPY] };
 }
 
 // From a frame the whole page is a click away.
@@ -85,7 +87,7 @@ export class Link {
     const { work } = this.app;
     const address = await this.address();
     if (work !== this.app.work) return address;
-    setText(byId('link-said'), address === undefined ? TOO_LONG : '');
+    setText(byId('link-said'), address === undefined ? phrase(TOO_LONG) : '');
     showWhole(address);
     const embed = this.app.isEmbedded ? 'embed=1' : undefined;
     this.enter(`#${[embed, address].filter(Boolean).join('&')}`);
@@ -126,7 +128,7 @@ export class Link {
     try {
       shown = await readAddress(location.hash.slice(1), this.examples);
     } catch (why) {
-      setText(byId('link-said'), `The address can't be read: ${why.message}.`);
+      setText(byId('link-said'), phrase('The address can\'t be read: {0}.', why.message));
       if (this.isOpen) return;
     }
     this.show(shown);
@@ -150,14 +152,14 @@ export class Link {
   async copy() {
     const address = await this.write();
     if (address === undefined) return;
-    const { start, said } = whatIsMissing();
+    const { start, copied, uncopied } = whatIsMissing();
     const field = byId('link');
     field.value = `${start}#${address}`;
     field.hidden = false;
     const isCopied =
       await navigator.clipboard?.writeText(field.value).then(() => true, () => false);
     if (!isCopied) field.select();
-    const unsaid = `${said.replace(COPIED, '')} Copy it from the field.`.trim();
-    setText(byId('link-said'), isCopied ? said : unsaid);
+    const said = isCopied ? copied : uncopied;
+    setText(byId('link-said'), said.map((text) => phrase(text)).join(' '));
   }
 }

@@ -10,13 +10,17 @@ import { momentInWords } from './lockstep_words.js';
 import { boxesOf, marksOf } from './memory_boxes.js';
 import { saveMemory } from './memory_svg.js';
 import { Moments } from './moments.js';
-import { counted, grouped, numberWithin } from './numbers.js';
+import { grouped, numberWithin } from './numbers.js';
 import { LinePace, MachinePace } from './paces.js';
 import { openPlayer } from './player.js';
 import { openPlot } from './plot.js';
 import { openProcessors } from './processors.js';
 import { ProgramView } from './program_view.js';
 import { Search, hasAccess, isAtLine } from './seek.js';
+import { counted, english, phrase } from './words.js';
+
+// Before what is said of a moment comes a note, such as that a search found nothing.
+const NO_NOTE = () => '';
 
 // A line shows what all of its steps ask for, where that is quickly made.
 const MOST_ASKED = 400000;
@@ -29,12 +33,12 @@ export class LockstepView {
     this.machinePace = new MachinePace(this.moments);
     this.processors = openProcessors(show);
     this.program = new ProgramView(app, show);
-    this.cells = openCells('plain-cells', 'Cells after this step', show);
+    this.cells = openCells('plain-cells', english('Cells after this step'), show);
     this.arrows = openArrows(show);
     this.plot = openPlot((step) => this.jump(step));
     this.costs = openCosts((step) => this.jump(step));
     this.errands = new Errands();
-    this.note = '';
+    this.note = NO_NOTE;
     this.player = openPlayer(byId('plain-play'), byId('plain-speed'), (beats) => this.play(beats));
     this.listen();
   }
@@ -91,12 +95,12 @@ export class LockstepView {
     this.goToNumber(this.number + count);
   }
 
-  goToNumber(number, note = '') {
+  goToNumber(number, note = NO_NOTE) {
     const { pace } = this;
     this.goTo(pace.stepAt(Math.max(0, Math.min(number, pace.last))), note);
   }
 
-  goTo(step, note = '') {
+  goTo(step, note = NO_NOTE) {
     this.app.step = Math.max(0, Math.min(step, this.moments.last));
     this.note = note;
     this.app.saved();
@@ -117,8 +121,9 @@ export class LockstepView {
         const isMore = search.look();
         return typeof isMore === 'boolean' ? goOn(isMore) : isMore.then(goOn);
       },
-      onPause: () => setText(byId('plain-said'), `Searching: step ${grouped(search.step)}.`),
-      onEnd: () => this.goTo(search.step, search.isFound ? '' : none),
+      onPause: () => setText(byId('plain-said'),
+        phrase('Searching: step {0}.', grouped(search.step))),
+      onEnd: () => this.goTo(search.step, search.isFound ? NO_NOTE : none),
     });
   }
 
@@ -129,15 +134,15 @@ export class LockstepView {
   // Of a program by its lines: to one that reads or writes a shared array or scalar.
   seekAccess(isBack) {
     const { pace, moments, app: { job, step } } = this;
-    const [from, to, where] = isBack ? [step, 0, 'earlier']
-      : [pace.spanAt(this.number).at(-1) ?? step, moments.last, 'later'];
+    const [from, to, none] = isBack ? [step, 0, english('No earlier memory access.')]
+      : [pace.spanAt(this.number).at(-1) ?? step, moments.last, english('No later memory access.')];
     const isWanted = hasAccess(pace instanceof LinePace ? job.source.shared : job.cells);
-    this.seek([new Search(moments, from, to, isWanted)], `No ${where} memory access. `);
+    this.seek([new Search(moments, from, to, isWanted)], () => phrase(none));
   }
 
   seekStop() {
     const { job, stops } = this.app;
-    const none = 'No stop is reached any more. ';
+    const none = () => phrase('No stop is reached any more.');
     if (this.seekLines((line) => stops.has(line), [this.number], none)) return;
     this.seek([this.searchTo(this.moments.last, isAtLine(job.program, stops))], none);
   }
@@ -145,7 +150,7 @@ export class LockstepView {
   // To the next step in which a processor comes to the line; from the start where there is none.
   seekLine(line) {
     const { moments, app } = this;
-    const none = `No processor ever comes to line ${grouped(line)}. `;
+    const none = () => phrase('No processor ever comes to line {0}.', grouped(line));
     if (this.seekLines((one) => one === line, [this.number, -1], none)) return;
     const isThere = isAtLine(app.job.program, new Set([line]));
     this.seek([this.searchTo(moments.last, isThere), new Search(moments, -1, app.step, isThere)],
@@ -159,7 +164,7 @@ export class LockstepView {
     this.pause();
     const [found] = numbers.map((from) => pace.find(from, isWanted))
       .filter((one) => one !== undefined);
-    this.goToNumber(found ?? number, found === undefined ? none : '');
+    this.goToNumber(found ?? number, found === undefined ? none : NO_NOTE);
     return true;
   }
 
@@ -204,7 +209,8 @@ export class LockstepView {
     if (!isAhead) app.step = pace.stepAt(pace.numberAt(app.step));
     this.showButtons(pace);
     if (isAhead || !moments.isThere(app.step)) {
-      setText(byId('plain-said'), `Making ${app.step === 0 ? 'the start' : counted(app.step, 'step')}.`);
+      setText(byId('plain-said'), app.step === 0 ? phrase('Making the start.')
+        : counted(app.step, 'Making {0} step.', 'Making {0} steps.'));
       return;
     }
     const state = moments.state(app.step);
@@ -264,7 +270,7 @@ export class LockstepView {
     const isByLine = pace instanceof LinePace;
     byId('step').value = number;
     byId('step').max = last;
-    setText(byId('step-name'), isByLine ? 'lines done' : 'after step');
+    setText(byId('step-name'), phrase(isByLine ? english('lines done') : english('after step')));
     setHidden(byId('machine-choice'), !job.source);
     for (const id of ['step-start', 'step-back', 'access-back']) {
       setDisabled(byId(id), number === 0);
@@ -275,7 +281,7 @@ export class LockstepView {
   }
 
   say(words, fault) {
-    setText(byId('plain-said'), this.note + words);
+    setText(byId('plain-said'), `${this.note()} ${words}`.trim());
     byId('plain-said').className = fault ? 'said bad' : 'said';
   }
 

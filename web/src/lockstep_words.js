@@ -5,33 +5,35 @@ import { endInWords } from './ends.js';
 import { STATUS } from './kinds.js';
 import { loopsAround } from './loop_names.js';
 import { named } from './memory_boxes.js';
-import { counted, grouped, shortened } from './numbers.js';
+import { grouped, shortened } from './numbers.js';
 import { nameOfPlace } from './places.js';
 import { instructionInWords } from './processors.js';
 import { lineOf } from './text_lines.js';
+import { counted, phrase } from './words.js';
 
 const clashersOf = (requests, { first, second }) =>
   [first, second].map((processor) => ({ processor, request: requests[processor] }));
 
 function conflictInWords({ job }, requests, fault) {
-  const asks = clashersOf(requests, fault).map(({ processor, request }) =>
-    `Processor ${processor} writes ${request.value} (line ${
-      instructionInWords(job.program, request)}).`);
-  return `Conflict: step ${grouped(fault.step)} is against the rule ${RULES[job.rule]}, at ` +
-    `${nameOfPlace(job, fault.cell)}. ${asks.join(' ')} The machine ends before this step.`;
+  const asks = clashersOf(requests, fault).flatMap(({ processor, request }) =>
+    [processor, request.value, instructionInWords(job.program, request)]);
+  return phrase('Conflict: step {0} is against the rule {1}, at {2}. Processor {3} writes {4} ' +
+    '(line {5}). Processor {6} writes {7} (line {8}). The machine ends before this step.',
+    grouped(fault.step), RULES[job.rule], nameOfPlace(job, fault.cell), ...asks);
 }
 
 export function momentInWords(app, requests, fault) {
   if (fault) return conflictInWords(app, requests, fault);
   if (app.answer.code === CODE.DONE && app.step === app.answer.step) {
     const end = endInWords(app.job, app.whole.fates());
-    return `Done: the job ends after ${counted(app.step, 'step')}. ${end}`.trim();
+    return counted(app.step, 'Done: the job ends after {0} step. {1}',
+      'Done: the job ends after {0} steps. {1}', end).trim();
   }
   const running = requests.filter((request) => request.status === STATUS.RUNS).length;
-  const next = running === 0 ? 'All processors have stopped.' :
-    `${counted(running, 'processor')} of ${grouped(requests.length)} ${
-      running === 1 ? 'has' : 'have'} an instruction to do.`;
-  return `After step ${grouped(app.step)} of ${grouped(app.job.steps)}. ${next}`;
+  const next = running === 0 ? phrase('All processors have stopped.')
+    : counted(running, '{0} processor of {1} has an instruction to do.',
+      '{0} processors of {1} have an instruction to do.', grouped(requests.length));
+  return phrase('After step {0} of {1}. {2}', grouped(app.step), grouped(app.job.steps), next);
 }
 
 // ---- a program
@@ -46,27 +48,40 @@ function loopsInWords({ job, text }, line, places, processor) {
 }
 
 function clashInWords(job, line, requests, fault) {
-  const asks = clashersOf(requests, fault).map(({ processor, request }) =>
-    `processor ${processor} writes ${request.value}`);
-  return `Conflict: line ${grouped(line)} is against the rule ${RULES[job.rule]}, at ` +
-    `${nameOfPlace(job, fault.cell)}: ${asks.join(', ')}. The program ends before it.`;
+  const asks = clashersOf(requests, fault).flatMap(({ processor, request }) =>
+    [processor, request.value]);
+  return phrase('Conflict: line {0} is against the rule {1}, at {2}: processor {3} writes {4}, ' +
+    'processor {5} writes {6}. The program ends before it.', grouped(line), RULES[job.rule],
+    nameOfPlace(job, fault.cell), ...asks);
 }
+
+// Who is active in a line, within these loops.
+function activeInWords(active, all, loops) {
+  if (active.length === 0) {
+    return loops ? phrase('No processor is active with {0}', loops)
+      : phrase('No processor is active');
+  }
+  const parts = [named(active, 24), grouped(all), loops];
+  return loops
+    ? counted(active.length, '{1}, {0} of {2}, is active with {3}',
+      '{1}, {0} of {2}, are active with {3}', ...parts)
+    : counted(active.length, '{1}, {0} of {2}, is active', '{1}, {0} of {2}, are active', ...parts);
+}
+
+const doneInWords = (lines, steps) => phrase('{0}, {1} of the machine',
+  counted(lines, '{0} line', '{0} lines'), counted(steps, '{0} step', '{0} steps'));
 
 // What a line is about: `requests` are those of its last step, `states` say who is active.
 export function lineInWords(app, { line, number, places, states, requests, fault }) {
   const { job, text } = app;
   if (fault) return clashInWords(job, line, requests, fault);
-  const lines = `${counted(number, 'line')}, ${counted(app.step, 'step')} of the machine`;
+  const lines = doneInWords(number, app.step);
   if (line === undefined) {
-    return `Done: the program is over after ${lines}. ${
-      endInWords(job, app.whole.fates())}`.trim();
+    return phrase('Done: the program is over after {0}. {1}', lines,
+      endInWords(job, app.whole.fates())).trim();
   }
   const says = shortened(lineOf(text, line).split(';', 1)[0].trim(), 80);
-  const active = activeOf(states);
   const loops = loopsInWords(app, line, places, states.findIndex((state) => state !== STATE.GONE));
-  const who = active.length === 0 ? 'No processor is active'
-    : `${named(active, 24)}, ${grouped(active.length)} of ${grouped(job.procs)}, ${
-      active.length === 1 ? 'is' : 'are'} active`;
-  const around = loops && ` with ${loops}`;
-  return `Line ${grouped(line)}: ${says}. ${who}${around}. Done so far: ${lines}.`;
+  const who = activeInWords(activeOf(states), job.procs, loops);
+  return phrase('Line {0}: {1}. {2}. Done so far: {3}.', grouped(line), says, who, lines);
 }

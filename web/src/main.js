@@ -9,6 +9,7 @@ import { roomForEvents } from './event_words.js';
 import { Far } from './far.js';
 import { openGallery } from './gallery.js';
 import { listenToKeys } from './keys.js';
+import { openLanguage } from './language.js';
 import { openLessons } from './lessons.js';
 import { Link } from './link.js';
 import { LockstepView } from './lockstep.js';
@@ -21,6 +22,7 @@ import { Source } from './source.js';
 import { openStops } from './stops.js';
 import { openTabs } from './tabs.js';
 import { Whole } from './whole.js';
+import { phrase } from './words.js';
 import { WorkersView } from './workers.js';
 import { Works, makeWork } from './works.js';
 
@@ -46,7 +48,8 @@ class Playground {
       toLine: (line) => this.toLine(line),
       stop: (line) => this.stopping.toggle(line),
     });
-    this.gallery = openGallery(examples, this.drafts, (text, draft) => this.choose(text, { draft }));
+    this.gallery = openGallery(examples, this.drafts, (text, draft) =>
+      this.choose(text, { draft }));
     this.views = { lockstep: new LockstepView(this), workers: new WorkersView(this) };
     this.stopping = openStops(this.editor, {
       onChange: () => this.show(), toLine: (line) => this.toLine(line),
@@ -150,7 +153,7 @@ class Playground {
     this.lessons.follow(work.lesson);
     this.far.forget();
     if (isNear(work.text, 0)) this.read(readText(this.core, work.text));
-    else this.wait('readText', 'It is being read.', (told) => this.read(told));
+    else this.wait('readText', phrase('It is being read.'), (told) => this.read(told));
     this.gallery.show(work);
     this.stopping.show();
     setDisabled(byId('undo-text'), !works.canUndo);
@@ -160,6 +163,7 @@ class Playground {
   // Has the other thread do something with the text. What was shown stays for a moment.
   wait(name, words, onTold) {
     this.isWaiting = true;
+    this.found = undefined;
     clearTimeout(this.late);
     this.late = setTimeout(() => {
       this.job = undefined;
@@ -173,7 +177,7 @@ class Playground {
   read({ read, told }) {
     this.isProgram = read.code !== CODE.OTHER_LANGUAGE;
     if (read.code === CODE.DONE) {
-      this.wait('compile', 'It is being compiled, and run once.', (made) =>
+      this.wait('compile', phrase('It is being compiled, and run once.'), (made) =>
         this.hear(made.code === CODE.DONE ? this.compiled(read.list, made) : refused(made)));
     } else {
       this.hear(this.isProgram ? refused(read) : foundOf(told, this.text));
@@ -188,10 +192,26 @@ class Playground {
   hear(found) {
     clearTimeout(this.late);
     const { job, answer, most, isAnswering } = found;
-    Object.assign(this, { job, answer, most, isAnswering, isWaiting: false });
-    showJudgement(found, this, job && !isAnswering ? this.whole.lines() : undefined);
+    Object.assign(this, { job, answer, most, isAnswering, found, isWaiting: false });
+    this.showFound();
     if (isAnswering) answerFar(this.far, found, (told) => this.hear(told));
     this.show();
+  }
+
+  showFound() {
+    const { found, job, isAnswering } = this;
+    if (found) showJudgement(found, this, job && !isAnswering ? this.whole.lines() : undefined);
+  }
+
+  // Says all of it in another language.
+  redraw() {
+    this.pause();
+    this.gallery.show(this.work);
+    this.stopping.show();
+    this.showFound();
+    this.show();
+    this.lessons.redraw();
+    this.saved();
   }
 
   // What is written without a pause is one change, unless a schedule would go with it.
@@ -270,7 +290,7 @@ class Playground {
 
 function sayTrouble(why) {
   byId('trouble').hidden = false;
-  byId('trouble').textContent = `Something went wrong in this page: ${why}`;
+  byId('trouble').textContent = phrase('Something went wrong in this page: {0}', why);
 }
 
 // In a frame of another page the machine stands alone.
@@ -296,12 +316,16 @@ function warm(core) {
 
 const unpacked = (id) => unpack(byId(id).textContent, MOST_PACKED);
 
+const readPacked = async (id) => JSON.parse(new TextDecoder().decode(await unpacked(id)));
+
 async function start() {
+  let app;
   const bytes = await unpacked('core');
-  const examples = JSON.parse(new TextDecoder().decode(await unpacked('examples')));
+  const examples = await readPacked('examples');
   document.documentElement.toggleAttribute('data-embed', isEmbedded());
+  await openLanguage(() => readPacked('words'), () => app?.redraw());
   const core = await openCore(bytes);
-  const app = new Playground(core, new Far(bytes), examples);
+  app = new Playground(core, new Far(bytes), examples);
   app.isEmbedded = isEmbedded();
   await app.link.open();
   await app.firstShown;

@@ -3,63 +3,70 @@ import { ACT, bodyOf, kindOf } from './acts.js';
 import { FORM, OP } from './declared.js';
 import { DOING, PART } from './kinds.js';
 import { grouped } from './numbers.js';
-import { passNames, passOfPhase, stepOfPhase } from './phases.js';
+import { passName, passOfPhase, stepOfPhase } from './phases.js';
 import { nameOfPlace } from './places.js';
+import { counted, english, phrase } from './words.js';
 
 // The workers, of which there are so many, and their twins, which are told apart by their number.
 export function namesOfBodies(workers, count) {
   return workers.map((worker, body) =>
-    body < count ? `worker ${worker}` : `twin ${body} (of worker ${worker})`);
+    (body < count ? phrase('worker {0}', worker)
+      : phrase('twin {0} (of worker {1})', body, worker)));
 }
 
-const PARTS = {
-  [PART.PLACE]: 'data place', [PART.VALUE]: 'value', [PART.NEXT]: 'next counter',
+const ASKED = {
+  [PART.PLACE]: english('the data place that processor {0} asks for'),
+  [PART.VALUE]: english('the value that processor {0} asks for'),
+  [PART.NEXT]: english('the next counter that processor {0} asks for'),
 };
 
 function nameOfNode(job, node) {
-  if (node === 1) return job.leaves === 1 ? 'the root and only leaf' : 'the root';
-  if (node < job.leaves) return `node ${node}`;
+  if (node === 1) return job.leaves === 1 ? phrase('the root and only leaf') : phrase('the root');
+  if (node < job.leaves) return phrase('node {0}', node);
   const processor = node - job.leaves;
-  return processor < job.procs ? `the leaf of processor ${processor}` : `the spare leaf ${node}`;
+  return processor < job.procs ? phrase('the leaf of processor {0}', processor)
+    : phrase('the spare leaf {0}', node);
 }
 
 function nameOfWord(job, row) {
   switch (row.form) {
-    case FORM.CONFLICT: return 'the conflict word';
+    case FORM.CONFLICT: return phrase('the conflict word');
     case FORM.NODE: return nameOfNode(job, row.which);
-    case FORM.ASKED: return `the ${PARTS[row.part]} that processor ${row.which} asks for`;
-    case FORM.POSITION: return `the position of worker ${row.which}`;
-    case FORM.STORED:
-      return `the ${row.older ? 'older' : 'newer'} word of ${nameOfPlace(job, row.which)}`;
-    case FORM.CLAIM: return `the claim on ${nameOfPlace(job, row.which)}`;
-    default: return 'a spare word';
+    case FORM.ASKED: return phrase(ASKED[row.part], row.which);
+    case FORM.POSITION: return phrase('the position of worker {0}', row.which);
+    case FORM.STORED: {
+      const text = row.older ? english('the older word of {0}') : english('the newer word of {0}');
+      return phrase(text, nameOfPlace(job, row.which));
+    }
+    case FORM.CLAIM: return phrase('the claim on {0}', nameOfPlace(job, row.which));
+    default: return phrase('a spare word');
   }
 }
 
 function phaseInWords(job, phase) {
-  if (phase === 0) return 'nothing finished';
-  const pass = passNames(job.rule)[passOfPhase(phase)];
-  return `finished up to step ${grouped(stepOfPhase(phase))}, ${pass}`;
+  if (phase === 0) return phrase('nothing finished');
+  const pass = passName(job.rule, passOfPhase(phase));
+  return phrase('finished up to step {0}, {1}', grouped(stepOfPhase(phase)), pass);
 }
 
 function requestInWords(job, row, stamp, payload) {
-  if (stamp === 0) return 'nothing yet';
-  if (row.part === PART.PLACE) {
-    return `${payload === 0 ? 'none' : nameOfPlace(job, payload - 1)} for step ${grouped(stamp)}`;
-  }
-  return `${payload} for step ${grouped(stamp)}`;
+  if (stamp === 0) return phrase('nothing yet');
+  if (row.part !== PART.PLACE) return phrase('{0} for step {1}', payload, grouped(stamp));
+  return payload === 0 ? phrase('none for step {0}', grouped(stamp))
+    : phrase('{0} for step {1}', nameOfPlace(job, payload - 1), grouped(stamp));
 }
 
 // What a word of this form says with this value.
 function valueInWords(job, row, value, stamp, payload) {
   switch (row.form) {
-    case FORM.CONFLICT: return value === 0 ? 'none' : `step ${grouped(value)}`;
+    case FORM.CONFLICT: return value === 0 ? phrase('none') : phrase('step {0}', grouped(value));
     case FORM.NODE: return phaseInWords(job, value);
     case FORM.POSITION: return nameOfNode(job, value);
     case FORM.ASKED: return requestInWords(job, row, stamp, payload);
     case FORM.CLAIM:
-      return stamp === 0 ? 'none' : `processor ${job.procs - payload} in step ${grouped(stamp)}`;
-    default: return `${payload} of step ${grouped(stamp)}`;
+      return stamp === 0 ? phrase('none')
+        : phrase('processor {0} in step {1}', job.procs - payload, grouped(stamp));
+    default: return phrase('{0} of step {1}', payload, grouped(stamp));
   }
 }
 
@@ -67,71 +74,70 @@ const before = (job, row) =>
   valueInWords(job, row, row.before, row.beforeStamp, row.beforePayload);
 const after = (job, row) => valueInWords(job, row, row.after, row.afterStamp, row.afterPayload);
 
-function maxInWords(job, row) {
-  const name = nameOfWord(job, row);
-  if (!row.isChange) return `finds ${name} raised already: ${after(job, row)}`;
-  if (row.form === FORM.NODE) return `marks ${name}: ${after(job, row)}`;
-  if (row.form === FORM.CLAIM) return `sets ${name}: ${after(job, row)}`;
-  return `writes ${name}: ${after(job, row)}`;
+function maxInWords(job, who, row) {
+  const parts = [who, nameOfWord(job, row), after(job, row)];
+  if (!row.isChange) return phrase('{0} finds {1} raised already: {2}', ...parts);
+  if (row.form === FORM.NODE) return phrase('{0} marks {1}: {2}', ...parts);
+  if (row.form === FORM.CLAIM) return phrase('{0} sets {1}: {2}', ...parts);
+  return phrase('{0} writes {1}: {2}', ...parts);
 }
 
-function swapInWords(job, row) {
+function swapInWords(job, who, row) {
+  const now = after(job, row);
   if (row.form === FORM.CONFLICT) {
-    return row.isChange
-      ? `names the conflict: ${after(job, row)}`
-      : `finds the conflict named already: ${after(job, row)}`;
+    return row.isChange ? phrase('{0} names the conflict: {1}', who, now)
+      : phrase('{0} finds the conflict named already: {1}', who, now);
   }
-  const place = nameOfPlace(job, row.which);
   return row.isChange
-    ? `swaps ${nameOfWord(job, row)}: ${before(job, row)} becomes ${after(job, row)}`
-    : `comes too late to swap a word of ${place}: it stays ${after(job, row)}`;
+    ? phrase('{0} swaps {1}: {2} becomes {3}', who, nameOfWord(job, row), before(job, row), now)
+    : phrase('{0} comes too late to swap a word of {1}: it stays {2}', who,
+      nameOfPlace(job, row.which), now);
 }
 
-function operationInWords(job, row) {
+function operationInWords(job, who, row) {
   switch (row.kind) {
-    case OP.LOAD: return `reads ${nameOfWord(job, row)}: ${before(job, row)}`;
-    case OP.STORE: return `walks to ${after(job, row)}`;
-    case OP.MAX: return maxInWords(job, row);
-    case OP.SWAP: return swapInWords(job, row);
-    default: return 'makes no step: it is lost or over';
+    case OP.LOAD:
+      return phrase('{0} reads {1}: {2}', who, nameOfWord(job, row), before(job, row));
+    case OP.STORE: return phrase('{0} walks to {1}', who, after(job, row));
+    case OP.MAX: return maxInWords(job, who, row);
+    case OP.SWAP: return swapInWords(job, who, row);
+    default: return phrase('{0} makes no step: it is lost or over', who);
   }
 }
 
 const ACTS_IN_WORDS = {
-  [ACT.LOSE]: 'is lost, with all that it knew',
-  [ACT.BACK]: 'comes back, knowing nothing',
-  [ACT.SLEEP]: 'falls asleep',
-  [ACT.WAKE]: 'wakes, as if no time had passed',
+  [ACT.LOSE]: english('{0} is lost, with all that it knew'),
+  [ACT.BACK]: english('{0} comes back, knowing nothing'),
+  [ACT.SLEEP]: english('{0} falls asleep'),
+  [ACT.WAKE]: english('{0} wakes, as if no time had passed'),
+  [ACT.TWIN]: english('{0} starts beside it'),
 };
 
 // What an act meant. `row` is the core's, where the act is an event of the core.
 export function actInWords(job, names, act, row) {
   const kind = kindOf(act);
   const who = names[kind === ACT.TWIN && row ? row.body : bodyOf(act)];
-  if (kind === ACT.GO) return `${who} ${operationInWords(job, row)}`;
-  if (kind === ACT.TWIN) return `${who} starts beside it`;
-  return `${who} ${ACTS_IN_WORDS[kind]}`;
+  return kind === ACT.GO ? operationInWords(job, who, row) : phrase(ACTS_IN_WORDS[kind], who);
 }
-
-const steps = (count) => `${count} ${count === 1 ? 'step' : 'steps'} of its script made`;
 
 // Where a body stands and what it is about.
 export function bodyInWords(job, row) {
   switch (row.doing) {
-    case DOING.LOST: return 'Lost.';
-    case DOING.BACK: return 'Comes back: is about to read where it stood.';
+    case DOING.LOST: return phrase('Lost.');
+    case DOING.BACK: return phrase('Comes back: is about to read where it stood.');
     case DOING.BEGIN:
-      return `Begins at ${nameOfNode(job, row.node)}: looks for the phase; ${steps(row.heard)}.`;
-    case DOING.TURN: {
-      const pass = passNames(job.rule)[row.pass];
-      return `At ${nameOfNode(job, row.node)}: phase ${grouped(row.phase)} (step ` +
-        `${grouped(row.step)}, ${pass}); ${steps(row.heard)}.`;
-    }
-    case DOING.DONE: return 'Over: all steps are finished.';
-    default: return `Over: step ${grouped(row.step)} is against the rule.`;
+      return counted(row.heard, 'Begins at {1}: looks for the phase; {0} step of its script made.',
+        'Begins at {1}: looks for the phase; {0} steps of its script made.',
+        nameOfNode(job, row.node));
+    case DOING.TURN:
+      return counted(row.heard, 'At {1}: phase {2} (step {3}, {4}); {0} step of its script made.',
+        'At {1}: phase {2} (step {3}, {4}); {0} steps of its script made.',
+        nameOfNode(job, row.node), grouped(row.phase), grouped(row.step),
+        passName(job.rule, row.pass));
+    case DOING.DONE: return phrase('Over: all steps are finished.');
+    default: return phrase('Over: step {0} is against the rule.', grouped(row.step));
   }
 }
 
-export function nodeInWords(job, node, phase) {
-  return `${nameOfNode(job, node)}: ${phaseInWords(job, phase)}`;
-}
+export const nodeInWords = (job, node, phase) =>
+  `${nameOfNode(job, node)}: ${phaseInWords(job, phase)}`;

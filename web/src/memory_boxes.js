@@ -3,6 +3,7 @@
 import { labelOf } from './cells.js';
 import { STATUS, TARGET } from './kinds.js';
 import { ranges, shortened } from './numbers.js';
+import { phrase } from './words.js';
 
 function byNumber(requests, numberOf) {
   const found = new Map();
@@ -44,7 +45,8 @@ export function boxesOf(job, places, asked, before, disputed) {
     const wrote = writers.get(cell);
     const kinds = [read && 'is-read', wrote && 'is-written', written.has(cell) && 'is-new',
       cell === disputed && 'is-disputed'];
-    const notes = [read && `read by ${named(read, 40)}`, wrote && `written by ${named(wrote, 40)}`];
+    const notes = [read && phrase('read by {0}', named(read, 40)),
+      wrote && phrase('written by {0}', named(wrote, 40))];
     return {
       ...labelOf(job, cell),
       value: places[cell],

@@ -1,6 +1,7 @@
 // The picture of the memory as a file: processors, cells and arrows where they stand on the page.
 import { byId, makeSvg } from './dom.js';
 import { pictureOf, saveSvg, withStyles } from './styled_svg.js';
+import { phrase } from './words.js';
 
 const MARGIN = 8;
 
@@ -36,7 +37,7 @@ const cellOf = (cell, frame) =>
 // Who reads and writes the place of a conflict: its box cuts that.
 function clashersInWords(picture) {
   const [place, , note] = picture.querySelector('.is-disputed')?.children ?? [];
-  return place ? ` At ${place.textContent}: ${note.textContent}.` : '';
+  return place ? ` ${phrase('At {0}: {1}.', place.textContent, note.textContent)}` : '';
 }
 
 // The picture as the page has it now; nothing where it is out of sight.

@@ -5,10 +5,6 @@ export function grouped(number) {
   return GROUPED.format(number);
 }
 
-export function counted(number, one, many = `${one}s`) {
-  return `${grouped(number)} ${number === 1 ? one : many}`;
-}
-
 // 0, 1, 2, 5 as "0-2, 5".
 export function ranges(numbers) {
   const parts = [];

@@ -1,4 +1,6 @@
 // Bytes packed to letters and digits, and back: deflated, and in base 64 as addresses have it.
+import { phrase } from './words.js';
+
 async function throughStream(bytes, stream, most) {
   const writer = stream.writable.getWriter();
   writer.write(bytes).catch(() => {});
@@ -12,7 +14,7 @@ async function throughStream(bytes, stream, most) {
     length += value.length;
     if (length > most) {
       reader.cancel().catch(() => {});
-      throw new RangeError('the text is too long');
+      throw new RangeError(phrase('the text is too long'));
     }
     pieces.push(value);
   }

@@ -1,11 +1,15 @@
 // Phases are numbered through the steps, three for each: compute first.
 import { PASS, RULE } from './declared.js';
+import { english, phrase } from './words.js';
 
 const PASSES = 3;
-const NAMES = { [PASS.COMPUTE]: 'compute', [PASS.APPLY]: 'apply', [PASS.VERIFY]: 'verify' };
-const CLAIMING = { ...NAMES, [PASS.APPLY]: 'claim', [PASS.VERIFY]: 'apply' };
+const APPLY = english('apply');
+const NAMES = {
+  [PASS.COMPUTE]: english('compute'), [PASS.APPLY]: APPLY, [PASS.VERIFY]: english('verify'),
+};
+const CLAIMING = { ...NAMES, [PASS.APPLY]: english('claim'), [PASS.VERIFY]: APPLY };
 
-export const passNames = (rule) => (rule === RULE.PRIORITY ? CLAIMING : NAMES);
+export const passName = (rule, pass) => phrase((rule === RULE.PRIORITY ? CLAIMING : NAMES)[pass]);
 
 export const passOfPhase = (phase) => (phase === 0 ? 0 : ((phase - 1) % PASSES) + 1);
 

@@ -1,15 +1,20 @@
 // The two words of a chosen place over time.
 import { byId, fit, makeSvg, setAttribute, setText } from './dom.js';
-import { counted, numberWithin } from './numbers.js';
+import { numberWithin } from './numbers.js';
 import { counterPlace, nameOfPlace, registerPlace } from './places.js';
 import { listenToMoments, makeMoment, showMoment } from './steps_list.js';
+import { counted, english, phrase } from './words.js';
 
 const WIDTH = 800;
 const LANE = 30;
 const LEFT = 84;
 const ROWS = 12;
 const MOST_STRETCHES = 300;
-const ORDER = ['first', 'second'];
+const LANES = [english('first word'), english('second word')];
+const SWAPS = [
+  english('{0} swaps the first word: {1} becomes {2}'),
+  english('{0} swaps the second word: {1} becomes {2}'),
+];
 
 // How long each word held what: from one change to the next.
 function stretchesOf(stored, changes, part, end) {
@@ -24,7 +29,7 @@ function stretchesOf(stored, changes, part, end) {
     .slice(-MOST_STRETCHES);
 }
 
-const wordInWords = (value) => `${value.payload} of step ${value.stamp}`;
+const wordInWords = ({ payload, stamp }) => phrase('{0} of step {1}', payload, stamp);
 
 function drawStretch(stretch, part, scale, isNewer) {
   const x = LEFT + stretch.from * scale;
@@ -33,7 +38,7 @@ function drawStretch(stretch, part, scale, isNewer) {
   const box = { x, y: part * (LANE + 6) + 2, width, height: LANE };
   const kind = `stretch ${stretch.stamp % 2 ? 'odd' : 'even'}${isNewer ? ' newer' : ''}`;
   const group = makeSvg('g', { class: kind },
-    makeSvg('title', {}, `${text}, from moment ${stretch.from} to ${stretch.to}`),
+    makeSvg('title', {}, phrase('{0}, from moment {1} to {2}', text, stretch.from, stretch.to)),
     makeSvg('rect', box));
   if (width > 7 * text.length + 8) {
     group.append(makeSvg('text', { x: x + width / 2, y: box.y + LANE / 2 }, text));
@@ -46,14 +51,14 @@ function drawLane(stored, changes, part, end) {
   const stretches = stretchesOf(stored, changes, part, end);
   const isNewer = stored[part].newer === 1;
   const at = { x: 0, y: part * (LANE + 6) + LANE / 2 + 2, class: 'lane' };
-  return [makeSvg('text', at, `${ORDER[part]} word`), ...stretches.map((stretch, k) =>
+  return [makeSvg('text', at, phrase(LANES[part])), ...stretches.map((stretch, k) =>
     drawStretch(stretch, part, scale, isNewer && k === stretches.length - 1))];
 }
 
 function changeInWords(change, names) {
-  const before = `${change.beforePayload} of step ${change.beforeStamp}`;
-  const after = `${change.afterPayload} of step ${change.afterStamp}`;
-  return `${names[change.body]} swaps the ${ORDER[change.part]} word: ${before} becomes ${after}`;
+  const before = wordInWords({ payload: change.beforePayload, stamp: change.beforeStamp });
+  const after = wordInWords({ payload: change.afterPayload, stamp: change.afterStamp });
+  return phrase(SWAPS[change.part], names[change.body], before, after);
 }
 
 function chosenPlace(job) {
@@ -100,9 +105,10 @@ export class PlaceWords {
     setAttribute(byId('place-drawing'), 'viewBox', `0 0 ${WIDTH} ${2 * LANE + 12}`);
     byId('place-drawing').replaceChildren(...drawLane(stored, changes, 0, schedule.at),
       ...drawLane(stored, changes, 1, schedule.at));
-    setText(byId('place-said'), `${nameOfPlace(job, place)}: the first word says ` +
-      `${wordInWords(stored[0])}, the second ${wordInWords(stored[1])}; ` +
-      `${counted(changes.length, 'change')} so far.`);
+    setText(byId('place-said'), counted(changes.length,
+      '{1}: the first word says {2}, the second {3}; {0} change so far.',
+      '{1}: the first word says {2}, the second {3}; {0} changes so far.',
+      nameOfPlace(job, place), ...stored.map(wordInWords)));
     showList(changes, names);
   }
 }

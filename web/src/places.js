@@ -1,16 +1,17 @@
 // Places of the machine: the cells, four registers of each processor, the counters.
 import { LIMIT } from './declared.js';
+import { phrase } from './words.js';
 
 const { REGISTERS } = LIMIT;
 
 // Of a program's job a cell has the name that it has there.
 export function nameOfPlace(sizes, place) {
   const register = place - sizes.cells;
-  if (register < 0) return sizes.source?.nameOfCell(place) ?? `cell ${place}`;
+  if (register < 0) return sizes.source?.nameOfCell(place) ?? phrase('cell {0}', place);
   if (register < REGISTERS * sizes.procs) {
-    return `r${register % REGISTERS} of processor ${Math.floor(register / REGISTERS)}`;
+    return phrase('r{0} of processor {1}', register % REGISTERS, Math.floor(register / REGISTERS));
   }
-  return `the counter of processor ${register - REGISTERS * sizes.procs}`;
+  return phrase('the counter of processor {0}', register - REGISTERS * sizes.procs);
 }
 
 export const registerPlace = (sizes, processor, register) =>

@@ -3,6 +3,7 @@ import { byId, onClick, setHidden, setText } from './dom.js';
 import { grouped } from './numbers.js';
 import { hasTwins, rowsOfPlan, textOfPlan } from './plan.js';
 import { save } from './styled_svg.js';
+import { phrase } from './words.js';
 
 const ROWS = 200;
 
@@ -18,9 +19,12 @@ export function openPlan(app) {
 }
 
 function commandOf(app, rows) {
-  const shown = rows.length > ROWS ? ` Its first ${grouped(ROWS)} rows are shown.` : '';
-  return 'The same steps up to this moment, and then each worker in turn to the end: ' +
-    `pramx replay ${fileOf(app)} --workers ${app.schedule.workers} --plan plan.csv.${shown}`;
+  const command =
+    `pramx replay ${fileOf(app)} --workers ${app.schedule.workers} --plan plan.csv`;
+  const said = phrase(
+    'The same steps up to this moment, and then each worker in turn to the end: {0}.', command);
+  return rows.length > ROWS
+    ? `${said} ${phrase('Its first {0} rows are shown.', grouped(ROWS))}` : said;
 }
 
 export function showPlan(app) {
@@ -30,5 +34,6 @@ export function showPlan(app) {
   for (const id of ['plan', 'plan-links']) setHidden(byId(id), isRefused);
   setText(byId('plan'), textOfPlan(rows.slice(0, ROWS)));
   setText(byId('plan-said'), isRefused
-    ? 'A plan has no twins: go back to a moment before the first one.' : commandOf(app, rows));
+    ? phrase('A plan has no twins: go back to a moment before the first one.')
+    : commandOf(app, rows));
 }

@@ -1,5 +1,6 @@
 // Playing: so many beats a second, until it is paused or `beat` says that nothing is left.
 import { setAttribute, setText } from './dom.js';
+import { english, phrase } from './words.js';
 
 export function openPlayer(button, speed, beat) {
   let playing = false;
@@ -9,7 +10,7 @@ export function openPlayer(button, speed, beat) {
   function set(now) {
     playing = now;
     setAttribute(button, 'aria-pressed', String(now));
-    setText(button, now ? '❚❚ Pause' : '▶ Play');
+    setText(button, phrase(now ? english('❚❚ Pause') : english('▶ Play')));
   }
 
   function frame(time) {

@@ -1,6 +1,7 @@
 // A plot of the steps: how many processors are at work, how many read a cell, how many write one.
 import { byId, makeSvg, setAttribute, setText } from './dom.js';
 import { grouped } from './numbers.js';
+import { phrase } from './words.js';
 
 const HEIGHT = 100;
 const PARTS = [
@@ -25,8 +26,8 @@ function barsOf(list, procs, { name, left, width }) {
 
 function stepInWords(step, row) {
   if (!row) return '';
-  return `Step ${grouped(step + 1)}: ${grouped(row.running)} at work, ${
-    grouped(row.reading)} read a cell, ${grouped(row.writing)} write one.`;
+  return phrase('Step {0}: {1} at work, {2} read a cell, {3} write one.', grouped(step + 1),
+    grouped(row.running), grouped(row.reading), grouped(row.writing));
 }
 
 // `onStep` hears the step to go to.
@@ -50,7 +51,7 @@ export function openPlot(onStep) {
     show({ step, steps, last, procs }, told) {
       slider.max = last;
       slider.value = step;
-      setAttribute(slider, 'aria-valuetext', `after step ${step} of ${last}`);
+      setAttribute(slider, 'aria-valuetext', phrase('after step {0} of {1}', step, last));
       if (!told) return;
       const { first, list } = told;
       if (list !== shown.list) {
@@ -62,7 +63,7 @@ export function openPlot(onStep) {
       setAttribute(now, 'width', steps);
       setText(byId('plot-said'), stepInWords(step, list[step - first]));
       setText(byId('plot-range'), list.length === 0 ? '' :
-        `steps ${grouped(first + 1)} to ${grouped(first + list.length)}`);
+        phrase('steps {0} to {1}', grouped(first + 1), grouped(first + list.length)));
     },
   };
 }

@@ -1,13 +1,21 @@
 // The processors as a table: counter, registers, and what each asks for in the next step.
 import { byId, fit, make, setAttribute, setText } from './dom.js';
+import { followText } from './following.js';
 import { STATUS, TARGET } from './kinds.js';
 import { grouped } from './numbers.js';
 import { counterPlace, nameOfPlace, registersOf } from './places.js';
 import { openWindow } from './window.js';
+import { english, phrase } from './words.js';
 
 const IN_SIGHT = 32;
-const COLUMNS = ['processor', 'r0', 'r1', 'r2', 'r3', 'counter', 'instruction', 'reads', 'writes',
-  'goes to'];
+const COLUMNS = [english('processor'), 'r0', 'r1', 'r2', 'r3', english('counter'),
+  english('instruction'), english('reads'), english('writes'), english('goes to')];
+
+export const PROCESSORS_IN_SIGHT = {
+  from: english('from processor {0}'),
+  earlier: english('earlier processors'),
+  later: english('later processors'),
+};
 
 function makeRow() {
   const cells = COLUMNS.slice(1).map((name) => make('td', { 'data-name': name }));
@@ -20,13 +28,17 @@ export function instructionInWords(instructions, { counter }) {
   return `${line}: ${words}`;
 }
 
-const WHY = { [STATUS.HALTED]: 'halted', [STATUS.OUT_OF_RANGE]: 'no such cell' };
+const WHY = { [STATUS.HALTED]: english('halted'), [STATUS.OUT_OF_RANGE]: english('no such cell') };
+const WHERE = {
+  [STATUS.HALTED]: english('halted in step {0}, {1}'),
+  [STATUS.OUT_OF_RANGE]: english('no such cell in step {0}, {1}'),
+};
 
 // Why a processor has stopped, with what it executed last, where that is told.
 function stopInWords(instructions, status, last) {
-  if (!last) return WHY[status];
-  const { line, words } = instructions[last.index] ?? { line: 0, words: '' };
-  return `${WHY[status]} in step ${grouped(last.step)}, ${line}: ${words}`;
+  if (!last) return phrase(WHY[status]);
+  return phrase(WHERE[status], grouped(last.step),
+    instructionInWords(instructions, { counter: last.index }));
 }
 
 // A counter is the index of an instruction, or one or two after the last one.
@@ -48,7 +60,7 @@ function writesInWords(job, { target, number, value }) {
 function nextInWords(instructions, request) {
   if (request.next === request.counter + 1) return '';
   const line = instructions[request.next]?.line;
-  return line === undefined ? 'its end' : `line ${line}`;
+  return line === undefined ? phrase('its end') : phrase('line {0}', line);
 }
 
 // After the last step nothing is asked for any more.
@@ -66,11 +78,13 @@ function cellsOfRow(job, places, row, lastOf) {
 }
 
 export function openProcessors(onMove) {
-  const sight = openWindow('processor', IN_SIGHT, onMove);
+  const sight = openWindow(PROCESSORS_IN_SIGHT, IN_SIGHT, onMove);
   const body = make('tbody');
-  const head = make('tr', {}, ...COLUMNS.map((name) => make('th', { scope: 'col' }, name)));
+  const head = make('tr', {},
+    ...COLUMNS.map((name) => followText(make('th', { scope: 'col' }), name)));
   const table = make('table', { class: 'processors' },
-    make('caption', { class: 'unseen' }, 'Processors, and what each asks for in the next step'),
+    followText(make('caption', { class: 'unseen' }),
+      english('Processors, and what each asks for in the next step')),
     make('thead', {}, head), body);
   byId('processors').append(sight.bar, make('div', { class: 'scroll' }, table));
   return {

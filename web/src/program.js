@@ -2,10 +2,12 @@
 import { CODE, LIMIT, RULES } from './declared.js';
 import { byId, setText } from './dom.js';
 import { wordsOfFault } from './faults.js';
-import { counted, grouped, shortened } from './numbers.js';
+import { grouped, shortened } from './numbers.js';
 import { nameOfPlace } from './places.js';
 import { wordsOfProgramFault } from './program_faults.js';
+import { MOST_PROCESSORS } from './reading.js';
 import { instructionsOf, lineOf } from './text_lines.js';
+import { counted, phrase } from './words.js';
 
 // The page makes so many steps of processors at most.
 const MOST_STEPS = 20000000;
@@ -14,7 +16,7 @@ const MOST_ARRAYS = 100;
 
 // What was told of a text of the machine; of one that was made of a program, with its source.
 export function foundOf({ judged, most, answer }, text, source) {
-  if (judged.code !== CODE.DONE) return { judged };
+  if (answer === undefined) return { judged };
   const program = source ? source.program : instructionsOf(text);
   return {
     judged,
@@ -51,41 +53,51 @@ function arraysInWords({ source }, cells) {
 
 // Where the conflict is: in the line of a program, where it is known.
 function conflictInWords(job, { step, cell, first, second }, line) {
-  const where = line === undefined ? `step ${grouped(step)}` : `line ${grouped(line)}`;
-  return `a conflict in ${where} at ${nameOfPlace(job, cell)}, between processors ${first} and ${
-    second}`;
+  const parts = [nameOfPlace(job, cell), first, second];
+  return line === undefined
+    ? phrase('Its answer: a conflict in step {0} at {1}, between processors {2} and {3}.',
+      grouped(step), ...parts)
+    : phrase('Its answer: a conflict in line {0} at {1}, between processors {2} and {3}.',
+      grouped(line), ...parts);
 }
+
+const outOfMemory = () => phrase('The page is out of memory.');
 
 function answerInWords({ job, answer, most }, line) {
   switch (answer.code) {
     case CODE.DONE:
-      return `Its answer: done after ${counted(answer.step, 'step')}.${
-        arraysInWords(job, answer.cells)}`;
-    case CODE.CONFLICT: return `Its answer: ${conflictInWords(job, answer, line)}.`;
+      return counted(answer.step, 'Its answer: done after {0} step.{1}',
+        'Its answer: done after {0} steps.{1}', arraysInWords(job, answer.cells));
+    case CODE.CONFLICT: return conflictInWords(job, answer, line);
     case CODE.TOO_FAR:
-      return `Its answer is more than ${grouped(most)} steps away, too far for this page: ` +
-        '“pramx plain” goes on.';
-    default: return 'The page is out of memory.';
+      return phrase('Its answer is more than {0} steps away, too far for this page: “pramx ' +
+        'plain” goes on.', grouped(most));
+    default: return outOfMemory();
   }
 }
 
 function jobInWords(found, line) {
   const { job, most, isAnswering } = found;
   const told = isAnswering
-    ? `Its answer is more than ${grouped(most)} steps away, and is being made.`
+    ? phrase('Its answer is more than {0} steps away, and is being made.', grouped(most))
     : answerInWords(found, line);
-  return `${counted(job.cells, 'cell')}, ${counted(job.procs, 'processor')}, ` +
-    `${counted(job.steps, 'step')}, rule ${RULES[job.rule]}. ${told}`;
+  return phrase('{0}, {1}, {2}, rule {3}. {4}', counted(job.cells, '{0} cell', '{0} cells'),
+    counted(job.procs, '{0} processor', '{0} processors'),
+    counted(job.steps, '{0} step', '{0} steps'), RULES[job.rule], told);
 }
 
-function refusalInWords({ code, fault, line, isProgram }, text) {
+function refusalInWords({ code, fault, line, procs, isProgram }, text) {
   switch (code) {
+    case CODE.DONE:
+      return phrase('The page shows up to {0} processors, and here are {1}: “pramx” takes them.',
+        grouped(MOST_PROCESSORS), grouped(procs));
     case CODE.NO_JOB: {
-      const words = isProgram ? wordsOfProgramFault : wordsOfFault;
-      return `Line ${grouped(line)}: ${words(fault, lineOf(text, line))}`;
+      const wordsOf = isProgram ? wordsOfProgramFault : wordsOfFault;
+      return phrase('Line {0}: {1}', grouped(line), wordsOf(fault, lineOf(text, line)));
     }
-    case CODE.TEXT_TOO_LONG: return `A text has at most ${grouped(LIMIT.TEXT_MOST)} bytes.`;
-    default: return 'The page is out of memory.';
+    case CODE.TEXT_TOO_LONG:
+      return phrase('A text has at most {0} bytes.', grouped(LIMIT.TEXT_MOST));
+    default: return outOfMemory();
   }
 }
 

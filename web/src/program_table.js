@@ -2,8 +2,11 @@
 // private variables.
 import { STATE } from './activity.js';
 import { byId, fit, make, setAttribute, setText } from './dom.js';
+import { followText } from './following.js';
 import { grouped } from './numbers.js';
+import { PROCESSORS_IN_SIGHT } from './processors.js';
 import { openWindow } from './window.js';
+import { english, phrase } from './words.js';
 
 const IN_SIGHT = 32;
 
@@ -11,21 +14,22 @@ const makeRow = () => make('tr', {}, make('th', { scope: 'row' }));
 
 // A processor that is gone left in the line that it executed last.
 function stateInWords(state, last, program) {
-  if (state !== STATE.GONE || !last) return state;
-  return `gone: line ${grouped(program[last.index]?.line ?? 0)} has no such place`;
+  if (state !== STATE.GONE || !last) return phrase(state);
+  return phrase('gone: line {0} has no such place', grouped(program[last.index]?.line ?? 0));
 }
 
 export function openProgramTable(onMove) {
-  const sight = openWindow('processor', IN_SIGHT, onMove);
+  const sight = openWindow(PROCESSORS_IN_SIGHT, IN_SIGHT, onMove);
   const body = make('tbody');
   const head = make('tr');
   const table = make('table', { class: 'processors' },
-    make('caption', { class: 'unseen' }, 'Processors in the line that is next'),
+    followText(make('caption', { class: 'unseen' }),
+      english('Processors in the line that is next')),
     make('thead', {}, head), body);
   byId('program-processors').append(sight.bar, make('div', { class: 'scroll' }, table));
 
   function showHead(names) {
-    const titles = ['processor', 'in this line', ...names];
+    const titles = [phrase('processor'), phrase('in this line'), ...names];
     fit(head, titles.length, () => make('th', { scope: 'col' }))
       .forEach((cell, k) => setText(cell, titles[k]));
   }

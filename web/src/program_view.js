@@ -3,6 +3,7 @@ import { activeOf, statesAt } from './activity.js';
 import { lineInWords } from './lockstep_words.js';
 import { named } from './memory_boxes.js';
 import { openProgramTable } from './program_table.js';
+import { phrase } from './words.js';
 
 export class ProgramView {
   constructor(app, onMove) {
@@ -20,7 +21,7 @@ export class ProgramView {
     const line = pace.lineAt(now.number);
     if (line === undefined) return new Map();
     const active = activeOf(this.statesOf(now, pace));
-    const badge = active.length > 0 ? named(active, 12) : 'nobody';
+    const badge = active.length > 0 ? named(active, 12) : phrase('nobody');
     return new Map([[line, { kind: now.fault ? 'clash next' : 'current next', badge }]]);
   }
 

@@ -3,6 +3,7 @@
 import { ACT, bodyOf, kindOf } from './acts.js';
 import { CODE, FORM, OP } from './declared.js';
 import { isFinish } from './film.js';
+import { english, phrase } from './words.js';
 
 const isGo = (act) => kindOf(act) === ACT.GO;
 
@@ -41,22 +42,25 @@ function wakesAndFinishes({ film }, moments) {
 
 export const PUZZLES = [
   {
-    title: 'one is enough',
-    task: 'Lose two of the three workers for good, each after a step of its own, and let the ' +
-      'job come to its end.',
+    title: english('one is enough'),
+    task: english(
+      'Lose two of the three workers for good, each after a step of its own, and let the job ' +
+      'come to its end.'),
     isSolved: (schedule, moments, outcome) =>
       outcome.code === CODE.DONE && lostForGood(moments) >= 2,
   },
   {
-    title: 'too late',
-    task: 'Let a worker come too late to swap a word: it sleeps right before its swap, the ' +
-      'others do its part, and it wakes.',
+    title: english('too late'),
+    task: english(
+      'Let a worker come too late to swap a word: it sleeps right before its swap, the others do ' +
+      'its part, and it wakes.'),
     isSolved: (schedule, moments) => moments.some(isLate),
   },
   {
-    title: 'asleep through two steps',
-    task: 'Let a worker sleep while the others finish two steps of the machine. Then wake it, ' +
-      'and let it be the one that finishes a later step.',
+    title: english('asleep through two steps'),
+    task: english(
+      'Let a worker sleep while the others finish two steps of the machine. Then wake it, and ' +
+      'let it be the one that finishes a later step.'),
     isSolved: (schedule, moments) => wakesAndFinishes(schedule, moments),
   },
 ].map((puzzle, k) =>
@@ -68,6 +72,7 @@ export function judgePuzzle(puzzle, board, outcome) {
   const isRight = puzzle.isSolved(schedule, momentsOf(schedule), outcome);
   return {
     isRight,
-    said: isRight ? `Solved, in ${schedule.length} acts.` : 'Not yet: no such thing happened.',
+    said: isRight ? phrase('Solved, in {0} acts.', schedule.length)
+      : phrase('Not yet: no such thing happened.'),
   };
 }

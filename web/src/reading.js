@@ -6,13 +6,16 @@ import { CODE } from './declared.js';
 const NEAR = 500000;
 const BYTE = 4;
 
+// The page shows so many processors at most.
+export const MOST_PROCESSORS = 1024;
+
 // How long it takes to make these steps of a job, beside how long one waits.
 export const isNear = (text, steps) => steps + BYTE * text.length <= NEAR;
 
-// A job's answer is not told where it is far.
+// A job's answer is not told where it is far, and not of a job that the page does not show.
 export function readJob(core, text) {
   const judged = core.judge(text);
-  if (judged.code !== CODE.DONE) return { judged };
+  if (judged.code !== CODE.DONE || judged.procs > MOST_PROCESSORS) return { judged };
   const most = Math.floor(NEAR / judged.procs);
   return { judged, most, answer: core.answer(text, judged, most) };
 }

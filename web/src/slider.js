@@ -1,6 +1,7 @@
 // The time slider of a schedule.
 import { byId, setAttribute, setDisabled, setText } from './dom.js';
 import { grouped } from './numbers.js';
+import { phrase } from './words.js';
 
 export function openSlider(schedule, onMove) {
   const slider = byId('moment');
@@ -23,8 +24,8 @@ export function openSlider(schedule, onMove) {
       const { at, length } = schedule();
       slider.max = length;
       slider.value = at;
-      setAttribute(slider, 'aria-valuetext', `moment ${at} of ${length}`);
-      setText(byId('moment-said'), `${grouped(at)} of ${grouped(length)}`);
+      setAttribute(slider, 'aria-valuetext', phrase('moment {0} of {1}', at, length));
+      setText(byId('moment-said'), phrase('{0} of {1}', grouped(at), grouped(length)));
       for (const id of ['moment-start', 'moment-back']) setDisabled(byId(id), at === 0);
       for (const id of ['moment-on', 'moment-end']) setDisabled(byId(id), at === length);
     },

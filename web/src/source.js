@@ -3,10 +3,22 @@
 import { CELLS } from './declared.js';
 import { shortened } from './numbers.js';
 import { instructionsOf } from './text_lines.js';
+import { english, phrase } from './words.js';
 
 const SHARED = [CELLS.SCALAR, CELLS.ARRAY];
 
 const MOST_LETTERS = 60;
+
+// What has no name of its own.
+const COUNTED = { [CELLS.LOOP]: 'loop', [CELLS.MASK]: 'mask', [CELLS.KEPT]: 'kept' };
+
+// What each processor has of its own.
+const OWN = {
+  [CELLS.LOOP]: english('loop {0} of P{1}'),
+  [CELLS.MASK]: english('mask {0} of P{1}'),
+  [CELLS.KEPT]: english('kept {0} of P{1}'),
+  [CELLS.PRIVATE]: english('{0} of P{1}'),
+};
 
 const encoder = new TextEncoder();
 const decoder = new TextDecoder();
@@ -56,7 +68,6 @@ export class Source {
     this.depths = depthsOf(lines);
     this.masks = this.rows.filter(({ kind }) => kind === CELLS.MASK);
     this.loops = this.rows.filter(({ kind }) => kind === CELLS.LOOP);
-    this.kept = this.rows.filter(({ kind }) => kind === CELLS.KEPT);
     this.privates = this.rows.filter(({ kind }) => kind === CELLS.PRIVATE);
     this.arrays = this.rows.filter(({ kind }) => SHARED.includes(kind));
   }
@@ -108,23 +119,24 @@ export class Source {
 
   // Loops and masks have no name in the text: they are counted by their depth. What hidden lines
   // keep of a long line is counted in its order.
+  numberOf(row) {
+    if (COUNTED[row.kind] === undefined) return undefined;
+    return this.rows.filter(({ kind }) => kind === row.kind).indexOf(row) + 1;
+  }
+
   nameOf(row) {
-    switch (row.kind) {
-      case CELLS.LOOP: return `loop ${this.loops.indexOf(row) + 1}`;
-      case CELLS.MASK: return `mask ${this.masks.indexOf(row) + 1}`;
-      case CELLS.KEPT: return `kept ${this.kept.indexOf(row) + 1}`;
-      default: return row.name;
-    }
+    const number = this.numberOf(row);
+    return number === undefined ? row.name : `${COUNTED[row.kind]} ${number}`;
   }
 
   nameOfCell(cell) {
     const row = this.rowOf(cell);
-    if (!row) return `cell ${cell}`;
+    if (!row) return phrase('cell {0}', cell);
     const index = cell - row.base;
     switch (row.kind) {
       case CELLS.SCALAR: return row.name;
       case CELLS.ARRAY: return `${row.name}[${indexIn(row, index)}]`;
-      default: return `${this.nameOf(row)} of P${index}`;
+      default: return phrase(OWN[row.kind], this.numberOf(row) ?? row.name, index);
     }
   }
 

@@ -1,6 +1,7 @@
 // Lines at which playing stops, and the buttons for the line that the cursor is in.
 import { byId, onClick, setDisabled, setText } from './dom.js';
 import { grouped } from './numbers.js';
+import { phrase } from './words.js';
 
 export function openStops(editor, { onChange, toLine }) {
   const hear = () => {
@@ -16,9 +17,9 @@ export function openStops(editor, { onChange, toLine }) {
 
   function show() {
     const { line } = editor;
-    setText(byId('to-line'), `To line ${grouped(line)}`);
+    setText(byId('to-line'), phrase('To line {0}', grouped(line)));
     setText(byId('stop-line'), editor.stops.has(line)
-      ? `No stop at line ${grouped(line)}` : `Stop at line ${grouped(line)}`);
+      ? phrase('No stop at line {0}', grouped(line)) : phrase('Stop at line {0}', grouped(line)));
     setDisabled(byId('no-stops'), editor.stops.size === 0);
   }
 

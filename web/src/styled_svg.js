@@ -15,13 +15,18 @@ export function withStyles(original, copy) {
   return copy;
 }
 
+// A Chinese character is as wide as two letters, and a line may end after it.
+const WIDE = /[\u3000-\uffef]/g;
+const PIECE = /[\u3000-\uffef] ?|[^ \u3000-\uffef]+ ?| /g;
+const lettersIn = (text) => text.trim().length + (text.match(WIDE) ?? []).length;
+
 function linesOf(words, most) {
   const lines = [''];
-  for (const word of words.split(' ')) {
-    if (lines.at(-1).length + word.length >= most) lines.push('');
-    lines.push(`${lines.pop()} ${word}`.trim());
+  for (const piece of words.match(PIECE) ?? []) {
+    if (lettersIn(lines.at(-1)) + lettersIn(piece) >= most) lines.push('');
+    lines.push(lines.pop() + piece);
   }
-  return lines;
+  return lines.map((line) => line.trim());
 }
 
 // A picture of this size with these parts, on the page's ground, and its words below.

@@ -3,12 +3,13 @@
 import { byId, makeSvg, setAttribute, setText } from './dom.js';
 import { DOING } from './kinds.js';
 import { nodeInWords } from './meaning.js';
-import { counted, grouped } from './numbers.js';
-import { passNames, passOfPhase, stepOfPhase } from './phases.js';
+import { grouped } from './numbers.js';
+import { passName, passOfPhase, stepOfPhase } from './phases.js';
 import { pictureOf, saveSvg, withStyles } from './styled_svg.js';
 import { barsOf } from './tree_bars.js';
 import { circlesOf } from './tree_circles.js';
 import { HEIGHT, WIDTH, middleOf } from './tree_shape.js';
+import { counted, phrase } from './words.js';
 
 const MOST_CIRCLES = 64;
 
@@ -37,11 +38,12 @@ function makeBody(at, worker, isTwin) {
 function summary(job, scene) {
   const phase = scene.root + 1;
   const finished = scene.nodes.reduce((sum, value) => sum + (value >= phase ? 1 : 0), 0);
-  if (scene.finished === job.steps) return 'All steps are finished.';
-  if (scene.conflict > 0) return `Step ${grouped(scene.conflict)} is against the rule.`;
-  const pass = passNames(job.rule)[passOfPhase(phase)];
-  return `Phase ${grouped(phase)} (step ${grouped(stepOfPhase(phase))}, ${pass}): ` +
-    `${grouped(finished)} of ${counted(scene.nodes.length - 1, 'node')} are finished.`;
+  if (scene.finished === job.steps) return phrase('All steps are finished.');
+  if (scene.conflict > 0) return phrase('Step {0} is against the rule.', grouped(scene.conflict));
+  return counted(scene.nodes.length - 1,
+    'Phase {1} (step {2}, {3}): {4} of {0} node are finished.',
+    'Phase {1} (step {2}, {3}): {4} of {0} nodes are finished.', grouped(phase),
+    grouped(stepOfPhase(phase)), passName(job.rule, passOfPhase(phase)), grouped(finished));
 }
 
 export class Tree {
@@ -79,7 +81,7 @@ export class Tree {
     this.phases = scene.nodes;
     this.bodies.replaceChildren(...makeBodies(this.layout, scene, workers));
     this.summary = summary(job, scene);
-    setAttribute(this.drawing, 'aria-label', `The progress tree. ${this.summary}`);
+    setAttribute(this.drawing, 'aria-label', phrase('The progress tree. {0}', this.summary));
     setText(byId('tree-summary'), this.summary);
   }
 

@@ -1,20 +1,24 @@
 // A window on a long list: which part of it is in sight, and the bar that moves it.
 import { make, setDisabled, setHidden, setText } from './dom.js';
+import { followText } from './following.js';
 import { grouped, numberWithin } from './numbers.js';
+import { phrase } from './words.js';
 
-// `one` is the word for an element, such as `cell`; the first one has the number `least`. `onMove`
-// hears which element is the first in sight.
-export function openWindow(one, size, onMove, least = 0) {
+// `names` are the texts of its controls; the first element has the number `least`. `onMove` hears
+// which element is the first in sight.
+export function openWindow(names, size, onMove, least = 0) {
   let first = least;
   let end = least;
   const from = make('input', { type: 'number', min: least, value: least });
-  const earlier = make('button', { type: 'button', click: () => moveTo(first - size) }, '◀');
-  const later = make('button', { type: 'button', click: () => moveTo(first + size) }, '▶');
+  const earlier = make('button', {
+    type: 'button', 'aria-label': names.earlier, click: () => moveTo(first - size),
+  }, '◀');
+  const later = make('button', {
+    type: 'button', 'aria-label': names.later, click: () => moveTo(first + size),
+  }, '▶');
   const said = make('span');
   const bar = make('div', { class: 'bar', hidden: true }, earlier, later,
-    make('label', {}, `from ${one} `, from), said);
-  earlier.setAttribute('aria-label', `earlier ${one}s`);
-  later.setAttribute('aria-label', `later ${one}s`);
+    followText(make('label'), names.from, from), said);
   from.addEventListener('change', () => moveTo(numberWithin(from.value, least, end - 1, first)));
 
   function moveTo(element) {
@@ -33,7 +37,7 @@ export function openWindow(one, size, onMove, least = 0) {
       if (isWhole) return { first, length: last - first };
       from.value = first;
       from.max = end - 1;
-      setText(said, `to ${grouped(last - 1)} of ${grouped(count)}`);
+      setText(said, phrase('to {0} of {1}', grouped(last - 1), grouped(count)));
       setDisabled(earlier, first === least);
       setDisabled(later, last === end);
       return { first, length: last - first };

@@ -3,6 +3,7 @@ import { ACT, MOST_BODIES } from './acts.js';
 import { byId, fit, make, setAttribute, setDisabled, setText } from './dom.js';
 import { DOING } from './kinds.js';
 import { bodyInWords } from './meaning.js';
+import { english, phrase } from './words.js';
 
 const ACTIONS = ['step', 'sleep', 'lose', 'twin', 'if'];
 
@@ -20,10 +21,11 @@ export function isGoing(row) {
   return row.doing !== DOING.LOST && row.doing !== DOING.DONE && row.doing !== DOING.CONFLICT;
 }
 
-function stateInWords(row, isAsleep) {
-  if (row.doing === DOING.LOST) return 'lost';
-  if (!isGoing(row)) return 'over';
-  return isAsleep ? 'asleep' : 'awake';
+// The state is the class of a card, too.
+function stateOf(row, isAsleep) {
+  if (row.doing === DOING.LOST) return english('lost');
+  if (!isGoing(row)) return english('over');
+  return isAsleep ? english('asleep') : english('awake');
 }
 
 // What the buttons of a card say, more words of it, and whether they do anything now.
@@ -31,27 +33,28 @@ function buttonsOf(row, isAsleep, isFull) {
   const going = isGoing(row);
   const lost = row.doing === DOING.LOST;
   return {
-    step: ['Step', '', going && !isAsleep],
-    sleep: [isAsleep ? 'Wake' : 'Sleep', '', going],
-    lose: [lost ? 'Return' : 'Lose', '', true],
-    twin: ['Twin', '', !isFull],
-    if: ['If lost?', ' What if it is lost here, and the others go on to the end?', going],
+    step: [phrase('Step'), '', going && !isAsleep],
+    sleep: [isAsleep ? phrase('Wake') : phrase('Sleep'), '', going],
+    lose: [lost ? phrase('Return') : phrase('Lose'), '', true],
+    twin: [phrase('Twin'), '', !isFull],
+    if: [phrase('If lost?'),
+      phrase('What if it is lost here, and the others go on to the end?'), going],
   };
 }
 
 function showCard(card, name, job, row, isAsleep, isFull) {
   const [heading, standing, bar] = card.children;
-  const state = stateInWords(row, isAsleep);
+  const state = stateOf(row, isAsleep);
   setAttribute(card, 'class', `card worker${row.worker} ${state}`);
   setText(heading.firstElementChild, String(row.worker));
-  setText(heading.lastElementChild, `${name}, ${state}`);
+  setText(heading.lastElementChild, `${name}, ${phrase(state)}`);
   setText(standing, bodyInWords(job, row));
   setAttribute(standing, 'title', standing.textContent);
   const texts = buttonsOf(row, isAsleep, isFull);
   for (const button of bar.children) {
     const [text, more, isEnabled] = texts[button.dataset.action];
     setText(button, text);
-    setAttribute(button, 'aria-label', `${text}: ${name}.${more}`);
+    setAttribute(button, 'aria-label', `${phrase('{0}: {1}.', text, name)} ${more}`.trim());
     setAttribute(button, 'title', more);
     setDisabled(button, !isEnabled);
   }

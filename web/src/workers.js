@@ -8,20 +8,26 @@ import { isChange } from './effects.js';
 import { Errands } from './errands.js';
 import { isFinish } from './film.js';
 import { namesOfBodies } from './meaning.js';
-import { counted, grouped } from './numbers.js';
+import { grouped } from './numbers.js';
 import { outcomeInWords } from './outcomes.js';
-import { passNames } from './phases.js';
+import { passName } from './phases.js';
 import { PlaceWords } from './place_words.js';
 import { openPlan, showPlan } from './plan_export.js';
 import { openPlayer } from './player.js';
 import { openSlider } from './slider.js';
 import { StepsList } from './steps_list.js';
 import { Tree } from './tree.js';
+import { counted, english, phrase } from './words.js';
 import { actOfAction, isGoing, openCards } from './worker_cards.js';
 
 const ROUNDS = { 'all-1': 1, 'all-10': 10, 'all-100': 100 };
 const END_ROUNDS = 1024;
 const SEEK_ROUNDS = 256;
+
+const whatIfInWords = ({ nameOf, at, made }) => counted(made,
+  'What if {1} is lost at moment {2}? The others make {0} atomic step more.',
+  'What if {1} is lost at moment {2}? The others make {0} atomic steps more.',
+  nameOf(), grouped(at));
 
 export class WorkersView {
   constructor(app) {
@@ -32,7 +38,7 @@ export class WorkersView {
     this.errands = new Errands();
     this.tree = new Tree();
     this.cards = openCards((action, body) => this.act(action, body));
-    this.cells = openCells('read-cells', 'Cells as a reader gets them', show);
+    this.cells = openCells('read-cells', english('Cells as a reader gets them'), show);
     this.slider = openSlider(() => app.schedule, () => this.changed());
     this.placeWords = new PlaceWords(app, show, moveTo);
     this.steps = new StepsList(show, moveTo);
@@ -155,7 +161,7 @@ export class WorkersView {
 
   showErrand() {
     this.slider.show();
-    setText(byId('outcome'), 'On the way. Any other click ends it here.');
+    setText(byId('outcome'), phrase('On the way. Any other click ends it here.'));
   }
 
   // Rounds until each worker is over, asleep or lost; all of them are undone at once.
@@ -214,14 +220,12 @@ export class WorkersView {
     const { schedule } = this.app;
     const { at } = schedule;
     const mark = {};
-    const name = this.names[body];
+    const workers = schedule.bodies();
+    const nameOf = () => namesOfBodies(workers, schedule.workers)[body];
     schedule.add([actOf(ACT.LOSE, body)], { mark });
     this.goToEnd(mark, () => {
-      schedule.whatIf = {
-        depth: schedule.past.length,
-        told: `What if ${name} is lost at moment ${grouped(at)}? The others make ` +
-          `${counted(schedule.length - at - 1, 'atomic step')} more. `,
-      };
+      const { past, length } = schedule;
+      schedule.whatIf = { depth: past.length, nameOf, at, made: length - at - 1 };
     });
   }
 
@@ -259,7 +263,7 @@ export class WorkersView {
     const { app: { whole }, scene: { finished } } = this;
     const pace = whole.lines();
     const line = pace?.lineAt(pace.numberAt(finished));
-    const mark = { kind: 'current next', badge: `step ${grouped(finished)}` };
+    const mark = { kind: 'current next', badge: phrase('step {0}', grouped(finished)) };
     return new Map(line === undefined ? [] : [[line, mark]]);
   }
 
@@ -272,14 +276,16 @@ export class WorkersView {
     this.tree.show(job, { ...scene, workers: schedule.workers }, workers);
     this.steps.show(job, schedule, this.names);
     this.placeWords.show(scene.stored, this.names);
-    const passes = passNames(job.rule);
-    for (const pass of Object.values(PASS)) setText(byId(`pass-name-${pass}`), passes[pass]);
+    for (const pass of Object.values(PASS)) {
+      setText(byId(`pass-name-${pass}`), passName(job.rule, pass));
+    }
   }
 
   showCells() {
     const { app: { job }, scene: { pairs } } = this;
     this.cells.show(job.cells, (cell) => ({
-      ...labelOf(job, cell), value: pairs[2 * cell + 1], note: `step ${grouped(pairs[2 * cell])}`,
+      ...labelOf(job, cell), value: pairs[2 * cell + 1],
+      note: phrase('step {0}', grouped(pairs[2 * cell])),
     }));
   }
 
@@ -313,8 +319,9 @@ export class WorkersView {
     const isAnswered = isOver || scene.conflict > 0 || scene.finished === job.steps;
     const told = isAnswered
       ? outcomeInWords(job, board.outcome(), answer, whole.fates())
-      : `Finished: ${grouped(scene.finished)} of ${counted(job.steps, 'step')}.`;
-    setText(byId('outcome'), (whatIf?.told ?? '') + told);
+      : counted(job.steps, 'Finished: {1} of {0} step.', 'Finished: {1} of {0} steps.',
+        grouped(scene.finished));
+    setText(byId('outcome'), whatIf ? `${whatIfInWords(whatIf)} ${told}` : told);
     byId('outcome').className = scene.conflict > 0 ? 'said bad' : 'said';
     setHidden(byId('before'), whatIf === undefined);
   }

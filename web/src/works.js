@@ -6,7 +6,7 @@ const MOST_CHARACTERS = 32000000;
 let numbers = 0;
 
 // `draft` is the own program whose text it is; nothing of one that was chosen or came by a link.
-// `name` is what the menu calls one of neither kind, `lesson` the stop or exercise that shows it.
+// `name` gives what the menu calls one of neither kind, `lesson` the stop or exercise that shows it.
 export function makeWork(text, schedule, more = {}) {
   numbers += 1;
   return { number: numbers, text, schedule, step: 0, draft: undefined, ...more };

@@ -180,14 +180,16 @@ const REFUSED = [
   ['pardo 1\nrule common\nprocs i < 4\nshared i\n', 'Line 4: ', 'It is “i”.'],
   ['pardo 1\nrule common\nprocs i < 4\nshared A[4]\ncode\nA := 1\n', 'Line 6: ', 'needs an index'],
   ['pardo 1\nrule common\nprocs i < 4\nshared s\ncode\ns := 2 ^ s\n', 'Line 6: ', 'exclusive or is xor'],
-  ['pardo 1\nrule common\nprocs i < 0\n', 'Line 3: ', '1,024'],
+  ['pardo 1\nrule common\nprocs i < 0\n', 'Line 3: ', '65,536'],
   ['pardo 1\nrule common\nprocs i < 4\nshared A[4] = 1\n', 'Line 4: ', 'values'],
-  ['pardo 1\nrule common\nprocs i < 1024\nshared A[65536]\nprivate x\n', 'Line 5: ', '65,536'],
+  ['pardo 1\nrule common\nprocs i < 1024\nshared A[1048576]\nprivate x\n', 'Line 5: ', '1,048,576'],
   ['pardo 1\nrule common\nprocs i < 4\ncode\nend\n', 'Line 5: ', 'belongs to nothing'],
   ['pardo 1\nrule common\nprocs i < 4\ncode\nif i = 0\n', 'Line 6: ', 'needs an end'],
   ['pardo 1\nrule common\nprocs i < 4\ncode\n', 'Line 5: ', 'no line of code'],
   ['pardo 1\nrule common\nprocs i < 2\nshared s\ncode\nwhile 1\n   s := 1\nend\n', 'Line ',
     'still here after 1,048,576 steps'],
+  ['pardo 1\nrule common\nprocs i < 1025\nshared s\ncode\ns := 1\n',
+    'The page shows up to 1,024 processors', 'here are 1,025'],
 ];
 
 export async function testProgramRefusals() {

@@ -151,7 +151,7 @@ class Faults(unittest.TestCase):
 
     def test_a_text_that_is_too_long(self):
         with self.assertRaises(kaolinsilk.Refused) as caught:
-            kaolinsilk.check(b" " * 16_777_217)
+            kaolinsilk.check(b" " * 67_108_865)
         self.assertEqual(caught.exception.subject, "size")
 
     def test_a_conflict(self):

@@ -245,7 +245,7 @@ name_of_word o array word (inl is) dotted = may_is_array_name word is.may
 name_of_word o array word (inr is) dotted = subst (λ w. is_array_name w ≡ true) (sym is) dotted
 
 module _ (program : ProgramData) (are : AreDistinct (variable_names program)) (cells : ℕ)
-    (few : cells ≤ 65536) where
+    (few : cells ≤ 1048576) where
   dotted : AreArrayWords cells array_word
   dotted = array_words_lawful cells few
 

@@ -2,7 +2,7 @@
 ghost use Rattle.std.specs.Prelude.{◌≡◌, IfOk, IfSome, MatchOption};
 ghost use Rattle.clap.specs.Words.{found_of, kind_of, rows_of, subcommand_rows_of};
 ghost use Rattle.command_line.specs.CommandLine.{HasBadBlock, HasBadCells, HasBadModel};
-ghost use Rattle.command_line.specs.CommandLine.{HasBadValue, HasBadWindow};
+ghost use Rattle.command_line.specs.CommandLine.{HasBadValue, HasBadWindow, IsBadIn};
 
 use crate::line::{
     check_command, cost_command, number_if_set, plain_command, run_command, steps_command,
@@ -34,6 +34,15 @@ pub(crate) fn bad_value<'a>(matches: &ArgMatches<'a>) -> Option<Option<BadValue<
         (λ bad. HasBadValue (subcommand_rows_of matches.now))) }
 {
     let (name, inner) = matches.subcommand()?;
+    bad_in(name, inner)
+}
+
+// The same of the subcommand of this name.
+fn bad_in<'a>(name: &'a str, inner: &ArgMatches<'a>) -> Option<Option<BadValue<'a>>>
+    ensures { IfSome result (λ found. MatchOption found
+        (¬ IsBadIn name.entry.now (rows_of (found_of inner.now)))
+        (λ bad. IsBadIn name.entry.now (rows_of (found_of inner.now)))) }
+{
     match name {
         "check" => Some(bad_model(inner, name)),
         "plain" => Some(bad_model(inner, name)),
@@ -121,8 +130,7 @@ fn cells_error(alloc: Global, text: &str) -> Result<Error, AllocError>
         "invalid value '{text}' for '--cells <C,C,..>': cells are numbers or places, \
          with commas between"
     )?;
-    let command = watch_command(alloc)?.bin_name("pramx watch")?;
-    refused(command, message.as_str())
+    refused(watch_command(alloc), "pramx watch", message.as_str())
 }
 
 fn block_error(alloc: Global, watches: bool, text: &str) -> Result<Error, AllocError>
@@ -131,12 +139,12 @@ fn block_error(alloc: Global, watches: bool, text: &str) -> Result<Error, AllocE
     let message = format!(in alloc;
         "invalid value '{text}' for '--block <G>': {text} is not a power of two"
     )?;
-    let command = if watches {
-        watch_command(alloc)?.bin_name("pramx watch")?
+    let (command, line) = if watches {
+        (watch_command(alloc), "pramx watch")
     } else {
-        run_command(alloc)?.bin_name("pramx run")?
+        (run_command(alloc), "pramx run")
     };
-    refused(command, message.as_str())
+    refused(command, line, message.as_str())
 }
 
 fn window_error(alloc: Global, from: u32, to: u32) -> Result<Error, AllocError>
@@ -145,8 +153,7 @@ fn window_error(alloc: Global, from: u32, to: u32) -> Result<Error, AllocError>
     let message = format!(in alloc;
         "invalid value '{to}' for '--to <B>': there is no step from {from} to {to}"
     )?;
-    let command = steps_command(alloc)?.bin_name("pramx steps")?;
-    refused(command, message.as_str())
+    refused(steps_command(alloc), "pramx steps", message.as_str())
 }
 
 fn model_error(alloc: Global, name: &str, text: &str) -> Result<Error, AllocError>
@@ -155,17 +162,22 @@ fn model_error(alloc: Global, name: &str, text: &str) -> Result<Error, AllocErro
     let message = format!(in alloc;
         "invalid value '{text}' for '--model <M>': a model is EREW, CREW, common or priority"
     )?;
-    let command = match name {
-        "check" => check_command(alloc)?.bin_name("pramx check")?,
-        "plain" => plain_command(alloc)?.bin_name("pramx plain")?,
-        _ => cost_command(alloc)?.bin_name("pramx cost")?,
+    let (command, line) = match name {
+        "check" => (check_command(alloc), "pramx check"),
+        "plain" => (plain_command(alloc), "pramx plain"),
+        _ => (cost_command(alloc), "pramx cost"),
     };
-    refused(command, message.as_str())
+    refused(command, line, message.as_str())
 }
 
-// The error of a command with this message.
-fn refused(mut command: Command<'_>, message: &str) -> Result<Error, AllocError>
+// The error of a command, if it was made, that is called by this line, with this message.
+fn refused(
+    made: Result<Command<'_>, AllocError>,
+    line: &str,
+    message: &str,
+) -> Result<Error, AllocError>
     ensures { IfOk result (λ error. kind_of error ≡ ErrorKind.ValueValidation) }
 {
+    let mut command = made?.bin_name(line)?;
     command.error(ErrorKind::ValueValidation, message)
 }

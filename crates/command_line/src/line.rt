@@ -156,9 +156,9 @@ fn settings_of<'a>(alloc: Global, matches: &ArgMatches<'a>) -> Result<Vec<&'a st
 fn command<'a>(alloc: Global) -> Result<Command<'a>, AllocError>
     ensures { IfOk result (λ command. app_of command ≡ pramx) }
 {
-    let command = with(machine_command(alloc)?, trace_command(alloc))?;
-    let command = with(command, run_command(alloc))?;
-    let command = with(command, watch_command(alloc))?;
+    let command = with(machine_command(alloc), trace_command(alloc));
+    let command = with(command, run_command(alloc));
+    let command = with(command, watch_command(alloc));
     with(command, replay_command(alloc))
 }
 
@@ -167,11 +167,11 @@ fn machine_command<'a>(alloc: Global) -> Result<Command<'a>, AllocError>
     ensures { IfOk result (λ command. app_of command ≡ on_machine) }
 {
     let compile = "Print the job of a program as a text of the machine";
-    let command = with(bare_command(alloc), check_command(alloc))?;
-    let command = with(command, file_command(alloc, "compile", compile))?;
-    let command = with(command, plain_command(alloc))?;
-    let command = with(command, cost_command(alloc))?;
-    let command = with(command, sweep_command(alloc))?;
+    let command = with(Ok(bare_command(alloc)), check_command(alloc));
+    let command = with(command, file_command(alloc, "compile", compile));
+    let command = with(command, plain_command(alloc));
+    let command = with(command, cost_command(alloc));
+    let command = with(command, sweep_command(alloc));
     with(command, steps_command(alloc))
 }
 
@@ -186,16 +186,18 @@ fn bare_command<'a>(alloc: Global) -> Command<'a>
         .subcommand_required(true)
 }
 
-// The command with this subcommand, if it was made; else the command is let go at once, and not
+// The command with this subcommand, if both were made; else the command is let go at once, and not
 // part by part, as a `?` would.
 fn with<'a>(
-    command: Command<'a>,
     made: Result<Command<'a>, AllocError>,
+    added: Result<Command<'a>, AllocError>,
 ) -> Result<Command<'a>, AllocError>
-    ensures { (sub : App) → sub.top.is_plain ≡ true → IfOk made.entry (λ it. app_of it ≡ sub)
-        → IfOk result (λ it. app_of it ≡ with_subcommand (app_of command.entry) sub.top) }
+    ensures { (app sub : App) → sub.top.is_plain ≡ true → IfOk made.entry (λ it. app_of it ≡ app)
+        → IfOk added.entry (λ it. app_of it ≡ sub)
+        → IfOk result (λ it. app_of it ≡ with_subcommand app sub.top) }
 {
-    match made {
+    let command = made?;
+    match added {
         Ok(subcommand) => command.subcommand(subcommand),
         Err(error) => {
             drop(command);
@@ -213,7 +215,10 @@ fn with_arg<'a>(
         → rule_of arg.entry ≡ rule → arg.entry.global ≡ false
         → IfOk result (λ it. app_of it ≡ with_rule app rule) }
 {
-    made?.arg(arg)
+    match made {
+        Ok(command) => command.arg(arg),
+        Err(error) => Err(error),
+    }
 }
 
 pub(crate) fn check_command<'a>(alloc: Global) -> Result<Command<'a>, AllocError>

@@ -47,7 +47,7 @@ sum.pram: the job has no cell 9
 sum.pram: the job has no step 5
 sum.pram: there is no such file
 standard input: it is a folder
-sum.pram: it has more than 16,777,216 bytes
+sum.pram: it has more than 67,108,864 bytes
 standard output takes no more
 out of memory, or the system refused a thread
 ";

@@ -198,14 +198,15 @@ pardo 1~rule crew~shared A[1] = 1, 2~ \
     one~    shared A[1] = 1, 2~                  ^~
 pardo 1~rule crew~procs i < 1~code~while 1~end~ \
     | 2 text line=5 kind=Endless~\
-    job:5:1: the program is still here after 1,048,576 steps~    while 1~    ^~
-pardo 1~rule crew~shared A[65000]~shared B[600]~ \
+    job:5:1: the program is still here after 1,048,576 steps, or 2^30 in all~    \
+    while 1~    ^~
+pardo 1~rule crew~shared A[1048000]~shared B[600]~ \
     | 2 text line=4 kind=TooManyCells~\
-    job:4:1: more than 65,536 cells: an array takes one for each place; a private variable, a \
+    job:4:1: more than 1,048,576 cells: an array takes one for each place; a private variable, a \
     depth of loops and one of `if`s take one for each processor~    shared B[600]~    ^~
-pardo 1~rule crew~procs i < 4~shared A[65533]~code~A[i] := A[i] * (A[i] * (A[i] * A[i]))~ \
+pardo 1~rule crew~procs i < 4~shared A[1048573]~code~A[i] := A[i] * (A[i] * (A[i] * A[i]))~ \
     | 2 text line=6 kind=TooManyCells~\
-    job:6:1: with its hidden lines a program has at most 65,536 cells~    A[i] := \
+    job:6:1: with its hidden lines a program has at most 1,048,576 cells~    A[i] := \
     A[i] * (A[i] * (A[i] * A[i]))~    ^~
 @MANY \
     | 2 text line=380 kind=TooLong~\

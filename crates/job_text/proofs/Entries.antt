@@ -144,7 +144,7 @@ runs_fresh before cell ((v ∷ run) ∷ runs) h = (
 abbrev pub entries_for : ArrayWords → List Array → List (List ℕ) → List Entry
 entries_for words arrays runs = map (named words) (once arrays) ++ run_entries 0 runs
 
-module _ (cells : ℕ) (few : cells ≤ 65536) (words : ArrayWords) (are : AreArrayWords cells words)
+module _ (cells : ℕ) (few : cells ≤ 1048576) (words : ArrayWords) (are : AreArrayWords cells words)
   where
     arrays_said : (arrays : List Array) → AllByRecursion (IsArray cells) arrays →
         map (entry_of true cells) (map (array_line words) arrays)
@@ -159,7 +159,7 @@ all_new : (words : ArrayWords) (arrays : List Array) → AreNew words [] arrays
 all_new words [] = tt
 all_new words (a ∷ arrays) = (refl, all_new words arrays)
 
-module _ (cells : ℕ) (few : cells ≤ 65536) (words : ArrayWords) (are : AreArrayWords cells words)
+module _ (cells : ℕ) (few : cells ≤ 1048576) (words : ArrayWords) (are : AreArrayWords cells words)
   where
     pub entries_said : (arrays : List Array) (runs : List (List ℕ)) →
         AllByRecursion (IsArray cells) arrays → RunsFit cells 0 runs →

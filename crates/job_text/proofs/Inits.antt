@@ -40,7 +40,7 @@ values_read room (v ∷ values) h fits =
     values_read (room - 1) values h.1 (omega (arith, fits)) in
     rw number (rw none (rw more refl))
 
-pub run_read : (cells cell v : ℕ) (values : List ℕ) → cells ≤ 65536 → AreSmall (v ∷ values) →
+pub run_read : (cells cell v : ℕ) (values : List ℕ) → cells ≤ 1048576 → AreSmall (v ∷ values) →
     cell + length (v ∷ values) ≤ cells →
     entry_of true cells (run_line cell (v ∷ values)) ≡ Ok (gives cell (v ∷ values))
 unfolding entry_of init_of says_array
@@ -82,7 +82,7 @@ front_if : {X Y : Type 0} (f : X → Y) (b : Bool) (x : X) (xs : List X) →
 front_if f true x xs = refl
 front_if f false x xs = refl
 
-pub runs_read : (cells cell : ℕ) (runs : List (List ℕ)) → cells ≤ 65536 → RunsFit cells cell runs →
+pub runs_read : (cells cell : ℕ) (runs : List (List ℕ)) → cells ≤ 1048576 → RunsFit cells cell runs →
     map (entry_of true cells) (run_lines cell runs)
     ≡ map (λ entry. Ok entry) (run_entries cell runs)
 runs_read cells cell [] few h = refl
@@ -92,7 +92,7 @@ runs_read cells cell ((v ∷ run) ∷ runs) few h =
     let more = runs_read cells (cell + length (v ∷ run) + 1) runs few h.2 in
     λ i. here i ∷ more i
 
-pub runs_plain : (cells cell : ℕ) (runs : List (List ℕ)) → cells ≤ 65536 →
+pub runs_plain : (cells cell : ℕ) (runs : List (List ℕ)) → cells ≤ 1048576 →
     RunsFit cells cell runs → PlainLines (run_lines cell runs)
 runs_plain cells cell [] few h = tt
 runs_plain cells cell ([] ∷ runs) few h = runs_plain cells (cell + 0 + 1) runs few h.2

@@ -96,14 +96,14 @@ pub is_same-itself : (a : Array) → is_same a a ≡ true
 is_same-itself a = and_from (a.base == a.base) (a.len == a.len) (eq-eqb a.base a.base refl)
     (eq-eqb a.len a.len refl)
 
-pub small_array : (cells : ℕ) → cells ≤ 65536 → (array : Array) → IsArray cells array →
+pub small_array : (cells : ℕ) → cells ≤ 1048576 → (array : Array) → IsArray cells array →
     SmallArray array
 small_array cells few array h = record {
   base = omega (arith, few, h.0, h.1);
   len = omega (arith, few, h.0, h.1);
 }
 
-pub array_words_lawful : (cells : ℕ) → cells ≤ 65536 → AreArrayWords cells array_word
+pub array_words_lawful : (cells : ℕ) → cells ≤ 1048576 → AreArrayWords cells array_word
 array_words_lawful cells few = record {
   names = λ a h. array_name a (small_array cells few a h);
   differ = λ a b h k e. word_once a b (small_array cells few a h) (small_array cells few b k) e;
@@ -189,7 +189,7 @@ filtered_apart words test (a ∷ arrays) h =
 
 -- ---- by words that are lawful
 
-module _ (cells : ℕ) (few : cells ≤ 65536) (words : ArrayWords) (are : AreArrayWords cells words)
+module _ (cells : ℕ) (few : cells ≤ 1048576) (words : ArrayWords) (are : AreArrayWords cells words)
   where
     apart : (a b : Array) → IsArray cells a → IsArray cells b → is_same a b ≡ false →
         bytes_eq (words a) (words b) ≡ false

@@ -171,7 +171,7 @@ module _ (words : ArrayWords) (job : JobData) (h : IsJob job)
   abbrev body : List Line
   body = body_lines words job.code
 
-  few_cells : job.cells ≤ 65536
+  few_cells : job.cells ≤ 1048576
   few_cells = h.cells.1
 
   few_instrs : length job.code ≤ 4096

@@ -128,13 +128,13 @@ text of the machine : pram 3~ -> 1:1
 variables are : pardo 1~rule crew~int x -> 3:1
 for processor 0 : pardo 1~rule crew~procs i < 4~private y = 1 / i -> 4:13
 `, ...` fills : pardo 1~rule crew~shared A[4] = 1, 2 -> 3:15
-1 to 1,024 processors : pardo 1~rule crew~procs i < 2000 -> 3:11
+1 to 65,536 processors : pardo 1~rule crew~procs i < 70000 -> 3:11
 line `code` : pardo 1~rule crew~procs i < 4~ -> 4:1
 byte order mark : \u{feff}pardo 1~ -> 1:1
 a division by 0 : pardo 1~rule crew~const m = 4 / 0 -> 3:13
-1 to 65,536 places : pardo 1~rule crew~shared A[0] -> 3:10
+1 to 1,048,576 places : pardo 1~rule crew~shared A[0] -> 3:10
 more values than places : pardo 1~rule crew~shared A[1] = 1, 2, ... -> 3:15
-more than 65,536 cells : pardo 1~rule crew~shared A[65000]~shared B[600] -> 4:1
+more than 1,048,576 cells : pardo 1~rule crew~shared A[1048000]~shared B[600] -> 4:1
 numbers go from 0 : pardo 1~rule crew~const n = 4294967296 -> 3:11
 `=` or the end of the line : pardo 1~rule crew~shared A[2] 1 -> 3:13
 an operator, `,` or the end of the line : pardo 1~rule crew~shared A[2] = 1 2 -> 3:17

@@ -63,7 +63,14 @@ pram 4~ -> 1 BadHeader -- version 4
 pram x~ -> 1 BadNumber -- version x
 pram 1~cells 0~ -> 2 OutOfLimits -- no cell
 pram 1~cells 65537~ -> 2 OutOfLimits -- one cell too many
+pram 2~cells 65537~ -> 2 OutOfLimits
+pram 3~cells 1048577~ -> 2 OutOfLimits
 pram 1~cells 1~procs 1025~ -> 3 OutOfLimits -- one processor too many
+pram 2~cells 1~procs 1025~ -> 3 OutOfLimits
+pram 3~cells 1~procs 65537~ -> 3 OutOfLimits
+pram 1~cells 65536~procs 1024~steps 0~code~halt~ -> none -- as large as can be
+pram 2~cells 65536~procs 1024~steps 0~rule crew~code~halt~ -> none
+pram 3~cells 1048576~procs 65536~steps 0~rule crew~code~halt~ -> none
 pram 1~cells 1~procs 1~steps 4294967296~ -> 4 OutOfLimits -- one step too many
 pram 1~cells 1~procs 1~steps 0~init 0 1~init 0 1~code~halt~ -> 6 BadHeader -- a second start value
 pram 1~cells 1~procs 1~steps 0~init 1 0~ -> 5 OutOfLimits -- a start value of no cell

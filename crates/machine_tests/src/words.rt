@@ -257,6 +257,10 @@ ones 64; length : halt~ -> 156160
 $ board: pram 2~cells 65536~procs 1024~steps 4~rule priority~code~
 compact 64; length : halt~ -> 212032
 ones 64; length : halt~ -> 221696
+$ board: pram 3~cells 1048576~procs 65536~steps 4~rule crew~code~
+compact 64; leaves, length : halt~ -> 65536 4128832
+ones 64; length : halt~ -> 4719104
+wide 64; leaves, length : halt~ -> 1024 4203008
 -- workers of a wide board start far apart, and turn by their numbers
 $ board: pram 2~cells 1~procs 8~steps 4~rule common~code~
 ones 4; leaf 0, leaf 1, leaf 2, leaf 3, leaves, right 1 1, right 1 3, right 1 6 : halt~ \

@@ -86,7 +86,7 @@ module _ (job : JobData) (is_job : IsJob job) where
   operations_few : (index : ℕ) → executed_at job index job.steps ≤ 2 ^ 48
   operations_few index =
       let few = executed_few job index job.steps in
-      let procs : job.procs ≤ 1024 = is_job.procs.1 in
+      let procs : job.procs ≤ 65536 = is_job.procs.1 in
       let most = mul-le-mul_left job.steps procs in
       let steps = is_job.steps in omega arith
 

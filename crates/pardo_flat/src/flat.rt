@@ -92,7 +92,7 @@ impl FlatLines {
         line: &Line,
         parts: Parts,
     ) -> Result<(), AllocError>
-        requires { base ≤ 65536 }
+        requires { base ≤ 1048576 }
         ensures lines { OnOk result (self.new.lines.items ≡ self.old.lines.items
             ++ parted_line base line.now parts.pieces.items parts.rest) }
         ensures firsts { OnOk result (self.new.firsts.items
@@ -153,7 +153,7 @@ fn push_hidden(
     base: usize,
     pieces: &[Expr],
 ) -> Result<(), AllocError>
-    requires { base ≤ 65536 }
+    requires { base ≤ 1048576 }
     ensures { OnOk result (lines.new.items
         ≡ lines.old.items ++ hidden 0 line.now base pieces.now) }
 {
@@ -201,7 +201,7 @@ fn is_common(statement: &Statement) -> bool
 fn base_of(program: &Program, statement: &Statement) -> usize
     requires { IsProgram program.now }
     ensures base { result ≡ base_of program.now statement.now }
-    ensures few { result ≤ 65536 }
+    ensures few { result ≤ 1048576 }
 {
     if is_common(statement) {
         program.loops()

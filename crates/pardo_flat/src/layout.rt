@@ -43,8 +43,8 @@ impl Model for Layout {
     } };
 
     ghost invariant = { λ l.
-        (l.shared + (l.privates + l.loops + l.choices) * l.procs ≤ 65536) × (l.procs ≤ 1024)
-        × (l.privates + l.loops + l.choices ≤ 65536) };
+        (l.shared + (l.privates + l.loops + l.choices) * l.procs ≤ 1048576) × (l.procs ≤ 65536)
+        × (l.privates + l.loops + l.choices ≤ 1048576) };
 }
 
 impl Layout {

@@ -25,13 +25,13 @@ pub(crate) struct Splitter {
     base: usize,
     pub(crate) pieces: Vec<Expr>,
     parts: Vec<Part>,
-    ghost few: { base ≤ 65536 },
+    ghost few: { base ≤ 1048576 },
 }
 
 impl Splitter {
     /// No expression yet; pieces are given to the variables of this kind from this one on.
     pub(crate) fn above(alloc: Global, common: bool, base: usize) -> Self
-        requires { base ≤ 65536 }
+        requires { base ≤ 1048576 }
         ensures common { result.common ≡ common }
         ensures base { result.base ≡ base }
         ensures pieces { result.pieces.items ≡ [] }

@@ -1,11 +1,12 @@
 //! What the lines before a bad one say: the names that are known, and the blocks that are open.
 use crate::piece::Pieces;
+use crate::words::is_among;
 use pardo_text::said;
 use std::alloc::{AllocError, Global};
 use text_lines::{TextLines, is_word};
 
 /// What a line has to say.
-#[derive(Clone, Copy, Debug, PartialEq, Eq)]
+#[derive(Clone, Copy, PartialEq, Eq)]
 pub(crate) enum Part {
     Version,
     Rule,
@@ -14,7 +15,7 @@ pub(crate) enum Part {
 }
 
 /// What a name stands for.
-#[derive(Clone, Copy, Debug, PartialEq, Eq)]
+#[derive(Clone, Copy, PartialEq, Eq)]
 pub(crate) enum Sort {
     Constant,
     Own,
@@ -42,7 +43,7 @@ impl Sort {
 }
 
 /// A name that is known, and the number of the line that declares it.
-#[derive(Clone, Copy, Debug)]
+#[derive(Clone, Copy)]
 pub(crate) struct Known<'t> {
     pub(crate) name: &'t [u8],
     pub(crate) sort: Sort,
@@ -50,7 +51,7 @@ pub(crate) struct Known<'t> {
 }
 
 /// An open block: the word that opens it, its line, and the line of its `else`, or 0.
-#[derive(Clone, Copy, Debug)]
+#[derive(Clone, Copy)]
 pub(crate) struct Open<'t> {
     pub(crate) word: &'t [u8],
     pub(crate) line: u64,
@@ -58,13 +59,28 @@ pub(crate) struct Open<'t> {
 }
 
 /// What the lines before say.
-#[derive(Debug, Drop)]
+#[derive(Drop)]
 pub struct Before<'t> {
     pub(crate) part: Part,
     pub(crate) known: Vec<Known<'t>>,
     pub(crate) open: Vec<Open<'t>>,
     /// The bad line, without its line feed.
     pub line: &'t [u8],
+}
+
+// What a name stands for that a line with this first word declares, if it declares one.
+fn declared_sort(first: &[u8], shared: Sort) -> Option<Sort> {
+    if is_word(first, "const") {
+        Some(Sort::Constant)
+    } else if is_word(first, "procs") {
+        Some(Sort::Own)
+    } else if is_word(first, "private") {
+        Some(Sort::Private)
+    } else if is_word(first, "shared") {
+        Some(shared)
+    } else {
+        None
+    }
 }
 
 // What a shared name stands for, by what follows it in a line of so many bytes.
@@ -138,43 +154,45 @@ impl<'t> Before<'t> {
         name: &'t [u8],
         shared: Sort,
     ) -> Result<(), AllocError> {
-        let sort = match first {
-            b"const" => Sort::Constant,
-            b"procs" => Sort::Own,
-            b"private" => Sort::Private,
-            b"shared" => shared,
-            _ => {
-                self.part = Part::Code;
-                return Ok(());
-            }
+        let Some(sort) = declared_sort(first, shared) else {
+            self.part = Part::Code;
+            return Ok(());
         };
         self.known.push(Known { name, sort, line })?;
         Ok(())
     }
 
     fn take_code(&mut self, line: u64, word: &'t [u8], name: &'t [u8]) -> Result<(), AllocError> {
-        match word {
-            b"if" | b"while" | b"for" => {
-                self.open.push(Open {
-                    word,
-                    line,
-                    otherwise: 0,
-                })?;
-                if is_word(word, "for") {
-                    let sort = Sort::Loop;
-                    self.known.push(Known { name, sort, line })?;
-                }
-            }
-            b"else" => {
-                if let Some(open) = self.open.pop() {
-                    let otherwise = line;
-                    self.open.push(Open { otherwise, ..open })?;
-                }
-            }
-            b"end" => self.close(),
-            _ => (),
+        if is_among("if while for", word) {
+            return self.begin(line, word, name);
+        }
+        if is_word(word, "else") {
+            self.pass_else(line);
+        } else if is_word(word, "end") {
+            self.close();
         }
         Ok(())
+    }
+
+    // A block begins, with this name if it is a loop `for`.
+    fn begin(&mut self, line: u64, word: &'t [u8], name: &'t [u8]) -> Result<(), AllocError> {
+        let otherwise = 0;
+        self.open.push(Open {
+            word,
+            line,
+            otherwise,
+        })?;
+        if is_word(word, "for") {
+            let sort = Sort::Loop;
+            self.known.push(Known { name, sort, line })?;
+        }
+        Ok(())
+    }
+
+    fn pass_else(&mut self, line: u64) {
+        if let Some(open) = self.open.last_mut() {
+            open.otherwise = line;
+        }
     }
 
     fn close(&mut self) {

@@ -5,7 +5,7 @@ use crate::point::Point;
 use std::alloc::AllocError;
 
 /// What the gaps of a sentence are filled with.
-#[derive(Clone, Copy, Debug)]
+#[derive(Clone, Copy)]
 pub(crate) struct Gaps<'t> {
     pub(crate) point: Point<'t>,
     /// A known name.
@@ -25,15 +25,20 @@ pub(crate) fn push_filled(
     gaps: &Gaps<'_>,
 ) -> Result<(), AllocError> {
     for part in sentence.split('{') {
-        match part.split_once('}') {
-            None => text.extend_from_slice(part.as_bytes())?,
-            Some((word, rest)) => {
-                push_gap(text, word, gaps)?;
-                text.extend_from_slice(rest.as_bytes())?;
-            }
-        }
+        push_part(text, part, gaps)?;
     }
     Ok(())
+}
+
+// Adds what stands up to the next `{`: before its `}`, if it has one, is the word of a gap.
+fn push_part(text: &mut Vec<u8>, part: &str, gaps: &Gaps<'_>) -> Result<(), AllocError> {
+    match part.split_once('}') {
+        None => text.extend_from_slice(part.as_bytes()),
+        Some((word, rest)) => {
+            push_gap(text, word, gaps)?;
+            text.extend_from_slice(rest.as_bytes())
+        }
+    }
 }
 
 fn push_gap(text: &mut Vec<u8>, word: &str, gaps: &Gaps<'_>) -> Result<(), AllocError> {

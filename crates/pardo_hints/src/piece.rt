@@ -3,7 +3,7 @@ use pardo_text::first_spelled;
 use text_lines::is_blank;
 
 /// A token of a line, or a character that begins none.
-#[derive(Clone, Copy, Debug)]
+#[derive(Clone, Copy)]
 pub struct Piece<'t> {
     pub spelled: &'t [u8],
     /// How many bytes of the line stand before it.
@@ -13,7 +13,7 @@ pub struct Piece<'t> {
 }
 
 /// The tokens of a line that were not taken yet.
-#[derive(Clone, Copy, Debug)]
+#[derive(Clone, Copy)]
 pub struct Pieces<'t> {
     line: &'t [u8],
     rest: &'t [u8],

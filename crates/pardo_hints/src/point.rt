@@ -3,14 +3,14 @@ use crate::before::Before;
 use crate::piece::Pieces;
 use crate::scan::Scan;
 use crate::wanted::Wanted;
-use crate::words::is_number;
+use crate::words::{is_among, is_number};
 use pardo_text::{PardoKind, Stop, said};
 use std::alloc::{AllocError, Global};
 use std::str;
 use text_lines::is_word;
 
 /// A point in a line, and the tokens around it; those that are not there have no byte.
-#[derive(Clone, Copy, Debug)]
+#[derive(Clone, Copy)]
 pub struct Point<'t> {
     pub(crate) kind: PardoKind,
     /// What stands before the line's comment.
@@ -64,15 +64,17 @@ fn token_of<'t>(
 ) -> Result<usize, AllocError> {
     let last = read.saturating_sub(1);
     let spelled = window(line, last);
+    let end = if kind == PardoKind::BadLine {
+        last
+    } else {
+        read
+    };
+    let scan = scanned(alloc, before, line, end)?;
     Ok(match kind {
-        PardoKind::BadLine => {
-            let scan = scanned(alloc, before, line, last)?;
-            if scan.takes(spelled.here) { read } else { last }
-        }
+        PardoKind::BadLine if scan.takes(spelled.here) => read,
         PardoKind::WrongKind if is_word(spelled.here, "[") => last.saturating_sub(1),
-        PardoKind::OutOfLimits if is_too_great(spelled.here) => last,
-        PardoKind::OutOfLimits => value_out(&scanned(alloc, before, line, read)?, &spelled),
-        PardoKind::WrongLength => scanned(alloc, before, line, read)?.value,
+        PardoKind::OutOfLimits if !is_too_great(spelled.here) => value_out(&scan, &spelled),
+        PardoKind::WrongLength => scan.value,
         PardoKind::BadHeader => header_token(&spelled),
         PardoKind::TooDeep => read,
         PardoKind::BadBlock | PardoKind::TooManyCells | PardoKind::NotAscii => 0,
@@ -94,19 +96,24 @@ fn is_too_great(token: &[u8]) -> bool {
 // The division, where the last token is a divisor of 0, or else the value that is out of limits.
 fn value_out(scan: &Scan<'_, '_>, last: &Point<'_>) -> usize {
     let is_division = scan.division > 0 && is_word(last.here, "0");
-    match last.first {
-        b"procs" | b"private" if !is_division => scan.value,
-        b"shared" if !is_division && scan.value == 0 => 3,
-        _ => scan.division,
+    if is_division {
+        scan.division
+    } else if is_among("procs private", last.first) {
+        scan.value
+    } else if is_word(last.first, "shared") && scan.value == 0 {
+        3
+    } else {
+        scan.division
     }
 }
 
 // A header line is wrong from its first token on, or from its second one.
 fn header_token(line: &Point<'_>) -> usize {
-    match line.first {
-        b"rule" => 1,
-        b"code" if !line.second.is_empty() => 1,
-        _ => 0,
+    let is_code = is_word(line.first, "code") && !line.second.is_empty();
+    if is_code || is_word(line.first, "rule") {
+        1
+    } else {
+        0
     }
 }
 

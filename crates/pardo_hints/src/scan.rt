@@ -5,8 +5,13 @@ use crate::words::{ends_operand, is_among, is_comparison, is_name};
 use std::alloc::{AllocError, Global};
 use text_lines::is_word;
 
+// What lines begin with that name something new, and those with a condition.
+const NAMING: &str = "const procs shared private for";
+
+const CONDITIONAL: &str = "if elsif while assert";
+
 /// What a bracket belongs to.
-#[derive(Clone, Copy, Debug, PartialEq, Eq)]
+#[derive(Clone, Copy, PartialEq, Eq)]
 enum Bracket {
     Plain,
     Log,
@@ -22,7 +27,7 @@ enum Bracket {
 }
 
 /// An open bracket, and what was known before it.
-#[derive(Clone, Copy, Debug)]
+#[derive(Clone, Copy)]
 struct Open {
     bracket: Bracket,
     division: usize,
@@ -42,7 +47,7 @@ impl Open {
 }
 
 /// The tokens of a line so far.
-#[derive(Debug, Drop)]
+#[derive(Drop)]
 pub(crate) struct Scan<'b, 't> {
     known: &'b Before<'t>,
     /// The first one; where an assignment goes on, the one after.
@@ -81,15 +86,10 @@ impl<'b, 't> Scan<'b, 't> {
 
     /// The next token.
     pub(crate) fn take(&mut self, token: &'t [u8]) -> Result<(), AllocError> {
-        match token {
-            b"(" | b"[" => self.open(token)?,
-            b")" | b"]" => self.close(),
-            b"," => self.pass_comma(),
-            b"and" | b"or" => self.is_compared = false,
-            b"/" | b"%" => self.division = self.count,
-            b":=" | b"to" | b"downto" => self.assign(token),
-            _ if is_comparison(token) => self.compare(),
-            _ => (),
+        if is_among("( [", token) {
+            self.open(token)?;
+        } else {
+            self.pass(token);
         }
         if self.count == 0 || self.begins_assignment(token) {
             self.first = token;
@@ -97,6 +97,23 @@ impl<'b, 't> Scan<'b, 't> {
         self.before = token;
         self.count = self.count.saturating_add(1);
         Ok(())
+    }
+
+    // What a token changes that opens no bracket.
+    fn pass(&mut self, token: &[u8]) {
+        if is_among(") ]", token) {
+            self.close();
+        } else if is_word(token, ",") {
+            self.pass_comma();
+        } else if is_among("and or", token) {
+            self.is_compared = false;
+        } else if is_among("/ %", token) {
+            self.division = self.count;
+        } else if is_among(":= to downto", token) {
+            self.assign(token);
+        } else if is_comparison(token) {
+            self.compare();
+        }
     }
 
     // Whether this token makes the line an assignment: before it `elsif` and `assert` are names.
@@ -157,7 +174,7 @@ impl<'b, 't> Scan<'b, 't> {
     // The first comparison outside brackets of a line that is no assignment and no condition is its
     // mark.
     fn compare(&mut self) {
-        let is_marked = is_among("const procs shared private for", self.first);
+        let is_marked = is_among(NAMING, self.first);
         if self.open.is_empty() && is_marked && !self.is_assigned {
             self.mark();
         } else {
@@ -225,21 +242,28 @@ impl<'b, 't> Scan<'b, 't> {
     }
 
     fn wanted_second(&self) -> Wanted {
-        match self.first {
-            b"const" | b"procs" | b"shared" | b"private" | b"for" => Wanted::NewName,
-            b"if" | b"elsif" | b"while" | b"assert" => Wanted::Operand,
-            _ if is_name(self.first) => Wanted::Assignment,
-            _ => Wanted::End,
+        if is_among(NAMING, self.first) {
+            Wanted::NewName
+        } else if is_among(CONDITIONAL, self.first) {
+            Wanted::Operand
+        } else if is_name(self.first) {
+            Wanted::Assignment
+        } else {
+            Wanted::End
         }
     }
 
     fn wanted_third(&self) -> Wanted {
-        match self.first {
-            b"const" | b"for" => Wanted::Equals,
-            b"procs" => Wanted::Less,
-            b"private" => Wanted::EqualsOrEnd,
-            b"shared" => Wanted::Length,
-            _ => self.wanted_later(),
+        if is_among("const for", self.first) {
+            Wanted::Equals
+        } else if is_word(self.first, "procs") {
+            Wanted::Less
+        } else if is_word(self.first, "private") {
+            Wanted::EqualsOrEnd
+        } else if is_word(self.first, "shared") {
+            Wanted::Length
+        } else {
+            self.wanted_later()
         }
     }
 
@@ -250,13 +274,19 @@ impl<'b, 't> Scan<'b, 't> {
         if !ends_operand(self.before) {
             return self.wanted_operand();
         }
-        match self.first {
-            b"if" | b"elsif" | b"while" | b"assert" => Wanted::Whole,
-            b"shared" if self.is_assigned => Wanted::NextValue,
-            b"shared" => Wanted::EqualsOrEnd,
-            b"for" if !self.is_bounded => Wanted::Way,
-            _ if self.is_assigned => Wanted::Whole,
-            _ => Wanted::Assignment,
+        let is_shared = is_word(self.first, "shared");
+        if is_among(CONDITIONAL, self.first) {
+            Wanted::Whole
+        } else if is_shared && self.is_assigned {
+            Wanted::NextValue
+        } else if is_shared {
+            Wanted::EqualsOrEnd
+        } else if is_word(self.first, "for") && !self.is_bounded {
+            Wanted::Way
+        } else if self.is_assigned {
+            Wanted::Whole
+        } else {
+            Wanted::Assignment
         }
     }
 

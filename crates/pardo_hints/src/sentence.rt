@@ -14,7 +14,7 @@ use std::alloc::AllocError;
 use text_lines::is_word;
 
 /// A sentence and what is added to it, with gaps.
-#[derive(Clone, Copy, Debug)]
+#[derive(Clone, Copy)]
 struct Sentence(&'static str, &'static str);
 
 /// Adds the sentence on a point.
@@ -63,7 +63,7 @@ fn sentence_on(before: &Before<'_>, point: &Point<'_>, gaps: &Gaps<'_>) -> Sente
         PardoKind::WrongLength => wrong_length(point.line),
         PardoKind::BadBlock => bad_block(before.open.last(), point.first),
         PardoKind::TooManyCells => Sentence(
-            "more than 65,536 cells: an array takes one for each place; a private variable, a \
+            "more than 1,048,576 cells: an array takes one for each place; a private variable, a \
              depth of loops and one of `if`s take one for each processor",
             "",
         ),
@@ -201,7 +201,7 @@ fn bad_block(open: Option<&Open<'_>>, first: &[u8]) -> Sentence {
 }
 
 /// Where a name stands that has no point there.
-#[derive(Clone, Copy, Debug, PartialEq, Eq)]
+#[derive(Clone, Copy)]
 enum Scope {
     Fixed,
     Start,
@@ -211,13 +211,16 @@ enum Scope {
 }
 
 fn scope_of(point: &Point<'_>) -> Scope {
-    match point.first {
-        _ if point.is_within_log => Scope::Fixed,
-        b"const" | b"procs" | b"shared" => Scope::Fixed,
-        b"private" => Scope::Start,
-        b"for" => Scope::Bound,
-        b"while" => Scope::Uniform,
-        _ => Scope::Any,
+    if point.is_within_log || is_among("const procs shared", point.first) {
+        Scope::Fixed
+    } else if is_word(point.first, "private") {
+        Scope::Start
+    } else if is_word(point.first, "for") {
+        Scope::Bound
+    } else if is_word(point.first, "while") {
+        Scope::Uniform
+    } else {
+        Scope::Any
     }
 }
 

@@ -4,7 +4,7 @@ use crate::wanted::Wanted;
 use crate::words::{ends_operand, is_among, is_name, is_number};
 
 /// A slip: what stands first in its line, before the point, at it and after it; and its sentence.
-#[derive(Clone, Copy, Debug)]
+#[derive(Clone, Copy)]
 struct Slip<'s> {
     first: &'s str,
     before: &'s str,
@@ -24,26 +24,30 @@ impl Slip<'_> {
 }
 
 // The slip of a row of the table.
-fn slip_of(row: &str) -> Option<Slip<'_>> {
-    let (first, rest) = row.split_once("; ")?;
-    let (before, rest) = rest.split_once("; ")?;
-    let (here, rest) = rest.split_once("; ")?;
-    let (after, sentence) = rest.split_once("; ")?;
-    Some(Slip {
+fn slip_of(row: &str) -> Slip<'_> {
+    let (first, rest) = first_cell(row);
+    let (before, rest) = first_cell(rest);
+    let (here, rest) = first_cell(rest);
+    let (after, sentence) = first_cell(rest);
+    Slip {
         first,
         before,
         here,
         after,
         sentence,
-    })
+    }
+}
+
+// What a row begins with, and what is after it.
+fn first_cell(row: &str) -> (&str, &str) {
+    row.split_once("; ").unwrap_or((row, ""))
 }
 
 /// The sentence of the first of these slips that a point shows.
 pub(crate) fn first_fit<'s>(slips: &'s str, point: &Point<'_>) -> Option<&'s str> {
     for row in slips.lines() {
-        if let Some(slip) = slip_of(row)
-            && slip.fits(point)
-        {
+        let slip = slip_of(row);
+        if slip.fits(point) {
             return Some(slip.sentence);
         }
     }

@@ -130,8 +130,8 @@ pub(crate) const UNKNOWN_NAME: &str = "\
 /// Numbers out of limits.
 pub(crate) const OUT_OF_LIMITS: &str = "\
 ; ; / %; ; a division by 0
-procs; <; ; ; there are 1 to 1,024 processors
-shared; [; ; ; an array has 1 to 65,536 places
+procs; <; ; ; there are 1 to 65,536 processors
+shared; [; ; ; an array has 1 to 1,048,576 places
 ; ; NUMBER; ; {here} is out of limits: numbers go from 0 to 4,294,967,295
 private; =; ; ; a division by 0 for a processor
 ";

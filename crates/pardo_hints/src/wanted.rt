@@ -2,7 +2,7 @@
 use crate::words::{begins_operand, is_among, is_name, is_operator};
 
 /// What could stand in a point of a line.
-#[derive(Clone, Copy, Debug, PartialEq, Eq)]
+#[derive(Clone, Copy, PartialEq, Eq)]
 pub(crate) enum Wanted {
     Version,
     Rule,

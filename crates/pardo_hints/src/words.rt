@@ -51,5 +51,5 @@ pub(crate) fn is_operator(token: &[u8]) -> bool {
 
 /// Whether a token compares two operands.
 pub fn is_comparison(token: &[u8]) -> bool {
-    matches!(token, b"=" | b"!=" | b"<" | b"<=" | b">" | b">=")
+    is_among("= != < <= > >=", token)
 }

@@ -26,7 +26,6 @@ use Rattle.pram_step.proofs.LawRules.{asked_same, clash_same, state_same, steps_
 use Rattle.pram_step.proofs.LawStopped.{stopped_later, writer_runs}
 use Rattle.pardo_job.specs.declared.ended.Ended.{Ended}
 use Rattle.pardo_job.specs.declared.ended.Lines.{Lines}
-use Rattle.pardo_job.specs.declared.limits.TheConstants.{MAX_STEPS}
 use Rattle.pardo_job.specs.declared.run.Rest.{Rest}
 use Rattle.pardo_job.specs.declared.run.Run.{Run}
 use Rattle.pardo_job.specs.declared.run.Run.TheVariants as run
@@ -34,7 +33,7 @@ use Rattle.pardo_job.specs.Compiled.{CompiledData, IsWhole}
 use Rattle.pardo_job.specs.Ends.{AreGone, HasEnded, IsDisputedIn, gone_in}
 use Rattle.pardo_job.specs.Inner.Endings.{IsFinished, IsLong, IsRest, IsSeenBy, IsThrough}
 use Rattle.pardo_job.specs.Leaving.{GoneIn, Leaves}
-use Rattle.pardo_job.specs.Refusals.{FirstRunningStandsAt}
+use Rattle.pardo_job.specs.Refusals.{FirstRunningStandsAt, most_steps}
 
 abbrev pub with_steps : JobData → ℕ → JobData
 with_steps job n = record job { steps = n }
@@ -100,35 +99,35 @@ seen_conflict job fault (Some n) has_seen conflict seen =
     (stopped_later job n (fault.step - n) (state_after job n) is seen.1.stopped).reached))
 
 module _ (job : JobData) (walked : Walked) (stopped : Option ℕ) (has_seen : ℕ → Type 0)
-    (walk : IsWalked job MAX_STEPS walked)
-    (seen : IsSeenUntil job (begun MAX_STEPS walked) stopped has_seen) where
+    (walk : IsWalked job (most_steps job) walked)
+    (seen : IsSeenUntil job (begun (most_steps job) walked) stopped has_seen) where
   pub disputed_run : (fault : Fault) → walked ≡ Disputed fault →
       IsFirstConflict job fault × has_seen fault.step
   disputed_run fault is =
-      let found = (subst (IsWalked job MAX_STEPS) is walk).0 in (
+      let found = (subst (IsWalked job (most_steps job)) is walk).0 in (
         found,
         seen_conflict job fault stopped has_seen found (subst (λ (w : Walked).
-            IsSeenUntil job (begun MAX_STEPS w) stopped has_seen) is seen),
+            IsSeenUntil job (begun (most_steps job) w) stopped has_seen) is seen),
       )
 
   pub through_run : (state : State) → walked ≡ Through state →
-      IsStateAfter job MAX_STEPS state × IsSeenUntil job MAX_STEPS stopped has_seen
+      IsStateAfter job (most_steps job) state × IsSeenUntil job (most_steps job) stopped has_seen
   through_run state is = (
-    subst (IsWalked job MAX_STEPS) is walk,
-    subst (λ (w : Walked). IsSeenUntil job (begun MAX_STEPS w) stopped has_seen) is seen,
+    subst (IsWalked job (most_steps job)) is walk,
+    subst (λ (w : Walked). IsSeenUntil job (begun (most_steps job) w) stopped has_seen) is seen,
   )
 
 -- each of two
 pub both_seen : (job : JobData) (stopped : Option ℕ) (first second : ℕ → Type 0) →
-    IsSeenUntil job MAX_STEPS stopped (λ n. first n × second n) →
-    IsSeenUntil job MAX_STEPS stopped first × IsSeenUntil job MAX_STEPS stopped second
+    IsSeenUntil job (most_steps job) stopped (λ n. first n × second n) →
+    IsSeenUntil job (most_steps job) stopped first × IsSeenUntil job (most_steps job) stopped second
 both_seen job None first second seen = ((seen.0, seen.1.0), (seen.0, seen.1.1))
 both_seen job (Some n) first second seen =
     ((seen.0, seen.1, seen.2.0), (seen.0, seen.1, seen.2.1))
 
 -- what is seen until all have stopped is seen of the run
 pub run_seen : (job : JobData) (stopped : Option ℕ) (ran : Run) (has_seen : ℕ → Type 0) →
-    IsLong stopped ran → IsSeenUntil job MAX_STEPS stopped has_seen → IsSeenBy ran has_seen
+    IsLong job stopped ran → IsSeenUntil job (most_steps job) stopped has_seen → IsSeenBy ran has_seen
 run_seen job None (run.Stopped rest) has_seen long seen = subst has_seen (sym long) seen.1
 run_seen job (Some n) (run.Stopped rest) has_seen long seen = subst has_seen (sym long) seen.2
 run_seen job stopped (run.Disputed fault last) has_seen long seen = absurd long
@@ -151,13 +150,13 @@ pub stopped_rest : (job : JobData) (found : Option ℕ) (rest : Rest) →
     found ≡ Some rest.steps → IsThrough job found rest.state rest.last.items → IsRest job rest
 stopped_rest job found rest is = subst (λ (o : Option ℕ).
     IsThrough job o rest.state rest.last.items → IsRest job rest) (sym is) (λ through. record {
-      after = stopped_state job rest.steps MAX_STEPS rest.state through.1.0 through.0
+      after = stopped_state job rest.steps (most_steps job) rest.state through.1.0 through.0
           through.1.1.stopped;
       stop = through.1.1;
       last = through.1.2;
     })
 
-pub most_rest : (job : JobData) (rest : Rest) → rest.steps ≡ MAX_STEPS →
+pub most_rest : (job : JobData) (rest : Rest) → rest.steps ≡ most_steps job →
     IsThrough job None rest.state rest.last.items → AllStopped job rest.state → IsRest job rest
 most_rest job rest is through stopped = record {
   after = subst (λ (n : ℕ). IsStateAfter job n rest.state) (sym is) through.0;
@@ -169,9 +168,10 @@ most_rest job rest is through stopped = record {
 }
 
 -- somebody runs after as many steps as are made at most
-pub endless_run : (job : JobData) (state : State) (index : ℕ) → IsStateAfter job MAX_STEPS state →
-    FirstRunningStandsAt job state index →
-    IsReached job MAX_STEPS × FirstRunningStandsAt job (state_after job MAX_STEPS) index
+pub endless_run : (job : JobData) (state : State) (index : ℕ) →
+    IsStateAfter job (most_steps job) state → FirstRunningStandsAt job state index →
+    IsReached job (most_steps job)
+    × FirstRunningStandsAt job (state_after job (most_steps job)) index
 endless_run job state index after first =
     (after.reached, subst (λ (s : State). FirstRunningStandsAt job s index) after.state first)
 

@@ -309,7 +309,7 @@ evaluates program layout source memory i sees own at held own_i is shallow = rec
   runs = refl;
   gives = own_i;
   keeps = λ which kept. refl;
-  fits = let lt : i < layout.procs = sees.is_processor in let few : layout.procs ≤ 1024 =
+  fits = let lt : i < layout.procs = sees.is_processor in let few : layout.procs ≤ 65536 =
       sees.few in omega arith;
   truth = λ no. no_truth no;
 }

@@ -10,8 +10,8 @@ use Rattle.pardo_flat.proofs.FlatLawful.{flat_lawful}
 use Rattle.pardo_job.specs.Compiled.{IsCompiled}
 use Rattle.pardo_job.specs.Lines.{job_of}
 
-cells_within : (a b c d e : ℕ) → max 1 (a + (b + c + d) * e) ≤ 65536 →
-    a + e * (b + c + d) ≤ 65536
+cells_within : (a b c d e : ℕ) → max 1 (a + (b + c + d) * e) ≤ 1048576 →
+    a + e * (b + c + d) ≤ 1048576
 cells_within a b c d e le = let same = mul_comm (b + c + d) e in omega (arith, le, same)
 
 module _ (program : ProgramData) (job : JobData) (line_of : ℕ → ℕ) (lawful : IsProgram program)
@@ -19,10 +19,10 @@ module _ (program : ProgramData) (job : JobData) (line_of : ℕ → ℕ) (lawful
   cells_few : shared_cells program.arrays
       + program.procs
       * (length (flat program).privates + (flat program).loops + program.choices)
-      ≤ 65536
+      ≤ 1048576
   unfolding job_of program_layout
   cells_few =
-      let few : job.cells ≤ 65536 = compiled.job_is.cells.1 in
+      let few : job.cells ≤ 1048576 = compiled.job_is.cells.1 in
       let are : job.cells ≡ cell_count (program_layout (flat program)) =
       ap (λ (j : JobData). j.cells) compiled.made in
       cells_within (shared_cells program.arrays) (length (flat program).privates) (flat program).loops

@@ -109,7 +109,7 @@ given_fits program is =
     omega (arith, given_length program is, more)
 
 cells_fit : (program : ProgramData) → IsProgram program →
-    cell_count (program_layout program) ≤ 65536
+    cell_count (program_layout program) ≤ 1048576
 unfolding program_layout
 cells_fit program is = omega (arith, is.cells)
 

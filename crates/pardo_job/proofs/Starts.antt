@@ -13,14 +13,13 @@ use Rattle.pardo_flat.specs.Flat.{flat}
 use Rattle.pardo_job.specs.declared.fault.JobKind.{JobKind}
 use Rattle.pardo_job.specs.declared.fault.JobKind.TheVariants.{TooDeep, TooLong, Endless, Memory}
 use Rattle.pardo_job.specs.declared.fault.JobKind.TheVariants.{TooManyCells}
-use Rattle.pardo_job.specs.declared.limits.TheConstants.{MAX_STEPS}
 use Rattle.pardo_job.specs.Compiled.{CompiledData}
 use Rattle.pardo_job.specs.Drafts.{IsDraft, IsComplete}
 use Rattle.pardo_job.specs.Ends.{HasEnded}
 use Rattle.pardo_job.specs.Inner.Endings.{IsFinished, EndsTooLate}
 use Rattle.pardo_job.specs.Inner.Listings.{AreAllPlaces}
 use Rattle.pardo_job.specs.Lines.{code_of, job_of}
-use Rattle.pardo_job.specs.Refusals.{IsProgramFault, FirstRunningStandsAt}
+use Rattle.pardo_job.specs.Refusals.{IsProgramFault, FirstRunningStandsAt, most_steps}
 use Rattle.pardo_job.proofs.JobFits.{job_is, start_length}
 use Rattle.pardo_job.proofs.Placed.{level_all}
 
@@ -90,9 +89,9 @@ module _ (program : ProgramData) (job : JobData) (numbers : List ℕ)
   late_is number TooManyCells late = absurd late
   late_is number Memory late = late
   late_is number Endless late = record {
-    reached = subst (λ (j : JobData). IsReached j MAX_STEPS) draft.made late.0;
+    reached = subst (λ (j : JobData). IsReached j (most_steps j)) draft.made late.0;
     index = late.1.0;
-    runs = subst (λ (j : JobData). FirstRunningStandsAt j (state_after j MAX_STEPS) late.1.0)
+    runs = subst (λ (j : JobData). FirstRunningStandsAt j (state_after j (most_steps j)) late.1.0)
         draft.made
         late.1.1;
     number_is = late.1.2 ∙ ap (λ (l : List ℕ). slice_index l late.1.0) draft.numbers_are;

@@ -13,10 +13,15 @@ use Rattle.pardo_program.specs.Program.{ProgramData}
 use Rattle.pardo_program.specs.Tests.{Known, without_tests}
 use Rattle.pram_step.specs.declared.answer.Dispute.{Dispute}
 use Rattle.pardo_flat.specs.Layouts.{program_layout}
+use Rattle.pardo_job.specs.declared.limits.TheConstants.{MAX_STEPS, MAX_WORK}
 use Rattle.pardo_job.specs.Conflicts.{LineAgrees, IsLineDispute, Assigns, asked}
 use Rattle.pardo_job.specs.Lawful.{IsLawfulTree}
 use Rattle.pardo_job.specs.Meaning.{Source, is_active, next, value}
 use Rattle.pardo_job.specs.Runs.{AllGone, IsLineReached}
+
+-- steps, and steps of all processors together
+abbrev pub StepLimitsAre : Type 0
+StepLimitsAre = (MAX_STEPS ≡ 1048576) × (MAX_WORK ≡ 1073741824)
 
 -- a program with another rule in place of its own
 abbrev pub by_rule : Rule → ProgramData → ProgramData

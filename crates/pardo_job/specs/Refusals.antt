@@ -1,5 +1,5 @@
 -- How a text is refused.
-use Rattle.std.specs.Prelude.{◌≡◌, ℕ, ◌+◌, ◌<◌, Bool, true, false, nat_le, ◌&&◌, IsTrue}
+use Rattle.std.specs.Prelude.{◌≡◌, ℕ, ◌+◌, ◌/◌, ◌<◌, min, Bool, true, false, nat_le, ◌&&◌, IsTrue}
 use Rattle.std.specs.Prelude.{List, [], ◌∷◌, ◌++◌, replicate, slice_get, slice_index, Some, Ok}
 use Rattle.pram_job.specs.declared.limits.TheConstants.{MAX_CODE}
 use Rattle.pram_job.specs.Job.{JobData}
@@ -14,7 +14,7 @@ use Rattle.pardo_job.specs.declared.fault.JobKind.TheVariants.{TooDeep, TooLong,
 use Rattle.pardo_job.specs.declared.fault.JobKind.TheVariants.{TooManyCells}
 use Rattle.pardo_job.specs.declared.fault.Refusal.{Refusal}
 use Rattle.pardo_job.specs.declared.fault.Refusal.TheVariants.{Text, Job}
-use Rattle.pardo_job.specs.declared.limits.TheConstants.{MAX_STEPS}
+use Rattle.pardo_job.specs.declared.limits.TheConstants.{MAX_STEPS, MAX_WORK}
 use Rattle.pardo_job.specs.Lines.{job_of, length_of_line, line_code, place_of}
 use Rattle.pardo_job.specs.Operations.{is_shallow}
 
@@ -66,12 +66,16 @@ pub record FirstRunningStandsAt (job : JobData) (state : State) (index : ℕ) : 
   pub least : (i : ℕ) → i < first → IsStopped job state i
   pub stands : counter job state first ≡ index
 
+-- so many steps are made at most, and no more of all processors together than MAX_WORK
+unfoldable pub most_steps : JobData → ℕ
+most_steps job = min MAX_STEPS (MAX_WORK / job.procs)
+
 -- after as many steps as are made at most the program runs, and stands at this line
 pub record IsEndless (program : ProgramData) (number : ℕ) : Type 0 where
-  pub reached : IsReached (job_of program 0) MAX_STEPS
+  pub reached : IsReached (job_of program 0) (most_steps (job_of program 0))
   pub index : ℕ
-  pub runs : FirstRunningStandsAt (job_of program 0) (state_after (job_of program 0) MAX_STEPS)
-      index
+  pub runs : FirstRunningStandsAt (job_of program 0)
+      (state_after (job_of program 0) (most_steps (job_of program 0))) index
   pub number_is : number ≡ slice_index (line_numbers program) index
 
 -- what is wrong with these lines as they stand; memory that ran out is no line's

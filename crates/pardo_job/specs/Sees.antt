@@ -9,7 +9,7 @@ pub record Sees (program : ProgramData) (layout : ProgramLayoutData) (source : S
     (memory : ℕ → ℕ)
     (i : ℕ) : Type 0 where
   pub is_processor : i < layout.procs
-  pub few : layout.procs ≤ 1024
+  pub few : layout.procs ≤ 65536
   pub fits : (cell : ℕ) → memory cell < 2 ^ 32
   pub loops : (nest : ℕ) → nest < layout.loops →
       memory ((loop_cells layout nest).base + i) ≡ source.loops nest

@@ -126,7 +126,11 @@ pub fn draft_in(alloc: Global, text: &[u8]) -> Result<Draft, Refusal>
 {
     laws::programs_are_lawful();
     let program = read_program(alloc, text)?;
-    let (job, numbers, places) = draft_of(alloc, &program)?;
+    let Coded {
+        job,
+        numbers,
+        places,
+    } = draft_of(alloc, &program)?;
     Ok(Draft {
         program,
         job,
@@ -159,11 +163,20 @@ pub fn finish<O: Observer + Drop>(
     Ok((program, compiled, observer))
 }
 
-// The job of a program, which is not run, or why there is none.
-fn draft_of(alloc: Global, program: &Program) -> Result<(Job, Vec<u64>, Vec<u32>), JobFault>
+/// A job that is not run, the numbers of the lines that its instructions came from, and the places
+/// of lines in it.
+#[derive(Drop)]
+struct Coded {
+    job: Job,
+    numbers: Vec<u64>,
+    places: Vec<u32>,
+}
+
+// The job of a program, or why there is none.
+fn draft_of(alloc: Global, program: &Program) -> Result<Coded, JobFault>
     requires { IsProgram program.now }
-    ensures draft { IfOk result (λ given. IsDraft program.now given.0 given.1.items) }
-    ensures places { IfOk result (λ given. ArePlacesOf program.now given.2.items) }
+    ensures draft { IfOk result (λ given. IsDraft program.now given.job given.numbers.items) }
+    ensures places { IfOk result (λ given. ArePlacesOf program.now given.places.items) }
     ensures refused { IfErr result (λ fault. IsProgramFault program.now fault.line fault.kind) }
 {
     match flatten(alloc, program)? {
@@ -177,18 +190,26 @@ fn draft_of(alloc: Global, program: &Program) -> Result<(Job, Vec<u64>, Vec<u32>
 }
 
 // That of the flat program of one; and where the first of the lines for each of its lines stands.
-fn draft_of_flat(alloc: Global, flat: &Flat) -> Result<(Job, Vec<u64>, Vec<u32>), JobFault>
+fn draft_of_flat(alloc: Global, flat: &Flat) -> Result<Coded, JobFault>
     requires { IsProgram flat.now.program }
     ensures draft { IfOk result (λ given.
-        IsLinesDraft flat.now.program given.0 given.1.items) }
+        IsLinesDraft flat.now.program given.job given.numbers.items) }
     ensures places { IfOk result (λ given.
-        AreFirstPlaces flat.now.program flat.now.firsts.items given.2.items) }
+        AreFirstPlaces flat.now.program flat.now.firsts.items given.places.items) }
     ensures refused { IfErr result (λ fault.
         IsLinesFault flat.now.program fault.line fault.kind) }
 {
-    let (job, numbers, places) = draft_of_lines(alloc, &flat.program)?;
+    let Coded {
+        job,
+        numbers,
+        places,
+    } = draft_of_lines(alloc, &flat.program)?;
     let places = first_places(alloc, &places, &flat.firsts)?;
-    Ok((job, numbers, places))
+    Ok(Coded {
+        job,
+        numbers,
+        places,
+    })
 }
 
 // The places of these lines.
@@ -203,10 +224,10 @@ fn first_places(alloc: Global, places: &[u32], firsts: &[usize]) -> Result<Vec<u
 }
 
 // The job of these lines as they stand, which is not run, or why there is none.
-fn draft_of_lines(alloc: Global, program: &Program) -> Result<(Job, Vec<u64>, Vec<u32>), JobFault>
+fn draft_of_lines(alloc: Global, program: &Program) -> Result<Coded, JobFault>
     requires { IsProgram program.now }
-    ensures draft { IfOk result (λ given. IsLinesDraft program.now given.0 given.1.items) }
-    ensures places { IfOk result (λ given. AreLinePlaces program.now given.2.items) }
+    ensures draft { IfOk result (λ given. IsLinesDraft program.now given.job given.numbers.items) }
+    ensures places { IfOk result (λ given. AreLinePlaces program.now given.places.items) }
     ensures refused { IfErr result (λ fault. IsLinesFault program.now fault.line fault.kind) }
 {
     let listing = Listing::of(alloc, program)?;
@@ -215,7 +236,11 @@ fn draft_of_lines(alloc: Global, program: &Program) -> Result<(Job, Vec<u64>, Ve
     let init = start_values(alloc, program, &listing.layout)?;
     let job = Job::of_parts(program.rule(), program.procs(), 0, init, code);
     let Listing { places, .. } = listing;
-    Ok((job, numbers, places))
+    Ok(Coded {
+        job,
+        numbers,
+        places,
+    })
 }
 
 // The job with as many steps as it needs, and how it ends.

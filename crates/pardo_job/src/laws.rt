@@ -1,7 +1,13 @@
 //! The laws of the meaning: each function does nothing, and says to a proof that its law holds.
 ghost use Rattle.pardo_job.specs.Laws.{GoneForGood, IndicesAreTested, LoopsAreCommon};
-ghost use Rattle.pardo_job.specs.Laws.{LeftOutTestsPass, OutsideIsUnchanged, TreesAreLawful};
+ghost use Rattle.pardo_job.specs.Laws.{LeftOutTestsPass, OutsideIsUnchanged, StepLimitsAre};
+ghost use Rattle.pardo_job.specs.Laws.{TreesAreLawful};
 ghost use Rattle.pardo_job.specs.Leaves.{ConditionsDecide, ExpressionsAreEvaluated};
+
+/// The limits of steps by their numbers.
+pub fn step_limits_are()
+    ensures { StepLimitsAre }
+{}
 
 /// The value of an expression without the own number and private variables is one for all
 /// processors.

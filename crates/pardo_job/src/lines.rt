@@ -12,9 +12,9 @@ ghost use Rattle.pardo_job.specs.Lines.{others};
 ghost use Rattle.pardo_job.specs.Operations.{is_shallow};
 
 use crate::fault::JobKind;
-use crate::operations::put;
+use crate::operations::{put, put_each};
 use crate::pieces::{
-    none_test, put_all, put_assignment, put_condition, put_first_value, put_load, put_store,
+    none_test, own_load, own_store, put_all, put_assignment, put_condition, put_first_value,
     put_while_test,
 };
 use crate::values::put_value;
@@ -104,13 +104,18 @@ impl Listing<'_> {
         match first {
             Statement::For(nest, _, last, up, end) => {
                 let variable = self.layout.loop_variable(*nest);
-                put_load(code, 0, variable)?;
+                put(code, own_load(0, variable))?;
                 let held = put_value(code, alloc, &self.layout, 1, last)?;
-                put(code, Instr::Sub(1, 0, held.operand))?;
-                put(code, Instr::Jz(1, self.place_after(*end)))?;
-                put(code, next_turn(*up))?;
-                put_store(code, variable)?;
-                put(code, Instr::Jmp(self.place_after(begin)))
+                put_each(
+                    code,
+                    &[
+                        Instr::Sub(1, 0, held.operand),
+                        Instr::Jz(1, self.place_after(*end)),
+                        next_turn(*up),
+                        own_store(variable),
+                        Instr::Jmp(self.place_after(begin)),
+                    ],
+                )
             }
             _ => Ok(()),
         }
@@ -169,9 +174,14 @@ impl Site<'_> {
     {
         let at = code.len() as u32;
         let len = body.len() as u32;
-        put_load(code, 0, self.layout.mask(self.depth))?;
-        put(code, Instr::Jz(0, at + 3))?;
-        put(code, Instr::Jmp(at + 4 + len))?;
+        put_each(
+            code,
+            &[
+                own_load(0, self.layout.mask(self.depth)),
+                Instr::Jz(0, at + 3),
+                Instr::Jmp(at + 4 + len),
+            ],
+        )?;
         put_idle(code, len)?;
         put(code, Instr::Jmp(at + 4 + 2 * len))?;
         put_all(code, body)
@@ -189,7 +199,7 @@ impl Site<'_> {
             return Err(JobKind::TooLong);
         }
         self.put_choice(code, body)?;
-        put_store(code, self.layout.inner_mask(self.depth))
+        put(code, own_store(self.layout.inner_mask(self.depth)))
     }
 
     // The condition of active processors, and 0 of the others.
@@ -204,7 +214,7 @@ impl Site<'_> {
         }
         let at = code.len() as u32;
         let len = body.len() as u32;
-        put_load(code, 0, self.layout.mask(self.depth))?;
+        put(code, own_load(0, self.layout.mask(self.depth)))?;
         put(code, Instr::Jz(0, at + 3 + len))?;
         put_all(code, body)?;
         put(code, Instr::Jmp(at + 4 + 2 * len))?;
@@ -219,9 +229,9 @@ impl Site<'_> {
             (others self.now.layout.now self.now.depth) }
     {
         let mask = self.layout.inner_mask(self.depth);
-        put_load(code, 0, mask)?;
+        put(code, own_load(0, mask))?;
         self.put_rest(code)?;
-        put_store(code, mask)
+        put(code, own_store(mask))
     }
 
     // Register 0 becomes 1 for those of the mask around that it is 0 for.
@@ -233,7 +243,7 @@ impl Site<'_> {
         if self.depth == 0 {
             return put(code, Instr::Eq(0, 0, Operand::Number(0)));
         }
-        put_load(code, 1, self.layout.mask(self.depth))?;
+        put(code, own_load(1, self.layout.mask(self.depth)))?;
         put(code, Instr::Lt(0, 0, Operand::Register(1)))
     }
 }
@@ -257,8 +267,7 @@ fn put_loop(
     }
     let at = (code.len() + test.len()) as u32;
     put_all(code, test)?;
-    put(code, Instr::Jz(0, at + 2))?;
-    put(code, Instr::Jmp(after))?;
+    put_each(code, &[Instr::Jz(0, at + 2), Instr::Jmp(after)])?;
     put_all(code, start)
 }
 

@@ -3,6 +3,7 @@
 ghost use Rattle.std.specs.Prelude.{◌≡◌, ◌<◌, ◌+◌, ◌∷◌, [], ◌++◌, ◌&&◌, IfOk};
 ghost use Rattle.pardo_job.specs.Inner.Emitting.{PutsCode};
 ghost use Rattle.pardo_job.specs.Operations.{target_of, instruction_of, is_turned, register_code};
+ghost use Rattle.pardo_job.specs.Operations.{is_shallow};
 ghost use Rattle.pardo_job.specs.Operations.{register_or_spare, native, in_order};
 ghost use Rattle.pardo_job.specs.Operations.{negation, copy_code, choice};
 ghost use Rattle.pardo_job.specs.Operations.{zero_test, tested_in, conjunction, operation_code};
@@ -29,24 +30,14 @@ pub(crate) fn put_operation(
     let (a, b) = (first.operand, second.operand);
     let are_truths = first.is_truth && second.is_truth;
     match op {
-        Op::Ne => {
-            put_native(code, at, Op::Eq, a, b)?;
-            put_negation(code, at)
-        }
-        Op::Le => {
-            put_native(code, at, Op::Gt, a, b)?;
-            put_negation(code, at)
-        }
-        Op::Ge => {
-            put_native(code, at, Op::Lt, a, b)?;
-            put_negation(code, at)
-        }
+        Op::Ne => put_negated(code, at, Op::Eq, a, b),
+        Op::Le => put_negated(code, at, Op::Gt, a, b),
+        Op::Ge => put_negated(code, at, Op::Lt, a, b),
         Op::And if are_truths => put_native(code, at, Op::BitAnd, a, b),
         Op::And => put_conjunction(code, at, a, b),
         Op::Or if are_truths => put_native(code, at, Op::BitOr, a, b),
         Op::Or => {
-            put_native(code, at, Op::BitOr, a, b)?;
-            put_negation(code, at)?;
+            put_negated(code, at, Op::BitOr, a, b)?;
             put_negation(code, at)
         }
         Op::Min | Op::Max => put_choice(code, at, op, a, b),
@@ -103,6 +94,24 @@ pub(crate) fn put(code: &mut Vec<Instr>, instr: Instr) -> Result<(), JobKind>
     Ok(())
 }
 
+/// Instructions more, which may give values to the registers that are for values alone.
+pub(crate) fn put_each(code: &mut Vec<Instr>, more: &[Instr]) -> Result<(), JobKind>
+    ensures { PutsCode code.old.items code.new.items result more.now }
+{
+    if !are_shallow(more) {
+        return Err(JobKind::TooDeep);
+    }
+    code.extend_from_slice(more)?;
+    Ok(())
+}
+
+// Whether no instruction gives a value to another register than those that are for values alone.
+fn are_shallow(code: &[Instr]) -> bool
+    ensures { result ≡ is_shallow code.now }
+{
+    code.iter().all(|&instr| target_of(instr) < OWN)
+}
+
 // An operation of two operands that keep their places.
 #[tactic(auto, using(crate::proofs::Emitting::puts_then, crate::proofs::Emitting::puts_fails))]
 fn put_in_order(
@@ -127,8 +136,22 @@ fn put_within(code: &mut Vec<Instr>, at: u8, index: Operand, bound: Operand) -> 
 {
     let register = put_register(code, at + taken_by(bound), index)?;
     let test = if register == at { at + 1 } else { at };
-    put(code, Instr::Lt(test, register, bound))?;
-    put(code, Instr::Div(at, register, Operand::Register(test)))
+    put_each(
+        code,
+        &[
+            Instr::Lt(test, register, bound),
+            Instr::Div(at, register, Operand::Register(test)),
+        ],
+    )
+}
+
+// The code of an operation that is one instruction, and then the negation of its value.
+fn put_negated(code: &mut Vec<Instr>, at: u8, op: Op, a: Operand, b: Operand) -> Result<(), JobKind>
+    requires { at < 4 }
+    ensures { PutsCode code.old.items code.new.items result (native at op a b ++ negation at) }
+{
+    put_native(code, at, op, a, b)?;
+    put_negation(code, at)
 }
 
 // Makes the register 1 where it is 0, and else 0.
@@ -146,8 +169,13 @@ fn put_conjunction(code: &mut Vec<Instr>, at: u8, a: Operand, b: Operand) -> Res
 {
     let first = put_zero_test(code, at + taken_by(b), a)?;
     let second = put_zero_test(code, at + 1, b)?;
-    put(code, Instr::Or(at, first, Operand::Register(second)))?;
-    put_negation(code, at)
+    put_each(
+        code,
+        &[
+            Instr::Or(at, first, Operand::Register(second)),
+            Instr::Eq(at, at, Operand::Number(0)),
+        ],
+    )
 }
 
 // Whether an operand is 0: the register that this comes into, which is the operand's own if one
@@ -203,9 +231,14 @@ fn put_chosen(code: &mut Vec<Instr>, at: u8, op: Op, second: Operand) -> Result<
     if op == Op::Max {
         put_negation(code, test)?;
     }
-    put(code, Instr::Sub(at, at, second))?;
-    put(code, Instr::Mul(at, at, Operand::Register(test)))?;
-    put(code, Instr::Add(at, at, second))
+    put_each(
+        code,
+        &[
+            Instr::Sub(at, at, second),
+            Instr::Mul(at, at, Operand::Register(test)),
+            Instr::Add(at, at, second),
+        ],
+    )
 }
 
 // Brings an operand for which no register was taken into this one.

@@ -153,17 +153,17 @@ pub(crate) fn put_first_value(
 }
 
 /// A register becomes what a processor's own cell of a row holds.
-pub(crate) fn put_load(code: &mut Vec<Instr>, register: u8, row: Array) -> Result<(), JobKind>
-    ensures { PutsCode code.old.items code.new.items result (own_load register row ∷ []) }
+pub(crate) fn own_load(register: u8, row: Array) -> Instr
+    ensures { result ≡ own_load register row }
 {
-    put(code, Instr::Ld(register, own_place(row)))
+    Instr::Ld(register, own_place(row))
 }
 
 /// A processor's own cell of a row becomes what register 0 holds.
-pub(crate) fn put_store(code: &mut Vec<Instr>, row: Array) -> Result<(), JobKind>
-    ensures { PutsCode code.old.items code.new.items result (own_store row ∷ []) }
+pub(crate) fn own_store(row: Array) -> Instr
+    ensures { result ≡ own_store row }
 {
-    put(code, Instr::St(own_place(row), Operand::Register(0)))
+    Instr::St(own_place(row), Operand::Register(0))
 }
 
 /// Shallow code that was put elsewhere.

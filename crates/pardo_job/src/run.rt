@@ -6,9 +6,9 @@ ghost use Rattle.pram_step.specs.Runs.{IsFirstConflict};
 ghost use Rattle.pardo_job.specs.Ends.{AreGone, IsDisputedIn, gone_in};
 ghost use Rattle.pardo_job.specs.Inner.Endings.{IsLong, IsRest, IsBoundedRun, IsSeenBy, IsThrough};
 ghost use Rattle.pardo_job.specs.Leaving.{GoneIn};
-ghost use Rattle.pardo_job.specs.Refusals.{FirstRunningStandsAt};
+ghost use Rattle.pardo_job.specs.Refusals.{FirstRunningStandsAt, most_steps};
 
-use crate::limits::MAX_STEPS;
+use crate::limits::{MAX_STEPS, MAX_WORK};
 use pram_job::Job;
 use pram_step::{
     Fault, LastRow, LastRows, Observer, Sight, State, UntilStopped, Walked, counter, laws, walk,
@@ -70,7 +70,7 @@ pub(crate) fn run_of<O: Observer + Drop>(
         observer: Both { last, other },
         stopped: None,
     };
-    let walked = walk(alloc, job, MAX_STEPS, &mut until)?;
+    let walked = walk(alloc, job, most_steps(job), &mut until)?;
     let UntilStopped {
         observer: Both {
             last: LastRows { rows: last },
@@ -84,11 +84,19 @@ pub(crate) fn run_of<O: Observer + Drop>(
     }
 }
 
+// How many steps of a job are made at most.
+#[tactic(auto, unfolding(crate::specs::Refusals::most_steps))]
+fn most_steps(job: &Job) -> u32
+    ensures { result ≡ most_steps job.now }
+{
+    MAX_STEPS.min(MAX_WORK / job.procs())
+}
+
 // The run, where as many steps were made as are made at most.
 fn run_through(job: &Job, stopped: Option<u32>, state: State, last: Vec<LastRow>) -> Run
     requires { IsThrough job.now stopped state last.items }
     ensures run { IsBoundedRun job.now result }
-    ensures long { IsLong stopped result }
+    ensures long { IsLong job.now stopped result }
 {
     match stopped {
         Some(steps) => Run::Stopped(Rest { steps, state, last }),
@@ -100,14 +108,14 @@ fn run_through(job: &Job, stopped: Option<u32>, state: State, last: Vec<LastRow>
 fn run_to_the_most(job: &Job, state: State, last: Vec<LastRow>) -> Run
     requires { IsThrough job.now None state last.items }
     ensures run { IsBoundedRun job.now result }
-    ensures long { IsLong None result }
+    ensures long { IsLong job.now None result }
 {
     laws::states_have_all_places();
     job.limits_hold();
     match first_running(job, &state) {
         Some(index) => Run::Endless(index),
         None => Run::Stopped(Rest {
-            steps: MAX_STEPS,
+            steps: most_steps(job),
             state,
             last,
         }),

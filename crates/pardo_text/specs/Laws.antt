@@ -23,7 +23,7 @@ use Rattle.pardo_program.specs.Variables.{AreDistinct, variable_names}
 
 -- cells, processors and open brackets
 abbrev pub ProgramLimitsAre : Type 0
-ProgramLimitsAre = (MAX_CELLS ≡ 65536) × (MAX_PROCS ≡ 1024) × (MAX_OPEN ≡ 32)
+ProgramLimitsAre = (MAX_CELLS ≡ 1048576) × (MAX_PROCS ≡ 65536) × (MAX_OPEN ≡ 32)
 
 -- ---- tokens
 

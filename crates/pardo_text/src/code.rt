@@ -56,8 +56,7 @@ impl<'t> Draft<'t> {
             (if_line number (draft_of self.old) tokens.old) }
     {
         let condition = whole(self.alloc, &self.names, Scope::Any, tokens)?;
-        self.add_line(number, Statement::If(condition))?;
-        self.open(Block::If)?;
+        self.begin(number, Statement::If(condition), Block::If)?;
         self.fit()
     }
 
@@ -69,8 +68,7 @@ impl<'t> Draft<'t> {
     {
         let condition = whole(self.alloc, &self.names, Scope::Uniform, tokens)?;
         let begin = self.lines.len();
-        self.add_line(number, Statement::While(condition, 0))?;
-        self.open(Block::While(begin))?;
+        self.begin(number, Statement::While(condition, 0), Block::While(begin))?;
         Ok(())
     }
 
@@ -102,8 +100,7 @@ impl<'t> Draft<'t> {
             (draft_of self.old))))) }
     {
         let begin = self.lines.len();
-        self.add_line(number, statement)?;
-        self.open(Block::For(begin))?;
+        self.begin(number, statement, Block::For(begin))?;
         self.open_loop(name)?;
         self.fit()
     }
@@ -135,8 +132,7 @@ impl<'t> Draft<'t> {
     {
         match self.blocks.pop() {
             Some(Block::If) => {
-                self.add_line(number, Statement::Else)?;
-                self.open(block)?;
+                self.begin(number, Statement::Else, block)?;
                 Ok(())
             }
             _ => Err(PardoKind::BadBlock),
@@ -208,8 +204,7 @@ impl<'t> Draft<'t> {
     {
         let condition = quotient(self.alloc, &self.names, tokens)?;
         ended(tokens)?;
-        self.add_line(number, Statement::If(condition))?;
-        self.open(Block::If)?;
+        self.begin(number, Statement::If(condition), Block::If)?;
         self.blocks.pop();
         self.add_line(number, Statement::EndIf)?;
         self.fit()

@@ -157,6 +157,20 @@ impl<'t> Draft<'t> {
         Ok(())
     }
 
+    /// One line of code more, which opens a block.
+    pub(crate) fn begin(
+        &mut self,
+        number: u64,
+        statement: Statement,
+        block: Block,
+    ) -> Result<(), AllocError>
+        ensures { IfOk result (λ _. draft_of self.new
+            ≡ with_block block (with_line number statement (draft_of self.old))) }
+    {
+        self.add_line(number, statement)?;
+        self.open(block)
+    }
+
     /// One open loop more.
     pub(crate) fn open_loop(&mut self, name: &'t [u8]) -> Result<(), AllocError>
         ensures { IfOk result (λ _. draft_of self.new ≡ with_loop name.now (draft_of self.old)) }

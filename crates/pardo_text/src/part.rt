@@ -1,7 +1,9 @@
 //! Single tokens of a line.
-ghost use Rattle.std.specs.Prelude.{◌≡◌, if◌then◌else◌, Ok, drop, is_some, unwrap_or};
+ghost use Rattle.std.specs.Prelude.{◌≡◌, if◌then◌else◌, List, ◌∷◌, Ok, Err, drop, is_some};
+ghost use Rattle.std.specs.Prelude.{unwrap_or};
 ghost use Rattle.pardo_text.specs.Expressions.{rest_after_mark, indexed, ended, new_name};
 ghost use Rattle.pardo_text.specs.Header.{after_comma};
+ghost use Rattle.pardo_text.specs.Tokens.{Token as Part, symbol as token};
 ghost use Rattle.pardo_text.specs.Values.{after_dots};
 ghost use Rattle.pardo_text.specs.Inner.Tokens.{GivesAsRead};
 ghost use Rattle.pardo_text.specs.Inner.Names.{names_in};
@@ -25,18 +27,31 @@ pub(crate) enum Mark {
     Less,
 }
 
+impl Mark {
+    // Whether this is the symbol.
+    fn is(self, symbol: Symbol) -> bool
+        ensures { (rest : List Part) → rest_after_mark self (token symbol ∷ rest)
+            ≡ (if result then Ok rest else Err PardoKind.BadLine) }
+    {
+        match (self, symbol) {
+            (Mark::Open, Symbol::Open)
+            | (Mark::Close, Symbol::Close)
+            | (Mark::CloseIndex, Symbol::CloseIndex)
+            | (Mark::Comma, Symbol::Comma)
+            | (Mark::Assign, Symbol::Assign)
+            | (Mark::Equals, Symbol::Operator(Op::Eq))
+            | (Mark::Less, Symbol::Operator(Op::Lt)) => true,
+            _ => false,
+        }
+    }
+}
+
 /// Reads this mark.
 pub(crate) fn expect(mark: Mark, tokens: &mut Cursor<'_>) -> Result<(), PardoKind>
     ensures { GivesAsRead (λ _. tokens.new) result (rest_after_mark mark tokens.old) }
 {
-    match (mark, tokens.next()) {
-        (Mark::Open, Some(Token::Symbol(Symbol::Open)))
-        | (Mark::Close, Some(Token::Symbol(Symbol::Close)))
-        | (Mark::CloseIndex, Some(Token::Symbol(Symbol::CloseIndex)))
-        | (Mark::Comma, Some(Token::Symbol(Symbol::Comma)))
-        | (Mark::Assign, Some(Token::Symbol(Symbol::Assign)))
-        | (Mark::Equals, Some(Token::Symbol(Symbol::Operator(Op::Eq))))
-        | (Mark::Less, Some(Token::Symbol(Symbol::Operator(Op::Lt)))) => Ok(()),
+    match tokens.next() {
+        Some(Token::Symbol(symbol)) if mark.is(symbol) => Ok(()),
         _ => Err(PardoKind::BadLine),
     }
 }

@@ -53,9 +53,9 @@ fewer t p w n q now board fits knows ran sound none =
 pub bound_small : (t : Task) → IsBoard t.job t.layout → most_steps t.job < 2 ^ 63
 bound_small t board =
     let l = leaves_most t.job.procs board.limits.procs.0 board.limits.procs.1 in
-    let leaves : 300 * leaves_of t.job.procs ≤ 307200 = (let h = l.1 in omega arith) in
+    let leaves : 300 * leaves_of t.job.procs ≤ 19660800 = (let h = l.1 in omega arith) in
     let steps : t.job.steps ≤ 4294967295 = (let h = (board.limits).steps in omega arith) in
-    let m : 300 * leaves_of t.job.procs * t.job.steps ≤ 307200 * 4294967295 =
+    let m : 300 * leaves_of t.job.procs * t.job.steps ≤ 19660800 * 4294967295 =
     mul-le-mul leaves steps in
     omega arith
 

@@ -53,7 +53,7 @@ executed_fits job s n times is_job within =
     let few = is_job.procs.1 in
     let before = within_product job n in
     let each = mul-le-mul_left times (at_most_all job s) in
-    let whole = mul-le (n + times) job.procs (2 ^ 32) 1024 (omega arith) (omega arith) in
+    let whole = mul-le (n + times) job.procs (2 ^ 32) 65536 (omega arith) (omega arith) in
     omega (arith, before, each, whole)
 
 pub work_fits : (job : JobData) (s : State) (n times times' running before : ℕ) → IsJob job →

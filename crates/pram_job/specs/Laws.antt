@@ -7,7 +7,7 @@ use Rattle.pram_job.specs.declared.limits.TheConstants.{MAX_CELLS, MAX_PROCS, MA
 
 -- cells, processors, instructions and registers
 abbrev pub LimitsAre : Type 0
-LimitsAre = (MAX_CELLS ≡ 65536) × (MAX_PROCS ≡ 1024) × (MAX_CODE ≡ 4096) × (REGISTERS ≡ 4)
+LimitsAre = (MAX_CELLS ≡ 1048576) × (MAX_PROCS ≡ 65536) × (MAX_CODE ≡ 4096) × (REGISTERS ≡ 4)
 
 -- By its name in a text, and what stands after that, an instruction is found again in the table.
 abbrev pub InstructionsAreInTable : Type 0

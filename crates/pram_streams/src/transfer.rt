@@ -9,7 +9,7 @@ use std::alloc::Global;
 use thiserror::Error;
 
 /// The most bytes that a source is taken with.
-pub const MOST: usize = 16_777_216;
+pub const MOST: usize = 67_108_864;
 
 /// The most bytes of one pull.
 const PIECE: usize = 16_384;

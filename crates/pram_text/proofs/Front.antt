@@ -1,7 +1,7 @@
 -- The lines of a header, one at a time.
 use Rattle.std.proofs.Common.{◌≡◌, ◌≢◌, ℕ, nat_le, le-leb, ⊎_elim, if◌then◌else◌}
 use Rattle.std.proofs.Common.{List, [], ◌∷◌, ◌++◌, Ok, refl, ap, ◌∙◌}
-use Rattle.std.specs.Result.{result_err}
+use Rattle.std.specs.Result.{result_err, result_unwrap_or}
 use Rattle.pram_text.specs.declared.head.Head.{Head}
 use Rattle.pram_text.specs.declared.head.Next.{Next}
 use Rattle.pram_job.specs.declared.instr.Rule.{Rule}
@@ -21,14 +21,16 @@ unfolding words_fault
 fault_at_version before w head h = rw h.0 refl
 
 pub fault_at_cells : (before : List Line) (w : Line) (head : Head) → HoldsHead Cells before head →
-    words_fault before w ≡ result_err (cells_of w)
+    words_fault before w ≡ result_err (cells_of head.version w)
 unfolding words_fault
-fault_at_cells before w head h = rw h.1 refl
+fault_at_cells before w head h =
+    rw h.1 (ap (λ said. result_err (cells_of (result_unwrap_or said 0) w)) h.2)
 
 pub fault_at_procs : (before : List Line) (w : Line) (head : Head) → HoldsHead Procs before head →
-    words_fault before w ≡ result_err (procs_of w)
+    words_fault before w ≡ result_err (procs_of head.version w)
 unfolding words_fault
-fault_at_procs before w head h = rw h.2 refl
+fault_at_procs before w head h =
+    rw h.2 (ap (λ said. result_err (procs_of (result_unwrap_or said 0) w)) h.3)
 
 pub fault_at_steps : (before : List Line) (w : Line) (head : Head) → HoldsHead Steps before head →
     words_fault before w ≡ result_err (steps_of w)

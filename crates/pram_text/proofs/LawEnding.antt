@@ -3,7 +3,7 @@ use Rattle.std.proofs.Common.{◌≡◌, ℕ, ◌<◌, ◌≤◌, Bool, true, fa
 use Rattle.std.proofs.Common.{List, [], ◌∷◌, ◌++◌, length, Option, Some, None, Result, Ok, Err}
 use Rattle.std.proofs.Common.{get_or, refl, sym, ap, subst, ◌∙◌, inl, inr, append_assoc, arith}
 use Rattle.std.specs.List.{list_any}
-use Rattle.std.specs.Result.{result_err}
+use Rattle.std.specs.Result.{result_err, result_unwrap_or}
 use Rattle.std.proofs.lemmas.Bool.{not-false}
 use Rattle.std.proofs.lemmas.List.{get_or_default}
 use Rattle.pram_text.specs.declared.fault.TextKind.{TextKind}
@@ -67,8 +67,12 @@ has_header (a ∷ b ∷ []) passes code = cc
 has_header (a ∷ b ∷ c ∷ []) passes code = cc
 has_header (a ∷ b ∷ c ∷ d ∷ lines) passes code =
     let v = ok_from_no_err (version_of a) (passes [] a (b ∷ c ∷ d ∷ lines) refl) in
-    let m = ok_from_no_err (cells_of b) (passes (a ∷ []) b (c ∷ d ∷ lines) refl) in
-    let n = ok_from_no_err (procs_of c) (passes (a ∷ b ∷ []) c (d ∷ lines) refl) in
+    let m = ok_from_no_err (cells_of v.0 b)
+    (ap (λ said. result_err (cells_of (result_unwrap_or said 0) b)) (sym v.1)
+    ∙ passes (a ∷ []) b (c ∷ d ∷ lines) refl) in
+    let n = ok_from_no_err (procs_of v.0 c)
+    (ap (λ said. result_err (procs_of (result_unwrap_or said 0) c)) (sym v.1)
+    ∙ passes (a ∷ b ∷ []) c (d ∷ lines) refl) in
     let t = ok_from_no_err (steps_of d) (passes (a ∷ b ∷ c ∷ []) d lines refl) in
     elim (version_cases a v.0 v.1) [
       | inl one ↦ record {

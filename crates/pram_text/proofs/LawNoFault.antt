@@ -4,7 +4,7 @@ use Rattle.std.proofs.Common.{List, [], ◌∷◌, ◌++◌, length, bytes_eq, A
 use Rattle.std.proofs.Common.{IsTrue, IfSome, Option, Some, None, Result, Ok, Err, ok_or, refl}
 use Rattle.std.proofs.Common.{sym, ap, subst, ◌∙◌, inl, inr, append-nil, arith}
 use Rattle.std.specs.List.{AllByRecursion, list_any}
-use Rattle.std.specs.Result.{result_err}
+use Rattle.std.specs.Result.{result_err, result_unwrap_or}
 use Rattle.std.proofs.lemmas.Bool.{cond-false, false_from_ne_true}
 use Rattle.std.proofs.lemmas.List.{length-append}
 use Rattle.std.proofs.lemmas.List.Elements.{recursion_from_All}
@@ -176,6 +176,9 @@ unfolding words_fault
 header_passes version cells procs steps rule header before line after h e =
     go before (sym h.parts ∙ e)
   where
+    version_said : (a : Line) → h.version_line ≡ a → version_of a ≡ Ok version
+    version_said a first = ap version_of (sym first) ∙ h.version_said
+
     go : (before : List Line) →
         h.version_line ∷ h.cells_line ∷ h.procs_line ∷ h.steps_line ∷ h.rule_lines
         ≡ before ++ line ∷ after → words_fault before line ≡ None
@@ -183,11 +186,15 @@ header_passes version cells procs steps rule header before line after h e =
         let same : line ≡ h.version_line = cc in
         ap (λ l. result_err (version_of l)) same ∙ ap result_err h.version_said
     go (a ∷ []) f =
+        let first : h.version_line ≡ a = cc in
         let same : line ≡ h.cells_line = cc in
-        ap (λ l. result_err (cells_of l)) same ∙ ap result_err h.cells_said
+        ap (λ said. result_err (cells_of (result_unwrap_or said 0) line)) (version_said a first)
+        ∙ ap (λ l. result_err (cells_of version l)) same ∙ ap result_err h.cells_said
     go (a ∷ b ∷ []) f =
+        let first : h.version_line ≡ a = cc in
         let same : line ≡ h.procs_line = cc in
-        ap (λ l. result_err (procs_of l)) same ∙ ap result_err h.procs_said
+        ap (λ said. result_err (procs_of (result_unwrap_or said 0) line)) (version_said a first)
+        ∙ ap (λ l. result_err (procs_of version l)) same ∙ ap result_err h.procs_said
     go (a ∷ b ∷ c ∷ []) f =
         let same : line ≡ h.steps_line = cc in
         ap (λ l. result_err (steps_of l)) same ∙ ap result_err h.steps_said
@@ -199,8 +206,8 @@ header_passes version cells procs steps rule header before line after h e =
               (sym (subst (λ v. SpellsRule v rule h.rule_lines) one h.rule_said).0 ∙ ruled)
           | inr two ↦
               let some = rule_line version rule h.rule_lines two h.rule_said in
-              let named : names_rule a ≡ true = names_rule_later a version
-              (ap version_of (sym first) ∙ h.version_said) two in
+              let named : names_rule a ≡ true =
+              names_rule_later a version (version_said a first) two in
               one_line before (sym some.1 ∙ ruled) some.2 named
         ]
       where

@@ -21,6 +21,7 @@ use Rattle.pram_job.specs.declared.instr.Operand.{Operand}
 use Rattle.pram_job.specs.declared.instr.Operand.TheVariants.{Register, Number}
 use Rattle.pram_job.specs.declared.instr.Place.{Place}
 use Rattle.pram_job.specs.declared.instr.Place.TheVariants.{Cell, Named}
+use Rattle.pram_job.specs.declared.limits.TheConstants.{MAX_CELLS, MAX_PROCS}
 use Rattle.pram_job.specs.Instructions.{Form, bare, only_target, target_number, target_place}
 use Rattle.pram_job.specs.Instructions.{target_two, place_value, register_index, only_index}
 use Rattle.pram_job.specs.Instructions.{table, IsOperand, IsArray, IsPlace}
@@ -28,7 +29,8 @@ use Rattle.pram_job.specs.Job.{JobData, IsJob, IsInstr}
 use Rattle.text_lines.specs.Lines.{Word, Line, lines_of, worded}
 use Rattle.pram_text.specs.Judgement.{is_number, value_of_digits, number_in, most, named_number}
 use Rattle.text_lines.specs.Reads.{◌>>=◌}
-use Rattle.pram_text.specs.Judgement.{is_later, Entry, names, gives, is_array_name, says_array}
+use Rattle.pram_text.specs.Judgement.{is_later, most_cells, most_procs}
+use Rattle.pram_text.specs.Judgement.{Entry, names, gives, is_array_name, says_array}
 use Rattle.pram_text.specs.Judgement.{array_of, values_of, are_values, init_of, entry_of}
 use Rattle.pram_text.specs.Judgement.{Scope, operand_of, array_at, register_of, no_operand}
 use Rattle.pram_text.specs.Judgement.{one_register, two_operands, register_and_place, place_operand}
@@ -352,19 +354,27 @@ code_keeps cells scope body code fit s =
     (λ line. instr_keeps cells (length code) scope fit (label_index body) within (unlabelled line))
     body code s.said)
 
+-- earlier texts may ask for less
+no_more : (later : Bool) (less most : ℕ) → less ≤ most → (if later then most else less) ≤ most
+no_more true less most le = omega arith
+no_more false less most le = le
+
 pub lines_keep : (job : JobData) (lines : List Line) → SpellsLines job lines → IsJob job
 lines_keep job lines s =
-    let scope : Scope = scope_of (is_later s.version) s.entries in
+    let later : Bool = is_later s.version in
+    let scope : Scope = scope_of later s.entries in
     let same = said_length (λ (line : Line). instr_of scope (label_index s.body) (unlabelled line))
     s.body job.code s.code.said in
+    let cells : (1 ≤ job.cells) × (job.cells ≤ most_cells s.version) =
+    value_keeps job.cells (named_number-keeps _ _ _ s.sizes.cells_line) s.sizes.cells_said in
+    let procs : (1 ≤ job.procs) × (job.procs ≤ most_procs s.version) =
+    value_keeps job.procs (named_number-keeps _ _ _ s.sizes.procs_line) s.sizes.procs_said in
     let steps =
     value_keeps job.steps (named_number-keeps _ _ _ s.sizes.steps_line) s.sizes.steps_said in
-    let fits = entries_keep (is_later s.version) job.cells s.inits s.entries s.said in
+    let fits = entries_keep later job.cells s.inits s.entries s.said in
     record {
-      cells =
-          value_keeps job.cells (named_number-keeps _ _ _ s.sizes.cells_line) s.sizes.cells_said;
-      procs =
-          value_keeps job.procs (named_number-keeps _ _ _ s.sizes.procs_line) s.sizes.procs_said;
+      cells = (cells.0, omega (arith, cells.1, no_more later 65536 MAX_CELLS (omega arith)));
+      procs = (procs.0, omega (arith, procs.1, no_more later 1024 MAX_PROCS (omega arith)));
       steps = omega (arith, steps.1);
       init_len = s.init.len;
       init_fits = init_keeps job.cells s.entries job.init fits s.init;

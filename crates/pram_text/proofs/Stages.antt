@@ -11,11 +11,11 @@ use Rattle.pram_text.specs.declared.fault.TextKind.{TextKind}
 use Rattle.pram_text.specs.declared.fault.TextKind.TheVariants.{BadHeader, BadNumber}
 use Rattle.pram_job.specs.declared.instr.Rule.{Rule}
 use Rattle.text_lines.specs.Lines.{Line}
-use Rattle.pram_text.specs.Judgement.{is_number, value_of_digits, version_of, is_later, rule_of}
+use Rattle.pram_text.specs.Judgement.{is_number, value_of_digits, version_of, is_later, cells_of, rule_of}
 use Rattle.pram_text.specs.Judgement.{Entry, says_array, array_of, init_of, entry_of, is_code}
 use Rattle.pram_text.specs.Text.{words_fault, entry_fault, new_entry_fault, instr_fault}
 use Rattle.pram_text.specs.Text.{rest_fault, names_rule, entries_in, has_code, body_of}
-use Rattle.pram_text.specs.Text.{scope_of, scope_after, scope_in}
+use Rattle.pram_text.specs.Text.{scope_of, scope_after, scope_in, version_in}
 use Rattle.pram_text.specs.Text.{code_heading, SaysEntries, SpellsRule, SpellsHeader}
 use Rattle.pram_text.proofs.Lists.{NonePasses, any_none, any_at, after_first_at, after_first_skip}
 use Rattle.pram_text.proofs.Lists.{before_first_at, before_first_skip}
@@ -183,6 +183,10 @@ rest_fault-rule later cells first rule before w e =
 
 module _ (version cells procs steps : ℕ) (rule : Rule) (header : List Line)
     (h : SpellsHeader version cells procs steps rule header) where
+  cells_said : cells_of (version_in h.version_line) h.cells_line ≡ Ok cells
+  cells_said =
+      ap (λ said. cells_of (result_unwrap_or said 0) h.cells_line) h.version_said ∙ h.cells_said
+
   module _ (rest : List Line) where
     pub words_fault-after : (w : Line) →
         words_fault (header ++ rest) w ≡ rest_fault (is_later version) cells rest w
@@ -192,11 +196,11 @@ module _ (version cells procs steps : ℕ) (rule : Rule) (header : List Line)
         (λ one. let ruled = subst (λ v. SpellsRule v rule h.rule_lines) one h.rule_said in
         let none = ruled.0 in
         let named = names_no_rule h.version_line version h.version_said one in
-        rw (none, named, h.cells_said, h.version_said) refl)
+        rw (none, named, cells_said, h.version_said) refl)
         (λ two. let some = rule_line version rule h.rule_lines two h.rule_said in
         let lines = some.1 in
         let named = names_rule_later h.version_line version h.version_said two in
-        rw (lines, named, h.cells_said, h.version_said)
+        rw (lines, named, cells_said, h.version_said)
         (rest_fault-rule (is_later version) cells some.0 rule rest w some.2))
         (version_cases h.version_line version h.version_said)
 
@@ -222,7 +226,7 @@ module _ (version cells procs steps : ℕ) (rule : Rule) (header : List Line)
     pub scope_in-after : scope_in (header ++ rest) ≡ scope_after (is_later version) cells rest
     scope_in-after = ap (λ ls. scope_in (ls ++ rest)) h.parts
         ∙ (λ i. scope_after (is_later (result_unwrap_or (h.version_said i) 0))
-        (result_unwrap_or (h.cells_said i) 0) (h.rule_lines ++ rest))
+        (result_unwrap_or (cells_said i) 0) (h.rule_lines ++ rest))
         ∙ passes_over (scope_after (is_later version) cells)
         (λ first ls e. scope_after-rule (is_later version) cells first rule ls e)
 

@@ -85,11 +85,18 @@ version_of _ = Err BadHeader
 abbrev pub is_later : ℕ → Bool
 is_later version = nat_le 3 version
 
-abbrev pub cells_of : Line → Result ℕ TextKind
-cells_of line = named_number (codes "cells") 1 MAX_CELLS line
+-- how many cells and processors it asks for at most
+abbrev pub most_cells : ℕ → ℕ
+most_cells version = if is_later version then MAX_CELLS else 65536
 
-abbrev pub procs_of : Line → Result ℕ TextKind
-procs_of line = named_number (codes "procs") 1 MAX_PROCS line
+abbrev pub most_procs : ℕ → ℕ
+most_procs version = if is_later version then MAX_PROCS else 1024
+
+abbrev pub cells_of : ℕ → Line → Result ℕ TextKind
+cells_of version line = named_number (codes "cells") 1 (most_cells version) line
+
+abbrev pub procs_of : ℕ → Line → Result ℕ TextKind
+procs_of version line = named_number (codes "procs") 1 (most_procs version) line
 
 abbrev pub steps_of : Line → Result ℕ TextKind
 steps_of line = named_number (codes "steps") 0 most line

@@ -121,8 +121,8 @@ pub record SpellsHeader (version cells procs steps : ℕ) (rule : Rule) (lines :
   pub rule_lines : List Line
   pub parts : lines ≡ version_line ∷ cells_line ∷ procs_line ∷ steps_line ∷ rule_lines
   pub version_said : version_of version_line ≡ Ok version
-  pub cells_said : cells_of cells_line ≡ Ok cells
-  pub procs_said : procs_of procs_line ≡ Ok procs
+  pub cells_said : cells_of version cells_line ≡ Ok cells
+  pub procs_said : procs_of version procs_line ≡ Ok procs
   pub steps_said : steps_of steps_line ≡ Ok steps
   pub rule_said : SpellsRule version rule rule_lines
 
@@ -152,8 +152,8 @@ pub record Spells (text : List ℕ) (job : JobData) : Type 0 where
 abbrev pub version_in : Line → ℕ
 version_in line = result_unwrap_or (version_of line) 0
 
-abbrev pub cells_in : Line → ℕ
-cells_in line = result_unwrap_or (cells_of line) 0
+abbrev pub cells_in : Line → Line → ℕ
+cells_in version line = result_unwrap_or (cells_of (version_in version) line) 0
 
 -- whether the first line asks for a line `rule`
 abbrev pub names_rule : Line → Bool
@@ -206,7 +206,7 @@ scope_after later cells lines =
 abbrev pub scope_in : List Line → Scope
 scope_in lines =
     scope_after (is_later (version_in (slice_index_or lines 0 [])))
-    (cells_in (slice_index_or lines 1 [])) (drop 4 lines)
+    (cells_in (slice_index_or lines 0 []) (slice_index_or lines 1 [])) (drop 4 lines)
 
 -- a line after the header, where these lines stand between
 abbrev pub rest_fault : Bool → ℕ → List Line → Line → Option TextKind
@@ -217,12 +217,12 @@ rest_fault later cells before line =
 
 unfoldable pub words_fault : List Line → Line → Option TextKind
 words_fault [] line = result_err (version_of line)
-words_fault (version ∷ []) line = result_err (cells_of line)
-words_fault (version ∷ cells ∷ []) line = result_err (procs_of line)
+words_fault (version ∷ []) line = result_err (cells_of (version_in version) line)
+words_fault (version ∷ cells ∷ []) line = result_err (procs_of (version_in version) line)
 words_fault (version ∷ cells ∷ procs ∷ []) line = result_err (steps_of line)
 words_fault (version ∷ cells ∷ procs ∷ steps ∷ before) line =
     if names_rule version && not (is_filled before) then result_err (rule_of line)
-    else rest_fault (is_later (version_in version)) (cells_in cells) before line
+    else rest_fault (is_later (version_in version)) (cells_in version cells) before line
 
 unfoldable pub line_fault : List Line → List ℕ → Option TextKind
 line_fault before line =

@@ -62,12 +62,12 @@ impl Head {
                 ..self
             },
             Next::Cells => Head {
-                cells: cells_in(line)?,
+                cells: cells_in(self.version, line)?,
                 next: Next::Procs,
                 ..self
             },
             Next::Procs => Head {
-                procs: procs_in(line)?,
+                procs: procs_in(self.version, line)?,
                 next: Next::Steps,
                 ..self
             },

@@ -8,8 +8,8 @@ ghost use Rattle.pram_text.specs.Inner.Reading.{ReadsArray, ReadsInit};
 
 use crate::fault::TextKind;
 use crate::numbers::{is_numeric, number_within};
+use crate::sizes::{most_cells, most_procs};
 use crate::statement::{is_name_word, register_in};
-use pram_job::limits::{MAX_CELLS, MAX_PROCS};
 use pram_job::{Array, Rule};
 use text_lines::{four_words, has_words, is_word, next_word, one_word, two_first_words, two_words};
 
@@ -41,18 +41,18 @@ fn named_number_in(name: &str, low: u32, high: u32, line: &[u8]) -> Result<u32, 
     }
 }
 
-/// How many cells the line `cells` asks for.
-pub(crate) fn cells_in(line: &[u8]) -> Result<u32, TextKind>
-    ensures { result ≡ cells_of (words_of line.now) }
+/// How many cells the line `cells` asks for in a text of this version.
+pub(crate) fn cells_in(version: u32, line: &[u8]) -> Result<u32, TextKind>
+    ensures { result ≡ cells_of version (words_of line.now) }
 {
-    named_number_in("cells", 1, MAX_CELLS, line)
+    named_number_in("cells", 1, most_cells(version), line)
 }
 
-/// How many processors the line `procs` asks for.
-pub(crate) fn procs_in(line: &[u8]) -> Result<u32, TextKind>
-    ensures { result ≡ procs_of (words_of line.now) }
+/// How many processors the line `procs` asks for in a text of this version.
+pub(crate) fn procs_in(version: u32, line: &[u8]) -> Result<u32, TextKind>
+    ensures { result ≡ procs_of version (words_of line.now) }
 {
-    named_number_in("procs", 1, MAX_PROCS, line)
+    named_number_in("procs", 1, most_procs(version), line)
 }
 
 /// How many steps the line `steps` asks for.

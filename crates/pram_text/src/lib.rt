@@ -10,6 +10,7 @@ mod lines;
 mod numbers;
 mod program;
 mod reader;
+mod sizes;
 mod start;
 mod statement;
 

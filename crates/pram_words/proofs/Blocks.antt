@@ -46,12 +46,12 @@ one_leaf n g some positive fits =
     ]
 
 -- the number of blocks
-some_blocks : (n g : ℕ) → 1 ≤ g → 1 ≤ n → n ≤ 1024 →
+some_blocks : (n g : ℕ) → 1 ≤ g → 1 ≤ n → n ≤ 65536 →
     (1 ≤ div_ceil n g) × (div_ceil n g ≤ n)
 some_blocks n g some positive most = (one_block n g some positive, few_blocks n g some positive)
 
 -- the leaves' blocks have room for all processors
-pub blocks_room : (g n : ℕ) → 1 ≤ g → 1 ≤ n → n ≤ 1024 → n ≤ g * leaves_of (div_ceil n g)
+pub blocks_room : (g n : ℕ) → 1 ≤ g → 1 ≤ n → n ≤ 65536 → n ≤ g * leaves_of (div_ceil n g)
 blocks_room g n some positive most =
     let times = div_ceil_times n g some in
     let few = some_blocks n g some positive most in
@@ -78,7 +78,7 @@ fits_below k p n (suc a) most small less =
     (omega (arith, exponents (k + a) p under)) in
     omega (arith, next, pow-add 2 k (suc a))
 
-pub blocks_fit : (k p n : ℕ) → 1 ≤ n → n ≤ 1024 → n ≤ 2 ^ p → k ≤ p →
+pub blocks_fit : (k p n : ℕ) → 1 ≤ n → n ≤ 65536 → n ≤ 2 ^ p → k ≤ p →
     2 ^ k * leaves_of (div_ceil n (2 ^ k)) ≤ 2 ^ p
 blocks_fit k p n positive most below small =
     let few = some_blocks n (2 ^ k) (pow_pos k) positive most in
@@ -94,18 +94,18 @@ leaves_power y limits =
 
 -- the limits of so many leaves
 pub record Leaves (g n : ℕ) : Type 0 where
-  pub leaves : (1 ≤ leaves_of (div_ceil n g)) × (leaves_of (div_ceil n g) ≤ 1024)
-  pub room : (n ≤ g * leaves_of (div_ceil n g)) × (g * leaves_of (div_ceil n g) ≤ 1024)
+  pub leaves : (1 ≤ leaves_of (div_ceil n g)) × (leaves_of (div_ceil n g) ≤ 65536)
+  pub room : (n ≤ g * leaves_of (div_ceil n g)) × (g * leaves_of (div_ceil n g) ≤ 65536)
 
-pub leaves_limits : (g n : ℕ) → IsGrain g → 1 ≤ n → n ≤ 1024 → Leaves g n
+pub leaves_limits : (g n : ℕ) → IsGrain g → 1 ≤ n → n ≤ 65536 → Leaves g n
 leaves_limits g n is positive most =
     let k : ℕ = is.0.0 in
     let power : g ≡ 2 ^ k = is.0.1 in
     let some : 1 ≤ g = rw power (pow_pos k) in
     let few = some_blocks n g some positive most in
     let small : k < 7 = exponents k 7 (omega (arith, power, is.1)) in
-    let fit : g * leaves_of (div_ceil n g) ≤ 1024 =
-    rw power (blocks_fit k 10 n positive most most (omega arith)) in
+    let fit : g * leaves_of (div_ceil n g) ≤ 65536 =
+    rw power (blocks_fit k 16 n positive most most (omega arith)) in
     record {
       leaves = leaves_most (div_ceil n g) few.0 (omega (arith, few.1));
       room = (blocks_room g n some positive most, fit);

@@ -52,15 +52,15 @@ leaves_least n some most =
     let d = digits (n - 1) (omega arith) in
     (omega arith, omega arith, (digits_of (n - 1), refl))
 
--- up to 1,024 processors have at most 1,024 leaves
-pub leaves_most : (n : ℕ) → 1 ≤ n → n ≤ 1024 → (1 ≤ leaves_of n) × (leaves_of n ≤ 1024)
+-- up to 65,536 processors have at most 65,536 leaves
+pub leaves_most : (n : ℕ) → 1 ≤ n → n ≤ 65536 → (1 ≤ leaves_of n) × (leaves_of n ≤ 65536)
 leaves_most n some most =
     let l = leaves_least n some (omega arith) in
     let k : ℕ = l.2.0 in
     let e : leaves_of n ≡ 2 ^ k = l.2.1 in
-    let small : k < 11 = exponents k 11 (omega arith) in
-    let most : 2 ^ k ≤ 1024 =
-    pow-le-pow_right {n = 2} (omega arith) {i = k} {j = 10} (omega arith) in
+    let small : k < 17 = exponents k 17 (omega arith) in
+    let most : 2 ^ k ≤ 65536 =
+    pow-le-pow_right {n = 2} (omega arith) {i = k} {j = 16} (omega arith) in
     (omega arith, omega arith)
 
 pub depth_unique : (n d : ℕ) → n < 2 ^ 32 → 2 ^ d ≤ n → n < 2 * 2 ^ d → d ≡ depth_of n

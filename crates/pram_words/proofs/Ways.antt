@@ -91,7 +91,7 @@ is_bit (suc zero) h = refl
 is_bit (suc (suc n)) h = absurd (omega arith)
 
 compact_way : (y : LayoutData) (worker h e d : ℕ) → y.form ≡ Compact → y.leaves ≡ 2 ^ h →
-    y.leaves ≤ 1024 → e + d ≡ h → way_of y worker d ≡ 2 ^ d + worker % y.leaves / 2 ^ e
+    y.leaves ≤ 65536 → e + d ≡ h → way_of y worker d ≡ 2 ^ d + worker % y.leaves / 2 ^ e
 unfolding way_of turns_right_in
 compact_way y worker h e zero form power most sum =
     let same : e ≡ h = omega arith in

@@ -204,9 +204,10 @@ unfoldable pub length_of : LayoutData → ℕ
 length_of layout = by_form layout.form (claims_at layout) (wide_claims_at layout)
     + (if layout.claims then layout.cells else 0)
 
--- and how many at most: for 1,024 processors, 65,536 cells and 64 workers
+-- and how many at most: for 65,536 processors, 1,048,576 cells and 64 workers
 abbrev pub most_length : LayoutData → ℕ
-most_length layout = by_form layout.form 146496 156160 + (if layout.claims then MAX_CELLS else 0)
+most_length layout = by_form layout.form 3080256 3670528
+    + (if layout.claims then MAX_CELLS else 0)
 
 -- the word of a number below the length
 unfoldable pub word_at : LayoutData → ℕ → Word

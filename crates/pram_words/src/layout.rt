@@ -191,8 +191,8 @@ impl Layout {
         self.workers
     }
 
-    /// How many words a board has: compact at most 146,496, or 212,032 with claim words; wide at
-    /// most 156,160, or 221,696 with claim words.
+    /// How many words a board has: compact at most 3,080,256, or 4,128,832 with claim words; wide
+    /// at most 3,670,528, or 4,719,104 with claim words.
     #[tactic(auto, unfolding(crate::specs::Words::length_of))]
     pub fn length(&self) -> u32
         ensures value { result ≡ length_of self.now }

@@ -215,9 +215,9 @@ pub bound_small : (job : JobData) (y : LayoutData) (words : List ℕ) →
     Stands job y words → most_steps job < 2 ^ 63
 bound_small job y words stands =
     let l = leaves_most job.procs stands.limits.procs.0 stands.limits.procs.1 in
-    let leaves : 300 * leaves_of job.procs ≤ 307200 = (let h = l.1 in omega arith) in
+    let leaves : 300 * leaves_of job.procs ≤ 19660800 = (let h = l.1 in omega arith) in
     let steps : job.steps ≤ 4294967295 = (let h = stands.limits.steps in omega arith) in
-    let m : 300 * leaves_of job.procs * job.steps ≤ 307200 * 4294967295 = mul-le-mul leaves steps in
+    let m : 300 * leaves_of job.procs * job.steps ≤ 19660800 * 4294967295 = mul-le-mul leaves steps in
     omega arith
 
 -- what one more step of the code comes to

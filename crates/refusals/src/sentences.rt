@@ -7,7 +7,7 @@ use pram_text::TextKind;
 use stop_plan::PlanKind;
 
 /// What is wrong with a text or a plan that is not taken whole.
-pub const TOO_LARGE: &str = "it has more than 16,777,216 bytes";
+pub const TOO_LARGE: &str = "it has more than 67,108,864 bytes";
 
 /// What is wrong with a line of a text.
 pub fn of_text(kind: TextKind) -> &'static str {
@@ -47,7 +47,7 @@ fn of_program_text(kind: PardoKind) -> &'static str {
         PardoKind::WrongKind => "a name here stands for something that has no place here",
         PardoKind::OutOfLimits => "a number is outside its limits, or something is divided by 0",
         PardoKind::WrongLength => "the array gets too many values, or too few without ...",
-        PardoKind::TooManyCells => "a program has at most 65,536 cells",
+        PardoKind::TooManyCells => "a program has at most 1,048,576 cells",
         PardoKind::BadBlock => "this else or end belongs to nothing",
         PardoKind::TooDeep => "more than 32 brackets are open",
         PardoKind::OpenBlock => "the text ends here, and a block is not closed",
@@ -61,8 +61,8 @@ fn of_program_job(kind: JobKind) -> &'static str {
     match kind {
         JobKind::TooDeep => "three registers are too few for an expression of a loop: use a scalar",
         JobKind::TooLong => "a program has at most 4,096 instructions",
-        JobKind::Endless => "the program is still here after 1,048,576 steps",
-        JobKind::TooManyCells => "with its hidden lines a program has at most 65,536 cells",
+        JobKind::Endless => "the program is still here after 1,048,576 steps, or 2^30 in all",
+        JobKind::TooManyCells => "with its hidden lines a program has at most 1,048,576 cells",
         JobKind::Memory => "there is no memory to read it",
     }
 }

@@ -88,7 +88,7 @@ length_small y limits = elim (cases_form y.form) [
       (wide_claims_at y) (omega (arith, limits.leaves, limits.room, limits.cells, limits.workers)))
 ]
   where
-    by_claims : (b : Bool) (n : ℕ) → n ≤ 1000000 → n + (if b then y.cells else 0) < 2 ^ 32
+    by_claims : (b : Bool) (n : ℕ) → n ≤ 4000000 → n + (if b then y.cells else 0) < 2 ^ 32
     by_claims true n few = omega (arith, limits.cells)
     by_claims false n few = omega arith
 

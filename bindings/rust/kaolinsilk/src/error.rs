@@ -20,7 +20,7 @@ pub enum Subject {
     Step,
     /// A setting that is none, or does not fit the program.
     Setting,
-    /// A text or a plan of more than 16,777,216 bytes.
+    /// A text or a plan of more than 67,108,864 bytes.
     Size,
     /// The request itself: a number of workers, a worker's number, a grain or a window that is
     /// none.
@@ -52,7 +52,7 @@ impl Subject {
             Subject::Plan => "the plan is refused",
             Subject::Step => "the job has no such step",
             Subject::Setting => "a setting is refused",
-            Subject::Size => "a text has at most 16,777,216 bytes",
+            Subject::Size => "a text has at most 67,108,864 bytes",
             Subject::Request => "the request is refused",
             Subject::Memory => "out of memory",
         }

@@ -37,9 +37,9 @@ pub enum Rule {
 /// What `pramx check` says of a job, by numbers. It is displayed as that line.
 #[derive(Clone, Copy, Debug, PartialEq, Eq, Hash)]
 pub struct Check {
-    /// How many cells it has, 1 to 65,536.
+    /// How many cells it has, 1 to 1,048,576.
     pub cells: u32,
-    /// How many processors, 1 to 1,024.
+    /// How many processors, 1 to 65,536.
     pub processors: u32,
     /// After how many steps it ends.
     pub steps: u32,
@@ -117,7 +117,7 @@ impl Job {
     ///
     /// [`Subject::Text`](crate::Subject::Text) or [`Subject::Program`](crate::Subject::Program)
     /// with the first line that bears a fault; [`Subject::Size`](crate::Subject::Size) of more than
-    /// 16,777,216 bytes; [`Subject::Memory`](crate::Subject::Memory).
+    /// 67,108,864 bytes; [`Subject::Memory`](crate::Subject::Memory).
     pub fn parse(text: impl AsRef<[u8]>) -> Result<Job> {
         let text = text.as_ref();
         let (_, line) = serve(Command::Check, text, &sys::ks_request::new(), 128)?;

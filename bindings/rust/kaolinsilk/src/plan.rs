@@ -60,7 +60,7 @@ impl Plan {
     ///
     /// [`Subject::Plan`](crate::Subject::Plan) with the first record that is no row for so many
     /// workers; [`Subject::Request`](crate::Subject::Request) unless there are 1 to 64 of them;
-    /// [`Subject::Size`](crate::Subject::Size) of more than 16,777,216 bytes;
+    /// [`Subject::Size`](crate::Subject::Size) of more than 67,108,864 bytes;
     /// [`Subject::Memory`](crate::Subject::Memory).
     pub fn parse(text: impl AsRef<[u8]>, workers: u32) -> Result<Plan> {
         let judged = judge(text.as_ref(), workers)?;

@@ -129,7 +129,7 @@ fn a_step() {
 
 #[test]
 fn a_size() {
-    let most = "\n".repeat(16_777_216);
+    let most = "\n".repeat(67_108_864);
     let error = Job::parse(&most).unwrap_err();
     assert_eq!(
         (error.subject(), error.kind()),

@@ -11,11 +11,10 @@ use Rattle.pardo_job.specs.Compiled.{CompiledData, IsWhole}
 use Rattle.pardo_job.specs.Ends.{HasEnded}
 use Rattle.pardo_job.specs.declared.fault.JobKind.{JobKind}
 use Rattle.pardo_job.specs.declared.fault.JobKind.TheVariants.{Endless, Memory}
-use Rattle.pardo_job.specs.declared.limits.TheConstants.{MAX_STEPS}
 use Rattle.pardo_job.specs.declared.run.Rest.{Rest}
 use Rattle.pardo_job.specs.declared.run.Run.{Run}
 use Rattle.pardo_job.specs.declared.run.Run.TheVariants as run
-use Rattle.pardo_job.specs.Refusals.{FirstRunningStandsAt}
+use Rattle.pardo_job.specs.Refusals.{FirstRunningStandsAt, most_steps}
 
 -- all have stopped after so many steps, and not after fewer, in this state
 pub record IsRest (job : JobData) (rest : Rest) : Type 0 where
@@ -29,7 +28,8 @@ IsBoundedRun job (run.Stopped rest) = IsRest job rest
 IsBoundedRun job (run.Disputed fault last) = IsFirstConflict job fault
     × AreLast job fault.step last.items
 IsBoundedRun job (run.Endless index) =
-    IsReached job MAX_STEPS × FirstRunningStandsAt job (state_after job MAX_STEPS) index
+    IsReached job (most_steps job)
+    × FirstRunningStandsAt job (state_after job (most_steps job)) index
 
 -- this is so of the steps of a job that is over
 abbrev pub IsSeenBy : Run → (ℕ → Type 0) → Type 0
@@ -39,15 +39,15 @@ IsSeenBy (run.Endless index) has_seen = Unit {0}
 
 -- The run was not disputed, and where it is over it has so many steps, or as many as are made at
 -- most.
-abbrev pub IsLong : Option ℕ → Run → Type 0
-IsLong stopped (run.Stopped rest) = rest.steps ≡ unwrap_or stopped MAX_STEPS
-IsLong stopped (run.Disputed fault last) = ⊥
-IsLong stopped (run.Endless index) = Unit {0}
+abbrev pub IsLong : JobData → Option ℕ → Run → Type 0
+IsLong job stopped (run.Stopped rest) = rest.steps ≡ unwrap_or stopped (most_steps job)
+IsLong job stopped (run.Disputed fault last) = ⊥
+IsLong job stopped (run.Endless index) = Unit {0}
 
 -- as many steps as are made at most lead to this state; and what was seen of them
 abbrev pub IsThrough : JobData → Option ℕ → State → List LastRow → Type 0
-IsThrough job stopped state last = IsStateAfter job MAX_STEPS state
-    × IsSeenUntil job MAX_STEPS stopped (λ n. AreLast job n last)
+IsThrough job stopped state last = IsStateAfter job (most_steps job) state
+    × IsSeenUntil job (most_steps job) stopped (λ n. AreLast job n last)
 
 -- the job with as many steps as it needs, these numbers, and how it ends
 pub record IsFinished (job : JobData) (numbers : List ℕ) (compiled : CompiledData) : Type 0 where
@@ -58,8 +58,8 @@ pub record IsFinished (job : JobData) (numbers : List ℕ) (compiled : CompiledD
 
 -- the job is over too late, or memory ran out
 abbrev pub EndsTooLate : JobData → List ℕ → ℕ → JobKind → Type 0
-EndsTooLate job numbers number Endless = IsReached job MAX_STEPS × ((index : ℕ) ×
-    FirstRunningStandsAt job (state_after job MAX_STEPS) index
+EndsTooLate job numbers number Endless = IsReached job (most_steps job) × ((index : ℕ) ×
+    FirstRunningStandsAt job (state_after job (most_steps job)) index
     × (number ≡ slice_index numbers index))
 EndsTooLate job numbers number Memory = number ≡ 0
 EndsTooLate job numbers number _ = ⊥

@@ -57,17 +57,18 @@ HoldsHead Cells lines head =
     × (version_of version ≡ Ok head.version) × (head.rule ≡ Common)
 HoldsHead Procs lines head =
     (version : Line) × (cells : Line) × (lines ≡ version ∷ cells ∷ [])
-    × (version_of version ≡ Ok head.version) × (cells_of cells ≡ Ok head.cells)
+    × (version_of version ≡ Ok head.version) × (cells_of head.version cells ≡ Ok head.cells)
     × (head.rule ≡ Common)
 HoldsHead Steps lines head =
     (version : Line) × (cells : Line) × (procs : Line) × (lines ≡ version ∷ cells ∷ procs ∷ [])
-    × (version_of version ≡ Ok head.version) × (cells_of cells ≡ Ok head.cells)
-    × (procs_of procs ≡ Ok head.procs) × (head.rule ≡ Common)
+    × (version_of version ≡ Ok head.version) × (cells_of head.version cells ≡ Ok head.cells)
+    × (procs_of head.version procs ≡ Ok head.procs) × (head.rule ≡ Common)
 HoldsHead Rules lines head =
     (version : Line) × (cells : Line) × (procs : Line) × (steps : Line)
     × (lines ≡ version ∷ cells ∷ procs ∷ steps ∷ [])
-    × (version_of version ≡ Ok head.version) × (cells_of cells ≡ Ok head.cells)
-    × (procs_of procs ≡ Ok head.procs) × (steps_of steps ≡ Ok head.steps) × (2 ≤ head.version)
+    × (version_of version ≡ Ok head.version) × (cells_of head.version cells ≡ Ok head.cells)
+    × (procs_of head.version procs ≡ Ok head.procs) × (steps_of steps ≡ Ok head.steps)
+    × (2 ≤ head.version)
 HoldsHead _ lines head = IsHeader lines head
 
 -- one line more

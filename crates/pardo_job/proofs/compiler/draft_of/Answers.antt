@@ -10,7 +10,7 @@ returns-in-Same-clause-draft c =
     let fit : DoAllFit c.args.program.now.lines =
     subst (IsFlattened c.args.program.now) c.in-Same.is c.in_ok-flatten.ensures in
     IfOk-weaker c.draft_of_lines.result _ _
-    (λ given draft. same_draft c.args.program.now c.requires fit given.0 given.1.items draft)
+    (λ given draft. same_draft c.args.program.now c.requires fit given.job given.numbers.items draft)
     c.draft_of_lines.ensures.draft
 
 pub returns-in-Same-clause-places : goal.returns-in-Same-clause-places
@@ -18,7 +18,7 @@ returns-in-Same-clause-places c =
     let fit : DoAllFit c.args.program.now.lines =
     subst (IsFlattened c.args.program.now) c.in-Same.is c.in_ok-flatten.ensures in
     IfOk-weaker c.draft_of_lines.result _ _
-    (λ given are. same_places c.args.program.now c.requires fit given.2.items are)
+    (λ given are. same_places c.args.program.now c.requires fit given.places.items are)
     c.draft_of_lines.ensures.places
 
 pub returns-in-Same-clause-refused : goal.returns-in-Same-clause-refused
@@ -34,15 +34,15 @@ returns-in-Flat-clause-draft c =
     let is : IsFlatProgram c.args.program.now c.in-Flat.flat =
     subst (IsFlattened c.args.program.now) c.in-Flat.is c.in_ok-flatten.ensures in
     IfOk-weaker c.draft_of_flat.result _ _
-    (λ given draft. flat_draft c.args.program.now c.requires c.in-Flat.flat is given.0
-    given.1.items draft) c.draft_of_flat.ensures.draft
+    (λ given draft. flat_draft c.args.program.now c.requires c.in-Flat.flat is given.job
+    given.numbers.items draft) c.draft_of_flat.ensures.draft
 
 pub returns-in-Flat-clause-places : goal.returns-in-Flat-clause-places
 returns-in-Flat-clause-places c =
     let is : IsFlatProgram c.args.program.now c.in-Flat.flat =
     subst (IsFlattened c.args.program.now) c.in-Flat.is c.in_ok-flatten.ensures in
     IfOk-weaker c.draft_of_flat.result _ _
-    (λ given are. flat_places c.args.program.now c.requires c.in-Flat.flat is given.2.items are)
+    (λ given are. flat_places c.args.program.now c.requires c.in-Flat.flat is given.places.items are)
     c.draft_of_flat.ensures.places
 
 pub returns-in-Flat-clause-refused : goal.returns-in-Flat-clause-refused

@@ -1,9 +1,26 @@
-use Rattle.std.proofs.Common.{◌≡◌, ◌-◌, ◌∙◌, ◌++◌, ℕ, List, ap, arith, length, replicate, take}
+use Rattle.std.proofs.Common.{◌≡◌, ◌-◌, ◌∙◌, [], ◌++◌, ℕ, List, ap, arith, length, replicate, take}
 use Rattle.std.specs.List.{flat_map}
 use Rattle.pardo_program.specs.Program.{ArrayData, PrivateData}
 use Rattle.pardo_flat.specs.Layouts.{ProgramLayoutData, cell_count, given_values}
-use Rattle.pardo_job.proofs.Initial.{start_is, values_all}
+use Rattle.pardo_job.proofs.Initial.{start_is, values_all, values_more}
 use Rattle.pardo_job.proofs.compiler.start_values.Goals as goal
+
+pub loop-array-preserved : goal.loop-array-preserved
+loop-array-preserved c =
+    values_more (λ (x : ArrayData). x.start) c.args.program.now.arrays
+    c.arrays-array-items.result.now c.loop-array.array-index c.array-item.result []
+    c.loop-array.values.items _ _ c.arrays-array-items.ensures c.loop-array-test.true
+    c.array-item.is c.start.ensures c.loop-array.invariant
+    c.in_ok-extend_from_slice.ensures.items
+
+pub loop-variable-preserved : goal.loop-variable-preserved
+loop-variable-preserved c =
+    values_more (λ (x : PrivateData). x.start) c.args.program.now.privates
+    c.privates-variable-items.result.now c.loop-variable.variable-index c.variable-item.result
+    (flat_map (λ (x : ArrayData). x.start) c.args.program.now.arrays)
+    c.loop-variable.values.items _ _ c.privates-variable-items.ensures c.loop-variable-test.true
+    c.variable-item.is c.start-in-loop-variable.ensures c.loop-variable.invariant
+    c.in_ok-extend_from_slice-2.ensures.items
 
 pub returns : goal.returns
 returns c =

@@ -10,19 +10,21 @@ walk-requires g c =
 pub returns-in-Disputed : goal.returns-in-Disputed
 returns-in-Disputed g c =
     let job = c.args.job.now in
+    let ended = rw c.most_steps.ensures at c.in_ok-walked.ensures in
     let both = c.walk.new.observer.observer in
     let found = disputed_run job c.in_ok-walked.walked c.walk.new.observer.stopped
     (λ n. AreLast job n both.last.rows.items × g.O.Observer.has_seen job n both.other)
-    c.in_ok-walked.ensures.walked c.in_ok-walked.ensures.seen c.in-Disputed.fault c.in-Disputed.is in
+    ended.walked ended.seen c.in-Disputed.fault c.in-Disputed.is in
     record { run = (found.0, found.1.0); seen = found.1.1 }
 
 pub run_through-requires : goal.run_through-requires
 run_through-requires g c =
     let job = c.args.job.now in
+    let ended = rw c.most_steps.ensures at c.in_ok-walked.ensures in
     let both = c.walk.new.observer.observer in
     let found = through_run job c.in_ok-walked.walked c.walk.new.observer.stopped
     (λ n. AreLast job n both.last.rows.items × g.O.Observer.has_seen job n both.other)
-    c.in_ok-walked.ensures.walked c.in_ok-walked.ensures.seen c.in-Through.state c.in-Through.is in (
+    ended.walked ended.seen c.in-Through.state c.in-Through.is in (
       found.0,
       (both_seen job c.walk.new.observer.stopped
           (λ n. AreLast job n both.last.rows.items)
@@ -32,10 +34,11 @@ run_through-requires g c =
 pub returns-in-Through-clause-seen : goal.returns-in-Through-clause-seen
 returns-in-Through-clause-seen g c =
     let job = c.args.job.now in
+    let ended = rw c.most_steps.ensures at c.in_ok-walked.ensures in
     let both = c.walk.new.observer.observer in
     let found = through_run job c.in_ok-walked.walked c.walk.new.observer.stopped
     (λ n. AreLast job n both.last.rows.items × g.O.Observer.has_seen job n both.other)
-    c.in_ok-walked.ensures.walked c.in_ok-walked.ensures.seen c.in-Through.state c.in-Through.is in
+    ended.walked ended.seen c.in-Through.state c.in-Through.is in
     run_seen job c.walk.new.observer.stopped c.run_through.result
     (λ n. g.O.Observer.has_seen job n both.other) c.run_through.ensures.long
     (both_seen job c.walk.new.observer.stopped

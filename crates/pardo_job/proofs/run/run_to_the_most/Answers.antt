@@ -1,4 +1,3 @@
-use Rattle.std.proofs.Common.{refl}
 use Rattle.pardo_job.proofs.Ends.{endless_run, most_rest}
 use Rattle.pardo_job.proofs.run.run_to_the_most.Goals as goal
 
@@ -7,4 +6,4 @@ returns-in-Some-clause-run c = endless_run c.args.job.now c.args.state c.in-Some
     c.in-Some.ensures.some
 
 pub returns-in-None-clause-run : goal.returns-in-None-clause-run
-returns-in-None-clause-run c = most_rest c.args.job.now _ refl c.requires c.in-None.ensures.none
+returns-in-None-clause-run c = most_rest c.args.job.now _ c.most_steps.ensures c.requires c.in-None.ensures.none

@@ -1,5 +1,4 @@
 use Rattle.std.proofs.Common.{◌≡◌, ◌+◌, ℕ, arith, rules, subst, sym, ◌++◌, ◌∷◌, [], Ok, Err}
-use Rattle.std.proofs.lemmas.Grind.{common_steps}
 use Rattle.pram_job.specs.declared.instr.Operand.TheVariants.{Register}
 use Rattle.pardo_program.specs.declared.expression.Node.{Node}
 use Rattle.pardo_job.specs.Inner.Emitting.{PutsCode, IsCodeFault}
@@ -57,9 +56,9 @@ returns-in_ok-push-in-Apply c =
     c.free-at.ensures.value c.in_ok-put_operation-in-Apply.ensures in
     let values : c.push-in-Apply.new.self.values.items ≡ q.values.items ++
     made q.taken op c.pop-first.result c.pop-second.result ∷ [] =
-    first_of (cc, search rules, grind (arith, common_steps)) in
+    search rules in
     let taken : c.push-in-Apply.new.self.taken ≡ q.taken + taken_by (Register q.taken) =
-    first_of (cc, search rules, grind (arith, common_steps)) in
+    search rules in
     subst (λ (n : Node). Takes c.args.stack.now c.args.code.now.items
     c.put_operation.new.code.items c.push-in-Apply.new.self (Ok (tt {0})) c.args.layout.now n)
     (sym c.in-Apply.is)

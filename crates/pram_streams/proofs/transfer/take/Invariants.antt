@@ -6,8 +6,8 @@ abbrev pub invariant-loop-count : goal.invariant-loop-count
 invariant-loop-count g l = record {
   reads : Consumes (g.R.Source.remaining l.fn.source) (g.R.Source.remaining l.source) l.bytes.items;
   unfailed : g.R.Source.has_failed l.source ≡ false;
-  small : vec_len l.bytes ≤ 16777216;
+  small : vec_len l.bytes ≤ 67108864;
 }
 
 abbrev pub decreases-loop-count : goal.decreases-loop-count
-decreases-loop-count g l = 16777216 - vec_len l.bytes
+decreases-loop-count g l = 67108864 - vec_len l.bytes
