@@ -21,7 +21,7 @@
 #include <string.h>
 #include <time.h>
 
-enum { ROOM = 1 << 18, TEXT_ROOM = 1 << 24, NOTHING = 0x5a };
+enum { ROOM = 1 << 18, TEXT_ROOM = 1 << 26, NOTHING = 0x5a };
 
 /* The allocator: counts what lives, and refuses one allocation of a thread. */
 

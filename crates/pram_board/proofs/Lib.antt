@@ -11,5 +11,6 @@ pub mod Playing
 pub mod Due
 pub mod Telling
 pub mod Stepping
+pub mod Blocks
 pub mod Working
 pub mod Remembering

@@ -7,8 +7,8 @@ use crate::seat::Seat;
 use crate::task::Task;
 use crate::work::Stay;
 use stop_plan::Gate;
-use walkx::turns::{Turned, script};
-use walkx::{Op, Post, Steps, Stopped, Worker};
+use walkx::turns::{Turned, has_rank, mark, turn};
+use walkx::{Memory, Op, Post, Steps, Stopped, Worker};
 
 /// Makes the atomic steps of a worker on a board, passing the gate before each, and counts them.
 #[derive(Drop)]
@@ -35,15 +35,17 @@ impl<'a, G: Gate> Steps for Driver<'a, G> {
 }
 
 impl<'a, G: Gate> Driver<'a, G> {
-    ghost use Rattle.std.specs.Prelude.{◌≡◌, ◌<◌, ◌≤◌, ◌+◌, ◌%◌, ◌^◌, None, false, true};
+    ghost use Rattle.std.specs.Prelude.{◌≡◌, ◌<◌, ◌≤◌, ◌+◌, ◌%◌, ◌^◌, suc, None, false, true};
+    ghost use Rattle.walkx.specs.Inner.Posts.{IsLeafPost};
+    ghost use Rattle.walkx.specs.Memory.{FitsMemory};
     ghost use Rattle.walkx.specs.Turns.{beginning, turning};
-    ghost use Rattle.walkx.specs.Walk.{end_of};
+    ghost use Rattle.walkx.specs.Walk.{end_of, has_rank};
     ghost use Rattle.pram_board.specs.Worked.{Worked, Works};
     ghost use Rattle.lawful_walk.specs.Moments.{Sound};
     ghost use Rattle.pram_board.specs.Rules.{May};
     ghost use Rattle.pram_board.specs.Seats.{IsLater, hears};
-    ghost use Rattle.pram_board.specs.Inner.Plays.{WorkerGoesOn, Led, IsWalking, driving, led_to};
-    ghost use Rattle.pram_board.specs.Inner.Plays.{task_at, working_at};
+    ghost use Rattle.pram_board.specs.Inner.Plays.{WorkerGoesOn, Led, Moved, IsWalking, driving};
+    ghost use Rattle.pram_board.specs.Inner.Plays.{in_block, led_to, next_turn, task_at, turning_at};
 
     /// A driver that has made no step.
     #[inline(always)]
@@ -155,7 +157,8 @@ impl<'a, G: Gate> Driver<'a, G> {
     #[inline(always)]
     fn go_through(&mut self, worker: &mut Worker, node: u32, phase: u64)
         requires room { self.old.made < 2 ^ 63 }
-        requires turn { worker.old.walking ≡ turning worker.old.walking.number node phase }
+        requires turn { worker.old.walking ≡ turning worker.old.walking.number node phase
+            worker.old.walking.memory }
         requires works { Works self.old.board.now self.old.seat.now worker.old }
         ensures same { self.new.seat.ghost_name ≡ self.old.seat.ghost_name }
         ensures goes { WorkerGoesOn false (driving self.old) worker.old (driving self.new)
@@ -164,46 +167,127 @@ impl<'a, G: Gate> Driver<'a, G> {
         let board = self.board;
         board.facts();
         self.rest.take();
-        self.turns(board.task(), worker.number(), node, phase);
-        worker.begin_at(1);
+        let number = worker.number();
+        let mut memory = worker.lend();
+        self.turns(board.task(), number, &mut memory, node, phase);
+        worker.begin_at(1, memory);
     }
 
     // Turns of a phase, from the start of the one at this node until the root is finished, with the
-    // tasks of blocks between them.
+    // blocks between them.
     #[inline(always)]
-    fn turns(&mut self, task: &Task, number: u32, start: u32, phase: u64)
+    fn turns(&mut self, task: &Task, number: u32, memory: &mut Memory, start: u32, phase: u64)
         requires room { self.old.made < 2 ^ 63 }
-        requires walks { IsWalking task.now (driving self.old) (turning number start phase) }
+        requires walks { IsWalking task.now (driving self.old)
+            (turning number start phase memory.old) }
         ensures same { self.new.seat.ghost_name ≡ self.old.seat.ghost_name }
-        ensures led { Led task.now (driving self.old) (turning number start phase)
-            (driving self.new) (beginning number 1) }
+        ensures led { Led task.now (driving self.old) (turning number start phase memory.old)
+            (driving self.new) (beginning number 1 memory.new) }
     {
         let layout = task.layout;
-        let (mut node, mut rank) = (start, 0);
+        let mut node = start;
         loop {
-            let post = Post::new(&task.job, &layout, number, node, phase).at_rank(rank);
-            match self.script(&post) {
-                Turned::Finished => return,
-                Turned::To(next) => (node, rank) = (next, 0),
-                Turned::Within(next) => rank = next,
+            let post = Post::new(&task.job, &layout, number, node, phase);
+            match self.visit(&post, memory) {
+                None => return,
+                Some(next) => node = next,
             }
             self.seat.facts();
         }
     }
 
-    // A turn, or the task of another processor of a block, and what comes of it.
+    // A turn, and the block that it enters: the node of the next turn, or none where the root is
+    // finished.
     #[inline(always)]
-    fn script(&mut self, post: &Post) -> Turned
-        requires walks { IsWalking (task_at post.now) (driving self.old) (working_at post.now) }
+    fn visit(&mut self, post: &Post, memory: &mut Memory) -> Option<u32>
+        requires first { post.now.rank ≡ 0 }
+        requires walks { IsWalking (task_at post.now) (driving self.old)
+            (turning_at post.now memory.old) }
         ensures same { self.new.seat.ghost_name ≡ self.old.seat.ghost_name }
-        ensures led { Led (task_at post.now) (driving self.old) (working_at post.now)
-            (driving self.new) (led_to post.now result) }
+        ensures led { Led (task_at post.now) (driving self.old) (turning_at post.now memory.old)
+            (driving self.new) (next_turn post.now memory.new result) }
     {
-        match script(self, post) {
+        match self.turn(post, memory) {
+            Turned::Finished => None,
+            Turned::To(next) => Some(next),
+            Turned::Enters => {
+                self.block(post, memory);
+                Some(post.node())
+            }
+        }
+    }
+
+    // A turn, and what comes of it.
+    #[inline(always)]
+    fn turn(&mut self, post: &Post, memory: &Memory) -> Turned
+        requires first { post.now.rank ≡ 0 }
+        requires walks { IsWalking (task_at post.now) (driving self.old)
+            (turning_at post.now memory.now) }
+        ensures same { self.new.seat.ghost_name ≡ self.old.seat.ghost_name }
+        ensures led { Led (task_at post.now) (driving self.old) (turning_at post.now memory.now)
+            (driving self.new) (led_to post.now memory.now result) }
+    {
+        match turn(self, post) {
             Ok(turned) => {
-                let board = self.board;
-                self.rest.mark(board.task().layout.leaves(), turned);
+                self.rest.mark(self.board.task().layout.leaves(), turned);
+                self.seat.facts();
                 turned
+            }
+            Err(_) => unreachable!(),
+        }
+    }
+
+    // The tasks of a leaf's block, and its mark.
+    #[inline(always)]
+    fn block(&mut self, post: &Post, memory: &mut Memory)
+        requires fits { FitsMemory post.now.job memory.old }
+        requires walks { IsWalking (task_at post.now) (driving self.old)
+            (in_block post.now 0 memory.old) }
+        ensures same { self.new.seat.ghost_name ≡ self.old.seat.ghost_name }
+        ensures led { Led (task_at post.now) (driving self.old) (in_block post.now 0 memory.old)
+            (driving self.new) (turning_at post.now memory.new) }
+    {
+        let mut rank = 0;
+        while has_rank(post, rank) {
+            self.part(&post.at(rank), memory);
+            rank += 1;
+        }
+        self.mark(post, rank, memory);
+    }
+
+    // The task of a processor of the block.
+    #[inline(always)]
+    fn part(&mut self, post: &Post, memory: &mut Memory)
+        requires leaf { IsLeafPost post.now }
+        requires fits { FitsMemory post.now.job memory.old }
+        requires walks { IsWalking (task_at post.now) (driving self.old)
+            (in_block post.now post.now.rank memory.old) }
+        ensures same { self.new.seat.ghost_name ≡ self.old.seat.ghost_name }
+        ensures fits { FitsMemory post.now.job memory.new }
+        ensures moved { Moved (task_at post.now) (driving self.old)
+            (in_block post.now post.now.rank memory.old) (driving self.new)
+            (in_block post.now (suc post.now.rank) memory.new) }
+    {
+        match memory.take_up(self, post) {
+            Ok(()) => self.seat.facts(),
+            Err(_) => unreachable!(),
+        }
+    }
+
+    // The leaf is marked, after its last processor.
+    #[inline(always)]
+    fn mark(&mut self, post: &Post, rank: u32, memory: &Memory)
+        requires last { has_rank post.now.layout post.now.node rank ≡ false }
+        requires walks { IsWalking (task_at post.now) (driving self.old)
+            (in_block post.now rank memory.now) }
+        ensures same { self.new.seat.ghost_name ≡ self.old.seat.ghost_name }
+        ensures led { Led (task_at post.now) (driving self.old) (in_block post.now rank memory.now)
+            (driving self.new) (turning_at post.now memory.now) }
+    {
+        match mark(self, post) {
+            Ok(turned) => {
+                self.rest.mark(self.board.task().layout.leaves(), turned);
+                self.seat.facts();
             }
             Err(_) => unreachable!(),
         }

@@ -1,17 +1,23 @@
 -- A job's board: words and what they may have.
 use Rattle.std.proofs.Common.{◌≡◌, ℕ, ◌+◌, ◌*◌, ◌^◌, ◌<◌, ◌≤◌, Bool, true, false, IsTrue}
-use Rattle.std.proofs.Common.{if◌then◌else◌, Option, Some, None, ap, refl, inl, inr, arith}
+use Rattle.std.proofs.Common.{if◌then◌else◌, Option, Some, None, ap, refl, sym, inl, inr, lit<}
+use Rattle.std.proofs.Common.{arith}
 use Rattle.pram_job.specs.Job.{JobData}
 use Rattle.pram_machine.specs.declared.requests.Request.{Request}
 use Rattle.pram_machine.specs.Instructions.{HasShape, place_part}
-use Rattle.pram_machine.specs.Machine.{IsDataPlace}
+use Rattle.pram_job.specs.Places.{register_at}
+use Rattle.pram_machine.specs.Machine.{IsDataPlace, counter_place, register_place}
 use Rattle.pram_words.proofs.Numbering.{ranges, numbering, cases_form, form_wide}
 use Rattle.pram_words.specs.declared.words.Word.{Word}
 use Rattle.pram_words.specs.declared.words.Word.TheVariants.{Conflict, Node, Asked, Position}
+use Rattle.pram_words.specs.declared.words.Word.TheVariants.{Stored}
+use Rattle.pram_words.specs.declared.layout.OwnWords.{OwnWords}
 use Rattle.pram_words.specs.Phases.{step_at, has_phase}
 use Rattle.pram_words.specs.Stamps.{stamped_word, payload_of}
 use Rattle.pram_words.specs.Words.{LayoutData, IsLayout, IsWord, IsInRange, IsStamped, Admits}
 use Rattle.pram_words.specs.Words.{number_of, length_of, claims_at, wide_claims_at, most_asked}
+use Rattle.pram_words.specs.Words.{counters_of, places_of}
+use Rattle.walkx.specs.Inner.Posts.{IsLeafOf, IsPairAt, PostData, processor_of}
 use Rattle.walkx.specs.Walk.{IsBoard}
 
 -- what is admitted at a word's number the word may have
@@ -91,6 +97,56 @@ length_small y limits = elim (cases_form y.form) [
     by_claims : (b : Bool) (n : ℕ) → n ≤ 4000000 → n + (if b then y.cells else 0) < 2 ^ 32
     by_claims true n few = omega (arith, limits.cells)
     by_claims false n few = omega arith
+
+-- the words of a place
+pub pair_at : (job : JobData) (y : LayoutData) (place word : ℕ) → IsBoard job y →
+    place < places_of y → word ≡ number_of y (Stored place 0) → IsPairAt y place word
+pair_at job y place word board below first =
+    let next = (numbering y board.layout).second place in
+    let last = is_below job y (Stored place 1) board (below, lit< tt) in
+    let small = length_small y board.layout in
+    record {
+      first = first;
+      second = omega (arith, first, next);
+      below = omega (arith, first, next, last, small);
+    }
+
+-- the words of a leaf's processor, and of a cell
+module _ (at : PostData) (t i : ℕ) (own : OwnWords) (first : ℕ) (is : IsLeafOf at t i own first) where
+  board : IsBoard at.job at.layout
+  board = is.leaf.board
+
+  pub own_counter : IsPairAt at.layout (counter_place at.job (processor_of at)) own.counter
+  own_counter =
+      let place : counter_place at.job (processor_of at) ≡ counters_of at.layout + i =
+      omega (
+        arith,
+        same_cells at.job at.layout board,
+        same_procs at.job at.layout board,
+        is.processor,
+      ) in
+      rw place (pair_at at.job at.layout (counters_of at.layout + i) own.counter board
+      (omega (arith, is.processor, is.leaf.last)) (sym is.own.counter))
+
+  pub own_register : (r : ℕ) → r < 4 →
+      IsPairAt at.layout (register_place at.job (processor_of at) r) (own.registers + 2 * r)
+  own_register r register =
+      let place : register_place at.job (processor_of at) r ≡ register_at at.layout.cells i r =
+      omega (arith, same_cells at.job at.layout board, is.processor) in
+      rw place (pair_at at.job at.layout (register_at at.layout.cells i r) (own.registers + 2 * r)
+      board (omega (arith, is.processor, is.leaf.last)) (sym (is.own.register r register)))
+
+  pub own_small : (r : ℕ) → r < 4 → own.registers + 2 * r < 2 ^ 32
+  own_small r register = omega (arith, (own_register r register).below)
+
+  pub own_cell : (cell : ℕ) → cell < at.job.cells → IsPairAt at.layout cell (first + 2 * cell)
+  own_cell cell below =
+      let same = same_cells at.job at.layout board in
+      pair_at at.job at.layout cell (first + 2 * cell) board (omega (arith, same, below))
+      (sym (is.cells cell (omega (arith, same, below))))
+
+  pub cell_small : (cell : ℕ) → cell < at.job.cells → first + 2 * cell < 2 ^ 32
+  cell_small cell below = omega (arith, (own_cell cell below).below)
 
 -- where a request's data goes, plus 1
 pub place_shape : (job : JobData) (i : ℕ) (r : Request) → i < job.procs → HasShape job i r →

@@ -19,7 +19,7 @@ pub record Serves (job : JobData) (layout : LayoutData) (worker : WorkerData) : 
   pub held : IsHeldAt job layout worker.walking worker.held_op
 
 -- A worker of this number that stands so from the start: it serves on every board that it is a
--- worker of, and every record knows it.
+-- worker of, and every record of a job knows it.
 pub record IsNewWorker (number : ℕ) (walking : Walking) (worker : WorkerData) : Type 0 where
   pub value : worker.walking ≡ walking
   pub serves : (job : JobData) (layout : LayoutData) → number < layout.workers →

@@ -5,8 +5,10 @@ mod begins;
 mod carry;
 mod claim;
 mod compare;
+mod idle;
 pub mod laws;
 mod left;
+pub mod memo;
 mod next;
 mod operation;
 mod parts;
@@ -27,6 +29,7 @@ mod worker;
 
 pub use laws::own_steps_are_bounded;
 pub use left::Stopped;
+pub use memo::{Memo, Memory};
 pub use operation::{Activity, Ended, Op, ReadOp, Reading};
 pub use post::Post;
 pub use reader::Reader;

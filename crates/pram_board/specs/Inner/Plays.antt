@@ -7,10 +7,12 @@ use Rattle.walkx.specs.Bound.{told_all}
 use Rattle.walkx.specs.Inner.Workers.{WorkerData}
 use Rattle.walkx.specs.Records.{Knows}
 use Rattle.walkx.specs.Scripts.{Script, rest, first_op, heard_in}
-use Rattle.walkx.specs.Turns.{beginning, turning, working}
+use Rattle.walkx.specs.Turns.{beginning, turning}
 use Rattle.walkx.specs.declared.turns.Turned.{Turned}
 use Rattle.walkx.specs.declared.turns.Turned.TheVariants as turned
-use Rattle.walkx.specs.Walk.{Then, Walking, Fits, IsBoard, IsGoing, AllAdmitted, end_of, script_of}
+use Rattle.walkx.specs.declared.memo.Memo.{Memo}
+use Rattle.walkx.specs.Walk.{Then, Walking, Fits, IsBoard, IsGoing, AllAdmitted, end_of, goes_in}
+use Rattle.walkx.specs.Walk.{script_of}
 use Rattle.pram_board.specs.declared.driver.Driver.{Driver}
 use Rattle.pram_board.specs.declared.task.Task.{Task}
 use Rattle.pram_board.specs.Seats.{Desk, SeatData, hears_all}
@@ -107,18 +109,33 @@ pub record IsWalking (task : Task) (driver : Driving) (walking : Walking) : Type
   pub fits : Fits task.job task.layout walking
   pub knows : Knows task.job task.layout driver.seat.record_of walking
 
--- ticks that led a worker on, at least one
+-- ticks that led a worker on, or none
+pub record Moved (task : Task) (before : Driving) (walking : Walking) (later : Driving)
+    (now : Walking) : Type 0 where
+  pub walks : IsWalking task later now
+  pub went : Went task before walking later now
+
+-- at least one
 pub record Led (task : Task) (before : Driving) (walking : Walking) (later : Driving)
     (now : Walking) : Type 0 where
   pub walks : IsWalking task later now
   pub went : Went task before walking later now
   pub some : 1 ≤ went.ticks
 
--- the worker of a post at the start of its script, and where the script leads it
-abbrev pub working_at : PostData → Walking
-working_at at = working at.worker at.node at.phase at.rank
+-- the worker of a post, with this memory: at the start of a turn, and at a rank in its block
+abbrev pub turning_at : PostData → List Memo → Walking
+turning_at at memory = turning at.worker at.node at.phase memory
 
-abbrev pub led_to : PostData → Turned → Walking
-led_to at turned.Finished = beginning at.worker 1
-led_to at (turned.To node) = turning at.worker node at.phase
-led_to at (turned.Within rank) = working at.worker at.node at.phase rank
+abbrev pub in_block : PostData → ℕ → List Memo → Walking
+in_block at rank memory = goes_in at.job at.layout at.worker at.node at.phase rank memory
+
+-- where a turn leads it
+abbrev pub led_to : PostData → List Memo → Turned → Walking
+led_to at memory turned.Finished = beginning at.worker 1 memory
+led_to at memory (turned.To node) = turning at.worker node at.phase memory
+led_to at memory turned.Enters = in_block at 0 memory
+
+-- at the start of the next turn, at this node; or the root is finished
+abbrev pub next_turn : PostData → List Memo → Option ℕ → Walking
+next_turn at memory None = beginning at.worker 1 memory
+next_turn at memory (Some node) = turning at.worker node at.phase memory

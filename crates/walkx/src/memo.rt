@@ -1,0 +1,173 @@
+//! What a worker remembers.
+ghost use Rattle.std.specs.Prelude.{◌≡◌, ◌==◌, suc, List, slice_set, IfOk, [], Some, None};
+ghost use Rattle.pram_machine.specs.Instructions.{goes_to};
+ghost use Rattle.pram_machine.specs.Turns.{request_of};
+ghost use Rattle.walkx.specs.declared.memo.Memo.{Memo};
+ghost use Rattle.walkx.specs.Driving.{IsNextPart};
+ghost use Rattle.walkx.specs.Inner.Posts.{IsLeafPost, processor_of};
+ghost use Rattle.walkx.specs.Memory.{FitsMemo, at_start, blank, memo_of};
+ghost use Rattle.walkx.specs.Parts.{does_wide};
+ghost use Rattle.walkx.specs.Passing.{TakesUp};
+ghost use Rattle.walkx.specs.WideParts.{IsShaped, learned};
+
+use crate::left::Stopped;
+use crate::post::{Leaf, Post};
+use crate::steps::Steps;
+use crate::tasks::wide_task;
+use crate::turns::settle;
+use pram_machine::{Put, Turn};
+use std::alloc::{AllocError, Global};
+use std::marker::Model;
+
+/// What a worker of the wide form knows of a processor.
+#[derive(Clone, Copy, Debug, PartialEq, Eq)]
+pub struct Memo {
+    /// After how many steps it is so.
+    pub step: u32,
+    pub counter: u32,
+    pub registers: [u32; 4],
+    /// The cell and the value of the store in the last of them, if it was one.
+    pub store: Option<(u32, u32)>,
+}
+
+impl Memo {
+    /// What is known of each processor before the first step.
+    #[inline(always)]
+    pub fn at_start() -> Memo
+        ensures { result ≡ at_start }
+    {
+        Memo {
+            step: 0,
+            counter: 0,
+            registers: [0; 4],
+            store: None,
+        }
+    }
+
+    /// What was known is forgotten.
+    #[inline(always)]
+    pub(crate) fn forget(&mut self)
+        ensures { self.new ≡ at_start }
+    {
+        *self = Memo::at_start();
+    }
+
+    /// It is of the step before this one.
+    #[inline(always)]
+    pub(crate) fn is_before(&self, t: u32) -> bool
+        ensures { result ≡ (suc self.now.step == t) }
+    {
+        u64::from(self.step) + 1 == u64::from(t)
+    }
+
+    /// What is known after a turn of the leaf's step.
+    #[inline(always)]
+    pub(crate) fn take_up(&mut self, leaf: &Leaf, turn: Turn)
+        requires { IsShaped leaf.now turn }
+        ensures { self.new ≡ learned leaf.now self.old (request_of turn) }
+    {
+        self.step = leaf.step();
+        self.counter = turn.next;
+        self.store = match turn.put {
+            Put::Cell(cell, value) => Some((cell, value)),
+            _ => None,
+        };
+        if let Put::Register(place, value) = turn.put {
+            self.registers[(place - leaf.register_place(0)) as usize] = value;
+        }
+    }
+
+    /// What is known after a step of a processor that has stopped.
+    #[inline(always)]
+    pub(crate) fn stay(&mut self, leaf: &Leaf)
+        ensures { self.new ≡ learned leaf.now self.old (goes_to self.old.counter) }
+    {
+        self.step = leaf.step();
+        self.store = None;
+    }
+}
+
+/// What a worker remembers of each processor. One without memory knows what each is before the
+/// first step, and nothing else.
+#[derive(Drop)]
+pub struct Memory {
+    memos: Option<Vec<Memo>>,
+}
+
+impl Model for Memory {
+    ghost Value = { List Memo };
+
+    ghost view = { λ m. elim m.memos [ None ↦ [] | Some memos ↦ memos.items ] };
+}
+
+impl Memory {
+    /// No memory.
+    #[inline(always)]
+    pub fn none() -> Memory
+        ensures { result ≡ [] }
+    {
+        Memory { memos: None }
+    }
+
+    /// A memory for so many processors: about 40 bytes for each.
+    pub fn of(alloc: Global, procs: u32) -> Result<Memory, AllocError>
+        ensures { IfOk result (λ memory. memory ≡ blank procs) }
+    {
+        let memos = vec![in alloc; Memo::at_start(); procs as usize]?;
+        Ok(Memory { memos: Some(memos) })
+    }
+
+    /// What is known of processor i.
+    #[inline(always)]
+    pub fn memo(&self, i: u32) -> Memo
+        ensures { result ≡ memo_of self.now i }
+    {
+        match &self.memos {
+            Some(memos) => match memos.as_slice().get(i as usize) {
+                Some(memo) => *memo,
+                None => Memo::at_start(),
+            },
+            None => Memo::at_start(),
+        }
+    }
+
+    /// This is known of it now. Without memory it is forgotten.
+    #[inline(always)]
+    pub fn keep(&mut self, i: u32, memo: Memo)
+        ensures { self.new ≡ slice_set self.old i memo }
+    {
+        match &mut self.memos {
+            Some(memos) => {
+                if (i as usize) < memos.len() {
+                    memos.as_mut_slice()[i as usize] = memo;
+                }
+            }
+            None => {}
+        }
+    }
+
+    /// The task of a processor of a block, with what is remembered of it, whether it asks something
+    /// or not.
+    #[inline(always)]
+    pub fn take_up<S: Steps>(&mut self, steps: &mut S, post: &Post) -> Result<(), Stopped>
+        requires leaf { IsLeafPost post.now }
+        requires memo { FitsMemo post.now.job (memo_of self.old (processor_of post.now)) }
+        requires next { IsNextPart (S.stands post.now) steps.old
+            (does_wide post.now (memo_of self.old (processor_of post.now))) }
+        ensures { TakesUp (S.stands post.now) post.now steps.old self.old steps.new self.new
+            result }
+    {
+        let leaf = post.leaf();
+        let i = leaf.processor() as usize;
+        match &mut self.memos {
+            Some(memos) => {
+                if i < memos.len() {
+                    return settle(wide_task(steps, &leaf, &mut memos[i]));
+                }
+            }
+            None => {}
+        }
+        let mut memo = Memo::at_start();
+        settle(wide_task(steps, &leaf, &mut memo))
+    }
+}
