@@ -7,5 +7,5 @@ returns c =
     rw (c.about_to.ensures, c.none.ensures) (record {
       value = refl;
       serves = λ job y worker. comes_anew job y c.args.w 0 worker;
-      known = λ job y past. (known_new job y past c.args.w 0).1;
+      known = λ job y past _. (known_new job y past c.args.w 0).1;
     })

@@ -15,5 +15,5 @@ returns c =
     (worker_data w None activity.Back None [] memory)) (sym c.requires) (record {
       value = refl;
       serves = λ job y worker. comes_anew job y w size worker;
-      known = λ job y past. (known_new job y past w size).1;
+      known = λ job y past _. (known_new job y past w size).1;
     }))

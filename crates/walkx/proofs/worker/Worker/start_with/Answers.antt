@@ -15,5 +15,5 @@ returns c =
     (worker_data w None activity.Begin None [] memory)) (sym c.requires) (record {
       value = refl;
       serves = λ job y worker. starts job y w size worker;
-      known = λ job y past. (known_new job y past w size).0;
+      known = λ job y past _. (known_new job y past w size).0;
     }))
