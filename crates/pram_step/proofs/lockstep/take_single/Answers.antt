@@ -4,11 +4,11 @@ use Rattle.pram_machine.specs.Machine.{IsStopped, counter_place}
 use Rattle.pram_step.specs.Inner.Passes.{IsPassed, bound}
 use Rattle.pram_step.proofs.Applying.{passed_next, passed_stopped}
 use Rattle.pram_step.proofs.Passing.{bound_inside, count_after}
-use Rattle.pram_step.proofs.lockstep.take_next.Goals as goal
+use Rattle.pram_step.proofs.lockstep.take_single.Goals as goal
 
 -- the next processor has stopped
-pub returns-in_default : goal.returns-in_default
-returns-in_default c =
+pub returns-in-None : goal.returns-in-None
+returns-in-None c =
     let job = c.args.job.now in
     let is_job = c.limits_hold.ensures in
     let running = c.args.running.now in
@@ -21,7 +21,7 @@ returns-in_default c =
     let inside : k < length running = omega arith in
     let low : p < job.procs = begun.within k 0 inside in
     let past = subst (λ q. length job.code ≤ get_or now q 0) c.counter_place.ensures.value
-    c.in_default.ensures in record {
+    c.in-None.ensures in record {
       later = omega arith;
       begun = record {
         within = begun.within;
