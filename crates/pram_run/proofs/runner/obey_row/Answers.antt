@@ -6,5 +6,6 @@ returns-in-Back-clause-works g c =
     record {
       desk = c.requires.works.desk;
       serves = c.back_with.ensures.serves task.job task.layout c.requires.worker;
-      knows = c.back_with.ensures.known task.job task.layout c.args.seat.now.record_of;
+      knows = c.back_with.ensures.known task.job task.layout c.args.seat.now.record_of
+          c.requires.worker;
     }

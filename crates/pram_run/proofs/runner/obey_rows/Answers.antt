@@ -15,7 +15,7 @@ loop-row-init g c = record {
     serves = c.start_with-worker.ensures.serves c.args.shared.now.board.now.task.job
         c.args.shared.now.board.now.task.layout c.requires.worker;
     knows = c.start_with-worker.ensures.known c.args.shared.now.board.now.task.job
-        c.args.shared.now.board.now.task.layout c.args.seat.record_of;
+        c.args.shared.now.board.now.task.layout c.args.seat.record_of c.requires.worker;
   };
   obeys = λ q h. (length c.worker_memory.result, rw (← c.start_with-worker.ensures.value) h);
 }
