@@ -2,6 +2,7 @@
 #![tactic(auto)]
 
 ghost use Rattle.std.specs.Prelude.{◌≡◌, ◌<◌};
+ghost use Rattle.kaolinsilk.specs.Words.{Works};
 
 use kaolinsilk::{Board, Job, Open, Reading, Seat, Worker, read_job};
 use std::io;
@@ -32,7 +33,7 @@ fn two<R: Threads + Sync>(rt: &R, board: &Board, seat: Seat) -> Seat
     board.join(first, second)
 }
 
-// A piece of 100 atomic steps, a look at cell 0, and the rest. Worker 2 is lost and comes back.
+// A piece of 100 atomic steps, a look at cell 0, and the rest.
 fn work(board: &Board, mut seat: Seat, number: u32) -> Seat
     requires worker { number < board.now.task.layout.workers }
     requires seat { seat.desk ≡ board.now }
@@ -40,14 +41,23 @@ fn work(board: &Board, mut seat: Seat, number: u32) -> Seat
 {
     let mut worker = Worker::start(number);
     board.work(&mut seat, &mut worker, &Open, Some(100));
-    if number == 2 {
-        worker = Worker::back(number);
-    }
+    let mut worker = lost(board, &seat, worker);
     board.facts();
     Seat::workers_stay_known();
     let Reading::At { .. } = board.read(&mut seat, 0);
     board.work(&mut seat, &mut worker, &Open, None);
     seat
+}
+
+// Worker 2 is lost, and comes back.
+fn lost(board: &Board, seat: &Seat, worker: Worker) -> Worker
+    requires { Works board.now seat.now worker }
+    ensures { Works board.now seat.now result }
+{
+    if worker.number() != 2 {
+        return worker;
+    }
+    Worker::back(worker.number())
 }
 
 fn tell<R: AllocGlobal + Print>(rt: &R, job: &Job, board: &Board, mut seat: Seat) -> io::Result<()>
