@@ -14,3 +14,4 @@ pub mod Stepping
 pub mod Blocks
 pub mod Working
 pub mod Remembering
+pub mod Tasks

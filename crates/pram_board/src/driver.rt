@@ -6,9 +6,11 @@ use crate::rest::Rest;
 use crate::seat::Seat;
 use crate::task::Task;
 use crate::work::Stay;
+use pram_job::{Instr, Place};
+use pram_words::Kind;
 use stop_plan::Gate;
-use walkx::turns::{Turned, has_rank, mark, turn};
-use walkx::{Memory, Op, Post, Steps, Stopped, Worker};
+use walkx::turns::{Turned, mark, turn};
+use walkx::{Leaf, Memory, Op, Post, Stand, Steps, Stopped, Worker};
 
 /// Makes the atomic steps of a worker on a board, passing the gate before each, and counts them.
 #[derive(Drop)]
@@ -37,7 +39,9 @@ impl<'a, G: Gate> Steps for Driver<'a, G> {
 impl<'a, G: Gate> Driver<'a, G> {
     ghost use Rattle.std.specs.Prelude.{◌≡◌, ◌<◌, ◌≤◌, ◌+◌, ◌%◌, ◌^◌, suc, None, false, true};
     ghost use Rattle.walkx.specs.Inner.Posts.{IsLeafPost};
+    ghost use Rattle.pram_words.specs.Phases.{kind_at};
     ghost use Rattle.walkx.specs.Memory.{FitsMemory};
+    ghost use Rattle.walkx.specs.Passing.{StandsAt};
     ghost use Rattle.walkx.specs.Turns.{beginning, turning};
     ghost use Rattle.walkx.specs.Walk.{end_of, has_rank};
     ghost use Rattle.pram_board.specs.Worked.{Worked, Works};
@@ -45,6 +49,7 @@ impl<'a, G: Gate> Driver<'a, G> {
     ghost use Rattle.pram_board.specs.Rules.{May};
     ghost use Rattle.pram_board.specs.Seats.{IsLater, hears};
     ghost use Rattle.pram_board.specs.Inner.Plays.{WorkerGoesOn, Led, Moved, IsWalking, driving};
+    ghost use Rattle.pram_board.specs.Inner.Plays.{AtTask, DoneTo};
     ghost use Rattle.pram_board.specs.Inner.Plays.{in_block, led_to, next_turn, task_at, turning_at};
 
     /// A driver that has made no step.
@@ -247,28 +252,188 @@ impl<'a, G: Gate> Driver<'a, G> {
         ensures led { Led (task_at post.now) (driving self.old) (in_block post.now 0 memory.old)
             (driving self.new) (turning_at post.now memory.new) }
     {
-        let mut rank = 0;
-        while has_rank(post, rank) {
-            self.part(&post.at(rank), memory);
-            rank += 1;
+        let len = post.block_len();
+        if 0 < len {
+            self.tasks(post.at(0).leaf(), len, memory);
         }
-        self.mark(post, rank, memory);
+        self.mark(post, len, memory);
     }
 
-    // The task of a processor of the block.
+    // The tasks of a block of this length, from the leaf's processor on.
     #[inline(always)]
-    fn part(&mut self, post: &Post, memory: &mut Memory)
-        requires leaf { IsLeafPost post.now }
-        requires fits { FitsMemory post.now.job memory.old }
-        requires walks { IsWalking (task_at post.now) (driving self.old)
-            (in_block post.now post.now.rank memory.old) }
+    fn tasks(&mut self, leaf: Leaf<'_>, len: u32, memory: &mut Memory)
+        requires at { AtTask leaf len (driving self.old) memory.old }
         ensures same { self.new.seat.ghost_name ≡ self.old.seat.ghost_name }
-        ensures fits { FitsMemory post.now.job memory.new }
-        ensures moved { Moved (task_at post.now) (driving self.old)
-            (in_block post.now post.now.rank memory.old) (driving self.new)
-            (in_block post.now (suc post.now.rank) memory.new) }
+        ensures moved { Moved (task_at leaf.entry) (driving self.old)
+            (in_block leaf.entry leaf.entry.rank memory.old) (driving self.new)
+            (in_block leaf.entry len memory.new) }
     {
-        match memory.take_up(self, post) {
+        let mut leaf = leaf;
+        loop {
+            self.task(&mut leaf, len, memory);
+            if leaf.rank() + 1 == len {
+                return;
+            }
+            leaf = leaf.next();
+        }
+    }
+
+    // The task of the leaf's processor, and those of the next ones where all are known to stand at
+    // one instruction. The leaf is then that of the last of them.
+    #[inline(always)]
+    fn task(&mut self, leaf: &mut Leaf<'_>, len: u32, memory: &mut Memory)
+        requires at { AtTask leaf.old len (driving self.old) memory.old }
+        ensures same { self.new.seat.ghost_name ≡ self.old.seat.ghost_name }
+        ensures done { DoneTo leaf.old len (driving self.old) memory.old leaf.new
+            (driving self.new) memory.new }
+    {
+        if let Kind::Compute = leaf.kind() {
+            if let Some(stand) = memory.stand(leaf) {
+                return self.run_form(leaf, len, memory, stand);
+            }
+        }
+        self.part(leaf, memory);
+    }
+
+    // The first pass of those that stand at this instruction. Each form that has a row here has a
+    // loop of its own, in which no other is looked at.
+    #[inline(always)]
+    fn run_form(&mut self, leaf: &mut Leaf<'_>, len: u32, memory: &mut Memory, stand: Stand<'_>)
+        requires first { kind_at leaf.old.phase ≡ Kind.Compute }
+        requires at { AtTask leaf.old len (driving self.old) memory.old }
+        requires stands { StandsAt leaf.old memory.old stand.counter stand.instr.now }
+        ensures same { self.new.seat.ghost_name ≡ self.old.seat.ghost_name }
+        ensures done { DoneTo leaf.old len (driving self.old) memory.old leaf.new
+            (driving self.new) memory.new }
+    {
+        match *stand.instr {
+            Instr::Set(r, k) => self.run_as(leaf, len, memory, stand, Instr::Set(r, k)),
+            Instr::Pid(r) => self.run_as(leaf, len, memory, stand, Instr::Pid(r)),
+            Instr::Jz(r, index) => self.run_as(leaf, len, memory, stand, Instr::Jz(r, index)),
+            Instr::Jmp(index) => self.run_as(leaf, len, memory, stand, Instr::Jmp(index)),
+            Instr::Add(r, a, b) => self.run_as(leaf, len, memory, stand, Instr::Add(r, a, b)),
+            Instr::Sub(r, a, b) => self.run_as(leaf, len, memory, stand, Instr::Sub(r, a, b)),
+            Instr::Mul(r, a, b) => self.run_as(leaf, len, memory, stand, Instr::Mul(r, a, b)),
+            Instr::Shl(r, a, b) => self.run_as(leaf, len, memory, stand, Instr::Shl(r, a, b)),
+            Instr::Shr(r, a, b) => self.run_as(leaf, len, memory, stand, Instr::Shr(r, a, b)),
+            Instr::Div(r, a, b) => self.run_as(leaf, len, memory, stand, Instr::Div(r, a, b)),
+            Instr::Rem(r, a, b) => self.run_as(leaf, len, memory, stand, Instr::Rem(r, a, b)),
+            Instr::And(r, a, b) => self.run_as(leaf, len, memory, stand, Instr::And(r, a, b)),
+            Instr::Or(r, a, b) => self.run_as(leaf, len, memory, stand, Instr::Or(r, a, b)),
+            Instr::Xor(r, a, b) => self.run_as(leaf, len, memory, stand, Instr::Xor(r, a, b)),
+            Instr::Lt(r, a, b) => self.run_as(leaf, len, memory, stand, Instr::Lt(r, a, b)),
+            Instr::Eq(r, a, b) => self.run_as(leaf, len, memory, stand, Instr::Eq(r, a, b)),
+            Instr::Ld(r, Place::Cell(a)) => self.run_as(
+                leaf,
+                len,
+                memory,
+                stand,
+                Instr::Ld(r, Place::Cell(a)),
+            ),
+            Instr::Ld(r, Place::Named(array, a)) => self.run_as(
+                leaf,
+                len,
+                memory,
+                stand,
+                Instr::Ld(r, Place::Named(array, a)),
+            ),
+            Instr::St(Place::Cell(a), b) => self.run_as(
+                leaf,
+                len,
+                memory,
+                stand,
+                Instr::St(Place::Cell(a), b),
+            ),
+            Instr::St(Place::Named(array, a), b) => self.run_as(
+                leaf,
+                len,
+                memory,
+                stand,
+                Instr::St(Place::Named(array, a), b),
+            ),
+            instr => self.run_as(leaf, len, memory, stand, instr),
+        }
+    }
+
+    // The same by this instruction, which is the same one by a name that tells its form.
+    #[inline(always)]
+    fn run_as(
+        &mut self,
+        leaf: &mut Leaf<'_>,
+        len: u32,
+        memory: &mut Memory,
+        stand: Stand<'_>,
+        instr: Instr,
+    )
+        requires first { kind_at leaf.old.phase ≡ Kind.Compute }
+        requires at { AtTask leaf.old len (driving self.old) memory.old }
+        requires stands { StandsAt leaf.old memory.old stand.counter instr }
+        requires same { instr ≡ stand.instr.now }
+        ensures same { self.new.seat.ghost_name ≡ self.old.seat.ghost_name }
+        ensures done { DoneTo leaf.old len (driving self.old) memory.old leaf.new
+            (driving self.new) memory.new }
+    {
+        self.run(leaf, len, memory, stand.with(&instr))
+    }
+
+    // The first pass of the leaf's processor, and of the next ones that stand at this instruction.
+    #[inline(always)]
+    fn run(&mut self, leaf: &mut Leaf<'_>, len: u32, memory: &mut Memory, stand: Stand<'_>)
+        requires first { kind_at leaf.old.phase ≡ Kind.Compute }
+        requires at { AtTask leaf.old len (driving self.old) memory.old }
+        requires stands { StandsAt leaf.old memory.old stand.counter stand.instr.now }
+        ensures same { self.new.seat.ghost_name ≡ self.old.seat.ghost_name }
+        ensures done { DoneTo leaf.old len (driving self.old) memory.old leaf.new
+            (driving self.new) memory.new }
+    {
+        loop {
+            self.part_by(leaf, memory, stand);
+            if leaf.rank() + 1 == len {
+                return;
+            }
+            let next = leaf.next();
+            if !memory.stands_at(&next, stand) {
+                return;
+            }
+            *leaf = next;
+        }
+    }
+
+    // The first pass of the leaf's processor, which is known to stand at this instruction.
+    #[inline(always)]
+    fn part_by(&mut self, leaf: &Leaf, memory: &mut Memory, stand: Stand<'_>)
+        requires first { kind_at leaf.now.phase ≡ Kind.Compute }
+        requires stands { StandsAt leaf.now memory.old stand.counter stand.instr.now }
+        requires leaf { IsLeafPost leaf.now }
+        requires fits { FitsMemory leaf.now.job memory.old }
+        requires walks { IsWalking (task_at leaf.now) (driving self.old)
+            (in_block leaf.now leaf.now.rank memory.old) }
+        ensures same { self.new.seat.ghost_name ≡ self.old.seat.ghost_name }
+        ensures fits { FitsMemory leaf.now.job memory.new }
+        ensures moved { Moved (task_at leaf.now) (driving self.old)
+            (in_block leaf.now leaf.now.rank memory.old) (driving self.new)
+            (in_block leaf.now (suc leaf.now.rank) memory.new) }
+    {
+        match memory.take_up_by(self, leaf, stand) {
+            Ok(()) => self.seat.facts(),
+            Err(_) => unreachable!(),
+        }
+    }
+
+    // The task of the leaf's processor.
+    #[inline(always)]
+    fn part(&mut self, leaf: &Leaf, memory: &mut Memory)
+        requires leaf { IsLeafPost leaf.now }
+        requires fits { FitsMemory leaf.now.job memory.old }
+        requires walks { IsWalking (task_at leaf.now) (driving self.old)
+            (in_block leaf.now leaf.now.rank memory.old) }
+        ensures same { self.new.seat.ghost_name ≡ self.old.seat.ghost_name }
+        ensures fits { FitsMemory leaf.now.job memory.new }
+        ensures moved { Moved (task_at leaf.now) (driving self.old)
+            (in_block leaf.now leaf.now.rank memory.old) (driving self.new)
+            (in_block leaf.now (suc leaf.now.rank) memory.new) }
+    {
+        match memory.take_up(self, leaf) {
             Ok(()) => self.seat.facts(),
             Err(_) => unreachable!(),
         }

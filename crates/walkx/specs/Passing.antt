@@ -1,6 +1,7 @@
 -- Processors of a block whose task asks nothing, by a post.
 use Rattle.std.specs.Prelude.{◌≡◌, ℕ, Bool, if◌then◌else◌, List, slice_set, Option, Some, None}
-use Rattle.std.specs.Prelude.{IfSome, Result}
+use Rattle.std.specs.Prelude.{IfSome, Result, slice_get, suc}
+use Rattle.pram_job.specs.declared.instr.Instr.{Instr}
 use Rattle.pram_words.specs.Words.{grain}
 use Rattle.pram_words.specs.Phases.{kind_at}
 use Rattle.pram_words.specs.declared.phases.Kind.{Kind}
@@ -42,6 +43,12 @@ pub record TakesUp {D : Type 0} (stands : Standing D) (at : PostData) (old : D)
     pub on : (from : D × Script Then) (late : Script Then) (next : Memo → Script Then) →
         stands from old (Some (does_wide at (memo_of memory (processor_of at)) late next)) →
         stands from new (goes next (learns_all result learned))
+
+-- the processor is known before the step, and stands at this counter, at this instruction
+pub record StandsAt (at : PostData) (memory : List Memo) (counter : ℕ) (instr : Instr) : Type 0 where
+  pub before : suc (memo_of memory (processor_of at)).step ≡ step_of at
+  pub there : (memo_of memory (processor_of at)).counter ≡ counter
+  pub code : slice_get at.job.code counter ≡ Some instr
 
 -- the rank that comes next, from that of the post on, and what is then remembered
 abbrev pub passed : PostData → List Memo → ℕ × List Memo

@@ -29,9 +29,9 @@ mod worker;
 
 pub use laws::own_steps_are_bounded;
 pub use left::Stopped;
-pub use memo::{Memo, Memory};
+pub use memo::{Memo, Memory, Stand};
 pub use operation::{Activity, Ended, Op, ReadOp, Reading};
-pub use post::Post;
+pub use post::{Leaf, Post};
 pub use reader::Reader;
 pub use record::Recorded;
 pub use steps::Steps;

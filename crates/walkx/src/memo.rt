@@ -1,21 +1,27 @@
 //! What a worker remembers.
-ghost use Rattle.std.specs.Prelude.{◌≡◌, ◌==◌, suc, List, slice_set, IfOk, [], Some, None};
+ghost use Rattle.std.specs.Prelude.{◌≡◌, ◌==◌, suc, List, slice_get, slice_set, IfOk, IfSome, []};
+ghost use Rattle.std.specs.Prelude.{IsTrue, Some, None};
 ghost use Rattle.pram_machine.specs.Instructions.{goes_to};
 ghost use Rattle.pram_machine.specs.Turns.{request_of};
 ghost use Rattle.walkx.specs.declared.memo.Memo.{Memo};
 ghost use Rattle.walkx.specs.Driving.{IsNextPart};
-ghost use Rattle.walkx.specs.Inner.Posts.{IsLeafPost, processor_of};
+ghost use Rattle.pram_words.specs.Phases.{kind_at};
+ghost use Rattle.walkx.specs.Inner.Posts.{processor_of};
 ghost use Rattle.walkx.specs.Memory.{FitsMemo, at_start, blank, memo_of};
 ghost use Rattle.walkx.specs.Parts.{does_wide};
-ghost use Rattle.walkx.specs.Passing.{TakesUp};
+ghost use Rattle.walkx.specs.Passing.{StandsAt, TakesUp};
 ghost use Rattle.walkx.specs.WideParts.{IsShaped, learned};
 
 use crate::left::Stopped;
-use crate::post::{Leaf, Post};
+use crate::post::Leaf;
+use crate::request::fetch;
 use crate::steps::Steps;
 use crate::tasks::wide_task;
 use crate::turns::settle;
+use crate::wide_own::own_by;
+use pram_job::Instr;
 use pram_machine::{Put, Turn};
+use pram_words::Kind;
 use std::alloc::{AllocError, Global};
 use std::marker::Model;
 
@@ -87,6 +93,28 @@ impl Memo {
     }
 }
 
+/// The instruction at a counter, which processors stand at.
+#[derive(Clone, Copy)]
+pub struct Stand<'a> {
+    pub counter: u32,
+    pub instr: &'a Instr,
+}
+
+impl<'a> Stand<'a> {
+    /// The same instruction by a name that tells its form.
+    #[inline(always)]
+    pub fn with(self, instr: &'a Instr) -> Self
+        requires { instr.now ≡ self.instr.now }
+        ensures counter { result.counter ≡ self.entry.counter }
+        ensures instr { result.instr.now ≡ self.entry.instr.now }
+    {
+        Stand {
+            counter: self.counter,
+            instr,
+        }
+    }
+}
+
 /// What a worker remembers of each processor. One without memory knows what each is before the
 /// first step, and nothing else.
 #[derive(Drop)]
@@ -149,25 +177,77 @@ impl Memory {
     /// The task of a processor of a block, with what is remembered of it, whether it asks something
     /// or not.
     #[inline(always)]
-    pub fn take_up<S: Steps>(&mut self, steps: &mut S, post: &Post) -> Result<(), Stopped>
-        requires leaf { IsLeafPost post.now }
-        requires memo { FitsMemo post.now.job (memo_of self.old (processor_of post.now)) }
-        requires next { IsNextPart (S.stands post.now) steps.old
-            (does_wide post.now (memo_of self.old (processor_of post.now))) }
-        ensures { TakesUp (S.stands post.now) post.now steps.old self.old steps.new self.new
+    pub fn take_up<S: Steps>(&mut self, steps: &mut S, leaf: &Leaf) -> Result<(), Stopped>
+        requires memo { FitsMemo leaf.now.job (memo_of self.old (processor_of leaf.now)) }
+        requires next { IsNextPart (S.stands leaf.now) steps.old
+            (does_wide leaf.now (memo_of self.old (processor_of leaf.now))) }
+        ensures { TakesUp (S.stands leaf.now) leaf.now steps.old self.old steps.new self.new
             result }
     {
-        let leaf = post.leaf();
         let i = leaf.processor() as usize;
         match &mut self.memos {
             Some(memos) => {
                 if i < memos.len() {
-                    return settle(wide_task(steps, &leaf, &mut memos[i]));
+                    return settle(wide_task(steps, leaf, &mut memos[i]));
                 }
             }
             None => {}
         }
         let mut memo = Memo::at_start();
-        settle(wide_task(steps, &leaf, &mut memo))
+        settle(wide_task(steps, leaf, &mut memo))
+    }
+
+    /// The instruction that the leaf's processor stands at, where it is known before the step.
+    #[inline(always)]
+    pub fn stand<'a>(&self, leaf: &Leaf<'a>) -> Option<Stand<'a>>
+        ensures { IfSome result (λ stand. StandsAt leaf.now self.now stand.counter
+            stand.instr.now) }
+    {
+        let memo = self.memo(leaf.processor());
+        if !memo.is_before(leaf.step()) {
+            return None;
+        }
+        let counter = memo.counter;
+        let instr = fetch(leaf, counter)?;
+        Some(Stand { counter, instr })
+    }
+
+    /// Whether the leaf's processor is known before the step, and stands at this instruction.
+    #[inline(always)]
+    pub fn stands_at(&self, leaf: &Leaf, stand: Stand<'_>) -> bool
+        requires { slice_get leaf.now.job.code stand.counter ≡ Some stand.instr.now }
+        ensures { IsTrue result → StandsAt leaf.now self.now stand.entry.counter stand.entry.instr.now }
+    {
+        let memo = self.memo(leaf.processor());
+        memo.is_before(leaf.step()) && memo.counter == stand.counter
+    }
+
+    /// As `take_up`, in the first pass, for a processor that is known to stand at this instruction.
+    #[inline(always)]
+    pub fn take_up_by<S: Steps>(
+        &mut self,
+        steps: &mut S,
+        leaf: &Leaf,
+        stand: Stand<'_>,
+    ) -> Result<(), Stopped>
+        requires first { kind_at leaf.now.phase ≡ Kind.Compute }
+        requires stands { StandsAt leaf.now self.old stand.counter stand.instr.now }
+        requires memo { FitsMemo leaf.now.job (memo_of self.old (processor_of leaf.now)) }
+        requires next { IsNextPart (S.stands leaf.now) steps.old
+            (does_wide leaf.now (memo_of self.old (processor_of leaf.now))) }
+        ensures { TakesUp (S.stands leaf.now) leaf.now steps.old self.old steps.new self.new
+            result }
+    {
+        let i = leaf.processor() as usize;
+        match &mut self.memos {
+            Some(memos) => {
+                if i < memos.len() {
+                    return settle(own_by(steps, leaf, &mut memos[i], stand.instr));
+                }
+            }
+            None => {}
+        }
+        let mut memo = Memo::at_start();
+        settle(own_by(steps, leaf, &mut memo, stand.instr))
     }
 }

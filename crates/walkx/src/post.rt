@@ -1,10 +1,11 @@
 //! Where a worker stands.
 ghost use Rattle.std.specs.Prelude.{◌≡◌, ◌≢◌, ◌↔◌, IsTrue, ◌+◌, ◌-◌, ◌^◌, ◌<◌, ◌≤◌, ◌==◌, nat_lt};
+ghost use Rattle.std.specs.Prelude.{ℕ, ◌*◌, suc};
 ghost use Rattle.pram_words.specs.Stamps.{payload_of, stamp_of};
 ghost use Rattle.walkx.specs.Tasks.{is_late};
 ghost use Rattle.pram_machine.specs.Machine.{counter_place, register_place};
 ghost use Rattle.pram_words.specs.Phases.{kind_at};
-ghost use Rattle.pram_words.specs.Words.{counters_of, length_of, number_of, places_of};
+ghost use Rattle.pram_words.specs.Words.{counters_of, grain, length_of, number_of, places_of};
 ghost use Rattle.pram_words.specs.declared.words.Word.TheVariants.{Asked, Stored};
 ghost use Rattle.walkx.specs.Inner.Posts.{IsCell, IsLeafPost, IsLeafOf, IsPairAt, IsPost};
 ghost use Rattle.walkx.specs.Inner.Posts.{PostData, at_rank, part_raised, post_data};
@@ -12,7 +13,7 @@ ghost use Rattle.walkx.specs.Inner.Posts.{processor_of, step_of};
 ghost use Rattle.walkx.specs.Tasks.{claim_of};
 ghost use Rattle.walkx.specs.Parts.{claim_loaded, claim_raised, differs_from, is_cell_part};
 ghost use Rattle.walkx.specs.Parts.{owner_place, report_made};
-ghost use Rattle.walkx.specs.Walk.{IsBoard, IsLayoutOf};
+ghost use Rattle.walkx.specs.Walk.{IsBoard, IsLayoutOf, IsWide, has_rank};
 
 use crate::operation::Op;
 use pram_job::{Job, Rule};
@@ -117,9 +118,23 @@ impl<'a> Post<'a> {
         let _ = &self.node;
     }
 
+    /// How many processors the leaf's block has.
+    #[inline(always)]
+    pub fn block_len(&self) -> u32
+        requires leaf { self.now.layout.leaves ≤ self.now.node }
+        ensures ranks { (rank : ℕ) → has_rank self.now.layout self.now.node rank
+            ≡ nat_lt rank result }
+        ensures most { result ≤ grain self.now.layout }
+    {
+        self.limits_hold();
+        let layout = self.layout;
+        let first = layout.grain() * (self.node - layout.leaves());
+        layout.grain().min(layout.procs().saturating_sub(first))
+    }
+
     /// This post, known to be a leaf of a processor.
     #[inline(always)]
-    pub(crate) fn leaf(&self) -> Leaf<'a>
+    pub fn leaf(&self) -> Leaf<'a>
         requires { IsLeafPost self.now }
         ensures { result ≡ self.now }
     {
@@ -139,6 +154,7 @@ impl<'a> Post<'a> {
             node: self.node,
             phase: self.phase,
             step: step_of(self.phase),
+            kind: kind_of(self.phase),
             rank,
             processor: self.processor_at(rank),
             own: self.layout.own_words(self.processor_at(rank)),
@@ -149,7 +165,7 @@ impl<'a> Post<'a> {
 
 /// A worker at the leaf of a processor.
 #[derive(Drop)]
-pub(crate) struct Leaf<'a> {
+pub struct Leaf<'a> {
     job: &'a Job,
     layout: &'a Layout,
     worker: u32,
@@ -157,6 +173,7 @@ pub(crate) struct Leaf<'a> {
     phase: u64,
     rank: u32,
     step: u32,
+    kind: Kind,
     processor: u32,
     own: OwnWords,
     first_cell: u32,
@@ -168,11 +185,37 @@ impl<'a> Model for Leaf<'a> {
     ghost view = { λ p. post_data p.job.now p.layout.now p.worker p.node p.phase p.rank };
 
     ghost invariant = { λ p. IsLeafOf
-        (post_data p.job.now p.layout.now p.worker p.node p.phase p.rank) p.step p.processor
-        p.own p.first_cell };
+        (post_data p.job.now p.layout.now p.worker p.node p.phase p.rank) p.step p.kind
+        p.processor p.own p.first_cell };
 }
 
 impl<'a> Leaf<'a> {
+    /// The leaf at the next processor of the block, in the wide form.
+    #[inline(always)]
+    pub fn next(&self) -> Leaf<'a>
+        requires wide { IsWide self.now.layout.form }
+        requires leaf { IsLeafPost (at_rank self.now (suc self.now.rank)) }
+        ensures { result ≡ at_rank self.now (suc self.now.rank) }
+    {
+        Leaf {
+            rank: self.rank + 1,
+            processor: self.processor + 1,
+            own: OwnWords {
+                counter: self.own.counter + 16,
+                registers: self.own.registers + 16,
+            },
+            ..*self
+        }
+    }
+
+    /// The processor's rank in the block.
+    #[inline(always)]
+    pub fn rank(&self) -> u32
+        ensures { result ≡ self.now.rank }
+    {
+        self.rank
+    }
+
     #[inline(always)]
     pub(crate) fn job(&self) -> &'a Job
         ensures value { result.now ≡ self.now.job }
@@ -202,11 +245,11 @@ impl<'a> Leaf<'a> {
 
     /// What the phase does.
     #[inline(always)]
-    pub(crate) fn kind(&self) -> Kind
+    pub fn kind(&self) -> Kind
         ensures value { result ≡ kind_at self.now.phase }
         ensures limits { IsLeafPost self.now }
     {
-        kind_of(self.phase)
+        self.kind
     }
 
     #[inline(always)]

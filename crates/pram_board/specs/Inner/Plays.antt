@@ -1,8 +1,9 @@
 -- A script that is played through a seat, and the ticks that come of it.
-use Rattle.std.specs.Prelude.{◌≡◌, ◌≤◌, ◌<◌, ℕ, Bool, false, ◌⊎◌, ◌+◌, ◌%◌, ◌^◌}
+use Rattle.std.specs.Prelude.{◌≡◌, ◌≤◌, ◌<◌, ℕ, Bool, false, ◌⊎◌, ◌+◌, ◌%◌, ◌^◌, nat_lt, suc}
 use Rattle.std.specs.Prelude.{List, [], ◌∷◌, length, Option, Some, None}
 use Rattle.walkx.specs.declared.operation.Op.{Op}
-use Rattle.walkx.specs.Inner.Posts.{PostData}
+use Rattle.walkx.specs.Inner.Posts.{IsLeafPost, PostData, at_rank}
+use Rattle.walkx.specs.Memory.{FitsMemory}
 use Rattle.walkx.specs.Bound.{told_all}
 use Rattle.walkx.specs.Inner.Workers.{WorkerData}
 use Rattle.walkx.specs.Records.{Knows}
@@ -12,7 +13,7 @@ use Rattle.walkx.specs.declared.turns.Turned.{Turned}
 use Rattle.walkx.specs.declared.turns.Turned.TheVariants as turned
 use Rattle.walkx.specs.declared.memo.Memo.{Memo}
 use Rattle.walkx.specs.Walk.{Then, Walking, Fits, IsBoard, IsGoing, AllAdmitted, end_of, goes_in}
-use Rattle.walkx.specs.Walk.{script_of}
+use Rattle.walkx.specs.Walk.{has_rank, script_of}
 use Rattle.pram_board.specs.declared.driver.Driver.{Driver}
 use Rattle.pram_board.specs.declared.task.Task.{Task}
 use Rattle.pram_board.specs.Seats.{Desk, SeatData, hears_all}
@@ -128,6 +129,23 @@ turning_at at memory = turning at.worker at.node at.phase memory
 
 abbrev pub in_block : PostData → ℕ → List Memo → Walking
 in_block at rank memory = goes_in at.job at.layout at.worker at.node at.phase rank memory
+
+-- the worker is at the task of this leaf's processor, in a block of this length
+pub record AtTask (at : PostData) (len : ℕ) (driver : Driving) (memory : List Memo) : Type 0 where
+  pub leaf : IsLeafPost at
+  pub ranks : (rank : ℕ) → has_rank at.layout at.node rank ≡ nat_lt rank len
+  pub fits : FitsMemory at.job memory
+  pub walks : IsWalking (task_at at) driver (in_block at at.rank memory)
+
+-- the tasks of a block of this length were done, from this leaf's processor up to that of a leaf
+pub record DoneTo (at : PostData) (len : ℕ) (before : Driving) (memory : List Memo)
+    (last : PostData) (later : Driving) (now : List Memo) : Type 0 where
+  pub same : last ≡ at_rank at last.rank
+  pub onward : at.rank ≤ last.rank
+  pub within : last.rank < len
+  pub fits : FitsMemory at.job now
+  pub moved : Moved (task_at at) before (in_block at at.rank memory) later
+      (in_block at (suc last.rank) now)
 
 -- where a turn leads it
 abbrev pub led_to : PostData → List Memo → Turned → Walking

@@ -2,7 +2,8 @@
 use Rattle.std.specs.Prelude.{◌≡◌, ◌≢◌, IsTrue, ℕ, ◌+◌, ◌*◌, ◌^◌, ◌<◌, ◌≤◌}
 use Rattle.pram_job.specs.declared.instr.Rule.TheVariants.{Common}
 use Rattle.pram_job.specs.Job.{JobData}
-use Rattle.pram_words.specs.Phases.{step_at}
+use Rattle.pram_words.specs.Phases.{kind_at, step_at}
+use Rattle.pram_words.specs.declared.phases.Kind.{Kind}
 use Rattle.pram_words.specs.Stamps.{stamped_word}
 use Rattle.pram_words.specs.Words.{AreOwn, LayoutData, grain, number_of, places_of}
 use Rattle.pram_words.specs.declared.layout.OwnWords.{OwnWords}
@@ -53,11 +54,13 @@ pub record IsLeafPost (at : PostData) : Type 0 where
 abbrev pub at_rank : PostData → ℕ → PostData
 at_rank at rank = record at { rank = rank }
 
--- a post that is a leaf's, with its step, its processor, and where that one's words begin, and those
--- of the cells
-pub record IsLeafOf (at : PostData) (t i : ℕ) (words : OwnWords) (first_cell : ℕ) : Type 0 where
+-- a post that is a leaf's, with its step, what the phase does, its processor, and where that one's
+-- words begin, and those of the cells
+pub record IsLeafOf (at : PostData) (t : ℕ) (kind : Kind) (i : ℕ) (words : OwnWords)
+    (first_cell : ℕ) : Type 0 where
   pub leaf : IsLeafPost at
   pub step : t ≡ step_of at
+  pub does : kind ≡ kind_at at.phase
   pub processor : i ≡ processor_of at
   pub own : AreOwn at.layout i words
   pub cells : (cell : ℕ) → cell < at.layout.cells →

@@ -1,40 +1,21 @@
-use Rattle.std.proofs.Common.{◌≡◌, ◌+◌, ◌<◌, suc, true, [], refl, sym, ◌∙◌, arith}
+use Rattle.std.proofs.Common.{◌≡◌, ◌+◌, ◌<◌, true, ℕ, refl, sym, subst, ◌∙◌, arith}
+use Rattle.std.proofs.lemmas.Bool.{lt-ltb}
+use Rattle.walkx.specs.Inner.Posts.{IsLeafPost, at_rank}
 use Rattle.walkx.specs.Walk.{has_rank}
 use Rattle.walkx.proofs.Firsts.{rank_parts}
-use Rattle.pram_board.proofs.Telling.{went_more}
+use Rattle.pram_board.specs.Inner.Plays.{IsWalking, Moved, driving, in_block, task_at}
+use Rattle.pram_board.proofs.Tasks.{not_moved}
 use Rattle.pram_board.proofs.Working.{led_more}
 use Rattle.pram_board.proofs.driver.Driver.block.Goals as goal
+use Rattle.pram_board.proofs.driver.Driver.block.Goals.{then-len-gt0, else-len-gt0}
 
-pub loop-self-init : goal.loop-self-init
-loop-self-init g c = record {
-  same = refl;
-  rank = omega arith;
-  fits = c.requires.fits;
-  moved = record {
-    walks = c.requires.walks;
-    went = record {
-      ticks = 0;
-      ran = record { answers = []; count = refl; seat = refl; worker = refl };
-      desk = refl;
-      count = omega arith;
-      small = λ h. h;
-    };
-  };
-}
-
-pub has_rank-requires-clause-rank : goal.has_rank-requires-clause-rank
-has_rank-requires-clause-rank g c =
-    let i = c.loop-self.invariant in
-    let most = i.moved.walks.here.board.layout.block.1 in
-    omega (arith, i.rank, most)
-
-pub part-requires-clause-leaf : goal.part-requires-clause-leaf
-part-requires-clause-leaf g c =
-    let walks = c.loop-self.invariant.moved.walks in
+pub leaf-requires : goal.leaf-requires
+leaf-requires g c =
     let at = c.args.post.now in
-    let there : has_rank at.layout at.node c.loop-self.rank ≡ true =
-    sym c.has_rank.ensures.value ∙ c.loop-self-test.true in
-    let parts = rank_parts at.layout at.node c.loop-self.rank there in
+    let walks = c.requires.walks in
+    let some : 0 < c.block_len-len.result = omega (arith, c.if-len-gt0.true) in
+    let parts = rank_parts at.layout at.node 0
+        (c.block_len-len.ensures.ranks 0 ∙ lt-ltb 0 c.block_len-len.result some) in
     rw c.at.ensures (record {
       board = walks.here.board;
       first = walks.fits.block.0;
@@ -43,45 +24,50 @@ part-requires-clause-leaf g c =
       phase = walks.fits.phase.1;
     })
 
-pub part-requires-clause-fits : goal.part-requires-clause-fits
-part-requires-clause-fits g c = rw c.at.ensures c.loop-self.invariant.fits
-
-pub part-requires-clause-walks : goal.part-requires-clause-walks
-part-requires-clause-walks g c = rw c.at.ensures c.loop-self.invariant.moved.walks
-
-pub loop-self-smaller : goal.loop-self-smaller
-loop-self-smaller g c =
+pub tasks-requires : goal.tasks-requires
+tasks-requires g c =
     let at = c.args.post.now in
-    let there : has_rank at.layout at.node c.loop-self.rank ≡ true =
-    sym c.has_rank.ensures.value ∙ c.loop-self-test.true in
-    let parts = rank_parts at.layout at.node c.loop-self.rank there in
-    omega (arith, parts.0)
-
-pub loop-self-preserved : goal.loop-self-preserved
-loop-self-preserved g c =
-    let i = c.loop-self.invariant in
-    let at = c.args.post.now in
-    let there : has_rank at.layout at.node c.loop-self.rank ≡ true =
-    sym c.has_rank.ensures.value ∙ c.loop-self-test.true in
-    let parts = rank_parts at.layout at.node c.loop-self.rank there in
-    let next : suc c.loop-self.rank ≡ c.loop-self.rank + 1 = omega arith in
-    let moved = rw next at (rw c.at.ensures at c.part.ensures.moved) in
-    record {
-      same = c.part.ensures.same ∙ i.same;
-      rank = omega (arith, parts.0);
-      fits = rw c.at.ensures at c.part.ensures.fits;
-      moved = record {
-        walks = moved.walks;
-        went = went_more _ _ _ _ _ _ _ i.moved.went moved.went;
+    let walks = c.requires.walks in
+    let parts = rank_parts at.layout at.node 0
+        (c.block_len-len.ensures.ranks 0 ∙ lt-ltb 0 c.block_len-len.result c.if-len-gt0.true) in
+    rw (c.leaf.ensures, c.at.ensures) (record {
+      at = record {
+        leaf = record {
+          board = walks.here.board;
+          first = walks.fits.block.0;
+          rank = parts.0;
+          last = parts.1;
+          phase = walks.fits.phase.1;
+        };
+        ranks = c.block_len-len.ensures.ranks;
+        fits = c.requires.fits;
+        walks = walks;
       };
-    }
+    })
 
 pub mark-requires-clause-walks : goal.mark-requires-clause-walks
-mark-requires-clause-walks g c = c.loop-self.invariant.moved.walks
+mark-requires-clause-walks g c = elim c.if-len-gt0.branch [
+  | then-len-gt0 w ↦ rw (w.self-is, w.memory-is)
+      (rw (w.leaf.ensures, w.at.ensures) at w.tasks.ensures.moved.walks)
+  | else-len-gt0 w ↦ rw (w.self-is, w.memory-is) (
+      let none : 0 ≡ c.block_len-len.result = omega (arith, w.if-len-gt0.false) in
+      subst (λ (rank : ℕ). IsWalking (task_at c.args.post.now) (driving c.args.self.now)
+      (in_block c.args.post.now rank c.args.memory.now)) none c.requires.walks)
+]
 
 pub returns-clause-same : goal.returns-clause-same
-returns-clause-same g c = c.mark.ensures.same ∙ c.loop-self.invariant.same
+returns-clause-same g c = elim c.if-len-gt0.branch [
+  | then-len-gt0 w ↦ c.mark.ensures.same ∙ rw w.self-is w.tasks.ensures.same
+  | else-len-gt0 w ↦ c.mark.ensures.same ∙ rw w.self-is refl
+]
 
 pub returns-clause-led : goal.returns-clause-led
-returns-clause-led g c =
-    led_more _ _ _ _ _ _ _ c.loop-self.invariant.moved.went c.mark.ensures.led
+returns-clause-led g c = elim c.if-len-gt0.branch [
+  | then-len-gt0 w ↦ (
+      let moved = rw (w.leaf.ensures, w.at.ensures) at w.tasks.ensures.moved in
+      rw w.memory-is (led_more _ _ _ (driving w.tasks.new.self) _ _ _ moved.went
+      (rw (w.self-is, w.memory-is) at c.mark.ensures.led)))
+  | else-len-gt0 w ↦ (
+      let none : c.block_len-len.result ≡ 0 = omega (arith, w.if-len-gt0.false) in
+      rw w.memory-is (rw none at (rw (w.self-is, w.memory-is) at c.mark.ensures.led)))
+]

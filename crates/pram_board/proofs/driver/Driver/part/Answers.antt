@@ -12,7 +12,7 @@ use Rattle.pram_board.proofs.driver.Driver.part.Goals as goal
 
 pub take_up-requires-clause-next : goal.take_up-requires-clause-next
 take_up-requires-clause-next g c =
-    let at = c.args.post.now in
+    let at = c.args.leaf.now in
     let wide = c.requires.walks.fits.block.2 in
     let memory = c.args.memory.now in
     record {
@@ -29,7 +29,7 @@ take_up-requires-clause-next g c =
 
 pub unreachable-requires : goal.unreachable-requires
 unreachable-requires g c =
-    let at = c.args.post.now in
+    let at = c.args.leaf.now in
     let wide = c.requires.walks.fits.block.2 in
     let memory = c.args.memory.now in
     (c.in-Err.ensures.on (
@@ -44,7 +44,7 @@ unreachable-requires g c =
 
 pub returns-clause-same : goal.returns-clause-same
 returns-clause-same g c =
-    let at = c.args.post.now in
+    let at = c.args.leaf.now in
     let wide = c.requires.walks.fits.block.2 in
     let memory = c.args.memory.now in
     (c.in-Ok.ensures.on (
@@ -59,7 +59,7 @@ returns-clause-same g c =
 
 pub returns-clause-moved : goal.returns-clause-moved
 returns-clause-moved g c =
-    let at = c.args.post.now in
+    let at = c.args.leaf.now in
     let wide = c.requires.walks.fits.block.2 in
     let memory = c.args.memory.now in
     let takes = c.in-Ok.ensures in
@@ -80,7 +80,7 @@ returns-clause-moved g c =
 
 pub returns-clause-fits : goal.returns-clause-fits
 returns-clause-fits g c =
-    let at = c.args.post.now in
+    let at = c.args.leaf.now in
     let takes = c.in-Ok.ensures in
     let moved = returns-clause-moved g c in
     rw takes.kept (kept_fits at.job at.layout at.node at.phase at.rank c.args.memory.now

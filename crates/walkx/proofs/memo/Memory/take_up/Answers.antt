@@ -14,21 +14,21 @@ wide_task-requires-clause-next g c =
     let low : c.processor-i.result < length c.in-Some.memos.items =
     omega (arith, c.in-Some.memos.ok, c.len.ensures, c.if-i-len.true) in
     let items : c.in-Some.memos.items ≡ c.args.self.now = rw c.in-Some.is at c.self.view_is in
-    let i : c.processor-i.result ≡ processor_of c.args.post.now =
-    rw c.leaf-leaf.ensures at c.processor-i.ensures.value in
-    let is : c.index_mut.result.now ≡ memo_of c.args.self.now (processor_of c.args.post.now) =
+    let i : c.processor-i.result ≡ processor_of c.args.leaf.now =
+    c.processor-i.ensures.value in
+    let is : c.index_mut.result.now ≡ memo_of c.args.self.now (processor_of c.args.leaf.now) =
     c.index_mut.ensures.value
     ∙ memo_there c.in-Some.memos.items c.processor-i.result c.index_mut.result.now low
     ∙ rw (items, i) refl in
-    rw (c.leaf-leaf.ensures, is) c.requires.next
+    rw is c.requires.next
 
 pub returns-then-i-len : goal.returns-then-i-len
 returns-then-i-len g c =
     let low : c.processor-i.result < length c.in-Some.memos.items =
     omega (arith, c.in-Some.memos.ok, c.len.ensures, c.if-i-len.true) in
     let items : c.in-Some.memos.items ≡ c.args.self.now = rw c.in-Some.is at c.self.view_is in
-    let at = c.args.post.now in
-    let i : c.processor-i.result ≡ processor_of at = rw c.leaf-leaf.ensures at c.processor-i.ensures.value in
+    let at = c.args.leaf.now in
+    let i : c.processor-i.result ≡ processor_of at = c.processor-i.ensures.value in
     rw c.settle.ensures (takes_up (g.S.Steps.stands at) at c.args.steps.now
     c.wide_task.new.steps c.args.self.now _ c.index_mut.result.now
     c.wide_task.new.memo c.wide_task.result
@@ -36,14 +36,14 @@ returns-then-i-len g c =
     ∙ memo_there c.in-Some.memos.items c.processor-i.result c.index_mut.result.now low
     ∙ rw (items, i) refl)
     (rw (items, i) refl)
-    (rw c.leaf-leaf.ensures at c.wide_task.ensures.idle)
-    (rw c.leaf-leaf.ensures at c.wide_task.ensures.plays))
+    c.wide_task.ensures.idle
+    c.wide_task.ensures.plays)
 
 pub wide_task-requires-2-clause-next : goal.wide_task-requires-2-clause-next
 wide_task-requires-2-clause-next g c =
-    let i : c.processor-i.result ≡ processor_of c.args.post.now =
-    rw c.leaf-leaf.ensures at c.processor-i.ensures.value in
-    let past : length c.args.self.now ≤ processor_of c.args.post.now =
+    let i : c.processor-i.result ≡ processor_of c.args.leaf.now =
+    c.processor-i.ensures.value in
+    let past : length c.args.self.now ≤ processor_of c.args.leaf.now =
     elim c.match-self.branch [
       | in-Some+else-i-len w ↦ (
           let items : w.in-Some.memos.items ≡ c.args.self.now = rw w.in-Some.is at c.self.view_is in
@@ -59,17 +59,16 @@ wide_task-requires-2-clause-next g c =
           omega (arith, ap (λ (l : List Memo). length l) items))
     ] in
     rw (
-      c.leaf-leaf.ensures,
       c.at_start-memo.ensures,
       sym (memo_past c.args.self.now
-          (processor_of c.args.post.now) past),
+          (processor_of c.args.leaf.now) past),
     ) c.requires.next
 
 pub returns : goal.returns
 returns g c =
-    let at = c.args.post.now in
+    let at = c.args.leaf.now in
     let i : c.processor-i.result ≡ processor_of at =
-    rw c.leaf-leaf.ensures at c.processor-i.ensures.value in
+    c.processor-i.ensures.value in
     let past : length c.args.self.now ≤ processor_of at =
     elim c.match-self.branch [
       | in-Some+else-i-len w ↦ (
@@ -95,5 +94,5 @@ returns g c =
     c.at_start-memo.result c.wide_task-2.new.memo c.wide_task-2.result
     (c.at_start-memo.ensures ∙ sym (memo_past c.args.self.now (processor_of at) past))
     (set_past c.args.self.now (processor_of at) c.wide_task-2.new.memo past)
-    (rw c.leaf-leaf.ensures at c.wide_task-2.ensures.idle)
-    (rw c.leaf-leaf.ensures at c.wide_task-2.ensures.plays))
+    c.wide_task-2.ensures.idle
+    c.wide_task-2.ensures.plays)
