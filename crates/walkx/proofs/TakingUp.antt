@@ -42,38 +42,38 @@ set_past (m ∷ memory) (suc i) memo past =
 -- the first pass by the instruction that the processor is known to stand at
 module _ (at : PostData) (memo : Memo) (instr : Instr) (first : kind_at at.phase ≡ Compute)
     (before : suc memo.step ≡ step_of at) (code : slice_get at.job.code memo.counter ≡ Some instr)
-    where
-  pub own_is : (late : Script Then) (next : Memo → Script Then) →
-      does_wide at memo late next ≡ does_own_by at memo instr late next
-  unfolding wide_task_of own_task own_claim_task
-  own_is late next = by at.job.rule refl
-    where
-      by : (rule : Rule) → at.job.rule ≡ rule →
-          does_wide at memo late next ≡ does_own_by at memo instr late next
-      by Common e = rw (first, e, eq-eqb _ _ before, code) refl
-      by Priority e = rw (first, e, eq-eqb _ _ before, code) refl
-      by Crew e = rw (first, e, eq-eqb _ _ before, code) refl
+  where
+    pub own_is : (late : Script Then) (next : Memo → Script Then) →
+        does_wide at memo late next ≡ does_own_by at memo instr late next
+    unfolding wide_task_of own_task own_claim_task
+    own_is late next = by at.job.rule refl
+      where
+        by : (rule : Rule) → at.job.rule ≡ rule →
+            does_wide at memo late next ≡ does_own_by at memo instr late next
+        by Common e = rw (first, e, eq-eqb _ _ before, code) refl
+        by Priority e = rw (first, e, eq-eqb _ _ before, code) refl
+        by Crew e = rw (first, e, eq-eqb _ _ before, code) refl
 
-  pub own_next : {D : Type 0} (stands : Standing D) (old : D) →
-      IsNextPart stands old (does_wide at memo) → IsNextPart stands old (does_own_by at memo instr)
-  own_next stands old is = record {
-    from = is.from;
-    after = is.after;
-    next = is.next;
-    here = subst (λ (s : Script Then). stands is.from old (Some s)) (own_is is.after is.next) is.here;
-  }
+    pub own_next : {D : Type 0} (stands : Standing D) (old : D) →
+        IsNextPart stands old (does_wide at memo) → IsNextPart stands old (does_own_by at memo instr)
+    own_next stands old is = record {
+      from = is.from;
+      after = is.after;
+      next = is.next;
+      here = subst (λ (s : Script Then). stands is.from old (Some s)) (own_is is.after is.next) is.here;
+    }
 
-  pub own_plays : {D : Type 0} (stands : Standing D) (old new : D) (result : Result Memo Left) →
-      Plays stands old (does_own_by at memo instr) new result →
-      Plays stands old (does_wide at memo) new result
-  own_plays stands old new result plays = record {
-    on = λ from late next here. plays.on from late next
-        (subst (λ (s : Script Then). stands from old (Some s)) (own_is late next) here);
-  }
+    pub own_plays : {D : Type 0} (stands : Standing D) (old new : D) (result : Result Memo Left) →
+        Plays stands old (does_own_by at memo instr) new result →
+        Plays stands old (does_wide at memo) new result
+    own_plays stands old new result plays = record {
+      on = λ from late next here. plays.on from late next
+          (subst (λ (s : Script Then). stands from old (Some s)) (own_is late next) here);
+    }
 
-  pub own_idle : {D : Type 0} (old new : D) (known : Memo) →
-      Passes (idle_in Compute at memo) old new known → Passes (idle at memo) old new known
-  own_idle old new known passes = rw first passes
+    pub own_idle : {D : Type 0} (old new : D) (known : Memo) →
+        Passes (idle_in Compute at memo) old new known → Passes (idle at memo) old new known
+    own_idle old new known passes = rw first passes
 
 pub takes_up : {D : Type 0} (stands : Standing D) (at : PostData) (old new : D)
     (memory now : List Memo) (memo learned : Memo) (done : Result (Unit {0}) Left) →

@@ -15,7 +15,7 @@ leaf-requires g c =
     let walks = c.requires.walks in
     let some : 0 < c.block_len-len.result = omega (arith, c.if-len-gt0.true) in
     let parts = rank_parts at.layout at.node 0
-        (c.block_len-len.ensures.ranks 0 ∙ lt-ltb 0 c.block_len-len.result some) in
+    (c.block_len-len.ensures.ranks 0 ∙ lt-ltb 0 c.block_len-len.result some) in
     rw c.at.ensures (record {
       board = walks.here.board;
       first = walks.fits.block.0;
@@ -29,7 +29,7 @@ tasks-requires g c =
     let at = c.args.post.now in
     let walks = c.requires.walks in
     let parts = rank_parts at.layout at.node 0
-        (c.block_len-len.ensures.ranks 0 ∙ lt-ltb 0 c.block_len-len.result c.if-len-gt0.true) in
+    (c.block_len-len.ensures.ranks 0 ∙ lt-ltb 0 c.block_len-len.result c.if-len-gt0.true) in
     rw (c.leaf.ensures, c.at.ensures) (record {
       at = record {
         leaf = record {
