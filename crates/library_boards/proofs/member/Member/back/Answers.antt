@@ -1,7 +1,7 @@
 use Rattle.std.proofs.lemmas.Option.{same_Some}
-use Rattle.std.proofs.Common.{◌≡◌, refl, subst}
+use Rattle.std.proofs.Common.{◌≡◌, length, refl, subst}
 use Rattle.walkx.specs.Serving.{IsNewWorker}
-use Rattle.walkx.specs.Walk.{come_back}
+use Rattle.walkx.specs.Walk.{come_back, remembering}
 use Rattle.pram_board.specs.Worked.{Works}
 use Rattle.library_boards.specs.Members.{board_at}
 use Rattle.library_boards.proofs.member.Member.back.Goals as goal
@@ -11,9 +11,12 @@ returns-in-Some c =
     let old = c.args.self.now in
     let worker = c.in-Some.worker in
     let was = c.requires.works worker c.in-Some.is in
-    let back : IsNewWorker worker.walking.number (come_back worker.walking.number) c.back.result =
-    subst (λ n. IsNewWorker n (come_back n) c.back.result) c.number.ensures c.back.ensures in
-    let now : Works (board_at old) old.seat c.back.result = record {
+    let size = length c.worker_memory-memory.result in
+    let back : IsNewWorker worker.walking.number
+    (remembering size (come_back worker.walking.number)) c.back_with.result =
+    subst (λ n. IsNewWorker n (remembering size (come_back n)) c.back_with.result)
+    c.number.ensures c.back_with.ensures in
+    let now : Works (board_at old) old.seat c.back_with.result = record {
       desk = was.desk;
       serves = back.serves (board_at old).task.job (board_at old).task.layout
           was.serves.fits.number;
@@ -22,8 +25,9 @@ returns-in-Some c =
     } in record {
       worker = worker;
       was = c.in-Some.is;
-      now = c.back.result;
+      now = c.back_with.result;
       is = refl;
+      memory = size;
       back = back;
       seat = refl;
       same = refl;

@@ -1,5 +1,5 @@
 use Rattle.std.proofs.lemmas.Option.{same_Some}
-use Rattle.std.proofs.Common.{◌≡◌, ◌<◌, arith, refl, rules, subst, sym}
+use Rattle.std.proofs.Common.{◌≡◌, ◌<◌, length, arith, refl, rules, subst, sym}
 use Rattle.std.specs.Arc.{arc_value}
 use Rattle.pram_board.specs.Worked.{Works}
 use Rattle.library_boards.specs.declared.shared.Shared.{Shared}
@@ -14,14 +14,14 @@ returns c =
     let desk : seat.desk ≡ shared.board = search rules in
     let below : c.args.number < shared.board.task.layout.workers =
     omega (arith, shared.workers_are, c.requires) in
-    let works : Works shared.board seat c.start.result = record {
+    let works : Works shared.board seat c.start_with.result = record {
       desk = desk;
-      serves = c.start.ensures.serves shared.board.task.job shared.board.task.layout below;
-      knows = c.start.ensures.known shared.board.task.job shared.board.task.layout seat.record_of
+      serves = c.start_with.ensures.serves shared.board.task.job shared.board.task.layout below;
+      knows = c.start_with.ensures.known shared.board.task.job shared.board.task.layout seat.record_of
           below;
     } in
-    let now : Works (arc_value c.in_ok-try_clone.field-0).board seat c.start.result =
-    subst (λ (s : Shared). Works s.board seat c.start.result) (sym same) works in record {
+    let now : Works (arc_value c.in_ok-try_clone.field-0).board seat c.start_with.result =
+    subst (λ (s : Shared). Works s.board seat c.start_with.result) (sym same) works in record {
       new = record {
         same = same;
         seen = search rules;
@@ -31,7 +31,8 @@ returns c =
               (same_Some _ _ e) now;
         };
       };
-      worker = c.start.result;
+      worker = c.start_with.result;
       is = refl;
-      starts = c.start.ensures;
+      memory = length c.worker_memory-memory.result;
+      starts = c.start_with.ensures;
     }
