@@ -41,6 +41,13 @@ export const CHINESE = {
   Redo: '重做',
   'redo the change of the text': '重做对文本的修改',
   Save: '保存',
+  Open: '打开',
+  'open a file': '打开文件',
+  '{0} is open.': '{0} 已打开。',
+  '{0} has more than 64 MB, which no text may have.':
+    '{0} 超过 64 MB，文本不能这么长。',
+  '{0} is no text: its bytes are not UTF-8.': '{0} 不是文本：它的字节不是 UTF-8。',
+  '{0} cannot be read.': '无法读取 {0}。',
   'save the text as a file': '把文本保存为文件',
   'Copy link': '复制链接',
   'Program: your own, or one of the gallery': '程序：自己的，或图库中的',

@@ -3,7 +3,7 @@
 import { openAtWork } from './at_work.js';
 import { byId, fit, make, setAttribute, setText } from './dom.js';
 import { Sheet } from './sheet.js';
-import { movedLines } from './text_lines.js';
+import { movedLines, withLines } from './text_lines.js';
 import { openWindow } from './window.js';
 import { english } from './words.js';
 
@@ -50,8 +50,6 @@ function endOfChange(before, after) {
 
 // What is entered without data of its own.
 const ENTERED = { insertLineBreak: '\n', insertParagraph: '\n' };
-
-const withLines = (text) => text.replaceAll('\r\n', '\n').replaceAll('\r', '\n');
 
 export class Editor {
   // `on` has what follows a change of the text, undo, redo, and clicks on a line's number or stop.

@@ -48,6 +48,13 @@ export const FRENCH = {
   Redo: 'Rétablir',
   'redo the change of the text': 'rétablir la modification du texte',
   Save: 'Enregistrer',
+  Open: 'Ouvrir',
+  'open a file': 'ouvrir un fichier',
+  '{0} is open.': '{0} est ouvert.',
+  '{0} has more than 64 MB, which no text may have.':
+    '{0} dépasse 64 Mo, ce qu’aucun texte ne peut avoir.',
+  '{0} is no text: its bytes are not UTF-8.': '{0} n’est pas un texte : ses octets ne sont pas de l’UTF-8.',
+  '{0} cannot be read.': '{0} ne peut pas être lu.',
   'save the text as a file': 'enregistrer le texte dans un fichier',
   'Copy link': 'Copier le lien',
   'Program: your own, or one of the gallery': 'Programme : un des vôtres, ou un de la galerie',

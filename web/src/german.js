@@ -48,6 +48,13 @@ export const GERMAN = {
   Redo: 'Wiederholen',
   'redo the change of the text': 'die Änderung des Textes wiederholen',
   Save: 'Speichern',
+  Open: 'Öffnen',
+  'open a file': 'eine Datei öffnen',
+  '{0} is open.': '{0} ist geöffnet.',
+  '{0} has more than 64 MB, which no text may have.':
+    '{0} hat mehr als 64 MB; so lang darf kein Text sein.',
+  '{0} is no text: its bytes are not UTF-8.': '{0} ist kein Text: die Bytes sind kein UTF-8.',
+  '{0} cannot be read.': '{0} lässt sich nicht lesen.',
   'save the text as a file': 'den Text als Datei speichern',
   'Copy link': 'Link kopieren',
   'Program: your own, or one of the gallery': 'Programm: ein eigenes oder eines der Galerie',

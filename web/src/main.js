@@ -7,6 +7,7 @@ import { Editor } from './editor.js';
 import { endInWords } from './ends.js';
 import { roomForEvents } from './event_words.js';
 import { Far } from './far.js';
+import { openFiles } from './files.js';
 import { openGallery } from './gallery.js';
 import { listenToKeys } from './keys.js';
 import { openLanguage } from './language.js';
@@ -64,6 +65,7 @@ class Playground {
     onClick('undo-text', () => this.undoText(-1));
     onClick('redo-text', () => this.undoText(1));
     ignoreDisabled();
+    openFiles(this);
     listenToPrinting(this);
     window.addEventListener('pagehide', () => this.keep());
     document.addEventListener('visibilitychange', () => {

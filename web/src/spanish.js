@@ -47,6 +47,13 @@ export const SPANISH = {
   Redo: 'Rehacer',
   'redo the change of the text': 'rehacer el cambio del texto',
   Save: 'Guardar',
+  Open: 'Abrir',
+  'open a file': 'abrir un archivo',
+  '{0} is open.': '{0} está abierto.',
+  '{0} has more than 64 MB, which no text may have.':
+    '{0} tiene más de 64 MB, lo que ningún texto puede tener.',
+  '{0} is no text: its bytes are not UTF-8.': '{0} no es un texto: sus bytes no son UTF-8.',
+  '{0} cannot be read.': '{0} no se puede leer.',
   'save the text as a file': 'guardar el texto en un archivo',
   'Copy link': 'Copiar enlace',
   'Program: your own, or one of the gallery': 'Programa: uno suyo o uno de la galería',
