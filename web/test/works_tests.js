@@ -78,6 +78,36 @@ export async function testFiles() {
   is('which changes nothing', await valueOf('#text'), chosenText.replace('\r', ''));
 }
 
+const PARDO = 'pardo 1\nrule common\nprocs i < 4\nshared A[4]\ncode\n';
+const enter = () => page.press('Enter', 'Enter', '\r');
+
+// What Enter writes: the indent, more in a block, and the end of one that has none.
+export async function testEnter() {
+  await open();
+  await write(PARDO);
+  await page.insert('if i > 1');
+  await enter();
+  await page.insert('A[i] := 1');
+  is('a block is closed', await valueOf('#text'), `${PARDO}if i > 1\n   A[i] := 1\nend`);
+  await enter();
+  await page.insert('for k = 0 to 3');
+  await enter();
+  await page.insert('A[i] := k');
+  is('another in it', await valueOf('#text'),
+    `${PARDO}if i > 1\n   A[i] := 1\n   for k = 0 to 3\n      A[i] := k\n   end\nend`);
+  await page.click('#undo-text');
+  await write(`${PARDO}if i > 1\n   A[i] := 1\nend\n`);
+  await page.evaluate(`document.getElementById('text').setSelectionRange(
+    ${PARDO.length + 8}, ${PARDO.length + 8})`);
+  await enter();
+  await page.insert('A[0] := 2');
+  is('no second end', await valueOf('#text'),
+    `${PARDO}if i > 1\n   A[0] := 2\n   A[i] := 1\nend\n`);
+  await write(OWN);
+  await enter();
+  is('a text of the machine', await valueOf('#text'), `${OWN}\n`);
+}
+
 const KEY = '"kaolinsilk drafts"';
 const kept = () => page.evaluate(`JSON.parse(localStorage.getItem(${KEY}))
   .map(({ text }) => text).join('===')`);
