@@ -72,7 +72,13 @@ class Playground {
       if (document.hidden) this.keep();
     });
     const ofText = { undo: () => this.undoText(-1), redo: () => this.undoText(1) };
-    listenToKeys(() => (this.job ? { ...ofText, ...this.views[this.view].keys } : ofText));
+    listenToKeys(() => (this.job ? { ...ofText, ...this.keysOfView } : ofText));
+  }
+
+  // In a frame the keys of a remote control go on and back, too.
+  get keysOfView() {
+    const { keys } = this.views[this.view];
+    return this.embedded ? { PageUp: keys.ArrowLeft, PageDown: keys.ArrowRight, ...keys } : keys;
   }
 
   get work() {
@@ -295,9 +301,11 @@ function sayTrouble(why) {
   byId('trouble').textContent = phrase('Something went wrong in this page: {0}', why);
 }
 
-// In a frame of another page the machine stands alone.
-const isEmbedded = () => [location.search, location.hash].some((part) =>
-  new URLSearchParams(part.slice(1)).get('embed') === '1');
+// In a frame of another page the machine stands alone, or the text, or both.
+const PARTS = ['1', 'text', 'both'];
+const embedded = () => [location.search, location.hash]
+  .map((part) => new URLSearchParams(part.slice(1)).get('embed'))
+  .find((part) => PARTS.includes(part));
 
 // Each call once, of the least job: a browser compiles a function of the core when it is first
 // called.
@@ -324,11 +332,12 @@ async function start() {
   let app;
   const bytes = await unpacked('core');
   const examples = await readPacked('examples');
-  document.documentElement.toggleAttribute('data-embed', isEmbedded());
+  const part = embedded();
+  if (part) document.documentElement.setAttribute('data-embed', part);
   await openLanguage(() => readPacked('words'), () => app?.redraw());
   const core = await openCore(bytes);
   app = new Playground(core, new Far(bytes), examples);
-  app.isEmbedded = isEmbedded();
+  app.embedded = part;
   await app.link.open();
   await app.firstShown;
   document.documentElement.setAttribute('data-ready', '');
