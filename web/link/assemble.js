@@ -58,6 +58,23 @@ function examplesOf(folder) {
     }));
 }
 
+// Sections of the documents, by their headings.
+const SECTIONS = {
+  'PARDO.md': ['Reference', 'Slips'],
+  'LANGUAGE.md': ['The machine', 'Rules of writing', 'Models'],
+};
+
+function documentsOf(folder) {
+  return Object.entries(SECTIONS).flatMap(([name, titles]) => {
+    const parts = readFileSync(join(folder, name), 'utf8').split(/^(?=## )/m);
+    return titles.map((title) => {
+      const found = parts.find((part) => part.startsWith(`## ${title}\n`));
+      if (found === undefined) throw new Error(`${name} has no section ${title}`);
+      return found;
+    });
+  }).join('\n');
+}
+
 // By language its texts, in one order.
 function textsOfLanguages() {
   const tables = { de: GERMAN, fr: FRENCH, es: SPANISH, 'zh-Hans': CHINESE };
@@ -82,8 +99,9 @@ const parts = {
   POLICY: policyOf(style, script),
   STYLE: style,
   EXAMPLES: packed(JSON.stringify(examplesOf(examples))),
+  DOCUMENTS: packed(documentsOf(join(source, '..', '..', 'docs'))),
   WORDS: packed(JSON.stringify(textsOfLanguages())),
-  FAR: bundleOf('far_core'),
+  FAR: packed(bundleOf('far_core')),
   CORE: packed(readFileSync(core)),
   PAGE: script,
 };

@@ -41,6 +41,11 @@ export const CHINESE = {
   Redo: '重做',
   'redo the change of the text': '重做对文本的修改',
   Save: '保存',
+  'What a PRAM is, and the reference': '什么是 PRAM，以及参考手册（英文）',
+  ['A PRAM has many processors that share one memory and go in lockstep: in each step each ' +
+    'of them carries out one instruction, and all read before any writes. Its rule of ' +
+    'writing says what happens where several write to one place.']:
+    'PRAM 有许多共享一个内存的处理器，它们步调一致：每一步中每个处理器执行一条指令，并且所有读取都先于任何写入。写入规则规定多个处理器写同一位置时会发生什么。',
   Open: '打开',
   'open a file': '打开文件',
   '{0} is open.': '{0} 已打开。',

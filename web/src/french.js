@@ -48,6 +48,13 @@ export const FRENCH = {
   Redo: 'Rétablir',
   'redo the change of the text': 'rétablir la modification du texte',
   Save: 'Enregistrer',
+  'What a PRAM is, and the reference': 'Ce qu’est une PRAM, et la référence (en anglais)',
+  ['A PRAM has many processors that share one memory and go in lockstep: in each step each ' +
+    'of them carries out one instruction, and all read before any writes. Its rule of ' +
+    'writing says what happens where several write to one place.']:
+    'Une PRAM a de nombreux processeurs qui partagent une mémoire et avancent au même pas : ' +
+    'à chaque étape, chacun exécute une instruction, et tous lisent avant que l’un n’écrive. ' +
+    'Sa règle d’écriture dit ce qui se passe quand plusieurs écrivent au même endroit.',
   Open: 'Ouvrir',
   'open a file': 'ouvrir un fichier',
   '{0} is open.': '{0} est ouvert.',

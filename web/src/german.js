@@ -48,6 +48,13 @@ export const GERMAN = {
   Redo: 'Wiederholen',
   'redo the change of the text': 'die Änderung des Textes wiederholen',
   Save: 'Speichern',
+  'What a PRAM is, and the reference': 'Was eine PRAM ist, und die Referenz (englisch)',
+  ['A PRAM has many processors that share one memory and go in lockstep: in each step each ' +
+    'of them carries out one instruction, and all read before any writes. Its rule of ' +
+    'writing says what happens where several write to one place.']:
+    'Eine PRAM hat viele Prozessoren mit einem gemeinsamen Speicher, die im Gleichschritt ' +
+    'gehen: in jedem Schritt führt jeder einen Befehl aus, und alle lesen, bevor einer ' +
+    'schreibt. Ihre Schreibregel sagt, was geschieht, wo mehrere an eine Stelle schreiben.',
   Open: 'Öffnen',
   'open a file': 'eine Datei öffnen',
   '{0} is open.': '{0} ist geöffnet.',

@@ -1,7 +1,6 @@
 // Growth: what a program costs with several values of a constant, in a table and a plot.
 import { CODE } from './declared.js';
 import { byId, make, makeSvg, onClick, setHidden, setText } from './dom.js';
-import { Far } from './far.js';
 import { HEIGHT, WIDTH, plotOf } from './growth_plot.js';
 import { grouped } from './numbers.js';
 import { pictureOf, saveSvg, withStyles } from './styled_svg.js';
@@ -119,7 +118,7 @@ export class GrowthPanel {
       return;
     }
     this.say(() => phrase('{0} = {1} is tried.', constant.name, grouped(n)));
-    this.far ??= new Far(app.far.bytes);
+    this.far ??= app.far.another();
     this.far.ask('measure', [withValue(text, constant, n)], (told) => {
       const { code } = told;
       this.rows.push({ n, code, costs: code === CODE.DONE ? costsOf(told) : undefined });

@@ -18,6 +18,7 @@ import { unpack } from './packing.js';
 import { listenToPrinting } from './print.js';
 import { answerFar, foundOf, refused, showJudgement, showWaiting } from './program.js';
 import { isNear, readJob, readText } from './reading.js';
+import { openReference } from './reference.js';
 import { Schedule } from './schedule.js';
 import { Source } from './source.js';
 import { openStops } from './stops.js';
@@ -326,18 +327,20 @@ function warm(core) {
 
 const unpacked = (id) => unpack(byId(id).textContent, MOST_PACKED);
 
-const readPacked = async (id) => JSON.parse(new TextDecoder().decode(await unpacked(id)));
+const readPacked = async (id) => new TextDecoder().decode(await unpacked(id));
 
 async function start() {
   let app;
   const bytes = await unpacked('core');
-  const examples = await readPacked('examples');
+  const examples = JSON.parse(await readPacked('examples'));
+  const script = await readPacked('far');
   const part = embedded();
   if (part) document.documentElement.setAttribute('data-embed', part);
-  await openLanguage(() => readPacked('words'), () => app?.redraw());
+  await openLanguage(async () => JSON.parse(await readPacked('words')), () => app?.redraw());
   const core = await openCore(bytes);
-  app = new Playground(core, new Far(bytes), examples);
+  app = new Playground(core, new Far(script, bytes), examples);
   app.embedded = part;
+  openReference(() => readPacked('documents'));
   await app.link.open();
   await app.firstShown;
   document.documentElement.setAttribute('data-ready', '');

@@ -47,6 +47,13 @@ export const SPANISH = {
   Redo: 'Rehacer',
   'redo the change of the text': 'rehacer el cambio del texto',
   Save: 'Guardar',
+  'What a PRAM is, and the reference': 'Qué es una PRAM, y la referencia (en inglés)',
+  ['A PRAM has many processors that share one memory and go in lockstep: in each step each ' +
+    'of them carries out one instruction, and all read before any writes. Its rule of ' +
+    'writing says what happens where several write to one place.']:
+    'Una PRAM tiene muchos procesadores que comparten una memoria y avanzan al unísono: en ' +
+    'cada paso cada uno ejecuta una instrucción, y todos leen antes de que alguno escriba. ' +
+    'Su regla de escritura dice qué ocurre cuando varios escriben en un mismo lugar.',
   Open: 'Abrir',
   'open a file': 'abrir un archivo',
   '{0} is open.': '{0} está abierto.',

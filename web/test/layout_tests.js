@@ -102,6 +102,19 @@ export async function testFrame() {
   await page.resize(1280, 900);
 }
 
+// The reference is in the page, as the documents have it.
+export async function testReference() {
+  await open('#example=sum.pardo');
+  await page.click('#reference summary');
+  await has('its language', '#reference-text', 'Reference');
+  is('tables', await count('#reference-text table') > 5, true);
+  is('the machine’s instructions', (await text('#reference-text')).includes('set r k'), true);
+  is('no marks are left', /\*\*|`|\]\(|&nbsp;/.test(await text('#reference-text')), false);
+  await page.sightPicture('reference');
+  const wide = await page.evaluate('document.documentElement.scrollWidth');
+  is('as wide as the page', wide <= 1280 || wide, true);
+}
+
 // The text alone, and beside the machine; and the keys of a remote control.
 export async function testSlides() {
   await page.resize(960, 540);
