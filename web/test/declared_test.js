@@ -1,6 +1,5 @@
 // declared_test.js PAGE: what is read of sources, in Node, and that the page and its core have what
 // the sources declare.
-import { readFileSync } from 'node:fs';
 import * as declared from '../src/declared.js';
 import * as kinds from '../src/kinds.js';
 import {
