@@ -41,7 +41,7 @@ export const CHINESE = {
   Redo: '重做',
   'redo the change of the text': '重做对文本的修改',
   Save: '保存',
-  'What a PRAM is, and the reference': '什么是 PRAM，以及参考手册（英文）',
+  Reference: '参考',
   ['A PRAM has many processors that share one memory and go in lockstep: in each step each ' +
     'of them carries out one instruction, and all read before any writes. Its rule of ' +
     'writing says what happens where several write to one place.']:

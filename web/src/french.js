@@ -48,7 +48,7 @@ export const FRENCH = {
   Redo: 'Rétablir',
   'redo the change of the text': 'rétablir la modification du texte',
   Save: 'Enregistrer',
-  'What a PRAM is, and the reference': 'Ce qu’est une PRAM, et la référence (en anglais)',
+  Reference: 'Référence',
   ['A PRAM has many processors that share one memory and go in lockstep: in each step each ' +
     'of them carries out one instruction, and all read before any writes. Its rule of ' +
     'writing says what happens where several write to one place.']:

@@ -48,7 +48,7 @@ export const GERMAN = {
   Redo: 'Wiederholen',
   'redo the change of the text': 'die Änderung des Textes wiederholen',
   Save: 'Speichern',
-  'What a PRAM is, and the reference': 'Was eine PRAM ist, und die Referenz (englisch)',
+  Reference: 'Referenz',
   ['A PRAM has many processors that share one memory and go in lockstep: in each step each ' +
     'of them carries out one instruction, and all read before any writes. Its rule of ' +
     'writing says what happens where several write to one place.']:

@@ -47,7 +47,7 @@ export const SPANISH = {
   Redo: 'Rehacer',
   'redo the change of the text': 'rehacer el cambio del texto',
   Save: 'Guardar',
-  'What a PRAM is, and the reference': 'Qué es una PRAM, y la referencia (en inglés)',
+  Reference: 'Referencia',
   ['A PRAM has many processors that share one memory and go in lockstep: in each step each ' +
     'of them carries out one instruction, and all read before any writes. Its rule of ' +
     'writing says what happens where several write to one place.']:
