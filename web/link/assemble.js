@@ -16,6 +16,7 @@ const source = join(dirname(fileURLToPath(import.meta.url)), '..', 'src');
 const read = (name) => readFileSync(join(source, name), 'utf8');
 const IMPORT = /^import \{([^}]*)\} from '\.\/([a-z_]+)\.js';\n/gm;
 const COMMENT = /^ *\/\/.*\n/gm;
+const INDENT = /^ +/gm;
 const EXPORT = /^export (?:async )?(?:function|const|let|class) (\w+)/gm;
 
 // A module and those that it imports, each after its own imports.
@@ -26,14 +27,15 @@ function modulesOf(name, found = new Set()) {
   return found.add(name);
 }
 
-// A module as a function of its own, which gives what it exports; without its comments, which stand
-// in lines of their own.
+// A module as a function of its own, which gives what it exports; without its indents, and without
+// its comments, which stand in lines of their own. No line of a text begins with a blank.
 function enclosed(name, text) {
   const exported = [...text.matchAll(EXPORT)].map(([, word]) => word);
   const body = text
     .replace(COMMENT, '')
     .replace(IMPORT, (_, words, module) => `const {${words}} = ${module}_module;\n`)
-    .replace(/^export /gm, '');
+    .replace(/^export /gm, '')
+    .replace(INDENT, '');
   return `const ${name}_module = (() => {\n${body}return { ${exported.join(', ')} };\n})();\n`;
 }
 
@@ -54,6 +56,23 @@ function examplesOf(folder) {
       name: name.replace(/\.pram$/, ''),
       text: readFileSync(join(folder, name), 'utf8'),
     }));
+}
+
+// Sections of the documents, by their headings.
+const SECTIONS = {
+  'PARDO.md': ['Reference', 'Slips'],
+  'LANGUAGE.md': ['The machine', 'Rules of writing', 'Models'],
+};
+
+function documentsOf(folder) {
+  return Object.entries(SECTIONS).flatMap(([name, titles]) => {
+    const parts = readFileSync(join(folder, name), 'utf8').split(/^(?=## )/m);
+    return titles.map((title) => {
+      const found = parts.find((part) => part.startsWith(`## ${title}\n`));
+      if (found === undefined) throw new Error(`${name} has no section ${title}`);
+      return found;
+    });
+  }).join('\n');
 }
 
 // By language its texts, in one order.
@@ -80,8 +99,9 @@ const parts = {
   POLICY: policyOf(style, script),
   STYLE: style,
   EXAMPLES: packed(JSON.stringify(examplesOf(examples))),
+  DOCUMENTS: packed(documentsOf(join(source, '..', '..', 'docs'))),
   WORDS: packed(JSON.stringify(textsOfLanguages())),
-  FAR: bundleOf('far_core'),
+  FAR: packed(bundleOf('far_core')),
   CORE: packed(readFileSync(core)),
   PAGE: script,
 };

@@ -2,8 +2,9 @@
 // shown by a window on its lines, and of these only those in sight have a number drawn.
 import { openAtWork } from './at_work.js';
 import { byId, fit, make, setAttribute, setText } from './dom.js';
+import { isProgram, lineBreak } from './indent.js';
 import { Sheet } from './sheet.js';
-import { movedLines } from './text_lines.js';
+import { movedLines, withLines } from './text_lines.js';
 import { openWindow } from './window.js';
 import { english } from './words.js';
 
@@ -51,8 +52,6 @@ function endOfChange(before, after) {
 // What is entered without data of its own.
 const ENTERED = { insertLineBreak: '\n', insertParagraph: '\n' };
 
-const withLines = (text) => text.replaceAll('\r\n', '\n').replaceAll('\r', '\n');
-
 export class Editor {
   // `on` has what follows a change of the text, undo, redo, and clicks on a line's number or stop.
   constructor(on) {
@@ -89,6 +88,7 @@ export class Editor {
   // choice of all, since a text area has a part of a long text.
   onKey(event) {
     const key = event.key.toLowerCase();
+    if (key === 'enter') this.onEnter(event);
     if (!(event.ctrlKey || event.metaKey) || event.altKey || !'zya'.includes(key)) return;
     if (key === 'a' && this.sheet.isWhole) return;
     event.preventDefault();
@@ -97,6 +97,20 @@ export class Editor {
     if (key === 'a') this.chooseAll();
     else if (key === 'y' || event.shiftKey) this.on.redo();
     else this.on.undo();
+  }
+
+  // A line break in a program. A key that goes with others, or to a word that is being composed, is
+  // the browser's.
+  onEnter(event) {
+    const { area, sheet } = this;
+    const isOther = event.ctrlKey || event.metaKey || event.altKey || event.shiftKey;
+    if (isOther || event.isComposing || this.isAll || !isProgram(sheet.text)) return;
+    event.preventDefault();
+    const { value, selectionStart, selectionEnd } = area;
+    const [before, after] = lineBreak(value.slice(0, selectionStart), value.slice(selectionEnd));
+    document.execCommand('insertText', false, before + after);
+    const at = selectionStart + before.length;
+    area.setSelectionRange(at, at);
   }
 
   chooseAll() {

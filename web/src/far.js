@@ -1,14 +1,18 @@
 // Calls of the core that take long are made in a thread of their own, one at a time.
-import { byId } from './dom.js';
-
 export class Far {
-  constructor(bytes) {
-    this.bytes = bytes;
+  // `script` is the text of the thread, `bytes` are the core.
+  constructor(script, bytes) {
+    Object.assign(this, { script, bytes });
     this.waiting = undefined;
   }
 
+  // A thread of its own, for other questions.
+  another() {
+    return new Far(this.script, this.bytes);
+  }
+
   start() {
-    const address = URL.createObjectURL(new Blob([byId('far').textContent]));
+    const address = URL.createObjectURL(new Blob([this.script]));
     this.thread = new Worker(address);
     this.thread.addEventListener('message', ({ data }) => this.hear(data));
     this.thread.addEventListener('error', (event) => {

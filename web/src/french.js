@@ -48,6 +48,20 @@ export const FRENCH = {
   Redo: 'Rétablir',
   'redo the change of the text': 'rétablir la modification du texte',
   Save: 'Enregistrer',
+  Reference: 'Référence',
+  ['A PRAM has many processors that share one memory and go in lockstep: in each step each ' +
+    'of them carries out one instruction, and all read before any writes. Its rule of ' +
+    'writing says what happens where several write to one place.']:
+    'Une PRAM a de nombreux processeurs qui partagent une mémoire et avancent au même pas : ' +
+    'à chaque étape, chacun exécute une instruction, et tous lisent avant que l’un n’écrive. ' +
+    'Sa règle d’écriture dit ce qui se passe quand plusieurs écrivent au même endroit.',
+  Open: 'Ouvrir',
+  'open a file': 'ouvrir un fichier',
+  '{0} is open.': '{0} est ouvert.',
+  '{0} has more than 64 MB, which no text may have.':
+    '{0} dépasse 64 Mo, ce qu’aucun texte ne peut avoir.',
+  '{0} is no text: its bytes are not UTF-8.': '{0} n’est pas un texte : ses octets ne sont pas de l’UTF-8.',
+  '{0} cannot be read.': '{0} ne peut pas être lu.',
   'save the text as a file': 'enregistrer le texte dans un fichier',
   'Copy link': 'Copier le lien',
   'Program: your own, or one of the gallery': 'Programme : un des vôtres, ou un de la galerie',
@@ -169,6 +183,17 @@ export const FRENCH = {
     'différentes.',
   steps: 'étapes',
   processors: 'processeurs',
+  Growth: 'Croissance',
+  'constant {0}': 'constante {0}',
+  'values {0}': 'valeurs {0}',
+  'Try them': 'Essayer',
+  'A conflict ends it.': 'Un conflit y met fin.',
+  'There is no such program, or it is too large.':
+    'Un tel programme n’existe pas, ou il est trop grand.',
+  'The values are numbers, at most {0} of them.': 'Les valeurs sont des nombres, au plus {0}.',
+  'All values were tried.': 'Toutes les valeurs ont été essayées.',
+  '{0} = {1} is tried.': '{0} = {1} est à l’essai.',
+  'processors times steps': 'processeurs fois étapes',
   'their product': 'leur produit',
   'instructions executed': 'instructions exécutées',
   'most processors at work': 'processeurs au travail, au plus',

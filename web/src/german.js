@@ -48,6 +48,20 @@ export const GERMAN = {
   Redo: 'Wiederholen',
   'redo the change of the text': 'die Änderung des Textes wiederholen',
   Save: 'Speichern',
+  Reference: 'Referenz',
+  ['A PRAM has many processors that share one memory and go in lockstep: in each step each ' +
+    'of them carries out one instruction, and all read before any writes. Its rule of ' +
+    'writing says what happens where several write to one place.']:
+    'Eine PRAM hat viele Prozessoren mit einem gemeinsamen Speicher, die im Gleichschritt ' +
+    'gehen: in jedem Schritt führt jeder einen Befehl aus, und alle lesen, bevor einer ' +
+    'schreibt. Ihre Schreibregel sagt, was geschieht, wo mehrere an eine Stelle schreiben.',
+  Open: 'Öffnen',
+  'open a file': 'eine Datei öffnen',
+  '{0} is open.': '{0} ist geöffnet.',
+  '{0} has more than 64 MB, which no text may have.':
+    '{0} hat mehr als 64 MB; so lang darf kein Text sein.',
+  '{0} is no text: its bytes are not UTF-8.': '{0} ist kein Text: die Bytes sind kein UTF-8.',
+  '{0} cannot be read.': '{0} lässt sich nicht lesen.',
   'save the text as a file': 'den Text als Datei speichern',
   'Copy link': 'Link kopieren',
   'Program: your own, or one of the gallery': 'Programm: ein eigenes oder eines der Galerie',
@@ -169,6 +183,17 @@ export const GERMAN = {
     'Schritten.',
   steps: 'Schritte',
   processors: 'Prozessoren',
+  Growth: 'Wachstum',
+  'constant {0}': 'Konstante {0}',
+  'values {0}': 'Werte {0}',
+  'Try them': 'Ausprobieren',
+  'A conflict ends it.': 'Ein Konflikt beendet es.',
+  'There is no such program, or it is too large.':
+    'Es gibt kein solches Programm, oder es ist zu groß.',
+  'The values are numbers, at most {0} of them.': 'Die Werte sind Zahlen, höchstens {0} davon.',
+  'All values were tried.': 'Alle Werte sind ausprobiert.',
+  '{0} = {1} is tried.': '{0} = {1} wird ausprobiert.',
+  'processors times steps': 'Prozessoren mal Schritte',
   'their product': 'ihr Produkt',
   'instructions executed': 'ausgeführte Befehle',
   'most processors at work': 'meiste arbeitende Prozessoren',

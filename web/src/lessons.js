@@ -3,7 +3,6 @@ import { readAddress } from './address.js';
 import { MODELS } from './declared.js';
 import { byId, make, onClick, setDisabled, setHidden, setText } from './dom.js';
 import { EXERCISES, isOf, sizesOf, startOf } from './exercises.js';
-import { Far } from './far.js';
 import { judgeExercise } from './judge.js';
 import { grouped } from './numbers.js';
 import { PUZZLES, judgePuzzle } from './puzzles.js';
@@ -37,7 +36,7 @@ function taskInWords({ task, growth, model, ...exercise }) {
 
 class Lessons {
   constructor(app) {
-    Object.assign(this, { app, kind: '', stop: 0, far: new Far(app.far.bytes) });
+    Object.assign(this, { app, kind: '', stop: 0, far: app.far.another() });
     const menu = byId('lesson');
     this.first = menu.firstElementChild;
     this.fillMenu();

@@ -89,7 +89,8 @@ export class Link {
     if (work !== this.app.work) return address;
     setText(byId('link-said'), address === undefined ? phrase(TOO_LONG) : '');
     showWhole(address);
-    const embed = this.app.isEmbedded ? 'embed=1' : undefined;
+    const { embedded } = this.app;
+    const embed = embedded && `embed=${embedded}`;
     this.enter(`#${[embed, address].filter(Boolean).join('&')}`);
     return address;
   }

@@ -6,6 +6,7 @@ import { openCosts } from './costs.js';
 import { CODE } from './declared.js';
 import { byId, onClick, setDisabled, setHidden, setText } from './dom.js';
 import { Errands } from './errands.js';
+import { GrowthPanel } from './growth_panel.js';
 import { momentInWords } from './lockstep_words.js';
 import { boxesOf, marksOf } from './memory_boxes.js';
 import { saveMemory } from './memory_svg.js';
@@ -37,6 +38,7 @@ export class LockstepView {
     this.arrows = openArrows(show);
     this.plot = openPlot((step) => this.jump(step));
     this.costs = openCosts((step) => this.jump(step));
+    this.growth = new GrowthPanel(app);
     this.errands = new Errands();
     this.note = NO_NOTE;
     this.player = openPlayer(byId('plain-play'), byId('plain-speed'), (beats) => this.play(beats));
@@ -262,6 +264,7 @@ export class LockstepView {
     const last = this.moments.last;
     this.plot.show({ step, steps, last, procs: job.procs }, whole.stepsAbout(step));
     this.costs.show(job, whole.cost(), whole.lines());
+    this.growth.show();
   }
 
   showButtons(pace) {

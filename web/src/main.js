@@ -7,6 +7,7 @@ import { Editor } from './editor.js';
 import { endInWords } from './ends.js';
 import { roomForEvents } from './event_words.js';
 import { Far } from './far.js';
+import { openFiles } from './files.js';
 import { openGallery } from './gallery.js';
 import { listenToKeys } from './keys.js';
 import { openLanguage } from './language.js';
@@ -17,6 +18,7 @@ import { unpack } from './packing.js';
 import { listenToPrinting } from './print.js';
 import { answerFar, foundOf, refused, showJudgement, showWaiting } from './program.js';
 import { isNear, readJob, readText } from './reading.js';
+import { openReference } from './reference.js';
 import { Schedule } from './schedule.js';
 import { Source } from './source.js';
 import { openStops } from './stops.js';
@@ -64,13 +66,20 @@ class Playground {
     onClick('undo-text', () => this.undoText(-1));
     onClick('redo-text', () => this.undoText(1));
     ignoreDisabled();
+    openFiles(this);
     listenToPrinting(this);
     window.addEventListener('pagehide', () => this.keep());
     document.addEventListener('visibilitychange', () => {
       if (document.hidden) this.keep();
     });
     const ofText = { undo: () => this.undoText(-1), redo: () => this.undoText(1) };
-    listenToKeys(() => (this.job ? { ...ofText, ...this.views[this.view].keys } : ofText));
+    listenToKeys(() => (this.job ? { ...ofText, ...this.keysOfView } : ofText));
+  }
+
+  // In a frame the keys of a remote control go on and back, too.
+  get keysOfView() {
+    const { keys } = this.views[this.view];
+    return this.embedded ? { PageUp: keys.ArrowLeft, PageDown: keys.ArrowRight, ...keys } : keys;
   }
 
   get work() {
@@ -293,9 +302,11 @@ function sayTrouble(why) {
   byId('trouble').textContent = phrase('Something went wrong in this page: {0}', why);
 }
 
-// In a frame of another page the machine stands alone.
-const isEmbedded = () => [location.search, location.hash].some((part) =>
-  new URLSearchParams(part.slice(1)).get('embed') === '1');
+// In a frame of another page the machine stands alone, or the text, or both.
+const PARTS = ['1', 'text', 'both'];
+const embedded = () => [location.search, location.hash]
+  .map((part) => new URLSearchParams(part.slice(1)).get('embed'))
+  .find((part) => PARTS.includes(part));
 
 // Each call once, of the least job: a browser compiles a function of the core when it is first
 // called.
@@ -316,17 +327,20 @@ function warm(core) {
 
 const unpacked = (id) => unpack(byId(id).textContent, MOST_PACKED);
 
-const readPacked = async (id) => JSON.parse(new TextDecoder().decode(await unpacked(id)));
+const readPacked = async (id) => new TextDecoder().decode(await unpacked(id));
 
 async function start() {
   let app;
   const bytes = await unpacked('core');
-  const examples = await readPacked('examples');
-  document.documentElement.toggleAttribute('data-embed', isEmbedded());
-  await openLanguage(() => readPacked('words'), () => app?.redraw());
+  const examples = JSON.parse(await readPacked('examples'));
+  const script = await readPacked('far');
+  const part = embedded();
+  if (part) document.documentElement.setAttribute('data-embed', part);
+  await openLanguage(async () => JSON.parse(await readPacked('words')), () => app?.redraw());
   const core = await openCore(bytes);
-  app = new Playground(core, new Far(bytes), examples);
-  app.isEmbedded = isEmbedded();
+  app = new Playground(core, new Far(script, bytes), examples);
+  app.embedded = part;
+  openReference(() => readPacked('documents'));
   await app.link.open();
   await app.firstShown;
   document.documentElement.setAttribute('data-ready', '');

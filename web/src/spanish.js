@@ -47,6 +47,20 @@ export const SPANISH = {
   Redo: 'Rehacer',
   'redo the change of the text': 'rehacer el cambio del texto',
   Save: 'Guardar',
+  Reference: 'Referencia',
+  ['A PRAM has many processors that share one memory and go in lockstep: in each step each ' +
+    'of them carries out one instruction, and all read before any writes. Its rule of ' +
+    'writing says what happens where several write to one place.']:
+    'Una PRAM tiene muchos procesadores que comparten una memoria y avanzan al unísono: en ' +
+    'cada paso cada uno ejecuta una instrucción, y todos leen antes de que alguno escriba. ' +
+    'Su regla de escritura dice qué ocurre cuando varios escriben en un mismo lugar.',
+  Open: 'Abrir',
+  'open a file': 'abrir un archivo',
+  '{0} is open.': '{0} está abierto.',
+  '{0} has more than 64 MB, which no text may have.':
+    '{0} tiene más de 64 MB, lo que ningún texto puede tener.',
+  '{0} is no text: its bytes are not UTF-8.': '{0} no es un texto: sus bytes no son UTF-8.',
+  '{0} cannot be read.': '{0} no se puede leer.',
   'save the text as a file': 'guardar el texto en un archivo',
   'Copy link': 'Copiar enlace',
   'Program: your own, or one of the gallery': 'Programa: uno suyo o uno de la galería',
@@ -167,6 +181,16 @@ export const SPANISH = {
     'que leen un mismo lugar en una línea pueden leerlo en pasos distintos.',
   steps: 'pasos',
   processors: 'procesadores',
+  Growth: 'Crecimiento',
+  'constant {0}': 'constante {0}',
+  'values {0}': 'valores {0}',
+  'Try them': 'Probar',
+  'A conflict ends it.': 'Un conflicto lo termina.',
+  'There is no such program, or it is too large.': 'No hay tal programa, o es demasiado grande.',
+  'The values are numbers, at most {0} of them.': 'Los valores son números, como mucho {0}.',
+  'All values were tried.': 'Se han probado todos los valores.',
+  '{0} = {1} is tried.': 'Se prueba {0} = {1}.',
+  'processors times steps': 'procesadores por pasos',
   'their product': 'su producto',
   'instructions executed': 'instrucciones ejecutadas',
   'most processors at work': 'máximo de procesadores trabajando',

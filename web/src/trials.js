@@ -27,6 +27,14 @@ export function trialCalls(core) {
       return { made, job, answer, cost, fates, lines };
     },
 
+    // What a program costs; a code alone where it has no end that is told.
+    measure(text) {
+      const made = core.compile(text);
+      if (made.code !== CODE.DONE) return { code: made.code };
+      const { code } = core.answer(made.text, core.judge(made.text), MOST);
+      return code === CODE.DONE ? core.cost(made.text) : { code };
+    },
+
     // The line by which a cell was written last; nothing where it was not.
     lastWrite({ made, job, answer }, cell) {
       const { list } = core.steps(made.text, 0, answer.step, MOST);

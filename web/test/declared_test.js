@@ -1,12 +1,11 @@
 // declared_test.js PAGE: what is read of sources, in Node, and that the page and its core have what
 // the sources declare.
-import { readFileSync } from 'node:fs';
 import * as declared from '../src/declared.js';
 import * as kinds from '../src/kinds.js';
 import {
   callsIn, constantsIn, layoutsOf, numbersIn, structsIn, variantsIn, wordsIn,
 } from '../link/rattle.js';
-import { coreBytesOf } from './page_parts.js';
+import { coreBytesOf, scriptsOf } from './page_parts.js';
 import { report } from './report.js';
 
 const [pagePath] = process.argv.slice(2);
@@ -195,8 +194,7 @@ function testKinds() {
 
 // The page's maker wrote there what the sources declare now.
 function testPage() {
-  const page = readFileSync(pagePath, 'utf8');
-  const modules = [...page.matchAll(/const declared_module = \(\(\) => \{\n([^]*?)return \{/g)];
+  const modules = [...scriptsOf(pagePath).matchAll(/const declared_module = \(\(\) => \{\n([^]*?)return \{/g)];
   is('modules of it', modules.length, 2);
   for (const [, text] of modules) {
     for (const [, word, value] of text.matchAll(/^const (\w+) = (.*);$/gm)) {

@@ -102,6 +102,40 @@ export async function testFrame() {
   await page.resize(1280, 900);
 }
 
+// The reference is in the page, as the documents have it.
+export async function testReference() {
+  await open('#example=sum.pardo');
+  await page.click('#reference summary');
+  await has('its language', '#reference-text', 'Reference');
+  is('tables', await count('#reference-text table') > 5, true);
+  is('the machine’s instructions', (await text('#reference-text')).includes('set r k'), true);
+  is('no marks are left', /\*\*|`|\]\(|&nbsp;/.test(await text('#reference-text')), false);
+  await page.sightPicture('reference');
+  const wide = await page.evaluate('document.documentElement.scrollWidth');
+  is('as wide as the page', wide <= 1280 || wide, true);
+}
+
+// The text alone, and beside the machine; and the keys of a remote control.
+export async function testSlides() {
+  await page.resize(960, 540);
+  await open('#embed=text&example=sum.pardo');
+  is('the text alone', await isShown('#text') && !await isShown('#machine'), true);
+  await isInFrame('the text', '.editor');
+  await page.sightPicture('slide-text');
+  await open(`#embed=both&example=sum.pardo&view=lockstep&workers=4${SHOWN}`);
+  is('both', await isShown('#text') && await isShown('#machine'), true);
+  is('without buttons for the text', await isShown('#save-text'), false);
+  await isInFrame('both', '.editor');
+  const before = Number(await page.evaluate('document.getElementById("step").value'));
+  await page.press('PageDown');
+  const after = Number(await page.evaluate('document.getElementById("step").value'));
+  is('on by a remote control', after, before + 1);
+  await page.press('PageUp');
+  is('and back', Number(await page.evaluate('document.getElementById("step").value')), before);
+  await page.sightPicture('slide-both');
+  await page.resize(1280, 900);
+}
+
 export async function testPaper() {
   await open(`#example=maximum&view=workers&workers=4${SHOWN}`);
   await page.call('Emulation.setEmulatedMedia', { media: 'print' });

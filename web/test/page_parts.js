@@ -3,11 +3,15 @@ import { readFileSync } from 'node:fs';
 import { inflateRawSync } from 'node:zlib';
 import { openCore } from '../src/core.js';
 
-const CORE = /<script type="text\/plain" id="core">([^<]*)</;
-
-export function coreBytesOf(path) {
-  const [, packed] = CORE.exec(readFileSync(path, 'utf8'));
+function unpacked(path, id) {
+  const part = new RegExp(`<script type="text/plain" id="${id}">([^<]*)<`);
+  const [, packed] = part.exec(readFileSync(path, 'utf8'));
   return inflateRawSync(Buffer.from(packed, 'base64'));
 }
 
+export const coreBytesOf = (path) => unpacked(path, 'core');
+
 export const coreOf = (path) => openCore(coreBytesOf(path));
+
+// The scripts: that of the page, and that of its thread.
+export const scriptsOf = (path) => readFileSync(path, 'utf8') + unpacked(path, 'far').toString();

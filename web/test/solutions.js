@@ -206,7 +206,7 @@ export const WRONG = [
   [0, 'A[i] = i', ', line 9: something is missing here, left over, or in the wrong place. “:=” as'],
   [0, 'B[i] := i', ', line 9: a name here is not known.'],
   [5, 'while found = 0\nif A[i] = 7\nfound := 1\nend\nend',
-    `${onInput(5, 1)}line 10: the program is still here after 1,048,576 steps.`],
+    `${onInput(5, 1)}line 10: the program is still here after 1,048,576 steps, or 2^30 in all.`],
 ];
 
 // A schedule that solves each puzzle, in order.

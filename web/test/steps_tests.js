@@ -1,5 +1,5 @@
 // Steps that matter: memory accesses, lines, stops, changes of words, finished steps.
-import { clicks, has, is, open, page, text, valueOf } from './drive.js';
+import { clicks, count, has, is, isShown, open, page, text, valueOf } from './drive.js';
 
 export async function testAccesses() {
   await open('#example=maximum');
@@ -169,4 +169,23 @@ export async function testFreshKeys() {
   await open('#example=prefix&view=workers&workers=3');
   await page.press('ArrowRight');
   await has('→ by workers', '#moment-said', '1 of 1');
+}
+
+// The panel of growth: a row for each value, lines beside, and what is refused.
+export async function testGrowth() {
+  await open('#example=sum.pardo');
+  await page.click('#growth summary');
+  await page.click('#growth-run');
+  await has('all values', '#growth-said', 'All values were tried.');
+  is('a row for each', await count('#growth-table tr'), 7);
+  is('the one that is shown', (await text('#growth-table tr:nth-child(4)')).startsWith('866'), true);
+  is('the last', await text('#growth-table tr:nth-child(7)'), '641294,1284,128');
+  is('is drawn', await count('#growth-plot path'), 6);
+  await page.evaluate('document.getElementById("growth-picture").scrollIntoView()');
+  await page.sightPicture('growth');
+  await page.evaluate(`document.getElementById('growth-values').value = '8, x'`);
+  await page.click('#growth-run');
+  await has('no number', '#growth-said', 'The values are numbers, at most 12 of them.');
+  await page.choose('#example', 'sum');
+  is('no constant, no growth', await isShown('#growth'), false);
 }

@@ -33,6 +33,7 @@ const OTHERS = {
   'event_words.js': ['Event'],
   'exercises.js': ['; your own variables', '; your lines'],
   'far.js': ['the thread of the core: 0'],
+  'files.js': ['Files'],
   'gallery.js': ['; my program\npardo 1\nrule common\nconst n = 4\nprocs i < n\nshared A[n]\n' +
     'code\nA[i] := i               ; each processor writes its number\n'],
   'keys.js': ['kaolinsilk keys', 'input, select, textarea', 'button, summary, a'],

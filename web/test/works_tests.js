@@ -46,6 +46,68 @@ export async function testDrafts() {
   await has('a new program', '#answer', 'done after');
 }
 
+// A file of this name with these bytes is chosen, or dropped on the page.
+const FILE = (name, bytes) => `(() => {
+  const files = new DataTransfer();
+  files.items.add(new File([new Uint8Array(${JSON.stringify([...bytes])})], '${name}'));
+  return files;
+})()`;
+const bytesOf = (words) => new TextEncoder().encode(words);
+const choose = (name, bytes) => page.evaluate(`(() => {
+  const choice = document.getElementById('file');
+  choice.files = ${FILE(name, bytes)}.files;
+  choice.dispatchEvent(new Event('change'));
+})()`);
+const drop = (name, bytes) => page.evaluate(`document.getElementById('text').dispatchEvent(
+  new DragEvent('drop', { dataTransfer: ${FILE(name, bytes)}, bubbles: true, cancelable: true }))`);
+
+export async function testFiles() {
+  await open();
+  const chosenText = `; from a file\r\n${HEAD}halt\n`;
+  await choose('mine.pram', bytesOf(chosenText));
+  await has('a chosen file', '#file-said', 'mine.pram is open.');
+  is('its text', await valueOf('#text'), chosenText.replace('\r', ''));
+  is('it is one’s own', await chosen(), 'your own: from a file');
+  await drop('other.pram', bytesOf(`; dropped\n${HEAD}set r0 1\nhalt\n`));
+  await has('a dropped one', '#file-said', 'other.pram is open.');
+  is('is one’s own, too', await chosen(), 'your own: dropped');
+  await page.click('#undo-text');
+  is('undo goes back to the other', await valueOf('#text'), chosenText.replace('\r', ''));
+  await choose('bytes.pram', [0x70, 0xff]);
+  await has('no text', '#file-said', 'bytes.pram is no text: its bytes are not UTF-8.');
+  is('which changes nothing', await valueOf('#text'), chosenText.replace('\r', ''));
+}
+
+const PARDO = 'pardo 1\nrule common\nprocs i < 4\nshared A[4]\ncode\n';
+const enter = () => page.press('Enter', 'Enter', '\r');
+
+// What Enter writes: the indent, more in a block, and the end of one that has none.
+export async function testEnter() {
+  await open();
+  await write(PARDO);
+  await page.insert('if i > 1');
+  await enter();
+  await page.insert('A[i] := 1');
+  is('a block is closed', await valueOf('#text'), `${PARDO}if i > 1\n   A[i] := 1\nend`);
+  await enter();
+  await page.insert('for k = 0 to 3');
+  await enter();
+  await page.insert('A[i] := k');
+  is('another in it', await valueOf('#text'),
+    `${PARDO}if i > 1\n   A[i] := 1\n   for k = 0 to 3\n      A[i] := k\n   end\nend`);
+  await page.click('#undo-text');
+  await write(`${PARDO}if i > 1\n   A[i] := 1\nend\n`);
+  await page.evaluate(`document.getElementById('text').setSelectionRange(
+    ${PARDO.length + 8}, ${PARDO.length + 8})`);
+  await enter();
+  await page.insert('A[0] := 2');
+  is('no second end', await valueOf('#text'),
+    `${PARDO}if i > 1\n   A[0] := 2\n   A[i] := 1\nend\n`);
+  await write(OWN);
+  await enter();
+  is('a text of the machine', await valueOf('#text'), `${OWN}\n`);
+}
+
 const KEY = '"kaolinsilk drafts"';
 const kept = () => page.evaluate(`JSON.parse(localStorage.getItem(${KEY}))
   .map(({ text }) => text).join('===')`);

@@ -89,6 +89,18 @@ fn starting(board: &Board, seat: Seat, number: u32) -> Hand
     }
 }
 
+// A worker that comes back.
+fn back(board: &Board, seat: Seat, number: u32) -> Hand
+    requires worker { number < board.now.task.layout.workers }
+    requires seat { seat.desk ≡ board.now }
+    ensures { Works board.now result.seat result.worker }
+{
+    Hand {
+        seat,
+        worker: Worker::back(number),
+    }
+}
+
 // Two workers take turns, so many steps each.
 fn take_turns(board: &Board, first: &mut Hand, second: &mut Hand, steps: u32)
     requires first { Works board.now first.old.seat first.old.worker }
@@ -127,11 +139,12 @@ pub fn third(alloc: Global, text: &str) -> Result<String, Fail> {
 pub fn third_answer(alloc: Global, job: &Job) -> Result<String, AllocError> {
     let (board, seat) = Board::open_with_blocks(alloc, job, 3, 4)?;
     let (seat, rest) = board.split(seat);
-    let (other, mut last) = board.split(rest);
+    let (other, last) = board.split(rest);
     let mut first = starting(&board, seat, 0);
     let mut second = starting(&board, other, 1);
     take_turns(&board, &mut first, &mut second, 100);
-    finished(alloc, &board, &mut last, &mut Worker::start(2))
+    let mut third = starting(&board, last, 2);
+    finished(alloc, &board, &mut third.seat, &mut third.worker)
 }
 
 // How far the job is, and what a cell holds.
@@ -191,7 +204,8 @@ fn a_job_without_steps(rt: HostRuntime) -> Result<(), Fail> {
     let job = read_job(rt.alloc(), text)?;
     let (board, mut seat) = Board::open_wide(rt.alloc(), &job, 64)?;
     assert!(rt; seen(&board, &mut seat, 0) == at(0, None, 0, 5));
-    let answer = finished(rt.alloc(), &board, &mut seat, &mut Worker::start(63))?;
+    let mut last = starting(&board, seat, 63);
+    let answer = finished(rt.alloc(), &board, &mut last.seat, &mut last.worker)?;
     assert!(rt; answer.as_str() == "[5]");
     Ok(())
 }
@@ -251,10 +265,10 @@ fn a_position_that_was_stored_is_found(rt: HostRuntime) -> Result<(), Fail> {
     )?;
     let (board, mut seat) = Board::open(rt.alloc(), &job, 1)?;
     assert!(rt; passes(&board, &mut seat, Some(15)) == (Stay::Stopped, 15));
-    let mut worker = Worker::back(0);
-    let stay = board.work(&mut seat, &mut worker, &Open, Some(88));
+    let mut first = back(&board, seat, 0);
+    let stay = board.work(&mut first.seat, &mut first.worker, &Open, Some(88));
     assert!(rt; stay == Stay::Stopped);
-    assert!(rt; board.tick(&mut seat, &mut worker) == Some(Ended::Done));
+    assert!(rt; board.tick(&mut first.seat, &mut first.worker) == Some(Ended::Done));
     Ok(())
 }
 

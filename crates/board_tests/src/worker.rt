@@ -12,7 +12,7 @@ use std::alloc::{AllocError, Global};
 use std::mem;
 use std::process::Abort;
 use std::test::Fail;
-use walkx::{Op, ReadOp, Reader, Reading, Worker, request_of, seen_step};
+use walkx::{Memory, Op, ReadOp, Reader, Reading, Worker, request_of, seen_step};
 
 const EIGHT_STEPS: &str = "pram 1\ncells 1\nprocs 1\nsteps 8\ncode\n\
     set r1 30\nset r2 50\nst r0 r1\nset r1 70\nst r0 r2\nset r2 80\nst r0 r1\nst r0 r2\n";
@@ -171,13 +171,19 @@ fn play(
     }
 }
 
-// What a script of worker 0 tells. At `back` it is lost, and comes back.
-fn told(rt: &(impl AllocGlobal + Abort), bench: &Bench, script: &str) -> Result<String, Fail>
+// What a script of worker 0, with a memory of so many processors, tells. At `back` it is lost, and
+// comes back.
+fn told(
+    rt: &(impl AllocGlobal + Abort),
+    bench: &Bench,
+    size: u32,
+    script: &str,
+) -> Result<String, Fail>
     requires { bench.now.layout.workers ≡ 1 }
 {
     let mut words = bench.layout.start_words(rt.alloc(), &bench.job)?;
     let mut told = String::new(rt.alloc());
-    let mut worker = Worker::start(0);
+    let mut worker = Worker::start_with(0, Memory::of(rt.alloc(), size)?);
     for part in script.split(' ') {
         if part == "back" {
             worker = Worker::back(0);
@@ -189,20 +195,21 @@ fn told(rt: &(impl AllocGlobal + Abort), bench: &Bench, script: &str) -> Result<
     Ok(told)
 }
 
-/// What a script tells, on a compact board or on one of blocks of four.
+/// What a script tells, on a compact board or on one of blocks of four, there also of a worker that
+/// remembers.
 pub fn said(
     rt: &(impl AllocGlobal + Abort),
     lay: &str,
     script: &str,
     text: &str,
 ) -> Result<String, Fail> {
-    if lay == "blocks" {
-        let bench = fresh_block(rt.alloc(), text)?;
-        told(rt, &bench, script)
+    let bench = if lay == "compact" {
+        fresh(rt.alloc(), text)?
     } else {
-        let bench = fresh(rt.alloc(), text)?;
-        told(rt, &bench, script)
-    }
+        fresh_block(rt.alloc(), text)?
+    };
+    let size = if lay == "remembering" { 4 } else { 0 };
+    told(rt, &bench, size, script)
 }
 
 // Makes these steps of a reader: each operation, with the word.

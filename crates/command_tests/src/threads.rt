@@ -100,16 +100,16 @@ fn runs_and_watches_are_answered(rt: HostRuntime) -> Result<(), Fail> {
     expect(&rt, rt.alloc(), PLACES)
 }
 
-// One worker finishes step 1 with its fifteenth tick: a run tells that step, and so does a watch
+// One worker finishes step 1 with its eleventh tick: a run tells that step, and so does a watch
 // below its two reads.
 const LEFT: &str = "\
 $ pramx run job --workers 1 --plan plan
-pram 1~cells 1~procs 1~steps 3~code~set r1 1~sub r2 r0 r1~st r0 r2~ under 0,go,13~0,stop,0~ \
+pram 1~cells 1~procs 1~steps 3~code~set r1 1~sub r2 r0 r1~st r0 r2~ under 0,go,9~0,stop,0~ \
     | 3 unfinished step=0~
-same under 0,go,15~0,stop,0~ | 3 unfinished step=1~
+same under 0,go,11~0,stop,0~ | 3 unfinished step=1~
 $ pramx watch job --workers 1 --plan plan --cells 0 --rounds 2
-same under 0,go,13~0,stop,0~ | 3 step,cell,value~{2}unfinished step=0~
-same under 0,go,15~0,stop,0~ | 3 step,cell,value~{2}unfinished step=1~
+same under 0,go,9~0,stop,0~ | 3 step,cell,value~{2}unfinished step=0~
+same under 0,go,11~0,stop,0~ | 3 step,cell,value~{2}unfinished step=1~
 ";
 
 #[test]
@@ -120,9 +120,9 @@ fn an_unfinished_step_is_told(rt: HostRuntime) -> Result<(), Fail> {
 // These ticks finish a step where all processors stand at one leaf, and else they do not.
 const BLOCKS: &str = "\
 $ pramx run job --workers 1 --plan plan --block *
-1 : pram 1~cells 1~procs 8~steps 3~code~set r1 1~set r2 2~set r3 3~ under 0,go,100~0,stop,0~ \
+1 : pram 1~cells 1~procs 8~steps 3~code~set r1 1~set r2 2~set r3 3~ under 0,go,50~0,stop,0~ \
     | 3 unfinished step=0~
-8 : same under 0,go,100~0,stop,0~ | 3 unfinished step=1~
+8 : same under 0,go,50~0,stop,0~ | 3 unfinished step=1~
 ";
 
 #[test]

@@ -2,8 +2,10 @@
 #![tactic(auto)]
 
 ghost use Rattle.std.specs.Prelude.{◌≡◌, ◌<◌};
+ghost use Rattle.kaolinsilk.specs.Words.{Works};
 
 use kaolinsilk::{Board, Job, Open, Reading, Seat, Worker, read_job};
+use std::alloc::Global;
 use std::io;
 use std::thread::{Threads, join};
 
@@ -16,38 +18,56 @@ fn main(rt: HostRuntime) -> io::Result<()> {
     let Ok(job) = read_job(rt.alloc(), JOB.as_bytes()) else {
         return println!(rt; "no job");
     };
-    let (board, seat) = Board::open_wide(rt.alloc(), &job, 3)?;
+    let alloc = rt.alloc();
+    let (board, seat) = Board::open_wide(alloc, &job, 3)?;
     let (mine, theirs) = board.split(seat);
-    let (first, others) = join(&rt, || work(&board, mine, 0), || two(&rt, &board, theirs));
+    let (first, others) = join(
+        &rt,
+        || work(alloc, &board, mine, 0),
+        || two(&rt, alloc, &board, theirs),
+    );
     tell(&rt, &job, &board, board.join(first, others))
 }
 
-fn two<R: Threads + Sync>(rt: &R, board: &Board, seat: Seat) -> Seat
+fn two<R: Threads + Sync>(rt: &R, alloc: Global, board: &Board, seat: Seat) -> Seat
     requires workers { board.now.task.layout.workers ≡ 3 }
     requires seat { seat.desk ≡ board.now }
     ensures { result.desk ≡ board.now }
 {
     let (mine, theirs) = board.split(seat);
-    let (first, second) = join(rt, || work(board, mine, 1), || work(board, theirs, 2));
+    let (first, second) = join(
+        rt,
+        || work(alloc, board, mine, 1),
+        || work(alloc, board, theirs, 2),
+    );
     board.join(first, second)
 }
 
-// A piece of 100 atomic steps, a look at cell 0, and the rest. Worker 2 is lost and comes back.
-fn work(board: &Board, mut seat: Seat, number: u32) -> Seat
+// A piece of 100 atomic steps, a look at cell 0, and the rest.
+fn work(alloc: Global, board: &Board, mut seat: Seat, number: u32) -> Seat
     requires worker { number < board.now.task.layout.workers }
     requires seat { seat.desk ≡ board.now }
     ensures { result.desk ≡ board.now }
 {
-    let mut worker = Worker::start(number);
+    let mut worker = Worker::start_with(number, board.worker_memory(alloc));
     board.work(&mut seat, &mut worker, &Open, Some(100));
-    if number == 2 {
-        worker = Worker::back(number);
-    }
+    let mut worker = lost(alloc, board, &seat, worker);
     board.facts();
     Seat::workers_stay_known();
     let Reading::At { .. } = board.read(&mut seat, 0);
     board.work(&mut seat, &mut worker, &Open, None);
     seat
+}
+
+// Worker 2 is lost, and comes back.
+fn lost(alloc: Global, board: &Board, seat: &Seat, worker: Worker) -> Worker
+    requires { Works board.now seat.now worker }
+    ensures { Works board.now seat.now result }
+{
+    if worker.number() != 2 {
+        return worker;
+    }
+    Worker::back_with(worker.number(), board.worker_memory(alloc))
 }
 
 fn tell<R: AllocGlobal + Print>(rt: &R, job: &Job, board: &Board, mut seat: Seat) -> io::Result<()>

@@ -102,7 +102,7 @@ pub extern "C" fn ks_back(alloc: Global, worker: &mut Handle) -> u32
     ensures { Between worker.old.member worker.new.member (HasComeBack result) }
 {
     let mut member = worker.take(alloc);
-    let status = calls::back(&mut member);
+    let status = calls::back(&mut member, alloc);
     *worker = Handle::of(member);
     status
 }

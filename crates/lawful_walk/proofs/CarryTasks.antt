@@ -32,6 +32,8 @@ use Rattle.walkx.specs.Scripts.{Script, asks}
 use Rattle.walkx.specs.Tasks.{claim_of, differs, is_late, reports, writes_place}
 use Rattle.walkx.specs.Walk.{Then, IsBoard}
 use Rattle.walkx.proofs.Boards.{same_cells, same_procs}
+use Rattle.walkx.specs.declared.memo.Memo.{Memo}
+use Rattle.walkx.specs.Memory.{IsTrueMemo}
 use Rattle.walkx.specs.Passes.{reports_other, writes_compared, carry_task, crew_carry_task}
 use Rattle.walkx.specs.Passes.{priority_carry_task}
 use Rattle.lawful_walk.specs.Board.{held, root, conflict, stamp_at, finished, IsLate, HoldsNew}
@@ -480,19 +482,20 @@ module _ (job : JobData) (y : LayoutData) (w q : ℕ) (aim : Aim) (g x i : ℕ) 
                 (heard job y longer (Swaps c a b) (swap c v a b) found ready),
           )
 
-  pub carry_task_safe : job.rule ≡ Common → (after : Script Then) →
-      EndSafe job y w q aim x
-      (λ words. CarriedCell job y x words i × Stays job y x words i) after →
+  pub carry_task_safe : job.rule ≡ Common → (memo : Memo) → IsTrueMemo job i memo →
+      (then_all : Memo → Script Then) → EndSafe job y w q aim x
+      (λ words. CarriedCell job y x words i × Stays job y x words i) (then_all memo) →
       (history : List (Op × ℕ)) → Sees job y history (Floor job y q x) →
-      Safe job y w q aim (carry_task job y (suc x) i after) history
+      Safe job y w q aim (carry_task job y (suc x) i memo then_all) history
   unfolding carry_task Common_done
-  carry_task_safe rule after done history sees =
+  carry_task_safe rule memo is_true then_all done history sees =
+      let after : Script Then = then_all memo in
       stores_safe job y w q aim g x i some most step board proc wide (omega arith) Common_done
       after done
       (λ none words. (
         none_carried none words,
         inr (λ c v asked cell. absurd (none c v cell asked)),
-      ))
+      )) memo is_true
       (λ c v. writes_compared y (suc x) c v after) history sees (λ longer more c v cell asked.
       compared_safe c v rule cell asked after done longer more)
 
@@ -615,13 +618,14 @@ module _ (job : JobData) (y : LayoutData) (w q : ℕ) (aim : Aim) (g x i : ℕ) 
     moment_later job y (Load (number_of y (Claim c))) found (Floor job y q x) words later h.1 up,
   )
 
-  pub crew_carry_task_safe : job.rule ≡ Crew → IsTrue y.claims → (after : Script Then) →
-      EndSafe job y w q aim x
-      (λ words. CarriedCell job y x words i × ClaimStays job y x words i) after →
+  pub crew_carry_task_safe : job.rule ≡ Crew → IsTrue y.claims → (memo : Memo) →
+      IsTrueMemo job i memo → (then_all : Memo → Script Then) → EndSafe job y w q aim x
+      (λ words. CarriedCell job y x words i × ClaimStays job y x words i) (then_all memo) →
       (history : List (Op × ℕ)) → Sees job y history (Floor job y q x) →
-      Safe job y w q aim (crew_carry_task job y (suc x) i after) history
+      Safe job y w q aim (crew_carry_task job y (suc x) i memo then_all) history
   unfolding crew_carry_task Crew_done Claimed_at Named Kept
-  crew_carry_task_safe rule has after done history sees =
+  crew_carry_task_safe rule has memo is_true then_all done history sees =
+      let after : Script Then = then_all memo in
       let wins = λ (c : ℕ). wins_all job x c i (λ e. absurd
       (let k : Crew ≡ Priority = sym rule ∙ e in cc)) in
       let writes = λ (c v : ℕ). writes_place y (suc x) c v after in
@@ -632,7 +636,7 @@ module _ (job : JobData) (y : LayoutData) (w q : ℕ) (aim : Aim) (g x i : ℕ) 
       (λ none words. (
         none_carried none words,
         inr (λ c v asked cell. absurd (none c v cell asked)),
-      ))
+      )) memo is_true
       (λ c v. asks (Load (number_of y (Claim c))) (rest c v)) history sees
       (λ longer more c v cell asked.
       load_safe job y w q aim (number_of y (Claim c)) (rest c v) longer (λ found ok.
@@ -747,12 +751,14 @@ module _ (job : JobData) (y : LayoutData) (w q : ℕ) (aim : Aim) (g x i : ℕ) 
           let rise = m.since (Node 1) (lit< tt, let l = stands.sizes.leaves in omega arith) in
           omega (arith, low, rise, more, phase)
 
-  pub priority_carry_task_safe : job.rule ≡ Priority → IsTrue y.claims → (after : Script Then) →
-      EndSafe job y w q aim x (λ words. CarriedCell job y x words i) after →
+  pub priority_carry_task_safe : job.rule ≡ Priority → IsTrue y.claims → (memo : Memo) →
+      IsTrueMemo job i memo → (then_all : Memo → Script Then) →
+      EndSafe job y w q aim x (λ words. CarriedCell job y x words i) (then_all memo) →
       (history : List (Op × ℕ)) → Sees job y history (Floor job y q x) →
-      Safe job y w q aim (priority_carry_task job y (suc x) i after) history
+      Safe job y w q aim (priority_carry_task job y (suc x) i memo then_all) history
   unfolding priority_carry_task Claimed_at
-  priority_carry_task_safe rule has after done history sees =
+  priority_carry_task_safe rule has memo is_true then_all done history sees =
+      let after : Script Then = then_all memo in
       let D = λ (words : List ℕ). CarriedCell job y x words i in
       let stale : StaleSafe job y w q aim x after = stale_end job y w q aim x D after done in
       let writes = λ (c v : ℕ). writes_place y (suc x) c v after in
@@ -761,7 +767,7 @@ module _ (job : JobData) (y : LayoutData) (w q : ℕ) (aim : Aim) (g x i : ℕ) 
       let rest = λ (c v found : ℕ).
       if nat_lt (suc x) (stamp_of found) then after else owner c v found in
       stores_safe job y w q aim g x i some most step board proc wide (omega arith) D after done
-      none_carried (λ c v. asks (Load (number_of y (Claim c))) (rest c v)) history sees
+      none_carried memo is_true (λ c v. asks (Load (number_of y (Claim c))) (rest c v)) history sees
       (λ longer more c v cell asked.
       load_safe job y w q aim (number_of y (Claim c)) (rest c v) longer (λ found ok.
       let heard_too = (Load (number_of y (Claim c)), found) ∷ longer in

@@ -7,7 +7,9 @@ use Rattle.pram_words.specs.Words.{LayoutData, IsWord, number_of}
 use Rattle.pram_words.specs.declared.words.Word.{Word}
 use Rattle.walkx.specs.Operations.{words_after}
 use Rattle.walkx.specs.Scripts.{Script, asks, ends}
-use Rattle.walkx.specs.Walk.{Then, begins, turns, works, stops, IsBoard}
+use Rattle.walkx.specs.Walk.{Then, begins, enters, turns, worked, stops, IsBoard}
+use Rattle.walkx.specs.declared.memo.Memo.{Memo}
+use Rattle.walkx.specs.Memory.{IsTrueMemo}
 use Rattle.walkx.specs.declared.operation.Op.{Op}
 use Rattle.walkx.specs.declared.operation.Op.TheVariants.{Max}
 use Rattle.lawful_walk.proofs.Moments.{onward}
@@ -33,7 +35,8 @@ safe_known job y w q aim (asks op next) history K sees each = (
 )
 safe_known job y w q aim (ends (begins n)) history K sees each = tt
 safe_known job y w q aim (ends (turns n p)) history K sees each = tt
-safe_known job y w q aim (ends (works n p rank)) history K sees each =
+safe_known job y w q aim (ends (enters n p)) history K sees each = tt
+safe_known job y w q aim (ends (worked n p rank memo)) history K sees each =
     λ words stands chain. each (sees words stands chain) words stands chain
 safe_known job y w q aim (ends (stops e)) history K sees each = tt
 
@@ -69,6 +72,12 @@ abbrev pub EndSafe : JobData → LayoutData → ℕ → ℕ → Aim → ℕ →
 EndSafe job y w q aim x D after = (longer : List (Op × ℕ)) →
     Sees job y longer (λ words. Floor job y q x words × (root y words < q → D words)) →
     Safe job y w q aim after longer
+
+-- the same where a worker then knows something that is true of processor i
+abbrev pub LearnedSafe : JobData → LayoutData → ℕ → ℕ → Aim → ℕ → ℕ → (List ℕ → Type 0) →
+    (Memo → Script Then) → Type 0
+LearnedSafe job y w q aim x i D after = (memo : Memo) → IsTrueMemo job i memo →
+    EndSafe job y w q aim x D (after memo)
 
 pub stale_end : (job : JobData) (y : LayoutData) (w q : ℕ) (aim : Aim) (x : ℕ) (D : List ℕ → Type 0)
     (after : Script Then) → EndSafe job y w q aim x D after → StaleSafe job y w q aim x after

@@ -20,6 +20,7 @@ pub mod Scripts
 pub mod Known
 pub mod Writing
 pub mod Owning
+pub mod Remembered
 pub mod OwnTasks
 pub mod Stores
 pub mod Agreed
@@ -37,6 +38,7 @@ pub mod Floors
 pub mod Admitted
 pub mod Moving
 pub mod Turns
+pub mod Remembering
 pub mod Reading
 pub mod Ending
 pub mod Bounding

@@ -1,24 +1,29 @@
 -- From safe scripts to a worker's step.
-use Rattle.std.proofs.Common.{ℕ, ◌-◌, ◌*◌, ◌<◌, ◌≤◌, List, [], ◌∷◌, ◌++◌, Option, unwrap_or, IsTrue}
+use Rattle.std.proofs.Common.{◌≡◌, ℕ, ◌-◌, ◌*◌, ◌<◌, ◌≤◌, List, [], ◌∷◌, ◌++◌, Option, unwrap_or, IsTrue}
 use Rattle.std.proofs.Common.{refl, sym, subst, arith}
 use Rattle.pram_job.specs.Job.{JobData}
 use Rattle.pram_words.specs.Phases.{has_phase, kind_at, step_at}
 use Rattle.pram_words.specs.Words.{LayoutData}
 use Rattle.walkx.specs.declared.operation.Ended.TheVariants as ended
 use Rattle.walkx.specs.Doing as doing
-use Rattle.walkx.specs.Records.{HasBlock, HasPart, script_at_rank, Record}
+use Rattle.walkx.specs.Records.{HasBlock, HasPart, Record}
+use Rattle.walkx.specs.declared.memo.Memo.{Memo}
+use Rattle.walkx.specs.Memory.{IsTrueMemo, IsTrueMemory}
 use Rattle.walkx.specs.Walk.{Fits, IsPhase, begun_phase, script_of, rest_of, ask_of, phase_begun}
 use Rattle.walkx.specs.Walk.{heard_of, Then, Walking, AllAdmitted, HearsAdmitted, IsBoard}
-use Rattle.walkx.specs.Walk.{IsInBlock, Matches, has_rank, node_of, processor_at, next_op}
+use Rattle.walkx.specs.Walk.{IsInBlock, IsWide, Matches, has_rank, node_of, processor_at, next_op}
+use Rattle.walkx.specs.Walk.{part_script, worked}
 use Rattle.walkx.proofs.TaskAsking.{AllAsk}
-use Rattle.walkx.proofs.Asking.{all_left, asks_after, first_admitted, rank_asks}
-use Rattle.walkx.proofs.Firsts.{rank_parts, rank_there}
+use Rattle.walkx.proofs.Asking.{FitsThen, all_left, asks_after, first_admitted, part_asks}
+use Rattle.walkx.proofs.Boards.{same_procs}
+use Rattle.walkx.proofs.Firsts.{rank_parts}
 use Rattle.walkx.specs.Doing.{Doing}
 use Rattle.walkx.specs.Playing.{rank_of}
 use Rattle.walkx.specs.Scripts.{Script, asks, ends, heard_in, op_with, rest}
 use Rattle.walkx.specs.declared.operation.Op.{Op}
 use Rattle.walkx.specs.declared.operation.Op.TheVariants.{Over}
-use Rattle.walkx.proofs.Fitting.{node_range}
+use Rattle.walkx.proofs.Nodes.{node_range}
+use Rattle.lawful_walk.proofs.Remembered.{true_fits}
 use Rattle.lawful_walk.proofs.Moments.{same, backs}
 use Rattle.lawful_walk.specs.Board.{root, Done, Stands}
 use Rattle.lawful_walk.proofs.Admitted.{answer_admitted}
@@ -38,8 +43,10 @@ rank_done job y q n rank words = root y words < q →
 
 abbrev pub aim_at : JobData → LayoutData → ℕ → ℕ → ℕ → Aim
 aim_at job y q n rank = record {
-  given = λ words. (earlier : ℕ) → earlier < rank → rank_done job y q n earlier words;
-  done = rank_done job y q n rank;
+  given = λ words. (earlier : ℕ) → earlier < rank → IsTrue (has_rank y n earlier) →
+      rank_done job y q n earlier words;
+  done = λ memo words.
+      rank_done job y q n rank words × IsTrueMemo job (processor_at y n rank) memo;
 }
 
 abbrev pub aim_of : JobData → LayoutData → ℕ → Doing → Aim
@@ -48,29 +55,24 @@ aim_of job y n now = aim_at job y (phase_now now) n (rank_of now)
 -- what is to be shown of the script of a worker that fits
 abbrev pub WorkerSafe : Type 0
 WorkerSafe = (job : JobData) (y : LayoutData) (w : Walking) → IsBoard job y → Fits job y w →
+    IsTrueMemory job w.memory →
     Safe job y w.number (phase_now w.now) (aim_of job y (node_of y w) w.now) (script_of job y w)
     (phase_begun y w.now)
 
--- and of that with the task of a processor
+-- and of the task of a processor in a block
 abbrev pub RankSafe : Type 0
-RankSafe = (job : JobData) (y : LayoutData) → IsBoard job y → (w n q rank : ℕ) →
-    w < y.workers → y.leaves ≤ n → n < 2 * y.leaves → 1 ≤ q → q ≤ 3 * job.steps →
-    IsTrue (has_phase y.form q) → IsTrue (has_rank y n rank) →
-    Safe job y w q (aim_at job y q n rank) (script_at_rank job y w n q rank) (begun_phase y q)
+RankSafe = (job : JobData) (y : LayoutData) → IsBoard job y → IsWide y.form → (w n q rank : ℕ)
+    (memo : Memo) → IsTrueMemo job (processor_at y n rank) memo → y.leaves ≤ n →
+    n < 2 * y.leaves → 1 ≤ q → q ≤ 3 * job.steps → IsTrue (has_phase y.form q) →
+    IsTrue (has_rank y n rank) →
+    Safe job y w q (aim_at job y q n rank) (part_script job y n q rank memo) (begun_phase y q)
 
 -- ---- what the processors before a worker's have done
-
--- a rank below one that the block has
-earlier_there : (y : LayoutData) (n rank earlier : ℕ) → IsTrue (has_rank y n rank) →
-    earlier < rank → IsTrue (has_rank y n earlier)
-earlier_there y n rank earlier there less =
-    let h = rank_parts y n rank there in
-    rank_there y n earlier (omega (arith, h.0)) (omega (arith, h.1))
 
 -- answers that standing words gave are admitted
 answer_fits : (job : JobData) (y : LayoutData) (s : Script Then) (found : ℕ)
     (heard more : List (Op × ℕ)) (now : List ℕ) →
-    (AllAdmitted job y heard → AllAsk job y s) → ((words : List ℕ) →
+    (AllAdmitted job y heard → AllAsk job y (FitsThen job) s) → ((words : List ℕ) →
     Chain job y (λ words. Unit {0}) (heard ++ more) words → AllAdmitted job y heard) →
     Chain job y (λ words. Unit {0}) ((op_with s found ++ heard) ++ more) now →
     AllAdmitted job y (op_with s found ++ heard)
@@ -83,52 +85,65 @@ answer_fits job y (asks op next) found heard more now asked before m =
 answer_fits job y (ends r) found heard more now asked before m = before now m
 
 chain_admitted : (job : JobData) (y : LayoutData) (script : Script Then) (answers : List ℕ)
-    (more : List (Op × ℕ)) (now : List ℕ) → AllAsk job y script →
+    (more : List (Op × ℕ)) (now : List ℕ) → AllAsk job y (FitsThen job) script →
     Chain job y (λ words. Unit {0}) (heard_in script answers ++ more) now →
     AllAdmitted job y (heard_in script answers)
 chain_admitted job y script [] more now asked chain = tt
 chain_admitted job y script (found ∷ earlier) more now asked chain =
     answer_fits job y (rest script earlier) found (heard_in script earlier) more now
-    (λ all. asks_after job y script earlier all asked)
+    (λ all. asks_after (FitsThen job) job y script earlier all asked)
     (λ words before. chain_admitted job y script earlier more words asked before) chain
 
-shown_at : (job : JobData) (y : LayoutData) (board : IsBoard job y) (r : Record) (w n q rank : ℕ)
-    (words : List ℕ) → RankSafe → w < y.workers → 1 ≤ n → y.leaves ≤ n →
-    n < 2 * y.leaves → 1 ≤ q → q ≤ 3 * job.steps → IsTrue (has_phase y.form q) →
-    IsTrue (has_rank y n rank) → Stands job y words →
-    Backed job y r words → HasPart job y r w n q rank → rank_done job y q n rank words
-shown_at job y board r w n q rank words safe worker some low high
-    first last formed there stands backed part =
-    let script = script_at_rank job y w n q rank in
-    let chain =
-    chain_of_has job y r (heard_in script part.0 ++ begun_phase y q) words backed part.2 in
-    let admitted = chain_admitted job y script part.0 (begun_phase y q) words
-    (rank_asks job y board w n q rank worker some low high first last formed there) chain in
-    let whole =
-    safe_after job y w q (aim_at job y q n rank) script (begun_phase y q) part.0 admitted
-    (safe job y board w n q rank worker low high first last formed there) in
-    let shown = subst (λ (s : Script Then). Safe job y w q (aim_at job y q n rank) s
-    (heard_in script part.0 ++ begun_phase y q)) part.1 whole in
-    shown words stands chain
+-- what the whole task of an earlier processor shows
+module _ (job : JobData) (y : LayoutData) (board : IsBoard job y) (wide : IsWide y.form)
+    (w n q : ℕ) (words : List ℕ) (safe : RankSafe) (some : 1 ≤ y.leaves) (low : y.leaves ≤ n)
+    (high : n < 2 * y.leaves) (first : 1 ≤ q) (last : q ≤ 3 * job.steps)
+    (formed : IsTrue (has_phase y.form q)) (stands : Stands job y words) where
+  pub shown_of : (rank : ℕ) → IsTrue (has_rank y n rank) → (memo learned : Memo) (answers : List ℕ) →
+      IsTrueMemo job (processor_at y n rank) memo →
+      rest (part_script job y n q rank memo) answers ≡ ends (worked n q rank learned) →
+      Chain job y (λ words. Unit {0})
+      (heard_in (part_script job y n q rank memo) answers ++ begun_phase y q) words →
+      (aim_at job y q n rank).done learned words
+  shown_of rank there memo learned answers is_true whole chain =
+      let script = part_script job y n q rank memo in
+      let aim = aim_at job y q n rank in
+      let proc = (rank_parts y n rank there).1 in
+      let fits = true_fits job (processor_at y n rank) board.limits
+      (let same = same_procs job y board in omega (arith, proc, same)) memo is_true in
+      let admitted = chain_admitted job y script answers (begun_phase y q) words
+      (part_asks job y board n q rank memo (omega (arith, some, low)) high last formed there fits)
+      chain in
+      let whole_safe = safe_after job y w q aim script (begun_phase y q) answers admitted
+      (safe job y board wide w n q rank memo is_true low high first last formed there) in
+      let shown = subst (λ (s : Script Then). Safe job y w q aim s
+      (heard_in script answers ++ begun_phase y q)) whole whole_safe in
+      shown words stands chain
+
+  shown_at : (r : Record) (rank : ℕ) → IsTrue (has_rank y n rank) → Backed job y r words →
+      HasPart job y r n q rank → rank_done job y q n rank words
+  shown_at r rank there backed part =
+      (shown_of rank there part.memo part.learned part.answers part.is_true part.whole
+      (chain_of_has job y r
+      (heard_in (part_script job y n q rank part.memo) part.answers ++ begun_phase y q) words backed
+      part.has)).0
 
 given_of : (job : JobData) (y : LayoutData) (board : IsBoard job y) (r : Record) (w n : ℕ)
-    (now : Doing) (words : List ℕ) → RankSafe → w < y.workers → 1 ≤ n →
+    (now : Doing) (words : List ℕ) → RankSafe → 1 ≤ y.leaves →
     n < 2 * y.leaves → IsPhase job y now → IsInBlock y n now → Stands job y words →
-    Backed job y r words → HasBlock job y r w n now → (aim_of job y n now).given words
-given_of job y board r w n doing.Back words safe worker some high phase block stands backed has =
-    λ earlier less. absurd (omega arith)
-given_of job y board r w n doing.Begin words safe worker some high phase block stands backed has =
-    λ earlier less. absurd (omega arith)
-given_of job y board r w n (doing.Turn q)
-    words safe worker some high phase block stands backed has =
-    λ earlier less. absurd (omega arith)
-given_of job y board r w n (doing.Part q rank) words safe worker some high phase block stands
-    backed has = λ earlier less.
-    shown_at job y board r w n q earlier words safe worker some block.0 high phase.0 phase.1
-    phase.2 (earlier_there y n rank earlier block.2 less) stands backed (has earlier less)
-given_of job y board r w n (doing.Over e)
-    words safe worker some high phase block stands backed has =
-    λ earlier less. absurd (omega arith)
+    Backed job y r words → HasBlock job y r n now → (aim_of job y n now).given words
+given_of job y board r w n doing.Back words safe some high phase block stands backed has =
+    λ earlier less there. absurd (omega arith)
+given_of job y board r w n doing.Begin words safe some high phase block stands backed has =
+    λ earlier less there. absurd (omega arith)
+given_of job y board r w n (doing.Turn q) words safe some high phase block stands backed has =
+    λ earlier less there. absurd (omega arith)
+given_of job y board r w n (doing.Part q rank) words safe some high phase block stands
+    backed has = λ earlier less there.
+    shown_at job y board block.2 w n q words safe some block.0 high phase.0 phase.1 phase.2 stands r
+    earlier there backed (has earlier less)
+given_of job y board r w n (doing.Over e) words safe some high phase block stands backed has =
+    λ earlier less there. absurd (omega arith)
 
 -- ---- the worker's step
 
@@ -166,9 +181,9 @@ moves each ranks job y r w words stands fits knows backed =
     let safe : Safe job y w.number q aim (rest_of job y w) (heard_of job y w) =
     safe_after job y w.number q aim script (phase_begun y w.now) w.heard
     (all_left job y (heard_in script w.heard) (phase_begun y w.now) fits.admitted)
-    (each job y w board fits) in
+    (each job y w board fits knows.memory) in
     let given : aim.given words = given_of job y board r w.number (node_of y w) w.now words ranks
-    fits.number at.0 at.1 fits.phase fits.block stands backed knows.block in
+    board.layout.leaves.0 at.1 fits.phase fits.block stands backed knows.block in
     let goes : Goes job y w.number q (ask_of job y w) words =
     goes_by job y w.now aim (rest_of job y w) w.number (heard_of job y w) words fits.matches safe
     stands (λ op sees. sees words stands

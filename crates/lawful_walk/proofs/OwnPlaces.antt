@@ -280,7 +280,7 @@ none_within job k low none =
     let there = slice_get-get_or job.code k Halt low in
     none-some (get_or job.code k Halt) (sym none ∙ there)
 
-stays_so : (job : JobData) (s : State) (i : ℕ) → slice_get job.code (counter job s i) ≡ None →
+pub stays_so : (job : JobData) (s : State) (i : ℕ) → slice_get job.code (counter job s i) ≡ None →
     request_in job s i ≡ goes_to (counter job s i)
 unfolding request_in
 stays_so job s i e = rw (e, request_in) refl

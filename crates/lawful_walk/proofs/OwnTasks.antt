@@ -1,15 +1,15 @@
 -- Compute in the wide form: a processor's own write is made, and with claims that of its store.
-use Rattle.std.proofs.Common.{◌≡◌, ℕ, zero, suc, ◌+◌, ◌*◌, ◌<◌, ◌≤◌, nat_lt}
+use Rattle.std.proofs.Common.{◌≡◌, ℕ, zero, suc, ◌+◌, ◌-◌, ◌*◌, ◌<◌, ◌≤◌, ◌==◌, nat_lt}
 use Rattle.std.proofs.Common.{List, [], length, slice_get, slice_index, Option}
-use Rattle.std.proofs.Common.{Some, None, IsTrue, refl, sym, subst, ◌∙◌, inl, inr, lit<, arith}
+use Rattle.std.proofs.Common.{Some, None, IsTrue, refl, sym, ap, subst, ◌∙◌, inl, inr, lit<, arith}
 use Rattle.std.specs.Prelude.{if◌then◌else◌}
-use Rattle.std.proofs.lemmas.Bool.{cond_both, le-ltb, ltb-false}
+use Rattle.std.proofs.lemmas.Bool.{cond_both, eqb-true, le-ltb, ltb-false}
 use Rattle.std.proofs.lemmas.Option.{none-some, some_pair_parts}
 use Rattle.pram_job.specs.declared.instr.Instr.{Instr}
 use Rattle.pram_job.specs.Job.{JobData}
 use Rattle.pram_machine.specs.declared.requests.Request.{Request}
 use Rattle.pram_machine.specs.Instructions.{request_in, sources_of, cell_read, decided}
-use Rattle.pram_machine.specs.Instructions.{operand_held, decided_in}
+use Rattle.pram_machine.specs.Instructions.{goes_to, operand_held, operand_in, decided_in}
 use Rattle.pram_machine.specs.Machine.{State, counter}
 use Rattle.pram_machine.proofs.Shapes.{instr_is}
 use Rattle.pram_step.specs.History.{Asks}
@@ -23,24 +23,30 @@ use Rattle.pram_words.specs.Words.{LayoutData, IsWord, number_of, places_of}
 use Rattle.walkx.specs.declared.operation.Op.{Op}
 use Rattle.walkx.specs.declared.operation.Op.TheVariants.{Max}
 use Rattle.walkx.specs.Scripts.{Script, asks}
-use Rattle.walkx.specs.Tasks.{claim_of, claims, is_late, reads_cell, writes_place}
+use Rattle.walkx.specs.Tasks.{claim_of, claims, is_late, reads_cell, reads_registers}
+use Rattle.walkx.specs.Tasks.{writes_place}
 use Rattle.walkx.specs.Walk.{Then, IsBoard}
 use Rattle.walkx.proofs.TaskAsking.{sources_fit}
 use Rattle.walkx.proofs.Boards.{same_cells}
 use Rattle.walkx.proofs.Cells.{cell_is}
 use Rattle.walkx.specs.Counters.{wide_worth}
 use Rattle.walkx.specs.OwnWrites.{own_write, cell_write}
-use Rattle.walkx.specs.Passes.{decides, if_write, computes_at, computes_own}
-use Rattle.walkx.specs.Passes.{own_task, own_claim_task}
+use Rattle.walkx.specs.declared.memo.Memo.{Memo}
+use Rattle.walkx.specs.Memory.{IsTrueMemo, all_registers, at_start, memo_after}
+use Rattle.walkx.specs.Passes.{claims_or_writes, computes_own, decides, if_write, knows}
+use Rattle.walkx.specs.Passes.{loads_memo, own_task, own_claim_task, requests, writes_own}
+use Rattle.walkx.proofs.Beginnings.{start_true}
 use Rattle.lawful_walk.specs.Board.{held, root, stamp_at, IsLate, Claimed, CarriedOwn, Stands}
 use Rattle.lawful_walk.proofs.Winners.{wins_own, cell_counter}
 use Rattle.lawful_walk.specs.Lands.{Lands, phase_claimed, phase_written}
-use Rattle.lawful_walk.proofs.OwnPlaces.{own_lands, own_one, own_or_cell, own_asks, stopped_none}
+use Rattle.lawful_walk.proofs.OwnPlaces.{own_lands, own_one, own_or_cell, own_asks, stays_so}
 use Rattle.lawful_walk.proofs.OwnPlaces.{cell_asks, asks_cell}
+use Rattle.lawful_walk.proofs.Remembered.{IsBefore, after_true, before_of, operand_is}
 use Rattle.lawful_walk.specs.Writes.{Floor}
 use Rattle.lawful_walk.proofs.Values.{cell_under_way}
 use Rattle.lawful_walk.proofs.Facts.{facts}
 use Rattle.lawful_walk.proofs.Known.{floor_lasts, safe_known, StaleSafe, EndSafe, raises_safe}
+use Rattle.lawful_walk.proofs.Known.{LearnedSafe}
 use Rattle.lawful_walk.proofs.Known.{stale_end}
 use Rattle.lawful_walk.proofs.Effects.{writes_keep}
 use Rattle.lawful_walk.proofs.Scripts.{Aim, Safe, both_safe}
@@ -153,38 +159,99 @@ module _ (job : JobData) (y : LayoutData) (w q : ℕ) (aim : Aim) (g x i : ℕ) 
       subst (λ (r : Request). Safe job y w q aim (next r) longest) (asks_for job s i instr e)
       (on longest known)))
 
+  -- ---- what is known of the processor before the step: remembered, or loaded
+
+  loads_safe : 3 * x + 1 ≤ q → (late : Script Then) (next : Memo → Script Then)
+      (history : List (Op × ℕ)) → OwnEnd job y w q aim g x i some most step board proc wide late →
+      Sees job y history (Floor job y q x) →
+      ((known : Memo) → IsBefore job i x known → (longer : List (Op × ℕ)) →
+      Sees job y longer (Floor job y q x) → Safe job y w q aim (next known) longer) →
+      Safe job y w q aim (loads_memo job y (suc x) i late next) history
+  loads_safe begun late next history ended sees on =
+      let with = λ (c : ℕ) (values : List ℕ). next
+      (record { step = suc x - 1; counter = c; registers = values; store = None }) in
+      counter_safe job y w q aim g x i some most step board proc wide begun late
+      (λ c. reads_registers job y (suc x) i all_registers [] late (with c)) history ended sees
+      (λ longer more. registers_safe job y w q aim g x i some most step board proc wide begun
+      all_registers [] late (with (counter job (state_after job x) i)) longer ended
+      (lit< tt, (lit< tt, (lit< tt, (lit< tt, tt)))) more
+      (λ longest known. on _ (record { counter = refl; registers = refl }) longest known))
+
+  knows_safe : 3 * x + 1 ≤ q → (memo : Memo) → IsTrueMemo job i memo → (late : Script Then)
+      (next : Memo → Script Then) (history : List (Op × ℕ)) →
+      OwnEnd job y w q aim g x i some most step board proc wide late →
+      Sees job y history (Floor job y q x) →
+      ((known : Memo) → IsBefore job i x known → (longer : List (Op × ℕ)) →
+      Sees job y longer (Floor job y q x) → Safe job y w q aim (next known) longer) →
+      Safe job y w q aim (knows job y (suc x) i memo late next) history
+  knows_safe begun memo is_true late next history ended sees on =
+      cond_both (suc memo.step == suc x) (next memo) (loads_memo job y (suc x) i late next)
+      (λ (s : Script Then). Safe job y w q aim s history)
+      (λ e. let at = eqb-true (suc memo.step) (suc x) e in
+      on memo (before_of job i x memo is_true (omega (arith, at))) history sees)
+      (λ e. loads_safe begun late next history ended sees on)
+
+  -- what it asks for
+  requests_safe : 3 * x + 1 ≡ q → (known : Memo) → IsBefore job i x known → (o : Option Instr) →
+      slice_get job.code (counter job (state_after job x) i) ≡ o → (late : Script Then)
+      (next : Request → Script Then) (history : List (Op × ℕ)) → StaleSafe job y w q aim x late →
+      Sees job y history (Floor job y q x) →
+      ((longer : List (Op × ℕ)) → Sees job y longer (Floor job y q x) →
+      Safe job y w q aim (next (request_in job (state_after job x) i)) longer) →
+      Safe job y w q aim (requests job y (suc x) i known o late next) history
+  requests_safe phase known before None e late next history stale sees on =
+      subst (λ (r : Request). Safe job y w q aim (next r) history)
+      (stays_so job (state_after job x) i e ∙ ap goes_to (sym before.counter)) (on history sees)
+  requests_safe phase known before (Some instr) e late next history stale sees on =
+      let s = state_after job x in
+      let k = counter job s i in
+      let fits = instr_is job k instr board.limits e in
+      let low = sources_fit job.cells (length job.code) instr fits in
+      let held = operand_held job s i instr in
+      let asked = λ (c a b : ℕ). reads_cell y (suc x) (cell_read job instr a) late
+      (λ v. next (decided job i c instr a b v)) in
+      subst (λ (c : ℕ). Safe job y w q aim (asked c (operand_in known.registers instr 0)
+      (operand_in known.registers instr 1)) history) (sym before.counter)
+      (subst (λ (a : ℕ). Safe job y w q aim (asked k a (operand_in known.registers instr 1)) history)
+      (sym (operand_is job i x known instr 0 before low))
+      (subst (λ (b : ℕ). Safe job y w q aim (asked k (held 0) b) history)
+      (sym (operand_is job i x known instr 1 before low))
+      (cell_safe (cell_read job instr (held 0))
+      (λ c f. (cell_is job instr (held 0) c fits f, omega (arith, phase))) (omega (arith, phase))
+      late (λ v. next (decided job i k instr (held 0) (held 1) v)) history stale sees
+      (λ longer more. subst (λ (r : Request). Safe job y w q aim (next r) longer)
+      (asks_for job s i instr e) (on longer more)))))
+
   -- ---- compute
 
-  module _ (phase : 3 * x + 1 ≡ q) (D : List ℕ → Type 0) (after : Script Then)
-      (done : EndSafe job y w q aim x D after)
+  module _ (phase : 3 * x + 1 ≡ q) (D : List ℕ → Type 0) (after : Memo → Script Then)
+      (done : LearnedSafe job y w q aim x i D after)
       (of_own : (p : ℕ) (words : List ℕ) → job.cells ≤ p → HasOwn job y g x i p words → D words)
     where
-      own_end : OwnEnd job y w q aim g x i some most step board proc wide after
-      own_end p own longer sees = done longer
+      own_end : (memo : Memo) → IsTrueMemo job i memo →
+          OwnEnd job y w q aim g x i some most step board proc wide (after memo)
+      own_end memo is_true p own longer sees = done memo is_true longer
           (so job y longer
           (λ words. Floor job y q x words × (root y words < q → HasOwn job y g x i p words))
           (λ words. Floor job y q x words × (root y words < q → D words))
           (λ words stands h. (h.0, λ live. of_own p words own (h.1 live))) sees)
 
-      -- nothing is left to do
-      none_end : (history : List (Op × ℕ)) → ((words : List ℕ) → D words) →
-          Sees job y history (Floor job y q x) → Safe job y w q aim after history
-      none_end history each sees = done history (so job y history (Floor job y q x)
-          (λ words. Floor job y q x words × (root y words < q → D words))
-          (λ words stands f. (f, λ live. each words)) sees)
-
       -- its own write is made
-      own_made : (o : Option (ℕ × ℕ)) →
+      own_made : (learned : Memo) → IsTrueMemo job i learned → (o : Option (ℕ × ℕ)) →
           own_write job i (counter job (state_after job x) i) (request_in job (state_after job x) i)
           ≡ o →
           (((p v : ℕ) → job.cells ≤ p → Lands (Wide g) job x p i v → ⊥) → (words : List ℕ) →
           D words) →
           (history : List (Op × ℕ)) → Sees job y history (Floor job y q x) →
-          Safe job y w q aim
-          (if_write o after (λ p v. writes_place y (suc x) p v after)) history
-      own_made None e no_own history sees = none_end history (no_own (λ p v own lands.
-          none-some (p, v) (sym e ∙ own_lands g job x i p v own lands))) sees
-      own_made (Some write) e no_own history sees =
+          Safe job y w q aim (if_write o (after learned)
+          (λ p v. writes_place y (suc x) p v (after learned))) history
+      own_made learned is_true None e no_own history sees =
+          let none = no_own (λ p v own lands.
+          none-some (p, v) (sym e ∙ own_lands g job x i p v own lands)) in
+          done learned is_true history (so job y history (Floor job y q x)
+          (λ words. Floor job y q x words × (root y words < q → D words))
+          (λ words stands f. (f, λ live. none words)) sees)
+      own_made learned is_true (Some write) e no_own history sees =
           let p = write.0 in
           let v = write.1 in
           let made = own_asks g job x i p v board.limits here e in
@@ -194,8 +261,9 @@ module _ (job : JobData) (y : LayoutData) (w q : ℕ) (aim : Aim) (g x i : ℕ) 
           (let own = made.own in rw (le-ltb p job.cells own) (sym phase)) in
           writes_safe job y w q aim x p i v some most step at (Floor job y q x)
           (floor_lasts job y q x) (λ words f. f)
-          (λ words f. (lands, wins_own job y x p i v board made.own lands.asks)) after history sees
-          (λ longer more. done longer (so job y longer
+          (λ words f. (lands, wins_own job y x p i v board made.own lands.asks)) (after learned)
+          history sees
+          (λ longer more. done learned is_true longer (so job y longer
           (λ words. Floor job y q x words × IsLate y x p words)
           (λ words. Floor job y q x words × (root y words < q → D words))
           (λ words stands h. (
@@ -207,39 +275,25 @@ module _ (job : JobData) (y : LayoutData) (w q : ℕ) (aim : Aim) (g x i : ℕ) 
             }),
           )) more))
 
-      instr_safe : (o : Option Instr) →
-          slice_get job.code (counter job (state_after job x) i) ≡ o →
-          ((p v : ℕ) → slice_get job.code (counter job (state_after job x) i) ≡ None →
-          (words : List ℕ) → D words) →
-          (next : Request → Script Then) (history : List (Op × ℕ)) →
+      pub computes_safe : (memo : Memo) → IsTrueMemo job i memo →
+          (next : Memo → Request → Script Then) (history : List (Op × ℕ)) →
           Sees job y history (Floor job y q x) →
-          ((longer : List (Op × ℕ)) → Sees job y longer (Floor job y q x) →
-          Safe job y w q aim (next (request_in job (state_after job x) i)) longer) →
-          Safe job y w q aim
-          (computes_at job y (suc x) i (counter job (state_after job x) i) o after next) history
-      instr_safe None e none next history sees on = none_end history (none 0 0 e) sees
-      instr_safe (Some instr) e none next history sees on =
-          decides_safe instr e (λ c f. omega arith) (omega arith) after next history own_end
-          (stale_end job y w q aim x D after done) sees on
-
-      pub computes_safe : ((p v : ℕ) → slice_get job.code
-          (counter job (state_after job x) i) ≡ None → (words : List ℕ) → D words) →
-          (next : Request → Script Then → Script Then) (history : List (Op × ℕ)) →
-          Sees job y history (Floor job y q x) →
-          ((longer : List (Op × ℕ)) → Sees job y longer (Floor job y q x) → Safe job y w q aim
-          (next (request_in job (state_after job x) i)
-          (if_write (own_write job i (counter job (state_after job x) i)
-          (request_in job (state_after job x) i)) after
-          (λ p v. writes_place y (suc x) p v after))) longer) →
-          Safe job y w q aim (computes_own job y (suc x) i after next) history
-      computes_safe none next history sees on =
-          let k = counter job (state_after job x) i in
-          let then_next = λ (c : ℕ) (r : Request). next r (if_write (own_write job i c r) after
-          (λ p v. writes_place y (suc x) p v after)) in
-          counter_safe job y w q aim g x i some most step board proc wide (omega arith) after
-          (λ c. computes_at job y (suc x) i c (slice_get job.code c) after (then_next c)) history
-          own_end sees (λ longer more.
-          instr_safe (slice_get job.code k) refl none (then_next k) longer more on)
+          ((known : Memo) → IsBefore job i x known → (longer : List (Op × ℕ)) →
+          Sees job y longer (Floor job y q x) →
+          Safe job y w q aim (next known (request_in job (state_after job x) i)) longer) →
+          Safe job y w q aim (computes_own job y (suc x) i memo after next) history
+      computes_safe memo is_true next history sees on =
+          let start = start_true job board.limits i here in
+          knows_safe (omega (arith, phase)) memo is_true (after memo)
+          (λ known. requests job y (suc x) i known (slice_get job.code known.counter)
+          (after at_start) (next known)) history (own_end memo is_true) sees
+          (λ known before longer more.
+          subst (λ (c : ℕ). Safe job y w q aim (requests job y (suc x) i known (slice_get job.code c)
+          (after at_start) (next known)) longer) (sym before.counter)
+          (requests_safe phase known before
+          (slice_get job.code (counter job (state_after job x) i)) refl (after at_start) (next known)
+          longer (stale_end job y w q aim x D (after at_start) (done at_start start)) more
+          (on known before)))
 
   -- ---- what is done then
 
@@ -255,19 +309,24 @@ module _ (job : JobData) (y : LayoutData) (w q : ℕ) (aim : Aim) (g x i : ℕ) 
   no_own none words p v lands own =
       absurd (none p v own (subst (λ (f : Form). Lands f job x p i v) wide lands))
 
-  pub own_task_safe : 3 * x + 1 ≡ q → (after : Script Then) →
-      EndSafe job y w q aim x (λ words. CarriedOwn job y x words i) after →
+  pub own_task_safe : 3 * x + 1 ≡ q → (memo : Memo) → IsTrueMemo job i memo →
+      (after : Memo → Script Then) →
+      LearnedSafe job y w q aim x i (λ words. CarriedOwn job y x words i) after →
       (history : List (Op × ℕ)) → Sees job y history (Floor job y q x) →
-      Safe job y w q aim (own_task job y (suc x) i after) history
+      Safe job y w q aim (own_task job y (suc x) i memo after) history
   unfolding own_task
-  own_task_safe phase after done history sees =
+  own_task_safe phase memo is_true after done history sees =
       let D = λ (words : List ℕ). CarriedOwn job y x words i in
-      computes_safe phase D after done own_done
-      (λ p v none. no_own (λ p v own. stopped_none g job x i p v none))
-      (λ request writes. writes) history sees (λ longer more.
-      own_made phase D after done own_done
-      (own_write job i (counter job (state_after job x) i) (request_in job (state_after job x) i))
-      refl no_own longer more)
+      let r = request_in job (state_after job x) i in
+      computes_safe phase D after done own_done memo is_true
+      (λ known request. writes_own job y (suc x) i known.counter request
+      (after (memo_after job (suc x) i known request))) history sees (λ known before longer more.
+      let learned = memo_after job (suc x) i known r in
+      subst (λ (c : ℕ). Safe job y w q aim (writes_own job y (suc x) i c r (after learned)) longer)
+      (sym before.counter)
+      (own_made phase D after done own_done learned
+      (after_true job i x board.limits here known before)
+      (own_write job i (counter job (state_after job x) i) r) refl no_own longer more))
 
   -- ---- with claims
 
@@ -323,42 +382,36 @@ module _ (job : JobData) (y : LayoutData) (w q : ℕ) (aim : Aim) (g x i : ℕ) 
       )) more)))
       (λ e. absurd (let l = ltb-false c job.cells e in omega arith))
 
-  pub own_claim_task_safe : 3 * x + 1 ≡ q → IsTrue y.claims → (after : Script Then) →
-      EndSafe job y w q aim x
+  pub own_claim_task_safe : 3 * x + 1 ≡ q → IsTrue y.claims → (memo : Memo) →
+      IsTrueMemo job i memo → (after : Memo → Script Then) →
+      LearnedSafe job y w q aim x i
       (λ words. CarriedOwn job y x words i × Claimed job y x words i) after →
       (history : List (Op × ℕ)) → Sees job y history (Floor job y q x) →
-      Safe job y w q aim (own_claim_task job y (suc x) i after) history
+      Safe job y w q aim (own_claim_task job y (suc x) i memo after) history
   unfolding own_claim_task Both_done
-  own_claim_task_safe phase has after done history sees =
-      let s = state_after job x in
-      let r = request_in job s i in
-      computes_safe phase Both_done after done both_done
-      (λ p v none words. (
-        no_own (λ p v own. stopped_none g job x i p v none) words,
-        no_claim (λ c v cell asked. stopped_cell c v none cell asked) words,
-      ))
-      (λ request writes. if_write (cell_write job request.put) writes
-      (λ c v. claims job y (suc x) i c after)) history sees (λ longer more.
-      by_store phase has after done (cell_write job r.put) refl longer more)
+  own_claim_task_safe phase has memo is_true after done history sees =
+      let r = request_in job (state_after job x) i in
+      computes_safe phase Both_done after done both_done memo is_true
+      (λ known request. claims_or_writes job y (suc x) i known.counter request
+      (after (memo_after job (suc x) i known request))) history sees (λ known before longer more.
+      let learned = memo_after job (suc x) i known r in
+      subst (λ (c : ℕ).
+      Safe job y w q aim (claims_or_writes job y (suc x) i c r (after learned)) longer)
+      (sym before.counter)
+      (by_store phase has after done learned (after_true job i x board.limits here known before)
+      (cell_write job r.put) refl longer more))
     where
-      stopped_cell : (c v : ℕ) → slice_get job.code (counter job (state_after job x) i) ≡ None →
-          c < job.cells → Asks job x c i v → ⊥
-      stopped_cell c v none cell asked = stopped_none g job x i c v none (record {
-        asks = asked;
-        told = rw (cell_counter job c cell) refl;
-      })
-
-      by_store : 3 * x + 1 ≡ q → IsTrue y.claims → (after : Script Then) →
-          EndSafe job y w q aim x Both_done after → (o : Option (ℕ × ℕ)) →
+      by_store : 3 * x + 1 ≡ q → IsTrue y.claims → (after : Memo → Script Then) →
+          LearnedSafe job y w q aim x i Both_done after → (learned : Memo) →
+          IsTrueMemo job i learned → (o : Option (ℕ × ℕ)) →
           cell_write job (request_in job (state_after job x) i).put ≡ o →
           (longer : List (Op × ℕ)) → Sees job y longer (Floor job y q x) →
           Safe job y w q aim (if_write o
-          (if_write (own_write job i (counter job (state_after job x) i)
-          (request_in job (state_after job x) i)) after
-          (λ p v. writes_place y (suc x) p v after))
-          (λ c v. claims job y (suc x) i c after)) longer
-      by_store phase has after done None e longer more =
-          own_made phase Both_done after done both_done
+          (writes_own job y (suc x) i (counter job (state_after job x) i)
+          (request_in job (state_after job x) i) (after learned))
+          (λ c v. claims job y (suc x) i c (after learned))) longer
+      by_store phase has after done learned is_true None e longer more =
+          own_made phase Both_done after done both_done learned is_true
           (own_write job i (counter job (state_after job x) i)
           (request_in job (state_after job x) i)) refl
           (λ none words. (
@@ -366,6 +419,7 @@ module _ (job : JobData) (y : LayoutData) (w q : ℕ) (aim : Aim) (g x i : ℕ) 
             no_claim (λ c v cell asked.
                 none-some (c, v) (sym e ∙ asks_cell job x i c v cell asked)) words,
           )) longer more
-      by_store phase has after done (Some write) e longer more =
+      by_store phase has after done learned is_true (Some write) e longer more =
           let c = cell_asks job x i write.0 write.1 here e in
-          claim_made phase has write.0 write.1 c.1 c.0 after done longer more
+          claim_made phase has write.0 write.1 c.1 c.0 (after learned) (done learned is_true) longer
+          more

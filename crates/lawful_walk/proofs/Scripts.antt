@@ -6,7 +6,8 @@ use Rattle.pram_words.specs.declared.words.Word.TheVariants.{Stored}
 use Rattle.walkx.proofs.Asking.{admitted_earlier}
 use Rattle.walkx.specs.Scripts.{Script, asks, ends, rest_after, rest, first_op, op_with, heard_in}
 use Rattle.walkx.specs.Tasks.{loads_both}
-use Rattle.walkx.specs.Walk.{Then, works, HearsAdmitted, AllAdmitted}
+use Rattle.walkx.specs.Walk.{Then, worked, HearsAdmitted, AllAdmitted}
+use Rattle.walkx.specs.declared.memo.Memo.{Memo}
 use Rattle.walkx.specs.declared.operation.Op.{Op}
 use Rattle.walkx.specs.declared.operation.Op.TheVariants.{Load}
 use Rattle.lawful_walk.specs.Board.{held, Stands}
@@ -31,11 +32,11 @@ goes_of job y w q op words does = record {
   stale = λ h a is other. ap (λ (l : List ℕ). held y l a) (does.still h);
 }
 
--- what is known of the words beside the history of a script, and what the history of a whole one
--- shows where another task of the block follows
+-- what is known of the words beside the history of a script, and what the history of a whole task
+-- in a block shows, this being what the worker then knows of its processor
 pub record Aim : Type 1 where
   pub given : List ℕ → Type 0
-  pub done : List ℕ → Type 0
+  pub done : Memo → List ℕ → Type 0
 
 -- after this history each operation of the script goes well, whatever admitted answers it hears:
 -- the script is worker w's in phase q
@@ -44,7 +45,7 @@ Safe job y w q aim (asks op next) history =
     Sees job y history (λ words. aim.given words → Goes job y w q op words)
     × ((found : ℕ) → HearsAdmitted job y op found →
     Safe job y w q aim (next found) ((op, found) ∷ history))
-Safe job y w q aim (ends (works n p rank)) history = Sees job y history aim.done
+Safe job y w q aim (ends (worked n p rank memo)) history = Sees job y history (aim.done memo)
 Safe job y w q aim (ends _) history = Unit {0}
 
 -- an operation that goes well whatever is known

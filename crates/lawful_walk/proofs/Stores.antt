@@ -1,7 +1,7 @@
 -- Carry in the wide form: which cell a processor stores to, and that it has nothing to store.
-use Rattle.std.proofs.Common.{◌≡◌, ℕ, suc, ◌+◌, ◌*◌, ◌<◌, ◌≤◌, false, true≢false, List}
+use Rattle.std.proofs.Common.{◌≡◌, ℕ, suc, ◌+◌, ◌*◌, ◌<◌, ◌≤◌, ◌==◌, false, true≢false, List}
 use Rattle.std.proofs.Common.{slice_get, Option, Some, None, refl, sym, ap, ◌∙◌}
-use Rattle.std.proofs.lemmas.Bool.{cond_both}
+use Rattle.std.proofs.lemmas.Bool.{cond_both, eqb-true}
 use Rattle.std.proofs.lemmas.Option.{none-some}
 use Rattle.pram_job.specs.declared.instr.Instr.{Instr}
 use Rattle.pram_job.specs.Instructions.{row_of}
@@ -18,7 +18,9 @@ use Rattle.walkx.specs.declared.operation.Op.{Op}
 use Rattle.walkx.specs.Scripts.{Script}
 use Rattle.walkx.specs.Walk.{Then, IsBoard}
 use Rattle.walkx.specs.OwnWrites.{cell_write, is_store}
-use Rattle.walkx.specs.Passes.{decides, if_write, stores, stores_at}
+use Rattle.walkx.specs.declared.memo.Memo.{Memo}
+use Rattle.walkx.specs.Memory.{IsTrueMemo, store_in}
+use Rattle.walkx.specs.Passes.{decides, if_write, loads_store, stores, stores_at}
 use Rattle.walkx.proofs.Puts.{cell_put_is, store_reads}
 use Rattle.lawful_walk.specs.Board.{root}
 use Rattle.lawful_walk.proofs.OwnPlaces.{asks_cell, cell_asks, decided_stored, own_or_cell}
@@ -113,14 +115,32 @@ module _ (job : JobData) (y : LayoutData) (w q : ℕ) (aim : Aim) (g x i : ℕ) 
           (on longer more)))
           (λ other. none_end (other_store instr e other) history sees)
 
-      pub stores_safe : (next : ℕ → ℕ → Script Then) (history : List (Op × ℕ)) →
+      loaded_safe : (next : ℕ → ℕ → Script Then) (history : List (Op × ℕ)) →
           Sees job y history (Floor job y q x) →
           ((longer : List (Op × ℕ)) → Sees job y longer (Floor job y q x) →
           (c v : ℕ) → c < job.cells → Asks job x c i v → Safe job y w q aim (next c v) longer) →
-          Safe job y w q aim (stores job y (suc x) i after next) history
-      stores_safe next history sees on =
+          Safe job y w q aim (loads_store job y (suc x) i after next) history
+      loaded_safe next history sees on =
           counter_safe job y w q aim g x i some most step board proc wide begun after
           (λ c. stores_at job y (suc x) i c (slice_get job.code c) after next) history own_end sees
           (λ longer more.
           by_instr (slice_get job.code (counter job (state_after job x) i)) refl next
           longer more on)
+
+      -- remembered, or loaded
+      stored : (memo : Memo) → IsTrueMemo job i memo → memo.step ≡ suc x →
+          cell_write job (request_in job (state_after job x) i).put ≡ memo.store
+      stored memo is_true at = sym (is_true.store ∙ ap (store_in job i) at)
+
+      pub stores_safe : (memo : Memo) → IsTrueMemo job i memo → (next : ℕ → ℕ → Script Then)
+          (history : List (Op × ℕ)) → Sees job y history (Floor job y q x) →
+          ((longer : List (Op × ℕ)) → Sees job y longer (Floor job y q x) →
+          (c v : ℕ) → c < job.cells → Asks job x c i v → Safe job y w q aim (next c v) longer) →
+          Safe job y w q aim (stores job y (suc x) i memo after next) history
+      stores_safe memo is_true next history sees on =
+          cond_both (memo.step == suc x) (if_write memo.store after next)
+          (loads_store job y (suc x) i after next)
+          (λ (s : Script Then). Safe job y w q aim s history)
+          (λ e. by_write memo.store (stored memo is_true (eqb-true memo.step (suc x) e)) next
+          history sees (on history sees))
+          (λ e. loaded_safe next history sees on)

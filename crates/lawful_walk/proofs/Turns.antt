@@ -18,9 +18,15 @@ use Rattle.pram_words.specs.declared.phases.Kind.TheVariants.{Compute, Apply, Ve
 use Rattle.pram_words.specs.declared.words.Word.TheVariants.{Node}
 use Rattle.walkx.specs.Doing as doing
 use Rattle.walkx.specs.Passes.{task_in}
-use Rattle.walkx.specs.Records.{script_at_rank}
+use Rattle.walkx.specs.declared.memo.Memo.{Memo}
+use Rattle.walkx.specs.Memory.{IsTrueMemo, IsTrueMemory, at_start, memo_of}
+use Rattle.walkx.proofs.Beginnings.{start_true}
+use Rattle.walkx.proofs.Boards.{same_procs}
+use Rattle.walkx.proofs.Nodes.{node_range}
+use Rattle.pram_words.specs.Forms.{by_form}
 use Rattle.walkx.specs.Walk.{IsPhase, script_by, begun_phase, part_script, phase_begun, turn_script}
-use Rattle.walkx.specs.Walk.{leaf_script, Then, begins, works, IsInBlock, node_of, after_part}
+use Rattle.walkx.specs.Walk.{leaf_script, Then, begins, enters, worked, IsInBlock, IsWide, node_of}
+use Rattle.walkx.specs.Walk.{after_part, task_at}
 use Rattle.walkx.specs.Walk.{has_rank, processor_at, marks_node, stands_at, way_down, IsBoard}
 use Rattle.walkx.proofs.Ends.{way_inside}
 use Rattle.walkx.proofs.Firsts.{rank_parts, rank_there}
@@ -29,7 +35,6 @@ use Rattle.walkx.specs.Scripts.{Script, asks, ends}
 use Rattle.walkx.specs.Tasks.{task_of}
 use Rattle.walkx.specs.declared.operation.Op.{Op}
 use Rattle.walkx.specs.declared.operation.Op.TheVariants.{Load}
-use Rattle.walkx.proofs.Fitting.{node_range}
 use Rattle.lawful_walk.specs.Lands.{phase_written, compact_phase_written}
 use Rattle.lawful_walk.proofs.Effects.{phase_at}
 use Rattle.lawful_walk.specs.Board.{leaf_of, phase_in, root, Done, LeafDone, CompactDone, DoneIn}
@@ -38,8 +43,8 @@ use Rattle.lawful_walk.proofs.Begins.{back_safe, begin_safe, stands_safe, inner_
 use Rattle.lawful_walk.proofs.Blocks.{marks_safe}
 use Rattle.lawful_walk.proofs.Computing.{compute_safe}
 use Rattle.lawful_walk.proofs.Floors.{floor_seen}
-use Rattle.lawful_walk.proofs.Known.{floor_lasts, EndSafe}
-use Rattle.lawful_walk.proofs.Moving.{WorkerSafe, aim_at, aim_of, moves}
+use Rattle.lawful_walk.proofs.Known.{floor_lasts, EndSafe, LearnedSafe}
+use Rattle.lawful_walk.proofs.Moving.{RankSafe, WorkerSafe, aim_at, aim_of, moves}
 use Rattle.lawful_walk.proofs.Scripts.{Aim, Safe, load_safe}
 use Rattle.lawful_walk.proofs.Sees.{Sees, so, heard, later}
 use Rattle.lawful_walk.proofs.Verifying.{verify_safe, crew_verify_safe}
@@ -106,27 +111,27 @@ module _ (job : JobData) (y : LayoutData) (w q : ℕ) (aim : Aim) (x : ℕ)
 
   -- by the form
   in_form : (form : Form) → y.form ≡ form → (i : ℕ) → i < y.procs → (kind : Kind) →
-      phase_in x kind ≡ q → (after : Script Then) →
-      EndSafe job y w q aim x (λ words. Done job.rule kind job y x words i) after →
+      phase_in x kind ≡ q → (memo : Memo) → IsTrueMemo job i memo → (after : Memo → Script Then) →
+      LearnedSafe job y w q aim x i (λ words. Done job.rule kind job y x words i) after →
       (history : List (Op × ℕ)) → Sees job y history (Floor job y q x) →
-      Safe job y w q aim (task_in form job.rule kind job y (suc x) i after) history
+      Safe job y w q aim (task_in form job.rule kind job y (suc x) i memo after) history
   unfolding task_in
-  in_form Compact is i proc kind phase after done history sees =
-      compact_safe is i proc job.rule kind refl phase after
+  in_form Compact is i proc kind phase memo is_true after done history sees =
+      compact_safe is i proc job.rule kind refl phase (after memo)
       (subst (λ (f : Form).
-      EndSafe job y w q aim x (λ words. DoneIn f job.rule kind job y x words i) after) is done)
-      history sees
-  in_form (Wide g) is i proc kind phase after done history sees =
-      wide_task_safe job y w q aim g x i some most step board proc is job.rule kind refl phase after
-      done history sees
+      EndSafe job y w q aim x (λ words. DoneIn f job.rule kind job y x words i) (after memo)) is
+      (done memo is_true)) history sees
+  in_form (Wide g) is i proc kind phase memo is_true after done history sees =
+      wide_task_safe job y w q aim g x i some most step board proc is job.rule kind refl phase memo
+      is_true after done history sees
 
   pub task_safe : (i : ℕ) → i < y.procs → (kind : Kind) → phase_in x kind ≡ q →
-      (after : Script Then) →
-      EndSafe job y w q aim x (λ words. Done job.rule kind job y x words i) after →
+      (memo : Memo) → IsTrueMemo job i memo → (after : Memo → Script Then) →
+      LearnedSafe job y w q aim x i (λ words. Done job.rule kind job y x words i) after →
       (history : List (Op × ℕ)) → Sees job y history (Floor job y q x) →
-      Safe job y w q aim (task_in y.form job.rule kind job y (suc x) i after) history
-  task_safe i proc kind phase after done history sees =
-      in_form y.form refl i proc kind phase after done history sees
+      Safe job y w q aim (task_in y.form job.rule kind job y (suc x) i memo after) history
+  task_safe i proc kind phase memo is_true after done history sees =
+      in_form y.form refl i proc kind phase memo is_true after done history sees
 
   -- ---- the turn
 
@@ -165,91 +170,152 @@ module _ (job : JobData) (y : LayoutData) (w q : ℕ) (aim : Aim) (x : ℕ)
 
 -- ---- the leaf
 
--- the processors of a leaf's block
+-- the processors of a leaf's block: before a rank that it has not
 block_rank : (y : LayoutData) (i n rank : ℕ) → IsLayout y → i < y.procs → leaf_of y i ≡ n →
-    has_rank y n (suc rank) ≡ false →
-    (i % grain y ≤ rank) × (i ≡ processor_at y n (i % grain y))
+    has_rank y n rank ≡ false →
+    (i % grain y < rank) × (i ≡ processor_at y n (i % grain y))
+    × IsTrue (has_rank y n (i % grain y))
 block_rank y i n rank limits proc leaf last =
     let some = grain_some y limits in
     let below = mod_below i (grain y) some in
     let block : n - y.leaves ≡ i / grain y = omega arith in
     let is : i ≡ processor_at y n (i % grain y) =
     rw block (omega (arith, div-add-mod i (grain y))) in
-    elim (cases_lt rank (i % grain y)) [
-      | inl c ↦ absurd (let there = rank_there y n (suc rank) (omega arith) (omega (arith, is)) in
-          true≢false (sym there ∙ last))
-      | inr c ↦ (c, is)
+    let there = rank_there y n (i % grain y) below (omega (arith, is, proc)) in
+    elim (cases_lt (i % grain y) rank) [
+      | inl c ↦ (c, is, there)
+      | inr c ↦ absurd (let last_too = rank_there y n rank (omega (arith, c, below))
+          (omega (arith, is, c, proc)) in true≢false (sym last_too ∙ last))
     ]
 
-block_none : (y : LayoutData) (i n : ℕ) → IsLayout y → i < y.procs → leaf_of y i ≡ n →
-    has_rank y n 0 ≡ false → ⊥
-block_none y i n limits proc leaf none =
-    let some = grain_some y limits in
-    let block : n - y.leaves ≡ i / grain y = omega arith in
-    let first : processor_at y n 0 < y.procs =
-    rw block (omega (arith, mul-div-le i (grain y))) in
-    true≢false (sym (rank_there y n 0 some first) ∙ none)
+-- by the form, what follows a task is the mark, or the next task
+compact_end : (y : LayoutData) (n q rank : ℕ) (memo : Memo) → y.form ≡ Compact →
+    after_part y n q rank memo ≡ marks_node y n q
+compact_end y n q rank memo compact = rw compact refl
+
+wide_end : (y : LayoutData) (n q rank g : ℕ) (memo : Memo) → y.form ≡ Wide g →
+    after_part y n q rank memo ≡ ends (worked n q rank memo)
+wide_end y n q rank g memo wide = rw wide refl
+
+-- a wide form has a grain
+by_wide : {A : Type 0} (form form_of : Form) → form_of ≡ form → IsWide form →
+    ((g : ℕ) → form_of ≡ Wide g → A) → A
+by_wide Compact f is wide each = absurd wide
+by_wide (Wide g) f is wide each = each g is
 
 module _ (job : JobData) (y : LayoutData) (w q x : ℕ) (some : 1 ≤ q) (most : q ≤ 3 * job.steps)
     (step : step_at q ≡ suc x) (board : IsBoard job y) where
-  last_done : (n rank : ℕ) (words : List ℕ) → has_rank y n (suc rank) ≡ false →
-      (aim_at job y q n rank).given words → (root y words < q →
-      Done job.rule (kind_at q) job y x words (processor_at y n rank)) →
-      root y words < q → LeafDone job y x (kind_at q) n words
-  last_done n rank words last given done live i proc leaf =
-      let at = block_rank y i n rank board.layout proc leaf last in
+  end_done : (n rank : ℕ) (words : List ℕ) → has_rank y n rank ≡ false →
+      (aim_at job y q n rank).given words → root y words < q → LeafDone job y x (kind_at q) n words
+  end_done n rank words none given live i proc leaf =
+      let at = block_rank y i n rank board.layout proc leaf none in
       let step_of : step_at q - 1 ≡ x = omega arith in
-      elim (cases_lt (i % grain y) rank) [
-        | inl c ↦ subst (λ (k : ℕ). Done job.rule (kind_at q) job y x words k) (sym at.1)
-            (subst (λ (t : ℕ). Done job.rule (kind_at q) job y t words
-            (processor_at y n (i % grain y))) step_of (given (i % grain y) c live))
-        | inr c ↦ (let same : i % grain y ≡ rank = omega (arith, at.0) in
-            subst (λ (k : ℕ). Done job.rule (kind_at q) job y x words k)
-            (sym (at.1 ∙ ap (processor_at y n) same)) (done live))
-      ]
+      subst (λ (k : ℕ). Done job.rule (kind_at q) job y x words k) (sym at.1)
+      (subst (λ (t : ℕ). Done job.rule (kind_at q) job y t words (processor_at y n (i % grain y)))
+      step_of (given (i % grain y) at.0 at.2 live))
 
-  pub part_safe : (n rank : ℕ) → y.leaves ≤ n → n < 2 * y.leaves → IsTrue (has_rank y n rank) →
+  -- the leaf is marked where those before this rank are done, and it has no others
+  mark_safe : (n rank : ℕ) → y.leaves ≤ n → n < 2 * y.leaves → has_rank y n rank ≡ false →
       (history : List (Op × ℕ)) → Sees job y history (Floor job y q x) →
-      Safe job y w q (aim_at job y q n rank) (part_script job y n q rank) history
-  unfolding part_script
-  part_safe n rank low high there history sees =
+      Safe job y w q (aim_at job y q n rank) (marks_node y n q) history
+  mark_safe n rank low high none history sees =
       let aim = aim_at job y q n rank in
+      marks_safe job y w q aim x some most step (Floor job y q x)
+      (floor_lasts job y q x) (λ words f. f) n low high history
+      (so job y history (Floor job y q x) (λ words. Floor job y q x words
+      × (aim.given words → root y words < q → LeafDone job y x (kind_at q) n words))
+      (λ words stands f. (f, end_done n rank words none)) sees)
+
+  -- the task of a processor, of which something true is known
+  ranked_safe : (aim : Aim) (n rank : ℕ) → IsTrue (has_rank y n rank) → (memo : Memo) →
+      IsTrueMemo job (processor_at y n rank) memo → (after : Memo → Script Then) →
+      LearnedSafe job y w q aim x (processor_at y n rank)
+      (λ words. Done job.rule (kind_at q) job y x words (processor_at y n rank)) after →
+      (history : List (Op × ℕ)) → Sees job y history (Floor job y q x) →
+      Safe job y w q aim (task_at job y n q rank memo after) history
+  ranked_safe aim n rank there memo is_true after done history sees =
       let i = processor_at y n rank in
       let proc : i < y.procs = (rank_parts y n rank there).1 in
-      let step_of : x ≡ step_at q - 1 = omega arith in
       subst (λ (t : ℕ). Safe job y w q aim
-      (task_in y.form job.rule (kind_at q) job y t i (after_part y n q rank)) history) (sym step)
+      (task_in y.form job.rule (kind_at q) job y t i memo after) history) (sym step)
       (task_safe job y w q aim x some most step board i proc (kind_at q)
-      (phase_at x q (kind_at q) some step refl) (after_part y n q rank)
-      (λ longer more. cond_both (has_rank y n (suc rank)) (ends (works n q (suc rank)))
-      (marks_node y n q) (λ (s : Script Then). Safe job y w q aim s longer)
-      (λ e. so job y longer (λ words. Floor job y q x words × (root y words < q →
-      Done job.rule (kind_at q) job y x words i)) aim.done
-      (λ words stands h live. subst (λ (t : ℕ). Done job.rule (kind_at q) job y t words i)
-      step_of (h.1 live)) more)
-      (λ e. marks_safe job y w q aim x some most step (Floor job y q x) (floor_lasts job y q x)
+      (phase_at x q (kind_at q) some step refl) memo is_true after done history sees)
+
+  -- in a block
+  pub part_safe : (n rank : ℕ) → IsWide y.form → y.leaves ≤ n → n < 2 * y.leaves →
+      IsTrue (has_rank y n rank) → (memo : Memo) → IsTrueMemo job (processor_at y n rank) memo →
+      (history : List (Op × ℕ)) → Sees job y history (Floor job y q x) →
+      Safe job y w q (aim_at job y q n rank) (part_script job y n q rank memo) history
+  unfolding part_script
+  part_safe n rank wide low high there memo is_true history sees =
+      let aim = aim_at job y q n rank in
+      let i = processor_at y n rank in
+      let step_of : x ≡ step_at q - 1 = omega arith in
+      ranked_safe aim n rank there memo is_true (after_part y n q rank)
+      (λ learned learned_true longer more.
+      by_wide y.form y.form refl wide (λ g is.
+      subst (λ (s : Script Then). Safe job y w q aim s longer)
+      (sym (wide_end y n q rank g learned is))
+      (so job y longer (λ words. Floor job y q x words × (root y words < q →
+      Done job.rule (kind_at q) job y x words i)) (aim.done learned)
+      (λ words stands h. (
+        λ live. subst (λ (t : ℕ). Done job.rule (kind_at q) job y t words i) step_of (h.1 live),
+        learned_true,
+      )) more))) history sees
+
+  -- in the compact form, where a leaf has one processor
+  lone_safe : (n : ℕ) → y.form ≡ Compact → y.leaves ≤ n → n < 2 * y.leaves →
+      IsTrue (has_rank y n 0) → (history : List (Op × ℕ)) → Sees job y history (Floor job y q x) →
+      Safe job y w q (aim_at job y q n 0) (part_script job y n q 0 at_start) history
+  unfolding part_script
+  lone_safe n compact low high there history sees =
+      let aim = aim_at job y q n 0 in
+      let i = processor_at y n 0 in
+      let step_of : x ≡ step_at q - 1 = omega arith in
+      let proc = (rank_parts y n 0 there).1 in
+      let start = start_true job board.limits i
+      (let same = same_procs job y board in omega (arith, proc, same)) in
+      let last : has_rank y n 1 ≡ false = lone_rank n compact in
+      ranked_safe aim n 0 there at_start start (after_part y n q 0)
+      (λ learned learned_true longer more.
+      subst (λ (s : Script Then). Safe job y w q aim s longer)
+      (sym (compact_end y n q 0 learned compact))
+      (marks_safe job y w q aim x some most step (Floor job y q x) (floor_lasts job y q x)
       (λ words f. f) n low high longer
       (so job y longer (λ words. Floor job y q x words × (root y words < q →
       Done job.rule (kind_at q) job y x words i)) (λ words. Floor job y q x words
       × (aim.given words → root y words < q → LeafDone job y x (kind_at q) n words))
-      (λ words stands h. (h.0, λ given. last_done n rank words e given h.1)) more))) history sees)
+      (λ words stands h. (
+        h.0,
+        λ given live. end_done n 1 words last (λ earlier less has at.
+            let first : 0 ≡ earlier = omega (arith, less) in
+            subst (λ (k : ℕ). Done job.rule (kind_at q) job y (step_at q - 1) words
+            (processor_at y n k)) first
+            (subst (λ (t : ℕ). Done job.rule (kind_at q) job y t words i) step_of (h.1 at))) live,
+      )) more))) history sees
+    where
+      lone_rank : (n : ℕ) → y.form ≡ Compact → has_rank y n 1 ≡ false
+      lone_rank n compact = elim (cases_Bool (has_rank y n 1)) [
+        | inr none ↦ none
+        | inl there ↦ absurd (let below = (rank_parts y n 1 there).0 in
+            let one : grain y ≡ 1 = rw compact refl in omega (arith, below, one))
+      ]
 
   leaf_safe : (n : ℕ) → y.leaves ≤ n →
       n < 2 * y.leaves → (history : List (Op × ℕ)) → Sees job y history (Floor job y q x) →
       Safe job y w q (aim_at job y q n 0) (leaf_script job y n q) history
   leaf_safe n low high history sees =
-      cond_both (has_rank y n 0) (part_script job y n q 0) (marks_node y n q)
+      cond_both (has_rank y n 0)
+      (by_form y.form (part_script job y n q 0 at_start) (ends (enters n q))) (marks_node y n q)
       (λ (s : Script Then). Safe job y w q (aim_at job y q n 0) s history)
-      (λ e. part_safe n 0 low high e history sees)
-      (λ e. marks_safe job y w q (aim_at job y q n 0) x some most step (Floor job y q x)
-      (floor_lasts job y q x) (λ words f. f) n low high history
-      (so job y history (Floor job y q x) (λ words. Floor job y q x words
-      × ((aim_at job y q n 0).given words → root y words < q →
-      LeafDone job y x (kind_at q) n words)) (λ words stands f. (
-        f,
-        λ given live i proc leaf.
-            absurd (block_none y i n board.layout proc leaf e),
-      )) sees))
+      (λ e. by y.form refl e)
+      (λ e. mark_safe n 0 low high e history sees)
+    where
+      by : (f : Form) → y.form ≡ f → IsTrue (has_rank y n 0) →
+          Safe job y w q (aim_at job y q n 0)
+          (by_form f (part_script job y n q 0 at_start) (ends (enters n q))) history
+      by Compact is there = lone_safe n is low high there history sees
+      by (Wide g) is there = tt
 
   -- ---- the turn
 
@@ -283,44 +349,48 @@ module _ (job : JobData) (y : LayoutData) (w q x : ℕ) (some : 1 ≤ q) (most :
 
 -- ---- a worker
 
-doing_safe : (job : JobData) (y : LayoutData) (board : IsBoard job y) (now : Doing) (w n : ℕ) →
-    w < y.workers → 1 ≤ n → n < 2 * y.leaves → IsPhase job y now → IsInBlock y n now →
-    Safe job y w (phase_now now) (aim_of job y n now) (script_by job y w n now) (phase_begun y now)
-doing_safe job y board doing.Back w n worker low high phase block =
+doing_safe : (job : JobData) (y : LayoutData) (board : IsBoard job y) (now : Doing) (w n : ℕ)
+    (memory : List Memo) → w < y.workers → 1 ≤ n → n < 2 * y.leaves → IsPhase job y now →
+    IsInBlock y n now → IsTrueMemory job memory →
+    Safe job y w (phase_now now) (aim_of job y n now) (script_by job y w n memory now)
+    (phase_begun y now)
+doing_safe job y board doing.Back w n memory worker low high phase block is_true =
     back_safe job y w w 0 (aim_of job y n doing.Back) []
-doing_safe job y board doing.Begin w n worker low high phase block =
+doing_safe job y board doing.Begin w n memory worker low high phase block is_true =
     begin_safe job y n w 0 (aim_of job y n doing.Begin) []
-doing_safe job y board (doing.Turn q) w n worker low high phase block =
+doing_safe job y board (doing.Turn q) w n memory worker low high phase block is_true =
     let some = phase.0 in
     let step : step_at q ≡ suc (step_at q - 1) = omega arith in
     turn_safe_on job y w q (step_at q - 1) some phase.1 step board n worker low high
     (begun_phase y q) (floor_seen job y q (step_at q - 1) some step phase.2)
-doing_safe job y board (doing.Part q rank) w n worker low high phase block =
+doing_safe job y board (doing.Part q rank) w n memory worker low high phase block is_true =
     let some = phase.0 in
-    let step : step_at q ≡ suc (step_at q - 1) = omega arith in
-    part_safe job y w q (step_at q - 1) some phase.1 step board n rank block.0 high block.2
-    (begun_phase y q) (floor_seen job y q (step_at q - 1) some step phase.2)
-doing_safe job y board (doing.Over e) w n worker low high phase block =
+    let x = step_at q - 1 in
+    let step : step_at q ≡ suc x = omega arith in
+    let sees = floor_seen job y q x some step phase.2 in
+    let i = processor_at y n rank in
+    let same = same_procs job y board in
+    cond_both (has_rank y n rank) (part_script job y n q rank (memo_of memory i)) (marks_node y n q)
+    (λ (s : Script Then). Safe job y w q (aim_at job y q n rank) s (begun_phase y q))
+    (λ there. let proc = (rank_parts y n rank there).1 in
+    part_safe job y w q x some phase.1 step board n rank block.2 block.0 high there
+    (memo_of memory i) (is_true board.limits i (omega (arith, proc, same))) (begun_phase y q) sees)
+    (λ none. mark_safe job y w q x some phase.1 step board n rank block.0 high none
+    (begun_phase y q) sees)
+doing_safe job y board (doing.Over e) w n memory worker low high phase block is_true =
     begin_safe job y n w 0 (aim_of job y n (doing.Over e)) []
 
 pub worker_safe : WorkerSafe
-worker_safe job y w board fits =
+worker_safe job y w board fits is_true =
     let is = node_range job y w board.layout.leaves.0 fits in
-    doing_safe job y board w.now w.number (node_of y w) fits.number is.0 is.1 fits.phase fits.block
+    doing_safe job y board w.now w.number (node_of y w) w.memory fits.number is.0 is.1 fits.phase
+    fits.block is_true
 
--- what a whole script of a block's earlier processor shows
-rank_safe : (job : JobData) (y : LayoutData) (board : IsBoard job y) (w n q rank : ℕ) →
-    w < y.workers → y.leaves ≤ n → n < 2 * y.leaves → 1 ≤ q → q ≤ 3 * job.steps →
-    IsTrue (has_phase y.form q) → IsTrue (has_rank y n rank) →
-    Safe job y w q (aim_at job y q n rank) (script_at_rank job y w n q rank) (begun_phase y q)
-rank_safe job y board w n q zero worker low high some most formed there =
+-- what the task of an earlier processor of a block shows
+pub rank_safe : RankSafe
+rank_safe job y board wide w n q rank memo is_true low high some most formed there =
     let step : step_at q ≡ suc (step_at q - 1) = omega arith in
-    let inside = board.layout.leaves.0 in
-    turn_safe_on job y w q (step_at q - 1) some most step board n worker (omega arith) high
-    (begun_phase y q) (floor_seen job y q (step_at q - 1) some step formed)
-rank_safe job y board w n q (suc rank) worker low high some most formed there =
-    let step : step_at q ≡ suc (step_at q - 1) = omega arith in
-    part_safe job y w q (step_at q - 1) some most step board n (suc rank) low high there
+    part_safe job y w q (step_at q - 1) some most step board n rank wide low high there memo is_true
     (begun_phase y q) (floor_seen job y q (step_at q - 1) some step formed)
 
 -- the worker's lemma

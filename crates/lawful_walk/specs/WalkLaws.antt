@@ -49,6 +49,7 @@ abbrev pub KnownWorkersStayKnown : Type 0
 KnownWorkersStayKnown =
     (job : JobData) (layout : LayoutData) (past : Record) (worker : Walking) (words : List ℕ) →
     Stands job layout words → Fits job layout worker → Knows job layout past worker →
+    Backed job layout past words →
     let op = ask_of job layout worker in
     let found = answer words op in
     Fits job layout (told job layout worker found)

@@ -10,7 +10,7 @@ use Rattle.pram_words.specs.declared.layout.Form.TheVariants.{Wide}
 use Rattle.walkx.specs.Inner.Workers.{WorkerData}
 use Rattle.walkx.specs.Records.{empty}
 use Rattle.walkx.specs.Serving.{IsNewWorker}
-use Rattle.walkx.specs.Walk.{come_back, started}
+use Rattle.walkx.specs.Walk.{come_back, remembering, started}
 use Rattle.pram_board.specs.declared.task.Task.{Task}
 use Rattle.pram_board.specs.declared.look.Progress.{Progress}
 use Rattle.pram_board.specs.declared.work.Stay.{Stay}
@@ -65,7 +65,8 @@ pub record IsWorkerAt (shared : Shared) (number : ℕ) (member : Member) : Type 
   pub new : IsNewAt shared member
   pub worker : WorkerData
   pub is : member.worker ≡ Some worker
-  pub starts : IsNewWorker number (started number) worker
+  pub memory : ℕ
+  pub starts : IsNewWorker number (remembering memory (started number)) worker
 
 -- ---- work
 
@@ -95,7 +96,9 @@ pub record CameBack (before later : Member) : Type 0 where
   pub was : before.worker ≡ Some worker
   pub now : WorkerData
   pub is : later.worker ≡ Some now
-  pub back : IsNewWorker worker.walking.number (come_back worker.walking.number) now
+  pub memory : ℕ
+  pub back : IsNewWorker worker.walking.number
+      (remembering memory (come_back worker.walking.number)) now
   pub seat : later.seat ≡ before.seat
   pub same : later.shared ≡ before.shared
   pub is_member : IsMember later

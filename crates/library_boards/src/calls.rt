@@ -111,7 +111,7 @@ pub fn worker(member: &Member, alloc: Global, number: u32) -> Result<Box<Member,
     if number >= member.shared.workers {
         return Err(FAILED);
     }
-    match member.worker(number) {
+    match member.worker(alloc, number) {
         Ok(made) => put_on_heap(alloc, made),
         Err(_) => Err(MEMORY),
     }
@@ -147,11 +147,11 @@ fn stay_status(stay: Option<Stay>) -> u32
 }
 
 /// The member's worker comes back.
-pub fn back(member: &mut Member) -> u32
+pub fn back(member: &mut Member, alloc: Global) -> u32
     requires { IsMember member.old }
     ensures { HasComeBack result member.old member.new }
 {
-    if member.back() { DONE } else { FAILED }
+    if member.back(alloc) { DONE } else { FAILED }
 }
 
 /// How far the steps are finished.

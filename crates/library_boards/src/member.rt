@@ -70,16 +70,18 @@ impl Member {
         })
     }
 
-    /// A worker at the same board, at its first leaf. It fails where there are too many members.
-    pub fn worker(&self, number: u32) -> Result<Member, AllocError>
+    /// A worker at the same board, at its first leaf, with a memory if there is room for one. It
+    /// fails where there are too many members.
+    pub fn worker(&self, alloc: Global, number: u32) -> Result<Member, AllocError>
         requires { number < (shared_at self.now).workers }
         ensures { IfOk result (IsWorkerAt (shared_at self.now) number) }
     {
         let seat = self.shared.board.new_seat();
+        let memory = self.shared.board.worker_memory(alloc);
         Ok(Member {
             shared: Arc::try_clone(&self.shared)?,
             seat,
-            worker: Some(Worker::start(number)),
+            worker: Some(Worker::start_with(number, memory)),
         })
     }
 
@@ -99,15 +101,16 @@ impl Member {
     }
 
     /// The worker, if there is one, loses all that it knew, and comes back: it will stand where its
-    /// position word says. Says whether there is one.
-    pub fn back(&mut self) -> bool
+    /// position word says, with an empty memory if there is room for one. Says whether there is one.
+    pub fn back(&mut self, alloc: Global) -> bool
         requires { IsMember self.old }
         ensures { IsBack self.old self.new result }
     {
         match &self.worker {
             None => false,
             Some(worker) => {
-                self.worker = Some(Worker::back(worker.number()));
+                let memory = self.shared.board.worker_memory(alloc);
+                self.worker = Some(Worker::back_with(worker.number(), memory));
                 true
             }
         }

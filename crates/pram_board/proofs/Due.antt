@@ -29,11 +29,11 @@ has_afters : (r : Record) (steps begun : List (Op × ℕ)) → Has r begun →
 has_afters r [] begun has = has
 has_afters r (e ∷ es) begun has = inl (refl, has_afters r es begun has)
 
-block_afters : (job : JobData) (y : LayoutData) (r : Record) (w n : ℕ) (d : Doing)
-    (steps : List (Op × ℕ)) → HasBlock job y r w n d → HasBlock job y (afters r steps) w n d
-block_afters job y r w n d [] block = block
-block_afters job y r w n d (e ∷ es) block =
-    block_more job y (afters r es) w n d e.0 e.1 (block_afters job y r w n d es block)
+block_afters : (job : JobData) (y : LayoutData) (r : Record) (n : ℕ) (d : Doing)
+    (steps : List (Op × ℕ)) → HasBlock job y r n d → HasBlock job y (afters r steps) n d
+block_afters job y r n d [] block = block
+block_afters job y r n d (e ∷ es) block =
+    block_more job y (afters r es) n d e.0 e.1 (block_afters job y r n d es block)
 
 module _ (t : Task) (from : Driving × Script Then) (d : Driving) (op : Op)
     (next : ℕ → Script Then) (h : Drives t from d (asks op next)) where
@@ -62,8 +62,9 @@ module _ (t : Task) (from : Driving × Script Then) (d : Driving) (op : Op)
       h.plays.seat ∙ ap (hears_all from.0.seat) (sym played) in
       subst (λ (p : SeatData). Knows t.job t.layout p.record_of now) (sym grown) (record {
         script = has_afters from.0.seat.record_of steps (phase_begun t.layout h.by.now) begun_known;
-        block = block_afters t.job t.layout from.0.seat.record_of h.by.number
-            (node_of t.layout h.by) h.by.now steps h.knows.block;
+        block = block_afters t.job t.layout from.0.seat.record_of (node_of t.layout h.by) h.by.now
+            steps h.knows.block;
+        memory = h.knows.memory;
       })
 
   first : first_op (rest_of t.job t.layout now) ≡ Some op
@@ -76,6 +77,7 @@ module _ (t : Task) (from : Driving × Script Then) (d : Driving) (op : Op)
     node = h.fits.node;
     phase = h.fits.phase;
     block = h.fits.block;
+    memory = h.fits.memory;
     admitted = admitted_more t.job t.layout _ (phase_begun t.layout h.by.now)
         (subst (AllAdmitted t.job t.layout) (sym played) h.plays.admitted) begun_admitted;
     matches = matches_of h.by.now _ h.going (record { op = op; first = first });

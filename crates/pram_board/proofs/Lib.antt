@@ -11,5 +11,7 @@ pub mod Playing
 pub mod Due
 pub mod Telling
 pub mod Stepping
+pub mod Blocks
 pub mod Working
 pub mod Remembering
+pub mod Tasks

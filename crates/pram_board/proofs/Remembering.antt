@@ -9,7 +9,7 @@ use Rattle.walkx.specs.declared.operation.Op.TheVariants.{Load}
 use Rattle.walkx.specs.Reads.{Looking, reader_script}
 use Rattle.walkx.specs.Doing.{Doing}
 use Rattle.walkx.specs.Doing as doing
-use Rattle.walkx.specs.Records.{Record, HasBlock}
+use Rattle.walkx.specs.Records.{Record, HasBlock, HasPart}
 use Rattle.walkx.specs.Scripts.{heard_in}
 use Rattle.walkx.specs.Walk.{Walking}
 use Rattle.walkx.proofs.Knowing.{has_left, has_right}
@@ -23,20 +23,32 @@ use Rattle.pram_board.specs.Inner.Plays.{Ran}
 use Rattle.pram_board.proofs.Begins.{has_afters}
 use Rattle.pram_board.proofs.Looking.{Looks}
 
-block_still : (t : Task) (r s : Record) → Remembers r s → (w n : ℕ) (d : Doing) →
-    HasBlock t.job t.layout r w n d → HasBlock t.job t.layout s w n d
-block_still t r s keeps w n doing.Back block = tt
-block_still t r s keeps w n doing.Begin block = tt
-block_still t r s keeps w n (doing.Turn q) block = tt
-block_still t r s keeps w n (doing.Part q rank) block = λ earlier less.
-    ((block earlier less).0, (block earlier less).1, keeps _ (block earlier less).2)
-block_still t r s keeps w n (doing.Over e) block = tt
+part_still : (t : Task) (r s : Record) → Remembers r s → (n q rank : ℕ) →
+    HasPart t.job t.layout r n q rank → HasPart t.job t.layout s n q rank
+part_still t r s keeps n q rank part = record {
+  memo = part.memo;
+  is_true = part.is_true;
+  answers = part.answers;
+  learned = part.learned;
+  whole = part.whole;
+  has = keeps _ part.has;
+}
+
+block_still : (t : Task) (r s : Record) → Remembers r s → (n : ℕ) (d : Doing) →
+    HasBlock t.job t.layout r n d → HasBlock t.job t.layout s n d
+block_still t r s keeps n doing.Back block = tt
+block_still t r s keeps n doing.Begin block = tt
+block_still t r s keeps n (doing.Turn q) block = tt
+block_still t r s keeps n (doing.Part q rank) block =
+    λ earlier less. part_still t r s keeps n q earlier (block earlier less)
+block_still t r s keeps n (doing.Over e) block = tt
 
 -- what remembers all still knows each worker
 pub still_knows : (t : Task) (r s : Record) → Remembers r s → StillKnows t r s
 still_knows t r s keeps w knows = record {
   script = keeps _ knows.script;
-  block = block_still t r s keeps w.number _ w.now knows.block;
+  block = block_still t r s keeps _ w.now knows.block;
+  memory = knows.memory;
 }
 
 pub remembers_more : (p q : SeatData) (made : List (Op × ℕ)) → q ≡ hears_all p made →

@@ -1,12 +1,9 @@
 -- One atomic step of a driver.
-use Rattle.std.proofs.Common.{◌≡◌, ℕ, zero, suc, ◌+◌, ◌%◌, ◌^◌, refl, sym, ap, subst, ◌∙◌}
-use Rattle.pram_job.specs.Job.{JobData}
-use Rattle.pram_words.specs.Words.{LayoutData}
+use Rattle.std.proofs.Common.{◌≡◌, ℕ, ◌+◌, ◌%◌, ◌^◌, [], refl, sym, ap, subst, ◌∙◌}
 use Rattle.walkx.specs.declared.operation.Op.{Op}
-use Rattle.walkx.specs.Records.{after, script_at_rank}
+use Rattle.walkx.specs.Records.{after}
 use Rattle.walkx.specs.Scripts.{Script, asks}
-use Rattle.walkx.specs.Turns.{doing_at, working}
-use Rattle.walkx.specs.Walk.{Then, HearsAdmitted, IsGoing, script_of}
+use Rattle.walkx.specs.Walk.{Then, Walking, HearsAdmitted, IsGoing, script_of}
 use Rattle.lawful_walk.specs.Moments.{Sound}
 use Rattle.pram_board.specs.declared.task.Task.{Task}
 use Rattle.pram_board.specs.Rules.{May}
@@ -54,28 +51,16 @@ module _ (t : Task) (from : Driving × Script Then) (d : Driving) (op : Op)
             (one_step t op next found d e driver_hears refl grows count);
       }
 
--- the script of a worker at its start
-pub working_goes : (q rank : ℕ) → IsGoing (doing_at q rank)
-working_goes q zero = tt
-working_goes q (suc rank) = tt
-
-pub working_script : (job : JobData) (y : LayoutData) (number n q rank : ℕ) →
-    script_of job y (working number n q rank) ≡ script_at_rank job y number n q rank
-working_script job y number n q zero = refl
-working_script job y number n q (suc rank) = refl
-
--- nothing was made yet
-pub driver_starts : (t : Task) (d : Driving) (number n q rank : ℕ) →
-    IsWalking t d (working number n q rank) →
-    Drives t (d, script_at_rank t.job t.layout number n q rank) d
-    (script_at_rank t.job t.layout number n q rank)
-driver_starts t d number n q rank walks = record {
+-- nothing was made yet of a script that a worker is at the start of
+pub driver_starts : (t : Task) (d : Driving) (w : Walking) → IsWalking t d w → w.heard ≡ [] →
+    IsGoing w.now → Drives t (d, script_of t.job t.layout w) d (script_of t.job t.layout w)
+driver_starts t d w walks fresh going = record {
   here = walks.here;
-  by = working number n q rank;
-  fresh = refl;
-  going = working_goes q rank;
+  by = w;
+  fresh = fresh;
+  going = going;
   fits = walks.fits;
   knows = walks.knows;
-  begun = working_script t.job t.layout number n q rank;
-  plays = still t (script_at_rank t.job t.layout number n q rank) d;
+  begun = refl;
+  plays = still t (script_of t.job t.layout w) d;
 }

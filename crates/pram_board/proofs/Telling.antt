@@ -7,35 +7,36 @@ use Rattle.walkx.specs.declared.operation.Op.{Op}
 use Rattle.walkx.specs.Bound.{told_all}
 use Rattle.walkx.specs.Inner.Posts.{PostData}
 use Rattle.walkx.specs.Records.{Record, Knows}
-use Rattle.walkx.specs.Doing.{Doing}
-use Rattle.walkx.specs.Doing as doing
-use Rattle.walkx.specs.Rests.{leads, script_at}
+use Rattle.walkx.specs.Rests.{leads, turn_of}
 use Rattle.walkx.specs.Scripts.{Script, asks, ends, rest_after, rest, first_op, heard_in}
-use Rattle.walkx.specs.Turns.{beginning, doing_at, turning, working}
+use Rattle.walkx.specs.declared.memo.Memo.{Memo}
+use Rattle.walkx.specs.Turns.{beginning, turning}
 use Rattle.walkx.specs.declared.turns.Turned.{Turned}
 use Rattle.walkx.specs.declared.turns.Turned.TheVariants as turned
-use Rattle.walkx.specs.Walk.{Then, begins, turns, works, Walking, Fits, AllAdmitted, IsBoard}
+use Rattle.walkx.specs.Walk.{Then, begins, enters, turns, Walking, Fits, AllAdmitted, IsBoard}
 use Rattle.walkx.specs.Walk.{IsGoing, ask_of, goes_on, script_of, told, turn_script}
-use Rattle.walkx.proofs.Firsts.{part_first}
 use Rattle.walkx.proofs.Fitting.{fits_told}
 use Rattle.walkx.proofs.Going.{next_of, op_with_first, told_going}
 use Rattle.walkx.proofs.Knowing.{knows_next}
-use Rattle.lawful_walk.specs.Moments.{afters}
+use Rattle.lawful_walk.specs.Board.{Stands}
+use Rattle.lawful_walk.specs.Moments.{Backed, Sound, afters}
+use Rattle.lawful_walk.proofs.Remembering.{told_true}
+use Rattle.lawful_walk.proofs.Turns.{rank_safe}
 use Rattle.lawful_walk.specs.Walks.{steps_heard}
 use Rattle.pram_board.specs.declared.task.Task.{Task}
 use Rattle.pram_board.specs.Seats.{SeatData, hears_all}
 use Rattle.pram_board.specs.Inner.Plays.{Ran}
 use Rattle.pram_board.specs.Inner.Plays.{AllAnswer, Drives, Driving, IsAt, Led, PlaysScript}
 use Rattle.pram_board.specs.Inner.Plays.{IsWalking, Went}
-use Rattle.pram_board.specs.Inner.Plays.{led_to, task_at, working_at}
+use Rattle.pram_board.specs.Inner.Plays.{in_block, led_to, task_at, turning_at}
 use Rattle.pram_board.proofs.Due.{hearing}
 use Rattle.pram_board.proofs.Playing.{afters_more, length_more}
-use Rattle.pram_board.proofs.Stepping.{working_goes, working_script}
 
-goes_on_asks : (w : Walking) (found : ℕ) (s : Script Then) (op : Op) → first_op s ≡ Some op →
-    goes_on w found s ≡ record w { heard = found ∷ w.heard }
-goes_on_asks w found (asks o next) op a = refl
-goes_on_asks w found (ends r) op a = absurd (cc)
+goes_on_asks : (job : JobData) (y : LayoutData) (w : Walking) (found : ℕ) (s : Script Then)
+    (op : Op) → first_op s ≡ Some op →
+    goes_on job y w found s ≡ record w { heard = found ∷ w.heard }
+goes_on_asks job y w found (asks o next) op a = refl
+goes_on_asks job y w found (ends r) op a = absurd (cc)
 
 module _ (t : Task) (w : Walking) (fresh : w.heard ≡ []) (going : IsGoing w.now) where
   -- as long as the script asks, the worker keeps the answers
@@ -45,9 +46,9 @@ module _ (t : Task) (w : Walking) (fresh : w.heard ≡ []) (going : IsGoing w.no
   tells_on [] op all first = ap (λ (h : List ℕ). record w { heard = h }) fresh
   tells_on (found ∷ earlier) op all first =
       ap (λ (v : Walking). told t.job t.layout v found) (tells_on earlier all.0.0 all.1 all.0.1)
-      ∙ told_going w.now (hearing w earlier) found (rest_after (rest
+      ∙ told_going t.job t.layout w.now (hearing w earlier) found (rest_after (rest
       (script_of t.job t.layout w) earlier) found) going
-      ∙ goes_on_asks (hearing w earlier) found (rest_after (rest
+      ∙ goes_on_asks t.job t.layout (hearing w earlier) found (rest_after (rest
       (script_of t.job t.layout w) earlier) found) op first
 
   -- its steps are the script's
@@ -66,14 +67,15 @@ module _ (t : Task) (w : Walking) (fresh : w.heard ≡ []) (going : IsGoing w.no
   tells_end : (found : ℕ) (earlier : List ℕ) (end : Then) →
       AllAnswer (script_of t.job t.layout w) (found ∷ earlier) →
       rest (script_of t.job t.layout w) (found ∷ earlier) ≡ ends end →
-      told_all t.job t.layout w (found ∷ earlier) ≡ goes_on (hearing w earlier) found (ends end)
+      told_all t.job t.layout w (found ∷ earlier)
+      ≡ goes_on t.job t.layout (hearing w earlier) found (ends end)
   tells_end found earlier end all comes =
       ap (λ (v : Walking). told t.job t.layout v found) (tells_on earlier all.0.0 all.1 all.0.1)
-      ∙ told_going w.now (hearing w earlier) found (rest_after (rest
+      ∙ told_going t.job t.layout w.now (hearing w earlier) found (rest_after (rest
       (script_of t.job t.layout w) earlier) found) going
-      ∙ ap (goes_on (hearing w earlier) found) comes
+      ∙ ap (goes_on t.job t.layout (hearing w earlier) found) comes
 
--- a worker that fits and is known still does with these answers
+-- a worker that fits and is known still does with these answers, which standing words bear out
 told_fits : (t : Task) (w : Walking) (answers : List ℕ) → IsBoard t.job t.layout →
     Fits t.job t.layout w → AllAdmitted t.job t.layout (steps_heard t.job t.layout w answers) →
     Fits t.job t.layout (told_all t.job t.layout w answers)
@@ -81,31 +83,40 @@ told_fits t w [] board fits all = fits
 told_fits t w (found ∷ earlier) board fits all = fits_told t.job t.layout
     (told_all t.job t.layout w earlier) found board (told_fits t w earlier board fits all.1) all.0
 
-told_known : (t : Task) (r : Record) (w : Walking) (answers : List ℕ) → IsBoard t.job t.layout →
-    Fits t.job t.layout w → AllAdmitted t.job t.layout (steps_heard t.job t.layout w answers) →
-    Knows t.job t.layout r w →
+told_known : (t : Task) (r : Record) (w : Walking) (answers words : List ℕ) →
+    IsBoard t.job t.layout → Fits t.job t.layout w →
+    AllAdmitted t.job t.layout (steps_heard t.job t.layout w answers) →
+    Knows t.job t.layout r w → Stands t.job t.layout words →
+    Backed t.job t.layout (afters r (steps_heard t.job t.layout w answers)) words →
     Knows t.job t.layout (afters r (steps_heard t.job t.layout w answers))
     (told_all t.job t.layout w answers)
-told_known t r w [] board fits all knows = knows
-told_known t r w (found ∷ earlier) board fits all knows =
-    knows_next t.job t.layout (afters r (steps_heard t.job t.layout w earlier))
-    (told_all t.job t.layout w earlier) found board (told_fits t w earlier board fits all.1)
-    (told_known t r w earlier board fits all.1 knows) all.0
+told_known t r w [] words board fits all knows stands backed = knows
+told_known t r w (found ∷ earlier) words board fits all knows stands backed =
+    let past = afters r (steps_heard t.job t.layout w earlier) in
+    let now = told_all t.job t.layout w earlier in
+    let fits_now = told_fits t w earlier board fits all.1 in
+    let known =
+    told_known t r w earlier backed.words board fits all.1 knows backed.stands backed.earlier in
+    knows_next t.job t.layout past now found board fits_now known all.0
+    (told_true t.job t.layout past now found words rank_safe board stands fits_now known backed)
 
 module _ (t : Task) (w : Walking) (p q : Driving) (end : Then) (now : Walking)
     (fresh : w.heard ≡ []) (going : IsGoing w.now) (here : IsAt t q) (fits : Fits t.job t.layout w)
-    (knows : Knows t.job t.layout p.seat.record_of w) where
+    (knows : Knows t.job t.layout p.seat.record_of w)
+    (sound : Sound t.job t.layout q.seat.record_of) where
   led_by : (answers : List ℕ) → AllAnswer (script_of t.job t.layout w) answers →
       rest (script_of t.job t.layout w) answers ≡ ends end →
       AllAdmitted t.job t.layout (heard_in (script_of t.job t.layout w) answers) →
       q.desk ≡ p.desk → q.seat ≡ hears_all p.seat (heard_in (script_of t.job t.layout w) answers) →
       q.made % 2 ^ 64 ≡ (p.made + length answers) % 2 ^ 64 →
       (p.made < 2 ^ 64 → q.made < 2 ^ 64) → (script_of t.job t.layout w ≡ ends end → ⊥) →
-      ((found : ℕ) (earlier : List ℕ) → goes_on (hearing w earlier) found (ends end) ≡ now) →
+      ((found : ℕ) (earlier : List ℕ) →
+      goes_on t.job t.layout (hearing w earlier) found (ends end) ≡ now) →
       Led t p w q now
   led_by [] all comes ok desk seat count small some leads = absurd (some comes)
   led_by (found ∷ earlier) all comes ok desk seat count small some leads =
       let s = script_of t.job t.layout w in
+      let heard = steps_heard t.job t.layout w (found ∷ earlier) in
       let steps : steps_heard t.job t.layout w (found ∷ earlier) ≡ heard_in s (found ∷ earlier) =
       tells_steps t w fresh going (found ∷ earlier) all in
       let is : now ≡ told_all t.job t.layout w (found ∷ earlier) =
@@ -114,6 +125,9 @@ module _ (t : Task) (w : Walking) (p q : Driving) (end : Then) (now : Walking)
       subst (AllAdmitted t.job t.layout) (sym steps) ok in
       let grown : q.seat ≡ hears_all p.seat (steps_heard t.job t.layout w (found ∷ earlier)) =
       seat ∙ ap (hears_all p.seat) (sym steps) in
+      let was : Sound t.job t.layout (afters p.seat.record_of
+      (steps_heard t.job t.layout w (found ∷ earlier))) =
+      subst (λ (x : SeatData). Sound t.job t.layout x.record_of) grown sound in
       record {
         walks = record {
           here = here;
@@ -121,7 +135,8 @@ module _ (t : Task) (w : Walking) (p q : Driving) (end : Then) (now : Walking)
               (told_fits t w (found ∷ earlier) here.board fits good);
           knows = subst (λ (x : SeatData × Walking). Knows t.job t.layout x.0.record_of x.1)
               (λ i. (sym grown i, sym is i))
-              (told_known t p.seat.record_of w (found ∷ earlier) here.board fits good knows);
+              (told_known t p.seat.record_of w (found ∷ earlier) was.words here.board fits good knows
+              was.stands was.backed);
         };
         went = record {
           ticks = length (found ∷ earlier);
@@ -133,8 +148,9 @@ module _ (t : Task) (w : Walking) (p q : Driving) (end : Then) (now : Walking)
         some = omega arith;
       }
 
-  led : (script_of t.job t.layout w ≡ ends end → ⊥) →
-      ((found : ℕ) (earlier : List ℕ) → goes_on (hearing w earlier) found (ends end) ≡ now) →
+  pub led : (script_of t.job t.layout w ≡ ends end → ⊥) →
+      ((found : ℕ) (earlier : List ℕ) →
+      goes_on t.job t.layout (hearing w earlier) found (ends end) ≡ now) →
       PlaysScript t (script_of t.job t.layout w) p (ends end) q → Led t p w q now
   led some leads played =
       led_by played.answers played.each played.comes played.admitted played.desk played.seat
@@ -145,59 +161,31 @@ asks_some : (op : Op) (next : ℕ → Script Then) (end : Then) → asks op next
 asks_some op next end e =
     let no : Some op ≡ None = ap (λ (s : Script Then). first_op s) e in absurd (cc)
 
-script_asks : (job : JobData) (y : LayoutData) (w n q rank : ℕ) (end : Then) →
-    Fits job y (working w n q rank) → script_of job y (working w n q rank) ≡ ends end → ⊥
+-- a turn leads to another one, to a begin, or into a block
+pub led_turn : (at : PostData) (memory : List Memo) (p z : Driving) (next : Turned) →
+    IsWalking (task_at at) p (turning_at at memory) →
+    Sound at.job at.layout z.seat.record_of →
+    Drives (task_at at) (p, turn_of at) z (ends (leads at next)) →
+    Led (task_at at) p (turning_at at memory) z (led_to at memory next)
 unfolding turn_script
-script_asks job y w n q zero end fits e = asks_some _ _ end e
-script_asks job y w n q (suc rank) end fits e =
-    let first = part_first job y n q (suc rank) fits.phase.2 in
-    let none : first_op (ends end) ≡ Some first.0 = sym (ap first_op e) ∙ first.1 in cc
-
--- a task in a block leads to one of a later rank
-same_rank : (q rank : ℕ) → 1 ≤ rank → doing.Part q rank ≡ doing_at q rank
-same_rank q zero some = absurd (omega arith)
-same_rank q (suc rank) some = refl
-
--- a script leads to another one, or to a begin
-pub led_script : (at : PostData) (p z : Driving) (next : Turned) →
-    IsWalking (task_at at) p (working_at at) →
-    Drives (task_at at) (p, script_at at) z (ends (leads at next)) →
-    Led (task_at at) p (working_at at) z (led_to at next)
-led_script at p z next walks drives = by next played
+led_turn at memory p z next walks sound drives = by next drives.plays
   where
-    script : script_of at.job at.layout (working_at at) ≡ script_at at
-    script = working_script at.job at.layout at.worker at.node at.phase at.rank
-
-    played : PlaysScript (task_at at) (script_of at.job at.layout (working_at at)) p
-        (ends (leads at next)) z
-    played = subst (λ (s : Script Then). PlaysScript (task_at at) s p (ends (leads at next)) z)
-        (sym script) drives.plays
-
     goes : (end : Then) (now : Walking) →
         ((found : ℕ) (earlier : List ℕ) →
-        goes_on (hearing (working_at at) earlier) found (ends end) ≡ now) →
-        PlaysScript (task_at at) (script_of at.job at.layout (working_at at)) p (ends end) z →
-        Led (task_at at) p (working_at at) z now
-    goes end now leads_to plays = led (task_at at) (working_at at) p z end now refl
-        (working_goes at.phase at.rank) drives.here walks.fits walks.knows
-        (script_asks at.job at.layout at.worker at.node at.phase at.rank end walks.fits) leads_to
-        plays
+        goes_on at.job at.layout (hearing (turning_at at memory) earlier) found (ends end) ≡ now) →
+        PlaysScript (task_at at) (turn_of at) p (ends end) z →
+        Led (task_at at) p (turning_at at memory) z now
+    goes end now leads_to plays = led (task_at at) (turning_at at memory) p z end now refl tt
+        drives.here walks.fits walks.knows sound (λ e. asks_some _ _ end e) leads_to plays
 
-    by : (to : Turned) → PlaysScript (task_at at) (script_of at.job at.layout (working_at at)) p
-        (ends (leads at to)) z → Led (task_at at) p (working_at at) z (led_to at to)
-    by turned.Finished plays = goes (begins 1) (beginning at.worker 1) (λ found earlier. refl) plays
+    by : (to : Turned) → PlaysScript (task_at at) (turn_of at) p (ends (leads at to)) z →
+        Led (task_at at) p (turning_at at memory) z (led_to at memory to)
+    by turned.Finished plays =
+        goes (begins 1) (beginning at.worker 1 memory) (λ found earlier. refl) plays
     by (turned.To m) plays =
-        goes (turns m at.phase) (turning at.worker m at.phase) (λ found earlier. refl) plays
-    by (turned.Within rank) plays =
-        let within = goes (works at.node at.phase rank) (record {
-          number = at.worker;
-          node = Some at.node;
-          now = doing.Part at.phase rank;
-          heard = [];
-        }) (λ found earlier. refl) plays in
-        subst (λ (d : Doing). Led (task_at at) p (working_at at) z
-        (record { number = at.worker; node = Some at.node; now = d; heard = [] }))
-        (same_rank at.phase rank within.walks.fits.block.1) within
+        goes (turns m at.phase) (turning at.worker m at.phase memory) (λ found earlier. refl) plays
+    by turned.Enters plays =
+        goes (enters at.node at.phase) (in_block at 0 memory) (λ found earlier. refl) plays
 
 -- ---- ticks after ticks
 

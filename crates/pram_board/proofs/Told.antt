@@ -14,7 +14,9 @@ use Rattle.walkx.specs.Walk.{Walking, Fits, IsGoing, end_of, AsksAdmitted, IsBoa
 use Rattle.walkx.proofs.Knowing.{knows_next}
 use Rattle.lawful_walk.specs.Moments.{Sound}
 use Rattle.lawful_walk.specs.Walks.{ProgressWell}
+use Rattle.lawful_walk.proofs.Remembering.{told_true}
 use Rattle.lawful_walk.proofs.Sounding.{sound_ends, was_progress}
+use Rattle.lawful_walk.proofs.Turns.{rank_safe}
 use Rattle.pram_board.specs.declared.look.Progress.{Progress}
 use Rattle.pram_board.specs.declared.task.Task.{Task}
 use Rattle.pram_board.specs.Seats.{SeatData, hears, Progressed}
@@ -43,7 +45,8 @@ knows_told t p w q now made sound ok fits knows =
     subst (λ (x : SeatData × Walking). Knows t.job t.layout x.0.record_of x.1)
     (λ i. (sym made.seat i, sym made.worker i))
     (knows_next t.job t.layout p.record_of w made.found board fits knows
-    (admits t p.record_of op made.found was ok))
+    (admits t p.record_of op made.found was ok) (told_true t.job t.layout p.record_of w made.found
+    was.words rank_safe board stands fits knows was.backed))
 
 -- what a known worker that is over has heard
 end_shown : (t : Task) (r : Record) (w : Walking) (d : Doing) → d ≡ w.now → Sound t.job t.layout r →

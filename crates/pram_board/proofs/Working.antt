@@ -4,12 +4,9 @@ use Rattle.std.proofs.Common.{IfSome, eqb, eqb-true, true, false, true≢false, 
 use Rattle.std.proofs.Common.{◌∙◌, inl, inr, arith}
 use Rattle.std.specs.Option.{is_some, option_eq}
 use Rattle.walkx.specs.Bound.{most_steps}
-use Rattle.walkx.specs.declared.turns.Turned.{Turned}
-use Rattle.walkx.specs.Inner.Posts.{PostData, at_rank, post_data}
 use Rattle.walkx.specs.Inner.Workers.{WorkerData}
 use Rattle.walkx.specs.Records.{Knows}
 use Rattle.walkx.specs.Serving.{Serves}
-use Rattle.walkx.specs.Turns.{working}
 use Rattle.walkx.specs.Walk.{Walking, Fits, IsBoard, end_of}
 use Rattle.lawful_walk.specs.Moments.{Sound}
 use Rattle.pram_board.specs.declared.task.Task.{Task}
@@ -19,7 +16,6 @@ use Rattle.pram_board.specs.Worked.{StaysAs, Ticked, Worked, Works}
 use Rattle.pram_board.proofs.Remembering.{later_ran}
 use Rattle.pram_board.proofs.Told.{shows_end}
 use Rattle.pram_board.specs.Inner.Plays.{Driving, WorkerGoesOn, IsAt, Led, Ran, IsWalking, Went}
-use Rattle.pram_board.specs.Inner.Plays.{led_to, task_at, working_at}
 use Rattle.pram_board.proofs.Telling.{ran_more, went_more}
 use Rattle.pram_board.proofs.Works.{bound_small, fewer, ran_none, ran_on, room}
 
@@ -177,25 +173,6 @@ led_more t p w q mid z now first second = record {
   went = went_more t p w q mid z now first second.went;
   some = (let h = second.some in omega arith);
 }
-
--- where a script of a phase leads, from a node at a rank
-pub led_from : (t : Task) (first at : PostData) (number n q rank : ℕ) (p z : Driving)
-    (to : Turned) → first ≡ post_data t.job t.layout number n q 0 → at ≡ at_rank first rank →
-    Led (task_at at) p (working_at at) z (led_to at to) →
-    Led t p (working number n q rank) z (led_to (post_data t.job t.layout number n q rank) to)
-led_from t first at number n q rank p z to is_first is led =
-    subst (λ (x : PostData). Led (task_at x) p (working_at x) z (led_to x to))
-    (is ∙ ap (λ (x : PostData). at_rank x rank) is_first) led
-
--- so to the start of another one
-pub led_on : (t : Task) (first at : PostData) (number n q rank m next : ℕ) (p z : Driving)
-    (to : Turned) → first ≡ post_data t.job t.layout number n q 0 → at ≡ at_rank first rank →
-    Led (task_at at) p (working_at at) z (led_to at to) →
-    led_to (post_data t.job t.layout number n q rank) to ≡ working number m q next →
-    Led t p (working number n q rank) z (working number m q next)
-led_on t first at number n q rank m next p z to is_first is led leads =
-    subst (λ (w : Walking). Led t p (working number n q rank) z w) leads
-    (led_from t first at number n q rank p z to is_first is led)
 
 -- ---- the worker that the code has, and its board
 

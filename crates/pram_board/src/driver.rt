@@ -6,9 +6,11 @@ use crate::rest::Rest;
 use crate::seat::Seat;
 use crate::task::Task;
 use crate::work::Stay;
+use pram_job::{Instr, Place};
+use pram_words::Kind;
 use stop_plan::Gate;
-use walkx::turns::{Turned, script};
-use walkx::{Op, Post, Steps, Stopped, Worker};
+use walkx::turns::{Turned, mark, turn};
+use walkx::{Leaf, Memory, Op, Post, Stand, Steps, Stopped, Worker};
 
 /// Makes the atomic steps of a worker on a board, passing the gate before each, and counts them.
 #[derive(Drop)]
@@ -35,15 +37,20 @@ impl<'a, G: Gate> Steps for Driver<'a, G> {
 }
 
 impl<'a, G: Gate> Driver<'a, G> {
-    ghost use Rattle.std.specs.Prelude.{◌≡◌, ◌<◌, ◌≤◌, ◌+◌, ◌%◌, ◌^◌, None, false, true};
+    ghost use Rattle.std.specs.Prelude.{◌≡◌, ◌<◌, ◌≤◌, ◌+◌, ◌%◌, ◌^◌, suc, None, false, true};
+    ghost use Rattle.walkx.specs.Inner.Posts.{IsLeafPost};
+    ghost use Rattle.pram_words.specs.Phases.{kind_at};
+    ghost use Rattle.walkx.specs.Memory.{FitsMemory};
+    ghost use Rattle.walkx.specs.Passing.{StandsAt};
     ghost use Rattle.walkx.specs.Turns.{beginning, turning};
-    ghost use Rattle.walkx.specs.Walk.{end_of};
+    ghost use Rattle.walkx.specs.Walk.{end_of, has_rank};
     ghost use Rattle.pram_board.specs.Worked.{Worked, Works};
     ghost use Rattle.lawful_walk.specs.Moments.{Sound};
     ghost use Rattle.pram_board.specs.Rules.{May};
     ghost use Rattle.pram_board.specs.Seats.{IsLater, hears};
-    ghost use Rattle.pram_board.specs.Inner.Plays.{WorkerGoesOn, Led, IsWalking, driving, led_to};
-    ghost use Rattle.pram_board.specs.Inner.Plays.{task_at, working_at};
+    ghost use Rattle.pram_board.specs.Inner.Plays.{WorkerGoesOn, Led, Moved, IsWalking, driving};
+    ghost use Rattle.pram_board.specs.Inner.Plays.{AtTask, DoneTo};
+    ghost use Rattle.pram_board.specs.Inner.Plays.{in_block, led_to, next_turn, task_at, turning_at};
 
     /// A driver that has made no step.
     #[inline(always)]
@@ -155,7 +162,8 @@ impl<'a, G: Gate> Driver<'a, G> {
     #[inline(always)]
     fn go_through(&mut self, worker: &mut Worker, node: u32, phase: u64)
         requires room { self.old.made < 2 ^ 63 }
-        requires turn { worker.old.walking ≡ turning worker.old.walking.number node phase }
+        requires turn { worker.old.walking ≡ turning worker.old.walking.number node phase
+            worker.old.walking.memory }
         requires works { Works self.old.board.now self.old.seat.now worker.old }
         ensures same { self.new.seat.ghost_name ≡ self.old.seat.ghost_name }
         ensures goes { WorkerGoesOn false (driving self.old) worker.old (driving self.new)
@@ -164,46 +172,287 @@ impl<'a, G: Gate> Driver<'a, G> {
         let board = self.board;
         board.facts();
         self.rest.take();
-        self.turns(board.task(), worker.number(), node, phase);
-        worker.begin_at(1);
+        let number = worker.number();
+        let mut memory = worker.lend();
+        self.turns(board.task(), number, &mut memory, node, phase);
+        worker.begin_at(1, memory);
     }
 
     // Turns of a phase, from the start of the one at this node until the root is finished, with the
-    // tasks of blocks between them.
+    // blocks between them.
     #[inline(always)]
-    fn turns(&mut self, task: &Task, number: u32, start: u32, phase: u64)
+    fn turns(&mut self, task: &Task, number: u32, memory: &mut Memory, start: u32, phase: u64)
         requires room { self.old.made < 2 ^ 63 }
-        requires walks { IsWalking task.now (driving self.old) (turning number start phase) }
+        requires walks { IsWalking task.now (driving self.old)
+            (turning number start phase memory.old) }
         ensures same { self.new.seat.ghost_name ≡ self.old.seat.ghost_name }
-        ensures led { Led task.now (driving self.old) (turning number start phase)
-            (driving self.new) (beginning number 1) }
+        ensures led { Led task.now (driving self.old) (turning number start phase memory.old)
+            (driving self.new) (beginning number 1 memory.new) }
     {
         let layout = task.layout;
-        let (mut node, mut rank) = (start, 0);
+        let mut node = start;
         loop {
-            let post = Post::new(&task.job, &layout, number, node, phase).at_rank(rank);
-            match self.script(&post) {
-                Turned::Finished => return,
-                Turned::To(next) => (node, rank) = (next, 0),
-                Turned::Within(next) => rank = next,
+            let post = Post::new(&task.job, &layout, number, node, phase);
+            match self.visit(&post, memory) {
+                None => return,
+                Some(next) => node = next,
             }
             self.seat.facts();
         }
     }
 
-    // A turn, or the task of another processor of a block, and what comes of it.
+    // A turn, and the block that it enters: the node of the next turn, or none where the root is
+    // finished.
     #[inline(always)]
-    fn script(&mut self, post: &Post) -> Turned
-        requires walks { IsWalking (task_at post.now) (driving self.old) (working_at post.now) }
+    fn visit(&mut self, post: &Post, memory: &mut Memory) -> Option<u32>
+        requires first { post.now.rank ≡ 0 }
+        requires walks { IsWalking (task_at post.now) (driving self.old)
+            (turning_at post.now memory.old) }
         ensures same { self.new.seat.ghost_name ≡ self.old.seat.ghost_name }
-        ensures led { Led (task_at post.now) (driving self.old) (working_at post.now)
-            (driving self.new) (led_to post.now result) }
+        ensures led { Led (task_at post.now) (driving self.old) (turning_at post.now memory.old)
+            (driving self.new) (next_turn post.now memory.new result) }
     {
-        match script(self, post) {
+        match self.turn(post, memory) {
+            Turned::Finished => None,
+            Turned::To(next) => Some(next),
+            Turned::Enters => {
+                self.block(post, memory);
+                Some(post.node())
+            }
+        }
+    }
+
+    // A turn, and what comes of it.
+    #[inline(always)]
+    fn turn(&mut self, post: &Post, memory: &Memory) -> Turned
+        requires first { post.now.rank ≡ 0 }
+        requires walks { IsWalking (task_at post.now) (driving self.old)
+            (turning_at post.now memory.now) }
+        ensures same { self.new.seat.ghost_name ≡ self.old.seat.ghost_name }
+        ensures led { Led (task_at post.now) (driving self.old) (turning_at post.now memory.now)
+            (driving self.new) (led_to post.now memory.now result) }
+    {
+        match turn(self, post) {
             Ok(turned) => {
-                let board = self.board;
-                self.rest.mark(board.task().layout.leaves(), turned);
+                self.rest.mark(self.board.task().layout.leaves(), turned);
+                self.seat.facts();
                 turned
+            }
+            Err(_) => unreachable!(),
+        }
+    }
+
+    // The tasks of a leaf's block, and its mark.
+    #[inline(always)]
+    fn block(&mut self, post: &Post, memory: &mut Memory)
+        requires fits { FitsMemory post.now.job memory.old }
+        requires walks { IsWalking (task_at post.now) (driving self.old)
+            (in_block post.now 0 memory.old) }
+        ensures same { self.new.seat.ghost_name ≡ self.old.seat.ghost_name }
+        ensures led { Led (task_at post.now) (driving self.old) (in_block post.now 0 memory.old)
+            (driving self.new) (turning_at post.now memory.new) }
+    {
+        let len = post.block_len();
+        if 0 < len {
+            self.tasks(post.at(0).leaf(), len, memory);
+        }
+        self.mark(post, len, memory);
+    }
+
+    // The tasks of a block of this length, from the leaf's processor on.
+    #[inline(always)]
+    fn tasks(&mut self, leaf: Leaf<'_>, len: u32, memory: &mut Memory)
+        requires at { AtTask leaf len (driving self.old) memory.old }
+        ensures same { self.new.seat.ghost_name ≡ self.old.seat.ghost_name }
+        ensures moved { Moved (task_at leaf.entry) (driving self.old)
+            (in_block leaf.entry leaf.entry.rank memory.old) (driving self.new)
+            (in_block leaf.entry len memory.new) }
+    {
+        let mut leaf = leaf;
+        loop {
+            self.task(&mut leaf, len, memory);
+            if leaf.rank() + 1 == len {
+                return;
+            }
+            leaf = leaf.next();
+        }
+    }
+
+    // The task of the leaf's processor, and those of the next ones where all are known to stand at
+    // one instruction. The leaf is then that of the last of them.
+    #[inline(always)]
+    fn task(&mut self, leaf: &mut Leaf<'_>, len: u32, memory: &mut Memory)
+        requires at { AtTask leaf.old len (driving self.old) memory.old }
+        ensures same { self.new.seat.ghost_name ≡ self.old.seat.ghost_name }
+        ensures done { DoneTo leaf.old len (driving self.old) memory.old leaf.new
+            (driving self.new) memory.new }
+    {
+        if let Kind::Compute = leaf.kind() {
+            if let Some(stand) = memory.stand(leaf) {
+                return self.run_form(leaf, len, memory, stand);
+            }
+        }
+        self.part(leaf, memory);
+    }
+
+    // The first pass of those that stand at this instruction. Each form that has a row here has a
+    // loop of its own, in which no other is looked at.
+    #[inline(always)]
+    fn run_form(&mut self, leaf: &mut Leaf<'_>, len: u32, memory: &mut Memory, stand: Stand<'_>)
+        requires first { kind_at leaf.old.phase ≡ Kind.Compute }
+        requires at { AtTask leaf.old len (driving self.old) memory.old }
+        requires stands { StandsAt leaf.old memory.old stand.counter stand.instr.now }
+        ensures same { self.new.seat.ghost_name ≡ self.old.seat.ghost_name }
+        ensures done { DoneTo leaf.old len (driving self.old) memory.old leaf.new
+            (driving self.new) memory.new }
+    {
+        match *stand.instr {
+            Instr::Set(r, k) => self.run_as(leaf, len, memory, stand, Instr::Set(r, k)),
+            Instr::Pid(r) => self.run_as(leaf, len, memory, stand, Instr::Pid(r)),
+            Instr::Jz(r, index) => self.run_as(leaf, len, memory, stand, Instr::Jz(r, index)),
+            Instr::Jmp(index) => self.run_as(leaf, len, memory, stand, Instr::Jmp(index)),
+            Instr::Add(r, a, b) => self.run_as(leaf, len, memory, stand, Instr::Add(r, a, b)),
+            Instr::Sub(r, a, b) => self.run_as(leaf, len, memory, stand, Instr::Sub(r, a, b)),
+            Instr::Mul(r, a, b) => self.run_as(leaf, len, memory, stand, Instr::Mul(r, a, b)),
+            Instr::Shl(r, a, b) => self.run_as(leaf, len, memory, stand, Instr::Shl(r, a, b)),
+            Instr::Shr(r, a, b) => self.run_as(leaf, len, memory, stand, Instr::Shr(r, a, b)),
+            Instr::Div(r, a, b) => self.run_as(leaf, len, memory, stand, Instr::Div(r, a, b)),
+            Instr::Rem(r, a, b) => self.run_as(leaf, len, memory, stand, Instr::Rem(r, a, b)),
+            Instr::And(r, a, b) => self.run_as(leaf, len, memory, stand, Instr::And(r, a, b)),
+            Instr::Or(r, a, b) => self.run_as(leaf, len, memory, stand, Instr::Or(r, a, b)),
+            Instr::Xor(r, a, b) => self.run_as(leaf, len, memory, stand, Instr::Xor(r, a, b)),
+            Instr::Lt(r, a, b) => self.run_as(leaf, len, memory, stand, Instr::Lt(r, a, b)),
+            Instr::Eq(r, a, b) => self.run_as(leaf, len, memory, stand, Instr::Eq(r, a, b)),
+            Instr::Ld(r, Place::Cell(a)) => self.run_as(
+                leaf,
+                len,
+                memory,
+                stand,
+                Instr::Ld(r, Place::Cell(a)),
+            ),
+            Instr::Ld(r, Place::Named(array, a)) => self.run_as(
+                leaf,
+                len,
+                memory,
+                stand,
+                Instr::Ld(r, Place::Named(array, a)),
+            ),
+            Instr::St(Place::Cell(a), b) => self.run_as(
+                leaf,
+                len,
+                memory,
+                stand,
+                Instr::St(Place::Cell(a), b),
+            ),
+            Instr::St(Place::Named(array, a), b) => self.run_as(
+                leaf,
+                len,
+                memory,
+                stand,
+                Instr::St(Place::Named(array, a), b),
+            ),
+            instr => self.run_as(leaf, len, memory, stand, instr),
+        }
+    }
+
+    // The same by this instruction, which is the same one by a name that tells its form.
+    #[inline(always)]
+    fn run_as(
+        &mut self,
+        leaf: &mut Leaf<'_>,
+        len: u32,
+        memory: &mut Memory,
+        stand: Stand<'_>,
+        instr: Instr,
+    )
+        requires first { kind_at leaf.old.phase ≡ Kind.Compute }
+        requires at { AtTask leaf.old len (driving self.old) memory.old }
+        requires stands { StandsAt leaf.old memory.old stand.counter instr }
+        requires same { instr ≡ stand.instr.now }
+        ensures same { self.new.seat.ghost_name ≡ self.old.seat.ghost_name }
+        ensures done { DoneTo leaf.old len (driving self.old) memory.old leaf.new
+            (driving self.new) memory.new }
+    {
+        self.run(leaf, len, memory, stand.with(&instr))
+    }
+
+    // The first pass of the leaf's processor, and of the next ones that stand at this instruction.
+    #[inline(always)]
+    fn run(&mut self, leaf: &mut Leaf<'_>, len: u32, memory: &mut Memory, stand: Stand<'_>)
+        requires first { kind_at leaf.old.phase ≡ Kind.Compute }
+        requires at { AtTask leaf.old len (driving self.old) memory.old }
+        requires stands { StandsAt leaf.old memory.old stand.counter stand.instr.now }
+        ensures same { self.new.seat.ghost_name ≡ self.old.seat.ghost_name }
+        ensures done { DoneTo leaf.old len (driving self.old) memory.old leaf.new
+            (driving self.new) memory.new }
+    {
+        loop {
+            self.part_by(leaf, memory, stand);
+            if leaf.rank() + 1 == len {
+                return;
+            }
+            let next = leaf.next();
+            if !memory.stands_at(&next, stand) {
+                return;
+            }
+            *leaf = next;
+        }
+    }
+
+    // The first pass of the leaf's processor, which is known to stand at this instruction.
+    #[inline(always)]
+    fn part_by(&mut self, leaf: &Leaf, memory: &mut Memory, stand: Stand<'_>)
+        requires first { kind_at leaf.now.phase ≡ Kind.Compute }
+        requires stands { StandsAt leaf.now memory.old stand.counter stand.instr.now }
+        requires leaf { IsLeafPost leaf.now }
+        requires fits { FitsMemory leaf.now.job memory.old }
+        requires walks { IsWalking (task_at leaf.now) (driving self.old)
+            (in_block leaf.now leaf.now.rank memory.old) }
+        ensures same { self.new.seat.ghost_name ≡ self.old.seat.ghost_name }
+        ensures fits { FitsMemory leaf.now.job memory.new }
+        ensures moved { Moved (task_at leaf.now) (driving self.old)
+            (in_block leaf.now leaf.now.rank memory.old) (driving self.new)
+            (in_block leaf.now (suc leaf.now.rank) memory.new) }
+    {
+        match memory.take_up_by(self, leaf, stand) {
+            Ok(()) => self.seat.facts(),
+            Err(_) => unreachable!(),
+        }
+    }
+
+    // The task of the leaf's processor.
+    #[inline(always)]
+    fn part(&mut self, leaf: &Leaf, memory: &mut Memory)
+        requires leaf { IsLeafPost leaf.now }
+        requires fits { FitsMemory leaf.now.job memory.old }
+        requires walks { IsWalking (task_at leaf.now) (driving self.old)
+            (in_block leaf.now leaf.now.rank memory.old) }
+        ensures same { self.new.seat.ghost_name ≡ self.old.seat.ghost_name }
+        ensures fits { FitsMemory leaf.now.job memory.new }
+        ensures moved { Moved (task_at leaf.now) (driving self.old)
+            (in_block leaf.now leaf.now.rank memory.old) (driving self.new)
+            (in_block leaf.now (suc leaf.now.rank) memory.new) }
+    {
+        match memory.take_up(self, leaf) {
+            Ok(()) => self.seat.facts(),
+            Err(_) => unreachable!(),
+        }
+    }
+
+    // The leaf is marked, after its last processor.
+    #[inline(always)]
+    fn mark(&mut self, post: &Post, rank: u32, memory: &Memory)
+        requires last { has_rank post.now.layout post.now.node rank ≡ false }
+        requires walks { IsWalking (task_at post.now) (driving self.old)
+            (in_block post.now rank memory.now) }
+        ensures same { self.new.seat.ghost_name ≡ self.old.seat.ghost_name }
+        ensures led { Led (task_at post.now) (driving self.old) (in_block post.now rank memory.now)
+            (driving self.new) (turning_at post.now memory.now) }
+    {
+        match mark(self, post) {
+            Ok(turned) => {
+                self.rest.mark(self.board.task().layout.leaves(), turned);
+                self.seat.facts();
             }
             Err(_) => unreachable!(),
         }

@@ -4,8 +4,10 @@ ghost use Rattle.std.specs.Prelude.{◌≡◌};
 use crate::board::Board;
 use crate::driver::Driver;
 use crate::seat::Seat;
+use pram_words::Form;
+use std::alloc::Global;
 use stop_plan::Gate;
-use walkx::{Ended, Op, Worker};
+use walkx::{Ended, Memory, Op, Worker};
 
 /// How work ended: with the worker, or at the limit.
 #[derive(Clone, Copy, Debug, PartialEq, Eq)]
@@ -17,7 +19,8 @@ pub enum Stay {
 }
 
 impl Board {
-    ghost use Rattle.std.specs.Prelude.{◌≡◌, None};
+    ghost use Rattle.std.specs.Prelude.{◌≡◌, None, length};
+    ghost use Rattle.walkx.specs.Memory.{blank};
     ghost use Rattle.walkx.specs.Walk.{end_of};
     ghost use Rattle.pram_board.specs.Inner.Next.{IsNextOperation};
     ghost use Rattle.pram_board.specs.Seats.{IsLater};
@@ -66,6 +69,21 @@ impl Board {
         let stay = driver.work(worker, limit);
         driver.end();
         stay
+    }
+
+    /// A memory for a worker of the board, about 40 bytes for each processor, of which nothing is
+    /// known yet. In the compact form, which has no use for one, it is empty, and so it is where
+    /// there is no memory left: then the worker loads what it does not remember.
+    pub fn worker_memory(&self, alloc: Global) -> Memory
+        ensures { result ≡ blank (length result) }
+    {
+        match self.task.layout.form() {
+            Form::Compact => Memory::none(),
+            Form::Wide(_) => match Memory::of(alloc, self.task.job.procs()) {
+                Ok(memory) => memory,
+                Err(_) => Memory::none(),
+            },
+        }
     }
 
     // One atomic step of a worker, its next operation.

@@ -185,6 +185,11 @@ pub record HasShape (job : JobData) (i : ℕ) (request : Request) : Type 0 where
 
 -- ---- in a state
 
+-- what a register that an instruction reads holds, these being those of its processor
+abbrev pub operand_in : List ℕ → Instr → ℕ → ℕ
+operand_in registers instr which =
+    slice_index (map (slice_index registers) (sources_of instr)) which
+
 -- what a register that an instruction reads holds, and the cell that it reads
 abbrev pub operand_held : JobData → State → ℕ → Instr → ℕ → ℕ
 operand_held job state i instr which =

@@ -1,13 +1,13 @@
 //! The table of instructions: what each reads, and what it asks for.
 ghost use Rattle.std.specs.Prelude.{◌≡◌, ℕ, ◌+◌, ◌^◌, ◌<◌, List, [], ◌∷◌, length, slice_index};
-ghost use Rattle.std.specs.Prelude.{◌++◌, All, IfSome, Option, Some};
+ghost use Rattle.std.specs.Prelude.{◌++◌, All, IfSome, Option, Some, map};
 ghost use Rattle.pram_job.specs.Instructions.{IsOperand, IsPlace};
 ghost use Rattle.pram_job.specs.Job.{IsInstr};
 ghost use Rattle.pram_machine.specs.Machine.{out_of_range, register_place};
 ghost use Rattle.pram_machine.specs.Instructions.{registers_in, value_of, held_after, index_of};
 ghost use Rattle.pram_machine.specs.Instructions.{reached, sources_of, listed, cell_read};
 ghost use Rattle.pram_machine.specs.Instructions.{gives, goes_to, within, computed, decided};
-ghost use Rattle.pram_machine.specs.Instructions.{cell_of, HasShape};
+ghost use Rattle.pram_machine.specs.Instructions.{cell_of, operand_in, HasShape};
 ghost use Rattle.pram_machine.specs.Turns.{IsTurnOf};
 ghost use Rattle.pram_machine.specs.declared.turn.Put.TheVariants.{Nothing, Register, Cell};
 
@@ -342,6 +342,83 @@ impl Held for Heard {
     #[inline(always)]
     fn cell(&self, _address: u32) -> u32 {
         self.found.value
+    }
+}
+
+/// The cell that an instruction reads, the registers of its processor holding these.
+#[inline(always)]
+pub fn cell_named(job: &Job, instr: &Instr, registers: &[u32; 4]) -> Option<u32>
+    requires { IsInstr job.now.cells (length job.now.code) instr.now }
+    ensures value { result ≡ cell_read job.now instr.now (operand_in registers.now instr.now 0) }
+    ensures within { IfSome result (λ cell. cell < job.now.cells) }
+{
+    let cells = job.cells();
+    let held = Own {
+        registers,
+        value: 0,
+        cells,
+    };
+    match *instr {
+        Instr::Ld(_, ref place) => cell_at(job, place, &held),
+        _ => None,
+    }
+}
+
+/// What a processor asks for by the instruction at its counter, its registers holding these, and
+/// the cell that it reads this.
+#[inline(always)]
+pub fn decided_by(
+    job: &Job,
+    processor: u32,
+    counter: u32,
+    instr: &Instr,
+    registers: &[u32; 4],
+    value: u32,
+) -> Turn
+    requires processor { processor < job.now.procs }
+    requires counter { counter < length job.now.code }
+    requires instr { IsInstr job.now.cells (length job.now.code) instr.now }
+    ensures { IsTurnOf job.now (decided job.now processor counter instr.now
+        (operand_in registers.now instr.now 0) (operand_in registers.now instr.now 1) value)
+        result }
+{
+    let cells = job.cells();
+    let held = Own {
+        registers,
+        value,
+        cells,
+    };
+    decide(job, processor, counter, instr, &held)
+}
+
+/// A processor's registers, and what was read from its cell, in a job with so many cells.
+#[derive(Clone, Copy)]
+struct Own<'m> {
+    registers: &'m [u32; 4],
+    value: u32,
+    cells: u32,
+}
+
+impl Held for Own<'_> {
+    ghost operand = { λ h rs. slice_index (map (slice_index h.registers.now) rs) };
+
+    ghost cell = { λ h _. h.value };
+
+    ghost cells = { λ h. h.cells };
+
+    #[inline(always)]
+    fn first(&self, r: u8) -> u32 {
+        self.registers[r as usize]
+    }
+
+    #[inline(always)]
+    fn second(&self, r: u8) -> u32 {
+        self.registers[r as usize]
+    }
+
+    #[inline(always)]
+    fn cell(&self, _address: u32) -> u32 {
+        self.value
     }
 }
 

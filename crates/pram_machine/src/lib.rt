@@ -5,6 +5,8 @@ mod instructions;
 mod requests;
 mod turn;
 
-pub use instructions::{Found, Sources, cell_read, decided, goes_to, sources_of};
+pub use instructions::{
+    Found, Sources, cell_named, cell_read, decided, decided_by, goes_to, sources_of,
+};
 pub use requests::{Fetched, Request, place_part, request_in, value_part};
 pub use turn::{Put, Turn};

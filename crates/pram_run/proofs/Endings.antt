@@ -33,7 +33,11 @@ use Rattle.pram_board.specs.declared.task.Task.{Task}
 use Rattle.pram_board.specs.declared.work.Stay.{Stay}
 use Rattle.pram_board.specs.Seats.{Desk, SeatData, Progressed, HasLoaded}
 use Rattle.pram_board.specs.Seats.{IsLoad, KnowsConflict, hears_all, unites}
-use Rattle.pram_board.specs.Worked.{Worked}
+use Rattle.pram_board.specs.declared.work.Stay.TheVariants as stay
+use Rattle.pram_board.specs.Worked.{EndShows, Worked}
+use Rattle.walkx.specs.declared.operation.Ended.{Ended}
+use Rattle.walkx.specs.declared.operation.Ended.TheVariants as ended
+use Rattle.std.proofs.lemmas.Option.{none-some}
 use Rattle.pram_run.specs.Inner.Hearing.{HasTold}
 use Rattle.pram_run.specs.Inner.Obeying.{AllEndOrStop, AllWorked, EndsOrStops, GoesOn}
 use Rattle.pram_run.proofs.Records.{HasAll, begins_self, begins_trans, begins_afters, begins_all}
@@ -77,6 +81,24 @@ sound_at d p is sound =
 pub end_all : (t : Task) (r later : Record) → HasAll r later → ShowsEnd t r → ShowsEnd t later
 end_all t r later all (inl s) = inl (shows_all t.layout r later t.job.steps all s)
 end_all t r later all (inr s) = inr (s.0, s.1, heard_all t.layout r later Conflict s.0 all s.2)
+
+-- a worker that has worked without a limit shows the end
+pub worked_ends : (d : Desk) (p : SeatData) (w : Walking) (q : SeatData) (now : Walking)
+    (stay : Stay) → q.desk ≡ d → Worked d.task p w None q now stay →
+    ShowsEnd q.desk.task q.record_of
+worked_ends d p w q now (stay.Ended how) is worked =
+    subst (λ (x : Desk). ShowsEnd x.task q.record_of) (sym is) (by how (subst
+    (EndShows d.task q.record_of) worked.stays worked.shows))
+  where
+    by : (e : Ended) → EndShows d.task q.record_of (Some e) → ShowsEnd d.task q.record_of
+    by ended.Done shows = inl shows.shows
+    by (ended.Conflict u) shows = inr (
+      u,
+      (let step = shows.1.step in
+          let first = shows.1.is.first.step in λ none. absurd (omega arith)),
+      shows.0,
+    )
+worked_ends d p w q now stay.Stopped is worked = absurd (none-some _ worked.stays.0)
 
 -- ---- joined seats
 

@@ -5,12 +5,11 @@ use Rattle.std.proofs.Math.ListN.{get_or-append}
 use Rattle.std.proofs.Math.Seq.{get_or-append_seam}
 use Rattle.std.specs.declared.thread.PromisedHandle.{PromisedHandle}
 use Rattle.stop_plan.specs.declared.plan.Row.{Row}
-use Rattle.walkx.specs.Walk.{started}
 use Rattle.pram_board.specs.Seats.{SeatData, unites}
 use Rattle.pram_run.specs.declared.runner.Obeyed.{Obeyed}
 use Rattle.pram_board.specs.declared.task.Task.{Task}
 use Rattle.pram_run.specs.Inner.Obeying.{EndsOrStops, HasObeyed, IsToObey}
-use Rattle.pram_run.specs.Obeyed.{AllObeyed, Obeys}
+use Rattle.pram_run.specs.Obeyed.{AllObeyed, ObeysAnew}
 use Rattle.pram_run.proofs.Endings.{ends_front, ends_back}
 
 abbrev pub Thread : Type 0
@@ -50,10 +49,10 @@ ends_more rows p q later n m count desk is h mine k lt =
 
 pub obeyed_more : (t : Task) (rows : List Row) (first p q later : SeatData) (n m : ℕ) → m ≡ n + 1 →
     first.desk.task ≡ t → later ≡ unites p q → AllObeyed t rows first n p →
-    Obeys first.desk.task n rows first (started n) q → AllObeyed t rows first m later
+    ObeysAnew first.desk.task n rows first q → AllObeyed t rows first m later
 obeyed_more t rows first p q later n m count task is h mine =
     let next : AllObeyed t rows first (suc n) later =
-    (p, q, h, subst (λ (x : Task). Obeys x n rows first (started n) q) task mine, is) in
+    (p, q, h, subst (λ (x : Task). ObeysAnew x n rows first q) task mine, is) in
     subst (λ (k : ℕ). AllObeyed t rows first k later) (let e : suc n ≡ m = omega arith in e) next
 
 -- one more, at its number

@@ -2,7 +2,7 @@
 use Rattle.std.specs.Prelude.{◌≡◌, ◌≢◌, ◌⊎◌, ℕ, zero, suc, List, [], ◌∷◌, Some, None}
 use Rattle.pram_step.specs.declared.answer.RunAnswer.{RunAnswer}
 use Rattle.pram_step.specs.declared.answer.RunAnswer.TheVariants.{Final, Conflict, Unfinished}
-use Rattle.walkx.specs.Walk.{Walking, started, come_back}
+use Rattle.walkx.specs.Walk.{Walking, started, come_back, remembering}
 use Rattle.lawful_walk.specs.Moments.{Sound}
 use Rattle.stop_plan.specs.declared.plan.Act.{Act}
 use Rattle.stop_plan.specs.declared.plan.Act.TheVariants.{Go, Sleep, Back, Stop}
@@ -15,12 +15,14 @@ use Rattle.pram_board.specs.Worked.{Worked}
 use Rattle.pram_run.specs.Running.{IsRun}
 
 -- What an act makes of a worker at a seat: it works up to so many ticks; it does nothing; it
--- comes back, knowing its number alone; or it is lost, and does nothing.
+-- comes back, knowing its number alone, with a memory of any size, or none; or it is lost, and does
+-- nothing.
 abbrev pub Acts : Act → Task → ℕ → ℕ → SeatData → Walking → SeatData → Walking → Type 0
 Acts Go task number ticks before walking later now =
     (stay : Stay) × Worked task before walking (Some ticks) later now stay
 Acts Sleep task number ticks before walking later now = (later ≡ before) × (now ≡ walking)
-Acts Back task number ticks before walking later now = (later ≡ before) × (now ≡ come_back number)
+Acts Back task number ticks before walking later now =
+    (later ≡ before) × ((size : ℕ) × (now ≡ remembering size (come_back number)))
 Acts Stop task number ticks before walking later now = (later ≡ before) × (now ≡ walking)
 
 -- one row of the worker
@@ -39,12 +41,17 @@ Obeys task number (row ∷ rows) before walking later =
     ⊎ ((row.worker ≡ number) × (row.act ≢ Stop) × (next : SeatData) × (now : Walking)
     × DoesRow task row before walking next now × Obeys task number rows next now later))
 
+-- the worker being new, with a memory of any size, or none
+abbrev pub ObeysAnew : Task → ℕ → List Row → SeatData → SeatData → Type 0
+ObeysAnew task number rows before later =
+    (size : ℕ) × Obeys task number rows before (remembering size (started number)) later
+
 -- The first so many workers each obeyed the rows from the given seat, and their seats were joined
 -- to it, one after the other: the later seat.
 abbrev pub AllObeyed : Task → List Row → SeatData → ℕ → SeatData → Type 0
 AllObeyed task rows given zero later = later ≡ given
 AllObeyed task rows given (suc worker) later = (before : SeatData) × (theirs : SeatData)
-    × AllObeyed task rows given worker before × Obeys task worker rows given (started worker) theirs
+    × AllObeyed task rows given worker before × ObeysAnew task worker rows given theirs
     × (later ≡ unites before theirs)
 
 -- some loads more

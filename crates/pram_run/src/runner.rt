@@ -1,12 +1,11 @@
 //! A plan obeyed on threads, one for each worker, over a board.
 ghost use Rattle.std.specs.Prelude.{◌≡◌, ℕ, ◌<◌, ◌↔◌, IfOk, IsTrue, OnOk, vec_len};
 ghost use Rattle.pram_board.specs.Worked.{Works};
-ghost use Rattle.walkx.specs.Walk.{started};
 ghost use Rattle.lawful_walk.specs.Seen.{BeginsWith};
 ghost use Rattle.pram_run.specs.Inner.Obeying.{AllWorked, EndsOrStops, GoesOn, HasObeyed};
 ghost use Rattle.pram_run.specs.Inner.Sharing.{board_of, plan_of, shared_task};
 ghost use Rattle.pram_run.specs.Inner.Teams.{IsAtWork};
-ghost use Rattle.pram_run.specs.Obeyed.{AllObeyed, DoesRow, HasRun, Obeys};
+ghost use Rattle.pram_run.specs.Obeyed.{AllObeyed, DoesRow, HasRun, ObeysAnew};
 ghost use Rattle.pram_run.specs.Running.{IsBoardFor};
 
 use crate::ending::answer;
@@ -143,8 +142,7 @@ pub(crate) fn start_all<'s, E, G: Gate + Sync>(
             requires given { IsBoardFor job.now plan.now board.now theirs }
             ensures goes_on { GoesOn theirs result }
             ensures ends { EndsOrStops rows.entry.now worker result }
-            ensures obeys { Obeys theirs.desk.task worker rows.entry.now theirs (started worker)
-                result }
+            ensures obeys { ObeysAnew theirs.desk.task worker rows.entry.now theirs result }
         {
             let shared = Shared::new(alloc, job, board, plan, gate, bell);
             let seat = obey_rows(&shared, theirs, worker, rows);
@@ -183,9 +181,9 @@ fn obey_rows<G: Gate>(shared: &Shared<'_, G>, mut seat: Seat, number: u32, rows:
     requires seat { seat.desk ≡ board_of shared.now }
     ensures goes_on { GoesOn seat result }
     ensures ends { EndsOrStops rows.now number result }
-    ensures obeys { Obeys seat.desk.task number rows.now seat (started number) result }
+    ensures obeys { ObeysAnew seat.desk.task number rows.now seat result }
 {
-    let mut worker = Worker::start(number);
+    let mut worker = Worker::start_with(number, shared.board.worker_memory(shared.alloc));
     for row in rows {
         if row.worker == number {
             if row.act == Act::Stop {
@@ -214,7 +212,9 @@ fn obey_row<G: Gate>(shared: &Shared<'_, G>, seat: &mut Seat, worker: &mut Worke
             shared.note(stay);
         }
         Act::Sleep => shared.sleep(row.worker, row.ticks),
-        Act::Back => *worker = Worker::back(row.worker),
+        Act::Back => {
+            *worker = Worker::back_with(row.worker, shared.board.worker_memory(shared.alloc));
+        }
         Act::Stop => {}
     }
 }

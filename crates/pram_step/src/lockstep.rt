@@ -1,7 +1,7 @@
 //! The turns of a step. Processors that stand at the same instruction take theirs together, as far
 //! as no other stands between them: it is looked up once for all of them. Registers and counters
 //! are each one processor's own, so they are written at once; stores to cells wait for the end.
-ghost use Rattle.std.specs.Prelude.{◌≡◌, ◌<◌, ◌≤◌, length, slice_index, IfSome};
+ghost use Rattle.std.specs.Prelude.{◌≡◌, ◌<◌, ◌≤◌, All, length, slice_index, suc, IfSome};
 ghost use Rattle.pram_machine.specs.Machine.{IsDataPlace, counter, counter_place, place_count};
 ghost use Rattle.pram_machine.specs.Turns.{put_of, request_of, IsSorted};
 ghost use Rattle.pram_step.specs.Inner.Passes.{TurnsGoOn, IsMove, IsPassed, IsUnderWay};
@@ -9,7 +9,6 @@ ghost use Rattle.pram_step.specs.Running.{AreRunning};
 ghost use Rattle.pram_step.specs.Inner.Passes.{StandsAt};
 
 use crate::stores::{Store, take_up};
-use pram_job::places::counters_at;
 use pram_job::{Instr, Job, Place};
 use pram_machine::{Fetched, Put, Turn};
 
@@ -57,16 +56,79 @@ fn take_next(
     requires begun { IsUnderWay job.now running.now places.old asked.old turns }
     ensures { TurnsGoOn job.now running.now places.old asked.old turns places.new asked.new result }
 {
+    match followed(job, places, running, turns) {
+        Some(at) => take_form(Stand { at, turns }, places, running, asked),
+        None => take_apart(job, places, running, asked, turns),
+    }
+}
+
+/// How many processors have their turns one by one before it is asked again whether neighbours
+/// stand together.
+const APART: usize = 8;
+
+/// Takes the turns of the next processors one by one, each by the instruction that it stands at.
+#[inline(always)]
+fn take_apart(
+    job: &Job,
+    places: &mut [u32],
+    running: &[u32],
+    asked: &mut [Store],
+    turns: Turns,
+) -> Turns
+    requires left { turns.taken < length running.now }
+    requires begun { IsUnderWay job.now running.now places.old asked.old turns }
+    ensures { TurnsGoOn job.now running.now places.old asked.old turns places.new asked.new result }
+{
+    let end = running.len().min(turns.taken + APART);
+    let mut turns = take_single(job, places, running, asked, turns);
+    while turns.taken < end {
+        turns = take_single(job, places, running, asked, turns);
+    }
+    turns
+}
+
+/// Takes the turn of the next processor.
+#[inline(always)]
+fn take_single(
+    job: &Job,
+    places: &mut [u32],
+    running: &[u32],
+    asked: &mut [Store],
+    turns: Turns,
+) -> Turns
+    requires left { turns.taken < length running.now }
+    requires begun { IsUnderWay job.now running.now places.old asked.old turns }
+    ensures { TurnsGoOn job.now running.now places.old asked.old turns places.new asked.new result }
+{
     job.limits_hold();
     let counter = places[job.counter_place(running[turns.taken]) as usize];
-    let Some(at) = Fetched::at(job, counter) else {
-        return Turns {
+    match Fetched::at(job, counter) {
+        Some(at) => take_one(at, places, running, asked, turns),
+        None => Turns {
             taken: turns.taken + 1,
             stores: turns.stores,
-        };
-    };
-    let stand = Stand { at, turns };
-    take_form(stand, places, running, asked)
+        },
+    }
+}
+
+/// The instruction of the next processor, where the one after it stands there too, so that a loop
+/// pays.
+#[inline(always)]
+fn followed<'m>(job: &'m Job, places: &[u32], running: &[u32], turns: Turns) -> Option<Fetched<'m>>
+    requires left { turns.taken < length running.now }
+    requires running { All (λ i. i < job.now.procs) running.now }
+    requires places { length places.now ≡ place_count job.now }
+    ensures { IfSome result (λ at. (at.job ≡ job.entry) × (counter job.now places.now
+        (slice_index running.now turns.taken) ≡ at.counter)) }
+{
+    job.limits_hold();
+    let counter = places[job.counter_place(running[turns.taken]) as usize];
+    let after = *running.get(turns.taken + 1)?;
+    if places[job.counter_place(after) as usize] == counter {
+        Fetched::at(job, counter)
+    } else {
+        None
+    }
 }
 
 /// The instruction that the next processor stands at, and how far the turns are.
@@ -165,22 +227,43 @@ fn take(
         places.new asked.new result }
 {
     let job = fetched.job;
-    job.limits_hold();
-    let counters = counters_at(job.cells(), job.procs());
-    let mut stores = turns.stores;
-    for taken in turns.taken..running.len() {
-        let processor = running[taken];
-        let at = counters + processor;
-        if places[at as usize] != fetched.counter {
-            return Turns { taken, stores };
+    let mut turns = take_one(fetched, places, running, asked, turns);
+    while turns.taken < running.len() {
+        let place = job.counter_place(running[turns.taken]);
+        if places[place as usize] != fetched.counter {
+            return turns;
         }
-        let turn = fetched.turn(places, processor);
-        move_on(job, places, processor, at, turn);
-        stores = take_up(job, asked, stores, processor, turn.put);
+        turns = take_one(fetched, places, running, asked, turns);
     }
+    turns
+}
+
+/// Takes the turn of the next processor alone, which stands at this instruction.
+#[inline(always)]
+fn take_one(
+    fetched: Fetched<'_>,
+    places: &mut [u32],
+    running: &[u32],
+    asked: &mut [Store],
+    turns: Turns,
+) -> Turns
+    requires left { turns.taken < length running.now }
+    requires begun { IsUnderWay fetched.job.now running.now places.old asked.old turns }
+    requires here { counter fetched.job.now places.old (slice_index running.now turns.taken)
+        ≡ fetched.counter }
+    ensures next { result.taken ≡ suc turns.taken }
+    ensures on { TurnsGoOn fetched.entry.job.now running.now places.old asked.old turns
+        places.new asked.new result }
+{
+    let job = fetched.job;
+    job.limits_hold();
+    let processor = running[turns.taken];
+    let at = job.counter_place(processor);
+    let turn = fetched.turn(places, processor);
+    move_on(job, places, processor, at, turn);
     Turns {
-        taken: running.len(),
-        stores,
+        taken: turns.taken + 1,
+        stores: take_up(job, asked, turns.stores, processor, turn.put),
     }
 }
 

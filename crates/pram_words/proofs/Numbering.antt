@@ -8,6 +8,7 @@ use Rattle.std.proofs.Math.Nat.{mul-mod_right, mul-div_cancel_left, mul-lt-mul_o
 use Rattle.std.proofs.Math.Nat.{lt_of_mul-lt-mul_left, div-add-mod, mul-div-le}
 use Rattle.std.proofs.lemmas.Bool.Decides.{nat_tests}
 use Rattle.pram_job.specs.Job.{JobData}
+use Rattle.pram_job.specs.Places.{register_at}
 use Rattle.pram_words.specs.declared.layout.Form.{Form}
 use Rattle.pram_words.specs.declared.layout.Form.TheVariants.{Compact, Wide}
 use Rattle.pram_words.specs.declared.words.Word.{Word}
@@ -17,7 +18,7 @@ use Rattle.pram_words.specs.Words.{LayoutData, IsLayout, IsNeeded, IsWord, IsInR
 use Rattle.pram_words.specs.Words.{IsNumbering, HasRanges, Admits, counters_of, requests_at}
 use Rattle.pram_words.specs.Words.{positions_at, places_at, claims_at, compact_number}
 use Rattle.pram_words.specs.Words.{compact_word, grain, first_word, lines_at, lines_word, cells_at}
-use Rattle.pram_words.specs.Words.{wide_claims_at, wide_number}
+use Rattle.pram_words.specs.Words.{AreOwn, wide_claims_at, wide_number}
 use Rattle.pram_words.specs.Forms.{by_form}
 use Rattle.pram_words.specs.Words.{wide_word, number_of, length_of, word_at}
 
@@ -270,6 +271,35 @@ length_wide : (y : LayoutData) (g : ℕ) → y.form ≡ Wide g →
 unfolding length_of
 length_wide y g e =
     ap (λ n. n + cond y.claims y.cells 0) (form_wide y.form g (claims_at y) (wide_claims_at y) e)
+
+-- where the words of a processor begin
+pub own_compact : (y : LayoutData) (i counter registers : ℕ) → y.form ≡ Compact →
+    counter ≡ places_at y + 2 * (counters_of y + i) →
+    registers ≡ places_at y + 2 * register_at y.cells i 0 →
+    AreOwn y i (record { counter = counter; registers = registers })
+own_compact y i counter registers e own all = record {
+  counter = number_compact y e (Stored (counters_of y + i) 0) ∙ omega arith;
+  register = λ r below. number_compact y e (Stored (register_at y.cells i r) 0) ∙ omega arith;
+}
+
+pub own_wide : (y : LayoutData) (g i first : ℕ) → y.form ≡ Wide g → i < y.procs →
+    first ≡ lines_at y i →
+    AreOwn y i (record { counter = first + 4; registers = first + 6 })
+own_wide y g i first e processor begins = record {
+  counter = number_wide y g e (Stored (counters_of y + i) 0) ∙ grind (arith, nat_tests);
+  register = λ r below. number_wide y g e (Stored (register_at y.cells i r) 0)
+      ∙ grind (arith, nat_tests);
+}
+
+-- and where those of cells do
+pub cells_compact : (y : LayoutData) (c first : ℕ) → y.form ≡ Compact → first ≡ places_at y →
+    number_of y (Stored c 0) ≡ first + 2 * c
+cells_compact y c first e begins = number_compact y e (Stored c 0) ∙ omega arith
+
+pub cells_wide : (y : LayoutData) (g c first : ℕ) → y.form ≡ Wide g → c < y.cells →
+    first ≡ cells_at y → number_of y (Stored c 0) ≡ first + 2 * c
+cells_wide y g c first e below begins =
+    number_wide y g e (Stored c 0) ∙ grind (arith, nat_tests)
 
 needed_back : (y : LayoutData) → IsLayout y → (a : Word) →
     IsNeeded y a → word_at y (number_of y a) ≡ a

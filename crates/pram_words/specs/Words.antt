@@ -5,12 +5,13 @@ use Rattle.std.specs.Prelude.{◌==◌, ◌&&◌, min, nat_lt, if◌then◌else�
 use Rattle.std.specs.Prelude.{List, length, slice_index}
 use Rattle.std.specs.Int.{IsPowerOfTwo, div_ceil}
 use Rattle.pram_job.specs.Job.{JobData}
-use Rattle.pram_job.specs.Places.{counters_at, places_in}
+use Rattle.pram_job.specs.Places.{counters_at, places_in, register_at}
 use Rattle.pram_job.specs.declared.limits.TheConstants.{MAX_CELLS, MAX_PROCS}
 use Rattle.pram_job.specs.declared.instr.Rule.{Rule}
 use Rattle.pram_job.specs.declared.instr.Rule.TheVariants.{Common, Priority, Crew}
 use Rattle.pram_words.specs.declared.layout.Form.{Form}
 use Rattle.pram_words.specs.declared.layout.Form.TheVariants.{Compact, Wide}
+use Rattle.pram_words.specs.declared.layout.OwnWords.{OwnWords}
 use Rattle.pram_words.specs.declared.words.Word.{Word}
 use Rattle.pram_words.specs.declared.words.Word.TheVariants.{Conflict, Node, Asked, Position}
 use Rattle.pram_words.specs.declared.words.Word.TheVariants.{Stored, Claim, Spare}
@@ -198,6 +199,12 @@ wide_word layout number =
 -- the number of a word
 unfoldable pub number_of : LayoutData → Word → ℕ
 number_of layout word = by_form layout.form (compact_number layout word) (wide_number layout word)
+
+-- where the words of processor i begin: those of its counter, and of its registers
+pub record AreOwn (layout : LayoutData) (i : ℕ) (own : OwnWords) : Type 0 where
+  pub counter : number_of layout (Stored (counters_of layout + i) 0) ≡ own.counter
+  pub register : (r : ℕ) → r < 4 →
+      number_of layout (Stored (register_at layout.cells i r) 0) ≡ own.registers + 2 * r
 
 -- how many words a board has
 unfoldable pub length_of : LayoutData → ℕ

@@ -8,8 +8,8 @@ ghost use Rattle.pram_words.specs.Phases.{has_phase, next_phase};
 ghost use Rattle.pram_words.specs.Start.{start_of, start_words};
 ghost use Rattle.pram_words.specs.Tree.{depth_of, leaves_of};
 ghost use Rattle.pram_words.specs.Ways.{IsTurnInForm, first_leaf_in, turns_right_in, way_of};
-ghost use Rattle.pram_words.specs.Words.{Admits, IsInRange, IsLayout, IsStamped, LayoutData};
-ghost use Rattle.pram_words.specs.Words.{has_claims, layout_data, layout_of};
+ghost use Rattle.pram_words.specs.Words.{Admits, AreOwn, IsInRange, IsLayout, IsStamped};
+ghost use Rattle.pram_words.specs.Words.{LayoutData, has_claims, layout_data, layout_of};
 ghost use Rattle.pram_words.specs.Words.{length_of, most_length};
 ghost use Rattle.pram_words.specs.Words.{number_of, places_of, word_at};
 ghost use Rattle.pram_words.specs.Words.{claims_at, compact_word, places_at, positions_at};
@@ -84,6 +84,14 @@ impl Model for Layout {
       workers = y.workers;
       claims = y.claims;
     } };
+}
+
+/// Where the words of a processor begin: those of its counter, and those of its registers. A
+/// register has two words, and the next register's follow them.
+#[derive(Clone, Copy, Debug, PartialEq, Eq)]
+pub struct OwnWords {
+    pub counter: u32,
+    pub registers: u32,
 }
 
 impl Layout {
@@ -270,6 +278,38 @@ impl Layout {
         match self.form {
             Form::Compact => self.first_place() + 2 * p,
             Form::Wide(_) => self.wide_place_word(p),
+        }
+    }
+
+    /// Where the words of processor i begin.
+    #[inline(always)]
+    pub fn own_words(&self, i: u32) -> OwnWords
+        requires { i < self.now.procs }
+        ensures { AreOwn self.now i result }
+    {
+        match self.form {
+            Form::Compact => OwnWords {
+                counter: self.first_place() + 2 * (counters_at(self.cells, self.procs) + i),
+                registers: self.first_place() + 2 * register_at(self.cells, i, 0),
+            },
+            Form::Wide(_) => {
+                let first = self.lines(i);
+                OwnWords {
+                    counter: first + 4,
+                    registers: first + 6,
+                }
+            }
+        }
+    }
+
+    /// Where the words of cells begin: two a cell.
+    #[inline(always)]
+    pub fn cells_word(&self) -> u32
+        ensures { (c : ℕ) → c < self.now.cells → number_of self.now (Stored c 0) ≡ result + 2 * c }
+    {
+        match self.form {
+            Form::Compact => self.first_place(),
+            Form::Wide(_) => self.first_cell(),
         }
     }
 

@@ -16,7 +16,7 @@ pub use laws::{
     phases_follow, phases_undo, stamps_undo, words_have_ranges, words_keep_apart,
     words_start_admitted, workers_begin_at_leaves,
 };
-pub use layout::{Form, Layout};
+pub use layout::{Form, Layout, OwnWords};
 pub use phases::{Kind, LAST_PHASE, kind_of, phase, step_of};
 pub use stamps::{newer, newer_payload, older, payload, stamp, stamped};
 pub use tree::{first_leaf, goes_right, height, leaves, left, parent, right};

@@ -6,7 +6,7 @@ use Rattle.pram_words.specs.Words.{LayoutData}
 use Rattle.walkx.proofs.Asking.{all_ask}
 use Rattle.walkx.proofs.Fitting.{fits_told, new_workers_fit}
 use Rattle.walkx.proofs.Going.{told_over}
-use Rattle.walkx.proofs.Knowing.{knows_more, has_earlier, has_more, knows_next}
+use Rattle.walkx.proofs.Knowing.{knows_more, has_earlier, has_more}
 use Rattle.walkx.specs.declared.operation.Ended.{Ended}
 use Rattle.walkx.specs.declared.operation.Ended.TheVariants as ended
 use Rattle.walkx.specs.declared.operation.Op.{Op}
@@ -24,6 +24,7 @@ use Rattle.lawful_walk.specs.Walks.{Moves}
 use Rattle.lawful_walk.proofs.Sounding.{sound_of, sound_steps, sound_ends}
 use Rattle.lawful_walk.proofs.Admitted.{answer_admitted}
 use Rattle.lawful_walk.proofs.Knowing.{root_now, conflict_now}
+use Rattle.lawful_walk.proofs.Staying.{known_stays}
 use Rattle.lawful_walk.proofs.Turns.{workers_keep}
 use Rattle.pram_world.specs.Inner.Holding.{Fitting}
 
@@ -57,12 +58,11 @@ hears_admitted job y words w stands fits = answer_admitted job y words (ask_of j
 
 -- so it stays known
 pub known_on : (job : JobData) (y : LayoutData) (r : Record) (w : Walking) (words : List ℕ) →
-    Stands job y words → Knows job y r w → Fitting job y w →
+    Stands job y words → Backed job y r words → Knows job y r w → Fitting job y w →
     Knows job y (after r (ask_of job y w) (answer words (ask_of job y w)))
     (told job y w (answer words (ask_of job y w)))
-known_on job y r w words stands knows fits =
-    knows_next job y r w (answer words (ask_of job y w)) (board_of job y words stands) fits knows
-    (hears_admitted job y words w stands fits)
+known_on job y r w words stands backed knows fits =
+    (known_stays job y r w words stands fits knows backed).1
 
 -- and fits on
 pub fits_on : (job : JobData) (y : LayoutData) (words : List ℕ) (w : Walking) → Stands job y words →
@@ -102,7 +102,7 @@ own_steps job y r w answers words stands backed has fits going =
 -- a worker that is over stays so
 pub told_still : (job : JobData) (y : LayoutData) (w : Walking) (found : ℕ) (e : Ended) →
     w.now ≡ doing.Over e → told job y w found ≡ w
-told_still job y w found e is = told_over w found (rest_after (rest_of job y w) found) w.now e is
+told_still job y w found e is = told_over job y w found (rest_after (rest_of job y w) found) w.now e is
 
 -- Done: the root shows the last step; Conflict: word 0 is not 0
 pub ended_root : (job : JobData) (y : LayoutData) (r : Record) (w : Walking) (words : List ℕ) →

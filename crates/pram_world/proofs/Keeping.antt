@@ -9,6 +9,7 @@ use Rattle.pram_words.specs.declared.layout.Form.TheVariants.{Compact}
 use Rattle.pram_words.specs.declared.words.Word.{Word}
 use Rattle.pram_words.specs.declared.words.Word.TheVariants.{Position}
 use Rattle.pram_words.specs.Words.{IsGrain, grain_of, IsWord, layout_of}
+use Rattle.walkx.proofs.Beginnings.{start_true}
 use Rattle.walkx.specs.Operations.{answer}
 use Rattle.walkx.specs.Records.{Record, empty, after, Knows}
 use Rattle.walkx.specs.Walk.{Walking, ask_of, told, started, come_back}
@@ -75,7 +76,7 @@ holds_start_on job form workers limits block some most = record {
       let e : w ≡ started s.worker = same_walking w (started s.worker) s.is in
       let below = s.below in (
         subst (λ (v : Walking). Knows job (layout_of job form workers) empty v) (sym e)
-            (record { script = tt; block = tt }),
+            (record { script = tt; block = tt; memory = start_true job }),
         subst (Fitting job (layout_of job form workers))
             (sym e) (start_fits job (layout_of job form workers) s.worker (omega arith)),
       );
@@ -105,7 +106,7 @@ holds_step s made b w is h =
     let k = h.known b w is in
     let m = moves s.job s.layout made w s.words h.stands h.backed k.0 k.1 in
     let new = told s.job s.layout w (answer s.words (ask_of s.job s.layout w)) in
-    let knows = known_on s.job s.layout made w s.words h.stands k.0 k.1 in
+    let knows = known_on s.job s.layout made w s.words h.stands h.backed k.0 k.1 in
     let fits = fits_on s.job s.layout s.words w h.stands k.1 in
     record {
       stands = ((m.goes).keeps).stands;
@@ -134,22 +135,26 @@ IsKnown s body = (number body < s.layout.workers) × ((w : Walking) → body ≡
 pub stopped_known : (s : WorldData) (n : ℕ) → n < s.layout.workers → IsKnown s (stopped n)
 stopped_known s n below = (below, λ w is made. absurd (not_stopped w n (sym is)))
 
-pub started_known : (s : WorldData) (n : ℕ) → n < s.layout.workers → IsKnown s (walks (started n))
+pub started_known : (s : WorldData) (n : ℕ) → n < s.layout.workers →
+    IsKnown s (walks (started n))
 started_known s n below = (
   below,
   λ w is made.
       let e : started n ≡ w = same_walking (started n) w is in (
-        subst (λ (x : Walking). Knows s.job s.layout made x) e (record { script = tt; block = tt }),
+        subst (λ (x : Walking). Knows s.job s.layout made x) e
+            (record { script = tt; block = tt; memory = start_true s.job }),
         subst (Fitting s.job s.layout) e (start_fits s.job s.layout n below),
       ),
 )
 
-pub back_known : (s : WorldData) (n : ℕ) → n < s.layout.workers → IsKnown s (walks (come_back n))
+pub back_known : (s : WorldData) (n : ℕ) → n < s.layout.workers →
+    IsKnown s (walks (come_back n))
 back_known s n below = (
   below,
   λ w is made.
       let e : come_back n ≡ w = same_walking (come_back n) w is in (
-        subst (λ (x : Walking). Knows s.job s.layout made x) e (record { script = tt; block = tt }),
+        subst (λ (x : Walking). Knows s.job s.layout made x) e
+            (record { script = tt; block = tt; memory = start_true s.job }),
         subst (Fitting s.job s.layout) e (back_fits s.job s.layout n below),
       ),
 )

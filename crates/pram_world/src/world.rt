@@ -1,6 +1,6 @@
 //! The world.
 ghost use Rattle.std.specs.Prelude.{◌≡◌, ℕ, ◌<◌, ◌≤◌, IfOk, IfErr, length, slice_index};
-ghost use Rattle.std.specs.Prelude.{option_map, slice_get};
+ghost use Rattle.std.specs.Prelude.{option_map, slice_get, slice_set};
 ghost use Rattle.pram_words.specs.Words.{length_of, places_of};
 ghost use Rattle.pram_words.specs.declared.words.Word.TheVariants.{Stored};
 ghost use Rattle.pram_job.specs.Job.{JobData};
@@ -269,7 +269,7 @@ impl World {
     {
         if b < self.bodies.len() {
             let number = number(&self.bodies[b]);
-            self.bodies[b] = Runner::Stopped(number);
+            put(&mut self.bodies, b, Runner::Stopped(number));
         }
     }
 
@@ -278,9 +278,17 @@ impl World {
     {
         if b < self.bodies.len() {
             let worker = returning(&self.bodies[b]);
-            self.bodies[b] = Runner::Walks(worker);
+            put(&mut self.bodies, b, Runner::Walks(worker));
         }
     }
+}
+
+// Body b becomes this one.
+fn put(bodies: &mut Vec<Runner>, b: usize, body: Runner)
+    requires { b < length bodies.old.items }
+    ensures { bodies.new.items ≡ slice_set bodies.old.items b body }
+{
+    bodies[b] = body;
 }
 
 // The number of the worker that a body is, or was.

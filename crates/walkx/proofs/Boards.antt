@@ -1,18 +1,29 @@
 -- A job's board: words and what they may have.
 use Rattle.std.proofs.Common.{◌≡◌, ℕ, ◌+◌, ◌*◌, ◌^◌, ◌<◌, ◌≤◌, Bool, true, false, IsTrue}
-use Rattle.std.proofs.Common.{if◌then◌else◌, Option, Some, None, ap, refl, inl, inr, arith}
+use Rattle.std.proofs.Common.{if◌then◌else◌, Option, Some, None, ap, refl, sym, inl, inr, lit<}
+use Rattle.std.proofs.Common.{suc, subst, ◌∙◌, arith}
 use Rattle.pram_job.specs.Job.{JobData}
 use Rattle.pram_machine.specs.declared.requests.Request.{Request}
 use Rattle.pram_machine.specs.Instructions.{HasShape, place_part}
-use Rattle.pram_machine.specs.Machine.{IsDataPlace}
+use Rattle.pram_job.specs.Places.{register_at}
+use Rattle.pram_machine.specs.Machine.{IsDataPlace, counter_place, register_place}
 use Rattle.pram_words.proofs.Numbering.{ranges, numbering, cases_form, form_wide}
+use Rattle.pram_words.proofs.Numbering.{own_wide}
 use Rattle.pram_words.specs.declared.words.Word.{Word}
 use Rattle.pram_words.specs.declared.words.Word.TheVariants.{Conflict, Node, Asked, Position}
+use Rattle.pram_words.specs.declared.words.Word.TheVariants.{Stored}
+use Rattle.pram_words.specs.declared.layout.OwnWords.{OwnWords}
 use Rattle.pram_words.specs.Phases.{step_at, has_phase}
+use Rattle.pram_words.specs.declared.phases.Kind.{Kind}
 use Rattle.pram_words.specs.Stamps.{stamped_word, payload_of}
 use Rattle.pram_words.specs.Words.{LayoutData, IsLayout, IsWord, IsInRange, IsStamped, Admits}
 use Rattle.pram_words.specs.Words.{number_of, length_of, claims_at, wide_claims_at, most_asked}
-use Rattle.walkx.specs.Walk.{IsBoard}
+use Rattle.pram_words.specs.Words.{AreOwn, counters_of, lines_at, places_of}
+use Rattle.pram_words.specs.declared.layout.Form.{Form}
+use Rattle.pram_words.specs.declared.layout.Form.TheVariants.{Compact, Wide}
+use Rattle.walkx.specs.Inner.Posts.{IsLeafOf, IsLeafPost, IsPairAt, PostData, at_rank}
+use Rattle.walkx.specs.Inner.Posts.{processor_of, step_of}
+use Rattle.walkx.specs.Walk.{IsBoard, IsWide}
 
 -- what is admitted at a word's number the word may have
 pub in_range : (job : JobData) (y : LayoutData) (a : Word) (v : ℕ) → IsBoard job y → IsWord y a →
@@ -91,6 +102,96 @@ length_small y limits = elim (cases_form y.form) [
     by_claims : (b : Bool) (n : ℕ) → n ≤ 4000000 → n + (if b then y.cells else 0) < 2 ^ 32
     by_claims true n few = omega (arith, limits.cells)
     by_claims false n few = omega arith
+
+-- the words of a place
+pub pair_at : (job : JobData) (y : LayoutData) (place word : ℕ) → IsBoard job y →
+    place < places_of y → word ≡ number_of y (Stored place 0) → IsPairAt y place word
+pair_at job y place word board below first =
+    let next = (numbering y board.layout).second place in
+    let last = is_below job y (Stored place 1) board (below, lit< tt) in
+    let small = length_small y board.layout in
+    record {
+      first = first;
+      second = omega (arith, first, next);
+      below = omega (arith, first, next, last, small);
+    }
+
+-- the words of a leaf's processor, and of a cell
+module _ (at : PostData) (t : ℕ) (kind : Kind) (i : ℕ) (own : OwnWords) (first : ℕ)
+    (is : IsLeafOf at t kind i own first) where
+  board : IsBoard at.job at.layout
+  board = is.leaf.board
+
+  pub own_counter : IsPairAt at.layout (counter_place at.job (processor_of at)) own.counter
+  own_counter =
+      let place : counter_place at.job (processor_of at) ≡ counters_of at.layout + i =
+      omega (
+        arith,
+        same_cells at.job at.layout board,
+        same_procs at.job at.layout board,
+        is.processor,
+      ) in
+      rw place (pair_at at.job at.layout (counters_of at.layout + i) own.counter board
+      (omega (arith, is.processor, is.leaf.last)) (sym is.own.counter))
+
+  pub own_register : (r : ℕ) → r < 4 →
+      IsPairAt at.layout (register_place at.job (processor_of at) r) (own.registers + 2 * r)
+  own_register r register =
+      let place : register_place at.job (processor_of at) r ≡ register_at at.layout.cells i r =
+      omega (arith, same_cells at.job at.layout board, is.processor) in
+      rw place (pair_at at.job at.layout (register_at at.layout.cells i r) (own.registers + 2 * r)
+      board (omega (arith, is.processor, is.leaf.last)) (sym (is.own.register r register)))
+
+  pub own_small : (r : ℕ) → r < 4 → own.registers + 2 * r < 2 ^ 32
+  own_small r register = omega (arith, (own_register r register).below)
+
+  pub own_cell : (cell : ℕ) → cell < at.job.cells → IsPairAt at.layout cell (first + 2 * cell)
+  own_cell cell below =
+      let same = same_cells at.job at.layout board in
+      pair_at at.job at.layout cell (first + 2 * cell) board (omega (arith, same, below))
+      (sym (is.cells cell (omega (arith, same, below))))
+
+  pub cell_small : (cell : ℕ) → cell < at.job.cells → first + 2 * cell < 2 ^ 32
+  cell_small cell below = omega (arith, (own_cell cell below).below)
+
+-- in the wide form the words of the next processor lie two lines further
+own_next : (y : LayoutData) (g i : ℕ) (own : OwnWords) → y.form ≡ Wide g → suc i < y.procs →
+    AreOwn y i own →
+    AreOwn y (suc i) (record { counter = own.counter + 16; registers = own.registers + 16 })
+own_next y g i own form below is =
+    let here = own_wide y g i (lines_at y i) form (omega (arith, below)) refl in
+    let there = own_wide y g (suc i) (lines_at y (suc i)) form below refl in
+    let counter = sym is.counter ∙ here.counter in
+    let registers = sym (is.register 0 (lit< tt)) ∙ here.register 0 (lit< tt) in
+    record {
+      counter = there.counter ∙ omega (arith, counter);
+      register = λ r register. there.register r register ∙ omega (arith, registers);
+    }
+
+-- the leaf at the next processor
+pub next_leaf : (at : PostData) (t : ℕ) (kind : Kind) (i : ℕ) (own : OwnWords) (first : ℕ) →
+    IsWide at.layout.form → IsLeafOf at t kind i own first →
+    IsLeafPost (at_rank at (suc at.rank)) →
+    IsLeafOf (at_rank at (at.rank + 1)) t kind (i + 1)
+    (record { counter = own.counter + 16; registers = own.registers + 16 }) first
+next_leaf at t kind i own first wide is next =
+    let same : suc i ≡ i + 1 = omega arith in
+    let further = by_wide at.layout.form wide refl in
+    let rank : suc at.rank ≡ at.rank + 1 = omega arith in record {
+      leaf = subst (λ (rank : ℕ). IsLeafPost (at_rank at rank)) rank next;
+      step = is.step;
+      does = is.does;
+      processor = omega (arith, is.processor);
+      own = subst (λ (k : ℕ). AreOwn at.layout k
+          (record { counter = own.counter + 16; registers = own.registers + 16 })) same further;
+      cells = is.cells;
+    }
+  where
+    by_wide : (form : Form) → IsWide form → at.layout.form ≡ form → AreOwn at.layout (suc i)
+        (record { counter = own.counter + 16; registers = own.registers + 16 })
+    by_wide Compact wide e = absurd wide
+    by_wide (Wide g) wide e =
+        own_next at.layout g i own e (omega (arith, is.processor, next.last)) is.own
 
 -- where a request's data goes, plus 1
 pub place_shape : (job : JobData) (i : ℕ) (r : Request) → i < job.procs → HasShape job i r →

@@ -1,5 +1,5 @@
 -- What each script of a worker leads to, and that its operations are few.
-use Rattle.std.proofs.Common.{◌≡◌, ℕ, ◌+◌, ◌-◌, ◌*◌, ◌%◌, ◌<◌, ◌≤◌, ◌==◌, IsTrue, List, ◌∷◌}
+use Rattle.std.proofs.Common.{suc, ◌≡◌, ℕ, ◌+◌, ◌-◌, ◌*◌, ◌%◌, ◌<◌, ◌≤◌, ◌==◌, IsTrue, List, ◌∷◌}
 use Rattle.std.proofs.Common.{refl, ap, ◌∙◌, inl, inr, min, add-mul, mul-le-mul_right, arith}
 use Rattle.std.proofs.Math.Nat.{mul-add}
 use Rattle.std.proofs.lemmas.Bool.{cases_lt, cond_both, eq-eqb, eqb-false}
@@ -8,17 +8,19 @@ use Rattle.pram_words.specs.Tree.{leaves_of}
 use Rattle.pram_words.specs.Words.{LayoutData, IsLayout, grain, number_of}
 use Rattle.pram_words.proofs.Blocks.{tasks_fit}
 use Rattle.pram_words.proofs.NextPhases.{has_next, next_above, next_within}
-use Rattle.pram_words.proofs.Numbering.{grain_some}
+use Rattle.pram_words.proofs.Numbering.{cases_form}
 use Rattle.pram_words.specs.Phases.{has_phase, next_phase}
 use Rattle.pram_words.specs.declared.words.Word.TheVariants.{Conflict, Node, Position}
 use Rattle.walkx.specs.declared.operation.Op.{Op}
 use Rattle.walkx.specs.declared.operation.Op.TheVariants.{Load, Max}
 use Rattle.walkx.specs.Doing as doing
 use Rattle.walkx.specs.Scripts.{Script, asks, ends}
-use Rattle.walkx.specs.Walk.{Then, begins, turns, works, stops, back_script, begin_script}
+use Rattle.walkx.specs.Walk.{Then, begins, turns, enters, worked, stops, back_script, begin_script}
+use Rattle.walkx.specs.Walk.{IsWide}
+use Rattle.walkx.proofs.Forms.{form_both, form_wide_of}
 use Rattle.walkx.specs.Bound.{low, MayHear}
-use Rattle.walkx.proofs.BoundWeight.{low_of, others, phases_weight, later_weight}
-use Rattle.walkx.proofs.BoundTurns.{Grown, parts_most, turns_most}
+use Rattle.walkx.proofs.BoundWeight.{count, low_of, phases_weight, later_weight, tasks, turn_ops}
+use Rattle.walkx.proofs.BoundTurns.{Grown, most_ops, parts_most, turns_most}
 use Rattle.walkx.proofs.BoundTasks.{IsWithin}
 
 -- A script with at most so many operations leads, after each history that may be heard, to what is
@@ -63,6 +65,16 @@ leads_on_within job y w to before = record {
       leads_more job y w to script j k history h (leads history grown);
 }
 
+-- a worker in the block of a leaf, in the wide form
+pub record InBlock (job : JobData) (y : LayoutData) (n q : ℕ) : Type 0 where
+  pub some : 1 ≤ n
+  pub leaf : y.leaves ≤ n
+  pub inside : n < 2 * y.leaves
+  pub first : 1 ≤ q
+  pub last : q ≤ 3 * job.steps
+  pub wide : IsWide y.form
+  pub formed : IsTrue (has_phase y.form q)
+
 -- ---- what a script leads to: a worker on a node of the tree in a phase of the job, with no more
 -- weight than this
 
@@ -70,26 +82,35 @@ abbrev pub To : JobData → LayoutData → ℕ → Then → List (Op × ℕ) →
 To job y most (begins n) history =
     (1 ≤ n) × (n < 2 * y.leaves) × (later_weight job y history n doing.Begin + 2 ≤ most)
 To job y most (turns n q) history = (1 ≤ n) × (n < 2 * y.leaves) × (1 ≤ q) × (q ≤ 3 * job.steps)
-    × (later_weight job y history n (doing.Turn q) + 16 ≤ most) × IsTrue (has_phase y.form q)
-To job y most (works n q rank) history = (1 ≤ n) × (y.leaves ≤ n) × (n < 2 * y.leaves) × (1 ≤ q)
-    × (q ≤ 3 * job.steps) × (1 ≤ rank) × (rank ≤ others y)
-    × (later_weight job y history n (doing.Part q rank) + 16 ≤ most)
+    × (later_weight job y history n (doing.Turn q) + turn_ops y ≤ most)
     × IsTrue (has_phase y.form q)
+To job y most (enters n q) history = InBlock job y n q
+    × (later_weight job y history n (doing.Part q 0) + 15 ≤ most)
+To job y most (worked n q rank memo) history = InBlock job y n q × (rank < grain y)
+    × (later_weight job y history n (doing.Part q (suc rank)) + 15 ≤ most)
 To job y most (stops e) history = Unit {0}
 
 -- ---- weights of phases
 
--- the scripts of a phase
-scripts_few : (y : LayoutData) → IsLayout y →
-    (y.leaves - 1) * 3 + y.leaves * (3 + others y) + 3 ≤ 6 * leaves_of y.procs
-scripts_few y limits =
+-- the operations of a phase
+ops_few : (y : LayoutData) → IsLayout y → most_ops y + 20 ≤ 96 * leaves_of y.procs
+ops_few y limits =
     let few = tasks_fit y limits in
-    let some = grain_some y limits in
-    let one : 1 + others y ≡ min (grain y) y.procs = omega (arith, limits.procs) in
-    let spread : y.leaves * (3 + others y) ≡ y.leaves * 2 + y.leaves * min (grain y) y.procs =
-    ap (λ (k : ℕ). y.leaves * k) (omega (arith, one))
-    ∙ mul-add y.leaves 2 (min (grain y) y.procs) in
-    omega (arith, few.0, few.1, spread)
+    let some = limits.leaves.0 in
+    let spread : y.leaves * (15 * (count y + 1)) ≡ 15 * (y.leaves * count y) + 15 * y.leaves =
+    grind (arith, mul-add y.leaves (15 * count y) 15) in
+    let split : y.leaves * (12 + 15 * (count y + 1))
+    ≡ y.leaves * 12 + y.leaves * (15 * (count y + 1)) =
+    mul-add y.leaves 12 (15 * (count y + 1)) in
+    elim (cases_form y.form) [
+      | inl e ↦ rw e (omega (arith, few.0, some))
+      | inr e ↦
+          let wide : IsWide y.form = rw e.1 tt in
+          let ops : turn_ops y ≡ 4 = form_wide_of y.form 16 4 wide in
+          let each : tasks y ≡ 15 * (count y + 1) =
+          form_wide_of y.form 0 (15 * (count y + 1)) wide in
+          rw (ops, each) (omega (arith, few.0, few.1, some, spread, split))
+    ]
 
 pub phases_fewer : (y : LayoutData) (a b : ℕ) → a ≤ b → phases_weight y a ≤ phases_weight y b
 phases_fewer y a b h = mul-le-mul_right (96 * leaves_of y.procs) h
@@ -97,21 +118,22 @@ phases_fewer y a b h = mul-le-mul_right (96 * leaves_of y.procs) h
 -- A phase that begins weighs less than the phases from it on.
 pub phase_enters : (job : JobData) (y : LayoutData) (history : List (Op × ℕ)) (n q a : ℕ) →
     IsLayout y → 3 * job.steps - q + 1 ≤ a →
-    later_weight job y history n (doing.Turn q) + 17 ≤ phases_weight y a
+    later_weight job y history n (doing.Turn q) + turn_ops y + 1 ≤ phases_weight y a
 unfolding later_weight
 phase_enters job y history n q a limits h =
     let turns = turns_most y history q n limits.leaves.0 in
-    let few = scripts_few y limits in
+    let few = ops_few y limits in
+    let ops : turn_ops y ≤ 16 = form_both y.form 16 4 (λ u. u ≤ 16) (omega arith) (omega arith) in
     let more = phases_fewer y (3 * job.steps - q + 1) a h in
     omega (arith, add-mul (3 * job.steps - q) 1 (96 * leaves_of y.procs))
 
 pub part_enters : (job : JobData) (y : LayoutData) (history : List (Op × ℕ)) (n q rank a : ℕ) →
-    IsLayout y → y.leaves ≤ n → 3 * job.steps - q + 1 ≤ a →
+    IsLayout y → y.leaves ≤ n → IsWide y.form → 3 * job.steps - q + 1 ≤ a →
     later_weight job y history n (doing.Part q rank) + 17 ≤ phases_weight y a
 unfolding later_weight
-part_enters job y history n q rank a limits leaf h =
-    let turns = parts_most y history q n rank limits.leaves.0 leaf in
-    let few = scripts_few y limits in
+part_enters job y history n q rank a limits leaf wide h =
+    let turns = parts_most y history q n rank limits.leaves.0 leaf wide in
+    let few = ops_few y limits in
     let more = phases_fewer y (3 * job.steps - q + 1) a h in
     omega (arith, add-mul (3 * job.steps - q) 1 (96 * leaves_of y.procs))
 

@@ -8,7 +8,9 @@ use Rattle.walkx.specs.declared.operation.Op.{Op}
 use Rattle.walkx.specs.Doing.{Doing}
 use Rattle.walkx.specs.Doing as doing
 use Rattle.walkx.specs.Scripts.{Script, asks, ends, rest_after, rest, first_op, op_with, heard_in}
-use Rattle.walkx.specs.Walk.{Then, begins, turns, works, stops, Walking, Fits, IsPhase, IsGoing}
+use Rattle.walkx.specs.Walk.{Then, begins, turns, enters, worked, stops, Walking, Fits, IsPhase}
+use Rattle.walkx.specs.Walk.{IsGoing}
+use Rattle.walkx.specs.declared.memo.Memo.{Memo}
 use Rattle.walkx.specs.Walk.{IsBoard, IsInBlock, node_of, script_by, script_of, rest_of}
 use Rattle.walkx.specs.Walk.{phase_begun, heard_of, ask_of, goes_on, told_by, told}
 use Rattle.walkx.specs.Bound.{told_all, history_of, MayHear, IsHeard, most_steps}
@@ -17,27 +19,38 @@ use Rattle.walkx.proofs.BoundWeight.{low_of, longest, later_weight, weight}
 use Rattle.walkx.proofs.Boards.{same_procs}
 use Rattle.walkx.proofs.BoundScripts.{Leads, To, phases_fewer, phase_enters, part_enters}
 use Rattle.walkx.proofs.BoundScripts.{back_leads, begin_leads}
-use Rattle.walkx.proofs.BoundTurn.{part_leads, turn_leads}
+use Rattle.walkx.proofs.BoundTurn.{block_leads, turn_leads}
 use Rattle.walkx.proofs.Going.{asks_of}
-use Rattle.walkx.proofs.Fitting.{node_range, new_workers_fit}
+use Rattle.walkx.proofs.Fitting.{new_workers_fit}
+use Rattle.walkx.proofs.Nodes.{node_range}
 use Rattle.walkx.proofs.BoundWalk.{Sound, Less, after_weight, step}
 
 -- ---- a worker that fits is sound
 
 -- each script leads from its start to what follows it
-script_leads : (job : JobData) (y : LayoutData) (w n : ℕ) (now : Doing) (before : List (Op × ℕ)) →
-    IsLayout y → 1 ≤ n → n < 2 * y.leaves → IsPhase job y now → IsInBlock y n now → IsGoing now →
+script_leads : (job : JobData) (y : LayoutData) (w n : ℕ) (memory : List Memo) (now : Doing)
+    (before : List (Op × ℕ)) → IsLayout y → 1 ≤ n → n < 2 * y.leaves → IsPhase job y now →
+    IsInBlock y n now → IsGoing now →
     Leads job y w (To job y (later_weight job y before n now))
-    (script_by job y w n now) (longest now) before
-script_leads job y w n doing.Back before limits some inside phase block going =
+    (script_by job y w n memory now) (longest y now) before
+script_leads job y w n memory doing.Back before limits some inside phase block going =
     back_leads job y w n before
-script_leads job y w n doing.Begin before limits some inside phase block going =
+script_leads job y w n memory doing.Begin before limits some inside phase block going =
     begin_leads job y w n before limits some inside
-script_leads job y w n (doing.Turn q) before limits some inside phase block going =
+script_leads job y w n memory (doing.Turn q) before limits some inside phase block going =
     turn_leads job y w n q before some inside phase.0 phase.1 phase.2
-script_leads job y w n (doing.Part q rank) before limits some inside phase block going =
-    part_leads job y w n q rank before some block.0 inside phase.0 phase.1 phase.2
-script_leads job y w n (doing.Over e) before limits some inside phase block going = absurd going
+script_leads job y w n memory (doing.Part q rank) before limits some inside phase block going =
+    block_leads job y w n q rank memory before (record {
+      some = some;
+      leaf = block.0;
+      inside = inside;
+      first = phase.0;
+      last = phase.1;
+      wide = block.2;
+      formed = phase.2;
+    })
+script_leads job y w n memory (doing.Over e) before limits some inside phase block going =
+    absurd going
 
 -- and from where these answers bring it
 one_on : (job : JobData) (y : LayoutData) (w : ℕ) (to : Then → List (Op × ℕ) → Type 0)
@@ -96,52 +109,54 @@ fits_sound job y w limits fits may = λ going.
     record {
       leads = subst (λ (es : List (Op × ℕ)).
           Leads job y w.number (To job y (later_weight job y es (node_of y w) w.now))
-          (rest_of job y w) (longest w.now - length w.heard) (heard_of job y w)) (sym dropped)
+          (rest_of job y w) (longest y w.now - length w.heard) (heard_of job y w)) (sym dropped)
           (rest_leads job y w.number (To job y (later_weight job y before (node_of y w) w.now))
-          (script_of job y w) (longest w.now) w.heard before
-          (script_leads job y w.number (node_of y w) w.now before limits node.0 node.1 fits.phase
+          (script_of job y w) (longest y w.now) w.heard before
+          (script_leads job y w.number (node_of y w) w.memory w.now before limits node.0 node.1 fits.phase
           fits.block going) may);
       asking = asks;
     }
 
 -- ---- the walk
 
-goes_number : (w : Walking) (found : ℕ) (script : Script Then) →
-    (goes_on w found script).number ≡ w.number
-goes_number w found (asks op next) = refl
-goes_number w found (ends (begins n)) = refl
-goes_number w found (ends (turns n q)) = refl
-goes_number w found (ends (works n q rank)) = refl
-goes_number w found (ends (stops e)) = refl
+goes_number : (job : JobData) (y : LayoutData) (w : Walking) (found : ℕ) (script : Script Then) →
+    (goes_on job y w found script).number ≡ w.number
+goes_number job y w found (asks op next) = refl
+goes_number job y w found (ends (begins n)) = refl
+goes_number job y w found (ends (turns n q)) = refl
+goes_number job y w found (ends (enters n q)) = refl
+goes_number job y w found (ends (worked n q rank memo)) = refl
+goes_number job y w found (ends (stops e)) = refl
 
-told_number : (now : Doing) (w : Walking) (found : ℕ) (script : Script Then) →
-    (told_by now w found script).number ≡ w.number
-told_number (doing.Over e) w found script = refl
-told_number doing.Back w found script = goes_number w found script
-told_number doing.Begin w found script = goes_number w found script
-told_number (doing.Turn q) w found script = goes_number w found script
-told_number (doing.Part q rank) w found script = goes_number w found script
+told_number : (job : JobData) (y : LayoutData) (now : Doing) (w : Walking) (found : ℕ)
+    (script : Script Then) → (told_by job y now w found script).number ≡ w.number
+told_number job y (doing.Over e) w found script = refl
+told_number job y doing.Back w found script = goes_number job y w found script
+told_number job y doing.Begin w found script = goes_number job y w found script
+told_number job y (doing.Turn q) w found script = goes_number job y w found script
+told_number job y (doing.Part q rank) w found script = goes_number job y w found script
 
 -- A worker that is going after an answer was going before it.
-going_before : (now : Doing) (w : Walking) (found : ℕ) (script : Script Then) → w.now ≡ now →
-    IsGoing (told_by now w found script).now → IsGoing w.now
-going_before (doing.Over e) w found script is going = going
-going_before doing.Back w found script is going = subst IsGoing (sym is) tt
-going_before doing.Begin w found script is going = subst IsGoing (sym is) tt
-going_before (doing.Turn q) w found script is going = subst IsGoing (sym is) tt
-going_before (doing.Part q rank) w found script is going = subst IsGoing (sym is) tt
+going_before : (job : JobData) (y : LayoutData) (now : Doing) (w : Walking) (found : ℕ)
+    (script : Script Then) → w.now ≡ now →
+    IsGoing (told_by job y now w found script).now → IsGoing w.now
+going_before job y (doing.Over e) w found script is going = going
+going_before job y doing.Back w found script is going = subst IsGoing (sym is) tt
+going_before job y doing.Begin w found script is going = subst IsGoing (sym is) tt
+going_before job y (doing.Turn q) w found script is going = subst IsGoing (sym is) tt
+going_before job y (doing.Part q rank) w found script is going = subst IsGoing (sym is) tt
 
 pub going_earlier : (job : JobData) (y : LayoutData) (w : Walking) (found : ℕ) →
     IsGoing (told job y w found).now → IsGoing w.now
 going_earlier job y w found going =
-    going_before w.now w found (rest_after (rest_of job y w) found) refl going
+    going_before job y w.now w found (rest_after (rest_of job y w) found) refl going
 
 number_stays : (job : JobData) (y : LayoutData) (w : Walking) (answers : List ℕ) →
     (told_all job y w answers).number ≡ w.number
 number_stays job y w [] = refl
 number_stays job y w (found ∷ earlier) =
     let v = told_all job y w earlier in
-    told_number v.now v found (rest_after (rest_of job y v) found) ∙ number_stays job y w earlier
+    told_number job y v.now v found (rest_after (rest_of job y v) found) ∙ number_stays job y w earlier
 
 -- the step at the end of a walk
 walk_step : (job : JobData) (y : LayoutData) (w : Walking) (found : ℕ) (earlier : List ℕ) →
@@ -192,7 +207,7 @@ lighter job y w leaves fits (found ∷ earlier) going may =
 start_weight : (job : JobData) (y : LayoutData)
     (history : List (Op × ℕ)) (n heard : ℕ) (now : Doing) → IsLayout y → IsPhase job y now →
     IsInBlock y n now →
-    later_weight job y history n now + (longest now - heard)
+    later_weight job y history n now + (longest y now - heard)
     ≤ 288 * leaves_of y.procs * job.steps + 3
 unfolding later_weight
 start_weight job y history n heard doing.Back limits phase block = omega arith
@@ -207,7 +222,8 @@ start_weight job y history n heard (doing.Turn q) limits phase block =
 start_weight job y history n heard (doing.Part q rank) limits phase block =
     let first = phase.0 in
     let last = phase.1 in
-    let enters = part_enters job y history n q rank (3 * job.steps) limits block.0 (omega arith) in
+    let enters = part_enters job y history n q rank (3 * job.steps) limits block.0 block.2
+    (omega arith) in
     omega arith
 start_weight job y history n heard (doing.Over e) limits phase block = omega arith
 

@@ -1,4 +1,4 @@
--- A turn has at most sixteen operations and leaves less of the phase, or goes on to the next one.
+-- A turn has few operations and leaves less of the phase, or goes on to the next one.
 use Rattle.std.proofs.Common.{◌≡◌, ℕ, suc, IsTrue, ◌+◌, ◌-◌, ◌*◌, ◌/◌, ◌<◌, ◌≤◌, ◌⊎◌, true≢false}
 use Rattle.std.proofs.Common.{le_trans, true, false, ◌==◌, ◌&&◌, nat_le, if◌then◌else◌}
 use Rattle.std.proofs.Common.{List, ◌∷◌, refl, sym, ◌∙◌, inl, inr, arith}
@@ -7,21 +7,27 @@ use Rattle.std.proofs.lemmas.Bool.{eqb-true, eqb-false, leb-true, leb-false}
 use Rattle.pram_job.specs.Job.{JobData}
 use Rattle.pram_words.specs.Phases.{step_at, kind_at, has_phase}
 use Rattle.pram_words.specs.Ways.{turns_right_in}
-use Rattle.pram_words.specs.Words.{LayoutData, number_of}
+use Rattle.pram_words.specs.Words.{LayoutData, grain, number_of}
 use Rattle.pram_words.specs.declared.words.Word.TheVariants.{Node, Position}
 use Rattle.walkx.specs.declared.operation.Op.{Op}
 use Rattle.walkx.specs.declared.operation.Op.TheVariants.{Load, Store, Max}
 use Rattle.walkx.specs.Doing as doing
 use Rattle.walkx.specs.Scripts.{asks, ends}
-use Rattle.walkx.specs.Walk.{begins, turns, works, after_part, has_rank, leaf_script, marks_node}
-use Rattle.walkx.specs.Walk.{part_script, processor_at, stands_at, turn_script, way_down}
-use Rattle.walkx.proofs.BoundWeight.{low_of, others, turns_left, later_weight}
+use Rattle.walkx.specs.Walk.{begins, turns, enters, worked, after_part, block_script, has_rank}
+use Rattle.walkx.specs.Walk.{IsWide, leaf_script, marks_node, part_script, processor_at, stands_at}
+use Rattle.walkx.specs.Walk.{turn_script, way_down}
+use Rattle.walkx.specs.declared.memo.Memo.{Memo}
+use Rattle.walkx.specs.Memory.{at_start, memo_of}
+use Rattle.pram_words.specs.declared.layout.Form.TheVariants.{Compact}
+use Rattle.walkx.proofs.BoundWeight.{count, low_of, later_weight, parts_left, phases_weight}
+use Rattle.walkx.proofs.BoundWeight.{turn_ops, turns_left}
+use Rattle.walkx.proofs.Forms.{form_both, form_cases, form_compact, form_wide_of}
 use Rattle.walkx.proofs.Firsts.{rank_parts}
-use Rattle.walkx.proofs.BoundTurns.{Grown, marked_less, up_less, down_less, first_less, next_less}
+use Rattle.walkx.proofs.BoundTurns.{Grown, marked_less, up_less, down_less, enters_less, next_less}
 use Rattle.walkx.proofs.BoundTurns.{last_less}
-use Rattle.walkx.proofs.BoundPasses.{form_within}
+use Rattle.walkx.proofs.BoundPasses.{compact_within, form_within}
 use Rattle.walkx.proofs.BoundScripts.{Leads, LeadsOn, leads_more, leads_on_within, grown_more}
-use Rattle.walkx.proofs.BoundScripts.{grown_self, low_loaded, low_raised, phases_fewer, To}
+use Rattle.walkx.proofs.BoundScripts.{InBlock, grown_self, low_loaded, low_raised, phases_fewer, To}
 
 -- the phase is one of the form
 abbrev pub Formed : LayoutData → ℕ → Type 0
@@ -36,7 +42,7 @@ turn_weight job y before n q = later_weight job y before n (doing.Turn q)
 -- the next turn, at node m
 turn_to : (job : JobData) (y : LayoutData) (before history : List (Op × ℕ)) (n m q : ℕ) →
     1 ≤ m → m < 2 * y.leaves → 1 ≤ q → q ≤ 3 * job.steps → Formed y q →
-    turns_left y history q m < turns_left y before q n →
+    turns_left y history q m + turn_ops y ≤ turns_left y before q n →
     To job y (turn_weight job y before n q) (turns m q) history
 unfolding turn_weight later_weight
 turn_to job y before history n m q some inside first last formed less =
@@ -51,37 +57,6 @@ next_to job y before history n q leaves done =
     let fewer =
     phases_fewer y (3 * job.steps - low_of y history 1) (3 * job.steps - q) (omega arith) in
     (omega arith, omega arith, omega arith)
-
--- the task of the next processor of a block
-first_to : (job : JobData) (y : LayoutData) (before history : List (Op × ℕ)) (n q : ℕ) →
-    Grown before history → 1 ≤ n → y.leaves ≤ n → n < 2 * y.leaves → 1 ≤ q → q ≤ 3 * job.steps →
-    Formed y q →
-    low_of y before n < q → 1 ≤ others y →
-    To job y (turn_weight job y before n q) (works n q 1) history
-unfolding turn_weight later_weight
-first_to job y before history n q grown some leaf inside first last formed unmarked few =
-    let less = first_less y before history q n grown some leaf inside unmarked few in
-    (some, leaf, inside, first, last, omega arith, few, omega arith, formed)
-
-next_part : (job : JobData) (y : LayoutData) (before history : List (Op × ℕ)) (n q rank : ℕ) →
-    Grown before history → 1 ≤ n → y.leaves ≤ n → n < 2 * y.leaves → 1 ≤ q → q ≤ 3 * job.steps →
-    Formed y q →
-    suc rank ≤ others y →
-    To job y (later_weight job y before n (doing.Part q rank)) (works n q (suc rank)) history
-unfolding later_weight
-next_part job y before history n q rank grown some leaf inside first last formed few =
-    let less = next_less y before history q n rank grown some inside few in
-    (some, leaf, inside, first, last, omega arith, few, omega arith, formed)
-
--- the leaf is marked after the last one
-part_marked : (job : JobData) (y : LayoutData) (before history : List (Op × ℕ)) (n q rank : ℕ) →
-    Grown before history → 1 ≤ n → n < 2 * y.leaves → 1 ≤ q → q ≤ 3 * job.steps → Formed y q →
-    q ≤ low_of y history n →
-    To job y (later_weight job y before n (doing.Part q rank)) (turns n q) history
-unfolding later_weight
-part_marked job y before history n q rank grown some inside first last formed done =
-    let less = last_less y before history q n rank grown some inside done in
-    (some, inside, first, last, omega arith, formed)
 
 -- ---- a node is marked
 
@@ -100,53 +75,102 @@ marks_leads job y w before n q some inside first last formed unmarked = λ histo
 
 -- ---- a leaf
 
--- a task in a block, and what comes after it
-part_leads_to : (job : JobData) (y : LayoutData) (w : ℕ) (before : List (Op × ℕ))
-    (n q rank most : ℕ) → LeadsOn job y w (To job y most) before 1 (after_part y n q rank) →
-    LeadsOn job y w (To job y most) before 12 (part_script job y n q rank)
+-- the task at one in the compact form, and its mark
+whole_leads : (job : JobData) (y : LayoutData) (w : ℕ) (before : List (Op × ℕ))
+    (n q most : ℕ) → y.form ≡ Compact →
+    LeadsOn job y w (To job y most) before 1 (marks_node y n q) →
+    LeadsOn job y w (To job y most) before 12 (part_script job y n q 0 at_start)
 unfolding part_script
-part_leads_to job y w before n q rank most next =
+whole_leads job y w before n q most compact marked =
     let is = leads_on_within job y w (To job y most) before in
-    form_within (LeadsOn job y w (To job y most) before) is y 1 y.form job.rule (kind_at q) job
-    (step_at q) (processor_at y n rank) (after_part y n q rank) next
-
-rank_few : (y : LayoutData) (n rank : ℕ) → IsTrue (has_rank y n (suc rank)) → suc rank ≤ others y
-rank_few y n rank there = let h = rank_parts y n (suc rank) there in omega (arith, h.0, h.1)
+    compact_within (LeadsOn job y w (To job y most) before) is y 1 y.form job.rule (kind_at q) job
+    (step_at q) (processor_at y n 0) at_start (after_part y n q 0) compact
+    (rw (form_compact y.form (marks_node y n q) (ends (worked n q 0 at_start)) compact) marked)
 
 leaf_leads : (job : JobData) (y : LayoutData) (w : ℕ) (before : List (Op × ℕ)) (n q : ℕ) →
     1 ≤ n → y.leaves ≤ n → n < 2 * y.leaves → 1 ≤ q → q ≤ 3 * job.steps → Formed y q →
     low_of y before n < q →
-    LeadsOn job y w (To job y (turn_weight job y before n q)) before 12 (leaf_script job y n q)
+    LeadsOn job y w (To job y (turn_weight job y before n q)) before (turn_ops y - 1)
+    (leaf_script job y n q)
+unfolding turn_weight later_weight
 leaf_leads job y w before n q some leaf inside first last formed unmarked =
     let to = To job y (turn_weight job y before n q) in
     let is = leads_on_within job y w to before in
     let marked = marks_leads job y w before n q some inside first last formed unmarked in
-    cond_both (has_rank y n 0) _ _ (λ script. LeadsOn job y w to before 12 script)
-    (λ e. part_leads_to job y w before n q 0 (turn_weight job y before n q)
-    (cond_both (has_rank y n 1) _ _ (λ script. LeadsOn job y w to before 1 script)
-    (λ more history grown. let few = rank_few y n 0 more in
-    first_to job y before history n q grown some leaf inside first last formed unmarked few)
-    (λ none. marked)))
-    (λ e. is.more 12 1 (marks_node y n q) (omega arith) marked)
+    cond_both (has_rank y n 0) _ _ (λ script. LeadsOn job y w to before (turn_ops y - 1) script)
+    (λ e. form_cases y.form (part_script job y n q 0 at_start) (ends (enters n q))
+    (λ script. LeadsOn job y w to before (turn_ops y - 1) script)
+    (λ compact. let ops : turn_ops y ≡ 16 = form_compact y.form 16 4 compact in
+    is.more (turn_ops y - 1) 12 _ (omega arith)
+    (whole_leads job y w before n q (turn_weight job y before n q) compact marked))
+    (λ wide history grown. entered job y before history n q grown some leaf inside first last
+    formed unmarked wide))
+    (λ e. is.more (turn_ops y - 1) 1 (marks_node y n q)
+    (form_both y.form 16 4 (λ u. 1 ≤ u - 1) (omega arith) (omega arith)) marked)
+  where
+    entered : (job : JobData) (y : LayoutData) (before history : List (Op × ℕ)) (n q : ℕ) →
+        Grown before history → 1 ≤ n → y.leaves ≤ n → n < 2 * y.leaves → 1 ≤ q →
+        q ≤ 3 * job.steps → Formed y q → low_of y before n < q → IsWide y.form →
+        To job y (turn_weight job y before n q) (enters n q) history
+    entered job y before history n q grown some leaf inside first last formed unmarked wide =
+        let less = enters_less y before history q n grown some leaf inside unmarked wide in (
+          record {
+            some = some;
+            leaf = leaf;
+            inside = inside;
+            first = first;
+            last = last;
+            wide = wide;
+            formed = formed;
+          },
+          omega arith,
+        )
 
--- the task of another processor
-pub part_leads : (job : JobData) (y : LayoutData) (w n q rank : ℕ) (before : List (Op × ℕ)) →
-    1 ≤ n → y.leaves ≤ n → n < 2 * y.leaves → 1 ≤ q → q ≤ 3 * job.steps → Formed y q →
+-- ---- in a block
+
+-- the task of a processor, and the mark
+pub block_leads : (job : JobData) (y : LayoutData) (w n q rank : ℕ) (memory : List Memo)
+    (before : List (Op × ℕ)) → InBlock job y n q →
     Leads job y w (To job y (later_weight job y before n (doing.Part q rank)))
-    (part_script job y n q rank) 16 before
-part_leads job y w n q rank before some leaf inside first last formed =
+    (block_script job y n q rank memory) 15 before
+unfolding part_script later_weight
+block_leads job y w n q rank memory before at =
     let most = later_weight job y before n (doing.Part q rank) in
-    leads_more job y w (To job y most) (part_script job y n q rank) 16 12 before (omega arith)
-    (part_leads_to job y w before n q rank most
-    (cond_both (has_rank y n (suc rank)) _ _ (λ script. LeadsOn job y w (To job y most) before 1
-    script) (λ more history grown. let few = rank_few y n rank more in
-    next_part job y before history n q rank grown some leaf inside first last formed few)
-    (λ none history grown. (
+    let to = To job y most in
+    let is = leads_on_within job y w to before in
+    cond_both (has_rank y n rank) _ _ (λ script. Leads job y w to script 15 before)
+    (λ there. form_within (LeadsOn job y w to before) is y 0 y.form job.rule (kind_at q) job
+    (step_at q) (processor_at y n rank) (memo_of memory (processor_at y n rank))
+    (after_part y n q rank)
+    (λ m. rw (form_wide_of y.form (marks_node y n q) (ends (worked n q rank m)) at.wide)
+    (λ history grown. done job y before history n q rank grown at there)) before
+    (grown_self before))
+    (λ none. (
       omega arith,
-      λ found may. part_marked job y before ((Max (number_of y (Node n)) q, found) ∷ history) n q
-          rank (grown_more before history (Max (number_of y (Node n)) q) found grown) some inside
-          first last formed (low_raised history (number_of y (Node n)) q found),
-    ))) before (grown_self before))
+      λ found may. marked job y before
+          ((Max (number_of y (Node n)) q, found) ∷ before) n q rank
+          (grown_more before before (Max (number_of y (Node n)) q) found (grown_self before)) at
+          (low_raised before (number_of y (Node n)) q found),
+    ))
+  where
+    done : (job : JobData) (y : LayoutData) (before history : List (Op × ℕ)) (n q rank : ℕ) →
+        Grown before history → InBlock job y n q → IsTrue (has_rank y n rank) →
+        InBlock job y n q × (rank < grain y)
+        × (2 + phases_weight y (3 * job.steps - q) + parts_left y history q n (suc rank) + 15
+        ≤ 2 + phases_weight y (3 * job.steps - q) + parts_left y before q n rank)
+    done job y before history n q rank grown at there =
+        let h = rank_parts y n rank there in
+        let few : rank < count y = omega (arith, h.0, h.1) in
+        let less = next_less y before history q n rank grown at.some at.inside few in
+        (at, h.0, omega arith)
+
+    marked : (job : JobData) (y : LayoutData) (before history : List (Op × ℕ)) (n q rank : ℕ) →
+        Grown before history → InBlock job y n q → q ≤ low_of y history n →
+        To job y (2 + phases_weight y (3 * job.steps - q) + parts_left y before q n rank)
+        (turns n q) history
+    marked job y before history n q rank grown at done =
+        let less = last_less y before history q n rank grown at.some at.inside done in
+        (at.some, at.inside, at.first, at.last, omega arith, at.formed)
 
 -- ---- another node is stood at
 
@@ -212,6 +236,10 @@ down_leads job y w before history n q l r child k grown some inner first last fo
 
 -- ---- the turn
 
+-- a turn has four operations at least
+ops_some : (y : LayoutData) → 1 ≤ turn_ops y - 3
+ops_some y = form_both y.form 16 4 (λ u. 1 ≤ u - 3) (omega arith) (omega arith)
+
 -- what an inner node's children lead to, having been heard
 inner_leads : (job : JobData) (y : LayoutData) (w : ℕ)
     (before history : List (Op × ℕ)) (n q l r : ℕ) → Grown before history →
@@ -219,14 +247,14 @@ inner_leads : (job : JobData) (y : LayoutData) (w : ℕ)
     low_of y before (2 * n) ≤ l → low_of y before (2 * n + 1) ≤ r →
     Leads job y w (To job y (turn_weight job y before n q))
     (if nat_le q l && nat_le q r then marks_node y n q else stands_at y w (way_down y w n q l r) q)
-    13 history
+    (turn_ops y - 3) history
 inner_leads job y w before history n q l r grown some inner first last formed unmarked left right =
     let to = To job y (turn_weight job y before n q) in
-    cond_both (nat_le q l && nat_le q r) _ _ (λ script. Leads job y w to script 13 history)
-    (λ e. leads_more job y w to (marks_node y n q) 13 1 history (omega arith)
+    cond_both (nat_le q l && nat_le q r) _ _ (λ script. Leads job y w to script (turn_ops y - 3) history)
+    (λ e. leads_more job y w to (marks_node y n q) (turn_ops y - 3) 1 history (ops_some y)
     (marks_leads job y w before n q some (omega arith) first last formed unmarked history grown))
-    (λ e. down_leads job y w before history n q l r (way_down y w n q l r) 13 grown some inner first
-    last formed left right (way_down_is y w n q l r e) (omega arith))
+    (λ e. down_leads job y w before history n q l r (way_down y w n q l r) (turn_ops y - 3) grown
+    some inner first last formed left right (way_down_is y w n q l r e) (ops_some y))
 
 -- what an unfinished node leads to
 unfinished_leads : (job : JobData) (y : LayoutData)
@@ -237,28 +265,31 @@ unfinished_leads : (job : JobData) (y : LayoutData)
     else asks (Load (number_of y (Node (2 * n))))
     (λ l. asks (Load (number_of y (Node (2 * n + 1)))) (λ r.
     if nat_le q l && nat_le q r then marks_node y n q else stands_at y w (way_down y w n q l r) q)))
-    15 history
+    (turn_ops y - 1) history
 unfinished_leads job y w before history n q grown some inside first last formed unmarked =
     let to = To job y (turn_weight job y before n q) in
-    cond_both (nat_le y.leaves n) _ _ (λ script. Leads job y w to script 15 history)
-    (λ e. leads_more job y w to (leaf_script job y n q) 15 12 history
-    (omega arith) (leaf_leads job y w before n q some (leb-true y.leaves n e) inside first last
-    formed unmarked history grown))
+    let ops = ops_some y in
+    cond_both (nat_le y.leaves n) _ _ (λ script. Leads job y w to script (turn_ops y - 1) history)
+    (λ e. leaf_leads job y w before n q some (leb-true y.leaves n e) inside first last
+    formed unmarked history grown)
     (λ e. let inner = leb-false y.leaves n e in (
       omega arith,
       λ l may.
           let left = may.rises (2 * n) (omega arith) (omega arith) refl in
           let more = grown_more before history (Load (number_of y (Node (2 * n)))) l grown in (
-            omega arith,
+            omega (arith, ops),
             λ r told.
                 let right = told.rises (2 * n + 1) (omega arith) (omega arith) refl in
                 let one = grown (number_of y (Node (2 * n))) in
                 let other = more (number_of y (Node (2 * n + 1))) in
-                inner_leads job y w before ((Load (number_of y (Node (2 * n + 1))), r)
-                ∷ (Load (number_of y (Node (2 * n))), l) ∷ history) n q l r
+                let longer : List (Op × ℕ) = (Load (number_of y (Node (2 * n + 1))), r)
+                ∷ (Load (number_of y (Node (2 * n))), l) ∷ history in
+                leads_more job y w to _ (turn_ops y - 1 - 1 - 1) (turn_ops y - 3) longer
+                (omega arith)
+                (inner_leads job y w before longer n q l r
                 (grown_more before ((Load (number_of y (Node (2 * n))), l) ∷ history)
                 (Load (number_of y (Node (2 * n + 1)))) r more)
-                some inner first last formed unmarked (omega arith) (omega arith),
+                some inner first last formed unmarked (omega arith) (omega arith)),
           ),
     ))
 
@@ -267,23 +298,24 @@ finished_leads : (job : JobData) (y : LayoutData)
     (w : ℕ) (before history : List (Op × ℕ)) (n q : ℕ) → Grown before history →
     1 ≤ n → n < 2 * y.leaves → 1 ≤ q → q ≤ 3 * job.steps → Formed y q → q ≤ low_of y history n →
     Leads job y w (To job y (turn_weight job y before n q))
-    (if n == 1 then ends (begins 1) else stands_at y w (n / 2) q) 15 history
+    (if n == 1 then ends (begins 1) else stands_at y w (n / 2) q) (turn_ops y - 1) history
 finished_leads job y w before history n q grown some inside first last formed done =
     let to = To job y (turn_weight job y before n q) in
-    cond_both (n == 1) _ _ (λ script. Leads job y w to script 15 history)
+    let ops = ops_some y in
+    cond_both (n == 1) _ _ (λ script. Leads job y w to script (turn_ops y - 1) history)
     (λ e. let root : 1 ≡ n = sym (eqb-true n 1 e) in
     next_to job y before history n q (omega arith) (rw root done))
     (λ e. let other = eqb-false n 1 e in
-    up_leads job y w before history n q 15 grown (omega arith) inside first last formed done
-    (omega arith))
+    up_leads job y w before history n q (turn_ops y - 1) grown (omega arith) inside first last
+    formed done (omega arith))
 
 pub turn_leads : (job : JobData) (y : LayoutData) (w n q : ℕ) (before : List (Op × ℕ)) →
     1 ≤ n → n < 2 * y.leaves → 1 ≤ q → q ≤ 3 * job.steps → Formed y q →
     Leads job y w (To job y (later_weight job y before n (doing.Turn q)))
-    (turn_script job y w n q) 16 before
+    (turn_script job y w n q) (turn_ops y) before
 unfolding turn_script turn_weight
 turn_leads job y w n q before some inside first last formed = (
-  omega arith,
+  omega (arith, ops_some y),
   λ found may.
       let to = To job y (turn_weight job y before n q) in
       let history : List (Op × ℕ) = (Load (number_of y (Node n)), found) ∷ before in
@@ -291,7 +323,7 @@ turn_leads job y w n q before some inside first last formed = (
       grown_more before before (Load (number_of y (Node n))) found (grown_self before) in
       let rises = may.rises n some inside refl in
       let shows = low_loaded before (number_of y (Node n)) found in
-      cond_both (nat_le q found) _ _ (λ script. Leads job y w to script 15 history)
+      cond_both (nat_le q found) _ _ (λ script. Leads job y w to script (turn_ops y - 1) history)
       (λ e. let done = leb-true q found e in
       finished_leads job y w before history n q grown some inside first last formed
       (le_trans done shows))

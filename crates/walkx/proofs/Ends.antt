@@ -18,7 +18,11 @@ use Rattle.walkx.specs.declared.operation.Op.TheVariants.{Load}
 use Rattle.walkx.specs.Doing.{Doing}
 use Rattle.walkx.specs.Doing as doing
 use Rattle.walkx.specs.Scripts.{Script, asks, ends, rest_after, rest, op_with, heard_in}
-use Rattle.walkx.specs.Walk.{Then, begins, turns, works, stops, Walking, HearsAdmitted, HearsPhase}
+use Rattle.walkx.specs.declared.memo.Memo.{Memo}
+use Rattle.walkx.specs.Memory.{at_start}
+use Rattle.walkx.specs.Walk.{Then, begins, turns, enters, worked, stops, Walking}
+use Rattle.walkx.specs.Walk.{HearsAdmitted, HearsPhase, IsInBlock, IsWide, block_script, marks_node}
+use Rattle.walkx.proofs.Forms.{form_cases, not_both}
 use Rattle.walkx.specs.Walk.{AllAdmitted}
 use Rattle.walkx.specs.Walk.{script_by, script_of, rest_of, node_of, phase_begun, heard_of}
 use Rattle.walkx.specs.Walk.{turn_script, begin_script, part_script, after_part, has_rank}
@@ -77,7 +81,8 @@ pub record BeginsTurn (job : JobData) (y : LayoutData) (n m q : ℕ)
 abbrev pub BeginEnds : JobData → LayoutData → ℕ → Then → List (Op × ℕ) → Type 0
 BeginEnds job y n (begins m) history = ⊥
 BeginEnds job y n (turns m q) history = BeginsTurn job y n m q history
-BeginEnds job y n (works m q rank) history = ⊥
+BeginEnds job y n (enters m q) history = ⊥
+BeginEnds job y n (worked m q rank memo) history = ⊥
 BeginEnds job y n (stops ended.Done) history = history ≡ heard_both y (3 * job.steps) 0
 BeginEnds job y n (stops (ended.Conflict u)) history =
     (u ≢ 0) × ((root : ℕ) × (history ≡ heard_both y root u))
@@ -138,25 +143,28 @@ begin_ends job y n = λ root. cond_both (root % 3 == 0) _ _
       admitted = λ all. all.0;
     })
 
--- the task of the processor of this rank comes next in the block of node n
-pub record InBlock (y : LayoutData) (n q due m p rank : ℕ) : Type 0 where
+-- the task of the processor of this rank is done, in the block of node n, in the wide form
+pub record InBlock (y : LayoutData) (n q due m p done : ℕ) : Type 0 where
   pub node : m ≡ n
   pub phase : p ≡ q
-  pub next : rank ≡ due
-  pub there : IsTrue (has_rank y n rank)
+  pub rank : done ≡ due
+  pub there : IsTrue (has_rank y n due)
+  pub wide : IsWide y.form
 
--- a task at node n in phase q, after which that of this rank comes
+-- in the block of node n in phase q, at the processor of this rank or at its end
 abbrev pub InPart : LayoutData → ℕ → ℕ → ℕ → Then → Type 0
-InPart y n q next (begins m) = ⊥
-InPart y n q next (turns m p) = (p ≡ q) × (m ≡ n)
-InPart y n q next (works m p rank) = InBlock y n q next m p rank
-InPart y n q next (stops e) = ⊥
+InPart y n q due (begins m) = ⊥
+InPart y n q due (turns m p) = (p ≡ q) × (m ≡ n)
+InPart y n q due (enters m p) = ⊥
+InPart y n q due (worked m p rank memo) = InBlock y n q due m p rank
+InPart y n q due (stops e) = ⊥
 
 -- a turn at node n in phase q
 abbrev pub InTurn : LayoutData → ℕ → ℕ → Then → Type 0
 InTurn y n q (begins m) = m ≡ 1
 InTurn y n q (turns m p) = (p ≡ q) × (1 ≤ n → n < 2 * y.leaves → (1 ≤ m) × (m < 2 * y.leaves))
-InTurn y n q (works m p rank) = (y.leaves ≤ n) × InBlock y n q 1 m p rank
+InTurn y n q (enters m p) = (y.leaves ≤ n) × (m ≡ n) × (p ≡ q) × IsWide y.form
+InTurn y n q (worked m p rank memo) = ⊥
 InTurn y n q (stops e) = ⊥
 
 -- the lemma on tasks of the own-step bound serves for this too
@@ -177,21 +185,18 @@ way_inside y w n q l r low high =
     cond_both (turns_right_in y w n) (2 * n + 1) (2 * n) Inside (λ e. (omega arith, omega arith))
     (λ e. (omega arith, omega arith))))
 
-pub in_block : {y : LayoutData} {n q rank : ℕ} → IsTrue (has_rank y n rank) →
-    InBlock y n q rank n q rank
-in_block there = record { node = refl; phase = refl; next = refl; there = there }
-
--- what holds of both ends of a task
-pub part_ends : (Q : Then → Type 0) (job : JobData) (y : LayoutData) (n q rank : ℕ)
-    (history : List (Op × ℕ)) → (IsTrue (has_rank y n (suc rank)) → Q (works n q (suc rank))) →
-    Q (turns n q) → AllEnds (λ r h. Q r) (part_script job y n q rank) history
+-- what holds of the end of a task in the wide form
+pub part_ends : (Q : Then → Type 0) (job : JobData) (y : LayoutData) (n q rank : ℕ) (memo : Memo)
+    (history : List (Op × ℕ)) → (y.form ≡ Compact → Q (turns n q)) →
+    (IsWide y.form → (m : Memo) → Q (worked n q rank m)) →
+    AllEnds (λ r h. Q r) (part_script job y n q rank memo) history
 unfolding part_script
-part_ends Q job y n q rank history more last =
+part_ends Q job y n q rank memo history compact wide =
     form_within (λ k script. (longer : List (Op × ℕ)) → AllEnds (λ r h. Q r) script longer)
     (ends_within (λ r h. Q r)) y 0 y.form job.rule
-    (kind_at q) job (step_at q) (processor_at y n rank) (after_part y n q rank)
-    (λ longer. cond_both (has_rank y n (suc rank)) _ _ (λ s. AllEnds (λ r h. Q r) s longer)
-    (λ e. more e) (λ e. λ f. last)) history
+    (kind_at q) job (step_at q) (processor_at y n rank) memo (after_part y n q rank)
+    (λ m longer. form_cases y.form (marks_node y n q) (ends (worked n q rank m))
+    (λ s. AllEnds (λ r h. Q r) s longer) (λ is. λ found. compact is) (λ is. wide is m)) history
 
 abbrev pub TurnEnds : LayoutData → ℕ → ℕ → List (Op × ℕ) → Script Then → Type 0
 TurnEnds y n q history script = AllEnds (λ r h. InTurn y n q r) script history
@@ -209,8 +214,12 @@ turn_ends job y w n q history = λ found.
     (TurnEnds y n q ((Load (number_of y (Node n)), found) ∷ history))
     (λ e. cond_both (has_rank y n 0) _ _
     (TurnEnds y n q ((Load (number_of y (Node n)), found) ∷ history))
-    (λ there. part_ends (InTurn y n q) job y n q 0 ((Load (number_of y (Node n)), found) ∷ history)
-    (λ more. (leb-true y.leaves n e, in_block more)) (refl, λ low high. (low, high)))
+    (λ there. form_cases y.form (part_script job y n q 0 at_start) (ends (enters n q))
+    (TurnEnds y n q ((Load (number_of y (Node n)), found) ∷ history))
+    (λ is. part_ends (InTurn y n q) job y n q 0 at_start
+    ((Load (number_of y (Node n)), found) ∷ history) (λ c. (refl, λ low high. (low, high)))
+    (λ w. absurd (not_both y.form is w)))
+    (λ is. (leb-true y.leaves n e, refl, refl, is)))
     (λ none. λ f. (refl, λ low high. (low, high))))
     (λ e. λ l r. cond_both (nat_le q l && nat_le q r) _ _ (TurnEnds y n q ((
       Load (number_of y (Node (2 * n + 1))),
@@ -230,20 +239,33 @@ abbrev pub Brings : JobData → LayoutData → ℕ → ℕ → Doing → Then �
 Brings job y number n doing.Back r history = BackEnds job y number r history
 Brings job y number n doing.Begin r history = BeginEnds job y n r history
 Brings job y number n (doing.Turn q) r history = InTurn y n q r
-Brings job y number n (doing.Part q rank) r history = InPart y n q (suc rank) r
+Brings job y number n (doing.Part q rank) r history = InPart y n q rank r
 Brings job y number n (doing.Over e) r history = BeginEnds job y n r history
 
-pub script_ends : (job : JobData) (y : LayoutData) (number n : ℕ) (d : Doing) →
-    AllEnds (Brings job y number n d) (script_by job y number n d) (phase_begun y d)
-script_ends job y number n doing.Back = λ found all. all.0
-script_ends job y number n doing.Begin = begin_ends job y n
-script_ends job y number n (doing.Turn q) =
+block_ends : (job : JobData) (y : LayoutData) (n q rank : ℕ) (memory : List Memo)
+    (history : List (Op × ℕ)) → IsWide y.form →
+    AllEnds (λ r h. InPart y n q rank r) (block_script job y n q rank memory) history
+block_ends job y n q rank memory history wide =
+    cond_both (has_rank y n rank) _ _ (λ s. AllEnds (λ r h. InPart y n q rank r) s history)
+    (λ there. part_ends (InPart y n q rank) job y n q rank _ history
+    (λ compact. absurd (not_both y.form compact wide))
+    (λ w m. record { node = refl; phase = refl; rank = refl; there = there; wide = w }))
+    (λ none. λ found. (refl, refl))
+
+pub script_ends : (job : JobData) (y : LayoutData) (number n : ℕ) (memory : List Memo) (d : Doing) →
+    IsInBlock y n d →
+    AllEnds (Brings job y number n d) (script_by job y number n memory d) (phase_begun y d)
+script_ends job y number n memory doing.Back block = λ found all. all.0
+script_ends job y number n memory doing.Begin block = begin_ends job y n
+script_ends job y number n memory (doing.Turn q) block =
     turn_ends job y number n q (phase_begun y (doing.Turn q))
-script_ends job y number n (doing.Part q rank) =
-    part_ends (InPart y n q (suc rank)) job y n q rank (begun_phase y q) in_block (refl, refl)
-script_ends job y number n (doing.Over e) = begin_ends job y n
+script_ends job y number n memory (doing.Part q rank) block =
+    block_ends job y n q rank memory (begun_phase y q) block.2
+script_ends job y number n memory (doing.Over e) block = begin_ends job y n
 
 pub worker_ends : (job : JobData) (y : LayoutData) (w : Walking) →
+    IsInBlock y (node_of y w) w.now →
     AllEnds (Brings job y w.number (node_of y w) w.now) (rest_of job y w) (heard_of job y w)
-worker_ends job y w = ends_after (Brings job y w.number (node_of y w) w.now) (script_of job y w)
-    (phase_begun y w.now) w.heard (script_ends job y w.number (node_of y w) w.now)
+worker_ends job y w block =
+    ends_after (Brings job y w.number (node_of y w) w.now) (script_of job y w)
+    (phase_begun y w.now) w.heard (script_ends job y w.number (node_of y w) w.memory w.now block)

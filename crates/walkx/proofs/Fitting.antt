@@ -1,36 +1,37 @@
 -- A worker that fits still fits with each admitted answer.
-use Rattle.std.proofs.Common.{◌≡◌, ◌≢◌, ℕ, zero, suc, ◌+◌, ◌-◌, ◌*◌, ◌^◌, ◌<◌, ◌≤◌, List}
-use Rattle.std.proofs.Common.{[], ◌∷◌, ◌++◌, Option, Some, None, IfSome, unwrap_or, lit<}
+use Rattle.std.proofs.Common.{◌≡◌, ◌≢◌, ℕ, suc, ◌+◌, ◌-◌, ◌*◌, ◌<◌, ◌≤◌, List}
+use Rattle.std.proofs.Common.{[], ◌∷◌, ◌++◌, Some, None, lit<}
 use Rattle.std.proofs.Common.{refl, sym, ap, subst, ◌∙◌, inl, inr, arith, IsTrue}
-use Rattle.std.proofs.Math.Nat.{pow-le-pow_right}
-use Rattle.std.proofs.lemmas.Nat.{mod_below, pow_pos}
+use Rattle.std.specs.Prelude.{slice_set}
 use Rattle.std.proofs.lemmas.Bool.{cases_lt}
 use Rattle.pram_job.specs.Job.{JobData}
-use Rattle.pram_words.proofs.Halvings.{digits, double}
-use Rattle.pram_words.proofs.Numbering.{cases_form, form_wide}
-use Rattle.pram_words.proofs.Ways.{way_depth}
 use Rattle.pram_words.proofs.NextPhases.{has_next, next_above, next_within}
 use Rattle.pram_words.specs.Phases.{has_phase, next_phase}
-use Rattle.pram_words.specs.Tree.{digits_of, depth_of, first_leaf_of}
-use Rattle.pram_words.specs.Ways.{first_leaf_in, way_of}
-use Rattle.pram_words.specs.Words.{LayoutData}
+use Rattle.pram_words.specs.Words.{LayoutData, grain}
 use Rattle.pram_words.specs.declared.words.Word.TheVariants.{Node, Position}
+use Rattle.walkx.specs.declared.memo.Memo.{Memo}
 use Rattle.walkx.specs.declared.operation.Ended.{Ended}
 use Rattle.walkx.specs.declared.operation.Op.{Op}
 use Rattle.walkx.specs.Doing.{Doing}
 use Rattle.walkx.specs.Doing as doing
+use Rattle.walkx.specs.Memory.{FitsMemory}
 use Rattle.walkx.specs.Playing.{hearing}
 use Rattle.walkx.specs.Laws.{NewWorkersFit, AnswersKeepFit}
 use Rattle.walkx.specs.Scripts.{Script, asks, ends, rest_after, rest, heard_in}
-use Rattle.walkx.specs.Walk.{Then, begins, turns, works, stops, Walking, Fits, IsBoard, IsGoing}
-use Rattle.walkx.specs.Walk.{IsInBlock, IsPhase, begun_phase, has_rank}
+use Rattle.walkx.specs.Walk.{Then, begins, turns, enters, worked, stops, Walking, Fits, IsBoard}
+use Rattle.walkx.specs.Walk.{IsGoing, IsInBlock, IsPhase, IsWide, begun_phase, goes_in, processor_at}
 use Rattle.walkx.specs.Walk.{Matches, AllAdmitted, script_by, script_of, rest_of, node_of, ask_of}
 use Rattle.walkx.specs.Walk.{goes_on, phase_begun, heard_of, turn_script, begin_script}
+use Rattle.walkx.proofs.Asking.{FitsThen, all_left, asks_after, script_asks}
 use Rattle.walkx.proofs.Boards.{in_range}
-use Rattle.walkx.proofs.Ends.{AllEnds, Brings, InBlock, worker_ends}
-use Rattle.walkx.proofs.Firsts.{part_first}
+use Rattle.walkx.proofs.Ends.{AllEnds, Brings, worker_ends}
+use Rattle.walkx.proofs.Firsts.{rank_parts}
 use Rattle.walkx.proofs.Going.{asks_of, going_or_over, matches_of, next_of}
 use Rattle.walkx.proofs.Going.{op_with_first, told_going, told_over}
+use Rattle.walkx.proofs.Memories.{memory_set, none_fits}
+use Rattle.walkx.proofs.Nodes.{node_range}
+use Rattle.walkx.proofs.PassingOver.{goes_fit, goes_stops}
+use Rattle.walkx.proofs.TaskAsking.{AllAsk}
 
 pub heard_more : (job : JobData) (y : LayoutData) (w : Walking) (found : ℕ) →
     IsGoing w.now → Matches w.now (rest_of job y w) →
@@ -56,48 +57,6 @@ all_after : (job : JobData) (y : LayoutData) (xs ys : List (Op × ℕ)) →
     AllAdmitted job y (xs ++ ys) → AllAdmitted job y ys
 all_after job y [] ys all = all
 all_after job y (x ∷ xs) ys all = all_after job y xs ys all.1
-
--- a number has at least its depth's power
-depth_low : (n : ℕ) → 1 ≤ n → 2 ^ depth_of n ≤ n
-unfolding depth_of
-depth_low n some = elim (cases_lt n (2 ^ 32)) [
-  | inl small ↦ (let d = digits n small in by_digits (digits_of n) d.0 d.1)
-  | inr large ↦ (let most : 2 ^ (digits_of n - 1) ≤ 2 ^ 31 =
-      pow-le-pow_right {n = 2} (omega arith) {i = digits_of n - 1} {j = 31} (few n) in omega arith)
-]
-  where
-    by_digits : (d : ℕ) → n < 2 ^ d → 2 ^ d ≤ 2 * n + 1 → 2 ^ (d - 1) ≤ n
-    by_digits zero below above = omega arith
-    by_digits (suc d) below above =
-        let e = double d in
-        let f : suc d - 1 ≡ d = omega arith in rw f (omega arith)
-
-    few : (m : ℕ) → digits_of m - 1 ≤ 31
-    few m = unfold digits_of in omega arith
-
--- the first leaf is a node in each tree
-first_node : (y : LayoutData) (worker : ℕ) → 1 ≤ y.leaves →
-    (1 ≤ first_leaf_in y worker) × (first_leaf_in y worker < 2 * y.leaves)
-unfolding first_leaf_in
-first_node y worker some = elim (cases_form y.form) [
-  | inl e ↦ rw e (let below = mod_below worker y.leaves some in (omega arith, omega arith))
-  | inr e ↦
-      rw (form_wide y.form e.0 (first_leaf_of y.leaves worker)
-      (way_of y worker (depth_of y.leaves)) e.1)
-      (let way = way_depth y worker (depth_of y.leaves) in
-      let low = depth_low y.leaves some in
-      let pos = pow_pos (depth_of y.leaves) in (omega arith, omega arith))
-]
-
-pub node_range : (job : JobData) (y : LayoutData) (w : Walking) → 1 ≤ y.leaves → Fits job y w →
-    (1 ≤ node_of y w) × (node_of y w < 2 * y.leaves)
-node_range job y w some fits = by_node w.node fits.node
-  where
-    by_node : (o : Option ℕ) → IfSome o (λ n. (1 ≤ n) × (n < 2 * y.leaves)) →
-        (1 ≤ unwrap_or o (first_leaf_in y w.number))
-        × (unwrap_or o (first_leaf_in y w.number) < 2 * y.leaves)
-    by_node None h = first_node y w.number some
-    by_node (Some n) h = h
 
 begun_fits : (job : JobData) (y : LayoutData) (number n m q : ℕ) (d : Doing) (xs : List (Op × ℕ)) →
     IsBoard job y → IsGoing d → IsPhase job y d →
@@ -142,40 +101,60 @@ begun_fits job y number n m q (doing.Part p rank) xs board going phase low high 
 )
 begun_fits job y number n m q (doing.Over e) xs board going phase low high b all = absurd going
 
--- the next task in a block
-record Within (job : JobData) (y : LayoutData) (n m q rank : ℕ) : Type 0 where
-  node : (1 ≤ m) × (m < 2 * y.leaves)
-  phase : IsPhase job y (doing.Turn q)
-  block : (y.leaves ≤ m) × (1 ≤ rank) × IsTrue (has_rank y m rank)
-  admitted : AllAdmitted job y (begun_phase y q)
+-- in a block
+pub record Within (job : JobData) (y : LayoutData) (n m q : ℕ) : Type 0 where
+  pub node : (1 ≤ m) × (m < 2 * y.leaves)
+  pub phase : IsPhase job y (doing.Turn q)
+  pub leaf : y.leaves ≤ m
+  pub wide : IsWide y.form
+  pub admitted : AllAdmitted job y (begun_phase y q)
 
-within_by : (job : JobData) (y : LayoutData) (n m q p next rank : ℕ) (xs : List (Op × ℕ)) →
-    1 ≤ next → y.leaves ≤ n → IsPhase job y (doing.Turn p) → 1 ≤ n → n < 2 * y.leaves →
-    InBlock y n p next m q rank → AllAdmitted job y (xs ++ begun_phase y p) →
-    Within job y n m q rank
-within_by job y n m q p next rank xs some leaf phase low high b all = record {
-  node = rw b.node (low, high);
-  phase = subst (λ (v : ℕ). IsPhase job y (doing.Turn v)) (sym b.phase) phase;
-  block = (
-    rw b.node leaf,
-    rw b.next some,
-    subst (λ (k : ℕ). IsTrue (has_rank y k rank))
-        (sym b.node) b.there,
-  );
-  admitted = rw b.phase (all_after job y xs (begun_phase y p) all);
+within_by : (job : JobData) (y : LayoutData) (n m q p : ℕ) (xs : List (Op × ℕ)) →
+    y.leaves ≤ n → IsWide y.form → IsPhase job y (doing.Turn p) → 1 ≤ n → n < 2 * y.leaves →
+    m ≡ n → q ≡ p → AllAdmitted job y (xs ++ begun_phase y p) → Within job y n m q
+within_by job y n m q p xs leaf wide phase low high node same all = record {
+  node = rw node (low, high);
+  phase = subst (λ (v : ℕ). IsPhase job y (doing.Turn v)) (sym same) phase;
+  leaf = rw node leaf;
+  wide = wide;
+  admitted = rw same (all_after job y xs (begun_phase y p) all);
 }
 
-works_fits : (job : JobData) (y : LayoutData) (number n m q rank : ℕ) (d : Doing)
+pub enters_fits : (job : JobData) (y : LayoutData) (number n m q : ℕ) (d : Doing)
+    (xs : List (Op × ℕ)) → IsGoing d → IsPhase job y d →
+    1 ≤ n → n < 2 * y.leaves → Brings job y number n d (enters m q) (xs ++ phase_begun y d) →
+    AllAdmitted job y (xs ++ phase_begun y d) → Within job y n m q
+enters_fits job y number n m q doing.Back xs going phase low high b all = absurd b
+enters_fits job y number n m q doing.Begin xs going phase low high b all = absurd b
+enters_fits job y number n m q (doing.Turn p) xs going phase low high b all =
+    within_by job y n m q p xs b.0 b.3 phase low high b.1 b.2 all
+enters_fits job y number n m q (doing.Part p rank) xs going phase low high b all = absurd b
+enters_fits job y number n m q (doing.Over e) xs going phase low high b all = absurd going
+
+-- and how far the task that was done
+pub record Worked (job : JobData) (y : LayoutData) (n m q done : ℕ) : Type 0 where
+  pub within : Within job y n m q
+  pub rank : done < grain y
+  pub last : processor_at y m done < y.procs
+
+pub worked_fits : (job : JobData) (y : LayoutData) (number n m q rank : ℕ) (memo : Memo) (d : Doing)
     (xs : List (Op × ℕ)) → IsGoing d → IsPhase job y d → IsInBlock y n d →
-    1 ≤ n → n < 2 * y.leaves → Brings job y number n d (works m q rank) (xs ++ phase_begun y d) →
-    AllAdmitted job y (xs ++ phase_begun y d) → Within job y n m q rank
-works_fits job y number n m q rank doing.Back xs going phase block low high b all = absurd b
-works_fits job y number n m q rank doing.Begin xs going phase block low high b all = absurd b
-works_fits job y number n m q rank (doing.Turn p) xs going phase block low high b all =
-    within_by job y n m q p 1 rank xs (omega arith) b.0 phase low high b.1 all
-works_fits job y number n m q rank (doing.Part p before) xs going phase block low high b all =
-    within_by job y n m q p (suc before) rank xs (omega arith) block.0 phase low high b all
-works_fits job y number n m q rank (doing.Over e) xs going phase block low high b all = absurd going
+    1 ≤ n → n < 2 * y.leaves →
+    Brings job y number n d (worked m q rank memo) (xs ++ phase_begun y d) →
+    AllAdmitted job y (xs ++ phase_begun y d) → Worked job y n m q rank
+worked_fits job y number n m q rank memo doing.Back xs going phase block low high b all = absurd b
+worked_fits job y number n m q rank memo doing.Begin xs going phase block low high b all = absurd b
+worked_fits job y number n m q rank memo (doing.Turn p) xs going phase block low high b all =
+    absurd b
+worked_fits job y number n m q rank memo (doing.Part p at) xs going phase block low high b all =
+    let there = rank_parts y n at b.there in
+    record {
+      within = within_by job y n m q p xs block.0 b.wide phase low high b.node b.phase all;
+      rank = omega (arith, there.0, b.rank);
+      last = rw (b.node, b.rank) there.1;
+    }
+worked_fits job y number n m q rank memo (doing.Over e) xs going phase block low high b all =
+    absurd going
 
 begins_fits : (job : JobData) (y : LayoutData)
     (number n m : ℕ) (d : Doing) (history : List (Op × ℕ)) →
@@ -189,31 +168,51 @@ begins_fits job y number n m (doing.Turn p) history board worker going b all =
 begins_fits job y number n m (doing.Part p rank) history board worker going b all = absurd b
 begins_fits job y number n m (doing.Over e) history board worker going b all = absurd going
 
+-- in a block, from a rank on
+in_fits : (job : JobData) (y : LayoutData) (number n m q rank : ℕ) (memory : List Memo) →
+    IsBoard job y → number < y.workers → Within job y n m q → rank ≤ grain y →
+    FitsMemory job memory → Fits job y (goes_in job y number m q rank memory)
+in_fits job y number n m q rank memory board worker b most fits =
+    let last = b.phase.1 in
+    let stop = goes_stops job y m q b.wide rank memory most in
+    record {
+      number = worker;
+      node = b.node;
+      phase = b.phase;
+      block = (b.leaf, stop.within, b.wide);
+      memory = goes_fit job y m q board b.wide last rank memory fits;
+      admitted = b.admitted;
+      matches = stop.first;
+    }
+
 fits_on : (job : JobData) (y : LayoutData) (w : Walking) (found : ℕ) (t : Script Then) →
     IsBoard job y → IsGoing w.now → Fits job y w → rest_after (rest_of job y w) found ≡ t →
     AllEnds (Brings job y w.number (node_of y w) w.now) t (heard_of job y (hearing w found)) →
-    AllAdmitted job y (heard_of job y (hearing w found)) → Fits job y (goes_on w found t)
-unfolding begin_script turn_script
-fits_on job y w found (asks op next) board going fits is each all = record {
+    AllAsk job y (FitsThen job) t →
+    AllAdmitted job y (heard_of job y (hearing w found)) → Fits job y (goes_on job y w found t)
+unfolding begin_script turn_script AllAsk
+fits_on job y w found (asks op next) board going fits is each learned all = record {
   number = fits.number;
   node = fits.node;
   phase = fits.phase;
   block = fits.block;
+  memory = fits.memory;
   admitted = all;
   matches = subst (Matches w.now)
       (sym is) (matches_of w.now (asks op next) going (record { op = op; first = refl }));
 }
-fits_on job y w found (ends (begins m)) board going fits is each all =
+fits_on job y w found (ends (begins m)) board going fits is each learned all =
     record {
       number = fits.number;
       node = begins_fits job y w.number
           (node_of y w) m w.now (heard_of job y (hearing w found)) board fits.number going each all;
       phase = tt;
       block = tt;
+      memory = fits.memory;
       admitted = tt;
       matches = (_, refl);
     }
-fits_on job y w found (ends (turns m q)) board going fits is each all =
+fits_on job y w found (ends (turns m q)) board going fits is each learned all =
     let leaves = board.layout.leaves in
     let at = node_range job y w leaves.0 fits in
     let b = begun_fits job y w.number (node_of y w) m q w.now
@@ -223,24 +222,27 @@ fits_on job y w found (ends (turns m q)) board going fits is each all =
       node = b.0;
       phase = b.1;
       block = tt;
+      memory = fits.memory;
       admitted = b.2;
       matches = (_, refl);
     }
-fits_on job y w found (ends (works m q rank)) board going fits is each all =
+fits_on job y w found (ends (enters m q)) board going fits is each learned all =
     let leaves = board.layout.leaves in
     let at = node_range job y w leaves.0 fits in
-    let b = works_fits job y w.number (node_of y w) m q rank w.now
+    let b = enters_fits job y w.number (node_of y w) m q w.now
+    (heard_in (script_of job y w) (found ∷ w.heard)) going fits.phase at.0 at.1 each all in
+    in_fits job y w.number (node_of y w) m q 0 w.memory board fits.number b (omega arith)
+    fits.memory
+fits_on job y w found (ends (worked m q rank memo)) board going fits is each learned all =
+    let leaves = board.layout.leaves in
+    let at = node_range job y w leaves.0 fits in
+    let b = worked_fits job y w.number (node_of y w) m q rank memo w.now
     (heard_in (script_of job y w) (found ∷ w.heard)) going fits.phase
     fits.block at.0 at.1 each all in
-    record {
-      number = fits.number;
-      node = b.node;
-      phase = b.phase;
-      block = b.block;
-      admitted = b.admitted;
-      matches = part_first job y m q rank b.phase.2;
-    }
-fits_on job y w found (ends (stops e)) board going fits is each all =
+    in_fits job y w.number (node_of y w) m q (suc rank) _ board fits.number b.within
+    (let r = b.rank in omega arith)
+    (memory_set job w.memory (processor_at y m rank) memo fits.memory learned)
+fits_on job y w found (ends (stops e)) board going fits is each learned all =
     let from = stops_begin job y w.number (node_of y w) w.now e
     (heard_of job y (hearing w found)) going each in
     record {
@@ -248,10 +250,11 @@ fits_on job y w found (ends (stops e)) board going fits is each all =
       node = fits.node;
       phase = tt;
       block = tt;
+      memory = fits.memory;
       admitted = subst (λ (d : Doing). AllAdmitted job y (heard_in (script_by job y w.number
-          (node_of y w) d) (found ∷ w.heard) ++ phase_begun y d)) from all;
+          (node_of y w) w.memory d) (found ∷ w.heard) ++ phase_begun y d)) from all;
       matches = subst (λ (d : Doing).
-          rest_after (rest (script_by job y w.number (node_of y w) d) w.heard) found
+          rest_after (rest (script_by job y w.number (node_of y w) w.memory d) w.heard) found
           ≡ ends (stops e)) from is;
     }
 
@@ -260,11 +263,15 @@ fits_told job y w found board fits admitted = elim (going_or_over w.now) [
   | inl going ↦ (
       let all : AllAdmitted job y (heard_of job y (hearing w found)) = subst (AllAdmitted job y)
       (sym (heard_more job y w found going fits.matches)) (admitted, fits.admitted) in
-      subst (Fits job y) (sym (told_going w.now w found (rest_after (rest_of job y w) found) going))
+      subst (Fits job y)
+      (sym (told_going job y w.now w found (rest_after (rest_of job y w) found) going))
       (fits_on job y w found (rest_after (rest_of job y w) found) board going fits refl
-      (worker_ends job y (hearing w found)) all))
+      (worker_ends job y (hearing w found) fits.block)
+      (asks_after (FitsThen job) job y (script_of job y w) (found ∷ w.heard)
+      (all_left job y (heard_in (script_of job y w) (found ∷ w.heard)) (phase_begun y w.now) all)
+      (script_asks job y w board fits)) all))
   | inr over ↦ subst (Fits job y)
-      (sym (told_over w found (rest_after (rest_of job y w) found) w.now over.0 over.1)) fits
+      (sym (told_over job y w found (rest_after (rest_of job y w) found) w.now over.0 over.1)) fits
 ]
 
 -- ---- a worker newly started, and one that comes back
@@ -272,6 +279,22 @@ fits_told job y w found board fits admitted = elim (going_or_over w.now) [
 pub new_workers_fit : NewWorkersFit
 unfolding begin_script
 new_workers_fit job y number worker = (
-  record { number = worker; node = tt; phase = tt; block = tt; admitted = tt; matches = (_, refl) },
-  record { number = worker; node = tt; phase = tt; block = tt; admitted = tt; matches = (_, refl) },
+  record {
+    number = worker;
+    node = tt;
+    phase = tt;
+    block = tt;
+    memory = none_fits job;
+    admitted = tt;
+    matches = (_, refl);
+  },
+  record {
+    number = worker;
+    node = tt;
+    phase = tt;
+    block = tt;
+    memory = none_fits job;
+    admitted = tt;
+    matches = (_, refl);
+  },
 )

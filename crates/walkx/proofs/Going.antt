@@ -1,6 +1,8 @@
 -- A worker that is going, and one that is over: its next operation, and what it becomes with an
 -- answer.
 use Rattle.std.proofs.Common.{◌≡◌, ◌⊎◌, ℕ, [], ◌∷◌, Some, refl, sym, ap, subst, inl, inr}
+use Rattle.pram_job.specs.Job.{JobData}
+use Rattle.pram_words.specs.Words.{LayoutData}
 use Rattle.walkx.specs.declared.operation.Ended.{Ended}
 use Rattle.walkx.specs.declared.operation.Op.{Op}
 use Rattle.walkx.specs.Doing.{Doing}
@@ -42,17 +44,18 @@ next_of (doing.Turn q) s op going e = rw e
 next_of (doing.Part q rank) s op going e = rw e
 next_of (doing.Over e') s op going e = absurd going
 
-pub told_going : (d : Doing) (w : Walking) (found : ℕ) (s : Script Then) → IsGoing d →
-    told_by d w found s ≡ goes_on w found s
-told_going doing.Back w found s going = refl
-told_going doing.Begin w found s going = refl
-told_going (doing.Turn q) w found s going = refl
-told_going (doing.Part q rank) w found s going = refl
-told_going (doing.Over e) w found s going = absurd going
+pub told_going : (job : JobData) (y : LayoutData) (d : Doing) (w : Walking) (found : ℕ)
+    (s : Script Then) → IsGoing d → told_by job y d w found s ≡ goes_on job y w found s
+told_going job y doing.Back w found s going = refl
+told_going job y doing.Begin w found s going = refl
+told_going job y (doing.Turn q) w found s going = refl
+told_going job y (doing.Part q rank) w found s going = refl
+told_going job y (doing.Over e) w found s going = absurd going
 
-pub told_over : (w : Walking) (found : ℕ) (s : Script Then) (d : Doing) (e : Ended) →
-    d ≡ doing.Over e → told_by d w found s ≡ w
-told_over w found s d e is = subst (λ (x : Doing). told_by x w found s ≡ w) (sym is) refl
+pub told_over : (job : JobData) (y : LayoutData) (w : Walking) (found : ℕ) (s : Script Then)
+    (d : Doing) (e : Ended) → d ≡ doing.Over e → told_by job y d w found s ≡ w
+told_over job y w found s d e is =
+    subst (λ (x : Doing). told_by job y x w found s ≡ w) (sym is) refl
 
 pub op_with_first : (s : Script Then) (op : Op) (found : ℕ) → first_op s ≡ Some op →
     op_with s found ≡ (op, found) ∷ []

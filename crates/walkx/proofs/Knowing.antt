@@ -1,25 +1,31 @@
 -- Records, and a worker that a record knows.
 use Rattle.std.proofs.Common.{◌≡◌, ℕ, zero, suc, ◌<◌, ◌≤◌, List, [], ◌∷◌, ◌++◌, refl, sym, ◌∙◌}
-use Rattle.std.proofs.Common.{subst, inl, inr, arith}
-use Rattle.std.proofs.lemmas.Bool.{cases_lt}
+use Rattle.std.proofs.Common.{ap, subst, inl, inr, arith, IsTrue, true}
+use Rattle.std.specs.Prelude.{slice_set}
+use Rattle.std.proofs.lemmas.Bool.{cases_Bool, cases_lt}
 use Rattle.pram_job.specs.Job.{JobData}
-use Rattle.pram_words.specs.Words.{LayoutData}
+use Rattle.pram_words.specs.Words.{LayoutData, grain}
+use Rattle.walkx.specs.declared.memo.Memo.{Memo}
 use Rattle.walkx.specs.declared.operation.Op.{Op}
 use Rattle.walkx.specs.Doing.{Doing}
 use Rattle.walkx.specs.Doing as doing
 use Rattle.walkx.specs.Laws.{KnownStayKnown}
+use Rattle.walkx.specs.Memory.{IsTrueMemo, IsTrueMemory, memo_of}
 use Rattle.walkx.specs.Records.{Record, empty, after, both, Has, HasPart, HasBlock, Knows}
-use Rattle.walkx.specs.Records.{script_at_rank}
 use Rattle.walkx.specs.Scripts.{Script, asks, ends, rest_after, rest, heard_in}
-use Rattle.walkx.specs.Walk.{Then, begins, turns, works, stops, Walking, IsGoing, IsInBlock}
-use Rattle.walkx.specs.Walk.{Fits, HearsAdmitted, IsBoard, begun_phase, part_script, script_by}
-use Rattle.walkx.specs.Walk.{script_of, told}
-use Rattle.walkx.specs.Walk.{rest_of, node_of, ask_of, goes_on, phase_begun, heard_of}
-use Rattle.walkx.proofs.Boards.{root_formed}
-use Rattle.walkx.proofs.Ends.{AllEnds, Brings, NewestPhase, worker_ends}
+use Rattle.walkx.specs.Walk.{Then, begins, turns, enters, worked, stops, Walking, IsGoing, IsInBlock}
+use Rattle.walkx.specs.Walk.{Fits, HearsAdmitted, IsBoard, IsWide, begun_phase, block_script}
+use Rattle.walkx.specs.Walk.{has_rank, if_ended, part_script, passes_over, processor_at, script_by}
+use Rattle.walkx.specs.Walk.{script_of, told, rest_of, node_of, ask_of, goes_on, phase_begun, heard_of}
 use Rattle.walkx.specs.Playing.{hearing}
+use Rattle.walkx.proofs.Boards.{root_formed, same_procs}
+use Rattle.walkx.proofs.Ends.{AllEnds, Brings, NewestPhase, worker_ends}
+use Rattle.walkx.proofs.Firsts.{rank_parts}
 use Rattle.walkx.proofs.Fitting.{heard_more, stops_begin}
 use Rattle.walkx.proofs.Going.{going_or_over, told_going, told_over}
+use Rattle.walkx.proofs.Idling.{Alike, asks_first, comes_at_once}
+use Rattle.walkx.proofs.Memories.{memo_other}
+use Rattle.walkx.proofs.PassingOver.{alone, going_first, part_alike}
 
 -- ---- what a record has
 
@@ -75,137 +81,256 @@ has_begun job y number n m q (doing.Part p rank) r xs going b newest has =
     rw b.0 (has_after r xs (begun_phase y p) has)
 has_begun job y number n m q (doing.Over e) r xs going b newest has = absurd going
 
-same_works : {m n q p rank next : ℕ} → m ≡ n → q ≡ p → rank ≡ next →
-    ends (works m q rank) ≡ ends (works n p next)
-same_works a b c = rw (a, b, c) refl
-
 -- ---- the processors of a block that were done
 
-part_more : (job : JobData) (y : LayoutData) (r : Record) (w n q rank : ℕ) (op : Op) (found : ℕ) →
-    HasPart job y r w n q rank → HasPart job y (after r op found) w n q rank
-part_more job y r w n q rank op found h = (h.0, h.1, has_more r op found _ h.2)
+part_more : (job : JobData) (y : LayoutData) (r : Record) (n q rank : ℕ) (op : Op) (found : ℕ) →
+    HasPart job y r n q rank → HasPart job y (after r op found) n q rank
+part_more job y r n q rank op found h = record {
+  memo = h.memo;
+  is_true = h.is_true;
+  answers = h.answers;
+  learned = h.learned;
+  whole = h.whole;
+  has = has_more r op found _ h.has;
+}
 
-pub block_more : (job : JobData) (y : LayoutData) (r : Record) (w n : ℕ) (d : Doing) (op : Op)
-    (found : ℕ) → HasBlock job y r w n d → HasBlock job y (after r op found) w n d
-block_more job y r w n doing.Back op found h = tt
-block_more job y r w n doing.Begin op found h = tt
-block_more job y r w n (doing.Turn q) op found h = tt
-block_more job y r w n (doing.Part q rank) op found h =
-    λ earlier less. part_more job y r w n q earlier op found (h earlier less)
-block_more job y r w n (doing.Over e) op found h = tt
+pub block_more : (job : JobData) (y : LayoutData) (r : Record) (n : ℕ) (d : Doing) (op : Op)
+    (found : ℕ) → HasBlock job y r n d → HasBlock job y (after r op found) n d
+block_more job y r n doing.Back op found h = tt
+block_more job y r n doing.Begin op found h = tt
+block_more job y r n (doing.Turn q) op found h = tt
+block_more job y r n (doing.Part q rank) op found h =
+    λ earlier less. part_more job y r n q earlier op found (h earlier less)
+block_more job y r n (doing.Over e) op found h = tt
 
 -- a longer record still knows a worker
 pub knows_more : (job : JobData) (y : LayoutData) (r : Record) (w : Walking) (op : Op) (found : ℕ) →
     Knows job y r w → Knows job y (after r op found) w
 knows_more job y r w op found knows = record {
   script = has_more r op found (heard_of job y w) knows.script;
-  block = block_more job y r w.number (node_of y w) w.now op found knows.block;
+  block = block_more job y r (node_of y w) w.now op found knows.block;
+  memory = knows.memory;
 }
 
--- the script of a later processor of a block is its task
-later_script : (job : JobData) (y : LayoutData) (w n q rank : ℕ) → 1 ≤ rank →
-    script_at_rank job y w n q rank ≡ part_script job y n q rank
-later_script job y w n q zero some = absurd (omega arith)
-later_script job y w n q (suc rank) some = refl
+-- ---- those that are passed over
 
--- one processor more
-one_more : (job : JobData) (y : LayoutData) (r : Record) (w n q rank : ℕ) →
-    ((earlier : ℕ) → earlier < rank → HasPart job y r w n q earlier) → HasPart job y r w n q rank →
-    (earlier : ℕ) → earlier < suc rank → HasPart job y r w n q earlier
-one_more job y r w n q rank before last earlier less = elim (cases_lt earlier rank) [
+one_more : (job : JobData) (y : LayoutData) (r : Record) (n q rank : ℕ) →
+    ((earlier : ℕ) → earlier < rank → HasPart job y r n q earlier) → HasPart job y r n q rank →
+    (earlier : ℕ) → earlier < suc rank → HasPart job y r n q earlier
+one_more job y r n q rank before last earlier less = elim (cases_lt earlier rank) [
   | inl c ↦ before earlier c
   | inr c ↦ (let e : rank ≡ earlier = omega arith in
-      subst (λ (k : ℕ). HasPart job y r w n q k) e last)
+      subst (λ (k : ℕ). HasPart job y r n q k) e last)
 ]
 
-works_block : (job : JobData) (y : LayoutData) (number n m q rank : ℕ) (d : Doing) (r : Record)
-    (answers : List ℕ) → IsGoing d → IsInBlock y n d →
-    Brings job y number n d (works m q rank) (heard_in (script_by job y number n d) answers
-    ++ phase_begun y d) →
-    rest (script_by job y number n d) answers ≡ ends (works m q rank) →
-    Has r (heard_in (script_by job y number n d) answers ++ phase_begun y d) →
-    HasBlock job y r number n d → HasBlock job y r number m (doing.Part q rank)
-works_block job y number n m q rank doing.Back r answers going block b is has before = absurd b
-works_block job y number n m q rank doing.Begin r answers going block b is has before = absurd b
-works_block job y number n m q rank (doing.Turn p) r answers going block b is has before =
-    let at = b.1 in
-    let ended : ends (works m q rank) ≡ ends (works n p 1) = same_works at.node at.phase at.next in
-    rw (at.node, at.phase, at.next) (one_more job y r number n p 0
-    (λ earlier less. absurd (omega arith)) (answers, is ∙ ended, has))
-works_block job y number n m q rank (doing.Part p at) r answers going block b is has before =
-    let ended : ends (works m q rank) ≡ ends (works n p (suc at)) =
-    same_works b.node b.phase b.next in
-    let script = later_script job y number n p at block.1 in
-    rw (b.node, b.phase, b.next) (one_more job y r number n p at before
-    (subst (λ (s : Script Then). (xs : List ℕ) × (rest s xs ≡ ends (works n p (suc at)))
-    × Has r (heard_in s xs ++ begun_phase y p)) (sym script) (answers, is ∙ ended, has)))
-works_block job y number n m q rank (doing.Over e) r answers going block b is has before =
-    absurd going
+-- one that is passed over has asked nothing
+passed_part : (job : JobData) (y : LayoutData) (r : Record) (n q rank : ℕ) (memo learned : Memo) →
+    IsTrueMemo job (processor_at y n rank) memo →
+    part_script job y n q rank memo ≡ ends (worked n q rank learned) → Has r (begun_phase y q) →
+    HasPart job y r n q rank
+passed_part job y r n q rank memo learned is_true is has = record {
+  memo = memo;
+  is_true = is_true;
+  answers = [];
+  learned = learned;
+  whole = is;
+  has = has;
+}
 
-has_begun_too : (job : JobData) (y : LayoutData) (number n m q rank : ℕ) (d : Doing) (r : Record)
-    (xs : List (Op × ℕ)) → IsGoing d →
-    Brings job y number n d (works m q rank) (xs ++ phase_begun y d) →
-    Has r (xs ++ phase_begun y d) → Has r (begun_phase y q)
-has_begun_too job y number n m q rank doing.Back r xs going b has = absurd b
-has_begun_too job y number n m q rank doing.Begin r xs going b has = absurd b
-has_begun_too job y number n m q rank (doing.Turn p) r xs going b has =
-    rw b.1.phase (has_after r xs (begun_phase y p) has)
-has_begun_too job y number n m q rank (doing.Part p at) r xs going b has =
-    rw b.phase (has_after r xs (begun_phase y p) has)
-has_begun_too job y number n m q rank (doing.Over e) r xs going b has = absurd going
+-- what is remembered of the processors of a block from this rank on is is_true
+abbrev pub TrueFrom : JobData → LayoutData → ℕ → ℕ → List Memo → Type 0
+TrueFrom job y n rank memory = (k : ℕ) → processor_at y n rank ≤ k → k < job.procs →
+    IsTrueMemo job k (memo_of memory k)
+
+true_next : (job : JobData) (y : LayoutData) (n rank : ℕ) (memory : List Memo) (memo : Memo) →
+    TrueFrom job y n rank memory →
+    TrueFrom job y n (suc rank) (slice_set memory (processor_at y n rank) memo)
+true_next job y n rank memory memo is_true k from below =
+    let other : (processor_at y n rank ≡ k) → ⊥ = λ e. absurd (omega arith) in
+    rw (memo_other memory (processor_at y n rank) k memo other) (is_true k (omega arith) below)
+
+module _ (job : JobData) (y : LayoutData) (r : Record) (n q : ℕ) (board : IsBoard job y)
+    (wide : IsWide y.form) (has : Has r (begun_phase y q)) where
+  pub passed_parts : (more rank : ℕ) (memory : List Memo) → TrueFrom job y n rank memory →
+      ((earlier : ℕ) → earlier < rank → HasPart job y r n q earlier) →
+      (earlier : ℕ) → earlier < (passes_over more job y n q rank memory).0 →
+      HasPart job y r n q earlier
+  passed_parts zero rank memory is_true before = before
+  passed_parts (suc more) rank memory is_true before = elim (cases_Bool (has_rank y n rank)) [
+    | inr none ↦ rw none before
+    | inl there ↦ rw there (by there (part_alike job y n q rank memo wide) (λ learned one.
+        passed_parts more (suc rank) (slice_set memory i learned)
+        (true_next job y n rank memory learned is_true) (one_more job y r n q rank before one)))
+  ]
+    where
+      i : ℕ
+      i = processor_at y n rank
+
+      memo : Memo
+      memo = memo_of memory i
+
+      goes : Memo → ℕ × List Memo
+      goes m = passes_over more job y n q (suc rank) (slice_set memory i m)
+
+      by : has_rank y n rank ≡ true →
+          Alike (λ m. ends (worked n q rank m)) (alone job y n q rank memo)
+          (part_script job y n q rank memo) →
+          ((learned : Memo) → HasPart job y r n q rank → (earlier : ℕ) →
+          earlier < (goes learned).0 → HasPart job y r n q earlier) →
+          (earlier : ℕ) →
+          earlier < (if_ended (alone job y n q rank memo) (rank, memory) goes).0 →
+          HasPart job y r n q earlier
+      by there (asks_first op e f) next =
+          rw (going_first (alone job y n q rank memo) op (rank, memory) goes e) before
+      by there (comes_at_once learned e f) next =
+          let proc = (rank_parts y n rank there).1 in
+          let same = same_procs job y board in
+          rw e (next learned (passed_part job y r n q rank memo learned
+          (is_true i (omega arith) (omega (arith, proc, same))) f has))
+
+  -- in a block, from this rank on
+  pub goes_parts : (rank : ℕ) (memory : List Memo) → TrueFrom job y n rank memory →
+      ((earlier : ℕ) → earlier < rank → HasPart job y r n q earlier) →
+      (earlier : ℕ) → earlier < (passes_over (grain y) job y n q rank memory).0 →
+      HasPart job y r n q earlier
+  goes_parts rank memory is_true before = passed_parts (grain y) rank memory is_true before
+
+-- ---- what comes of an answer
+
+-- the task that is done
+done_part : (job : JobData) (y : LayoutData) (r : Record) (n q rank : ℕ) (memory : List Memo)
+    (answers : List ℕ) (learned : Memo) → IsTrue (has_rank y n rank) → IsBoard job y →
+    IsTrueMemory job memory →
+    rest (block_script job y n q rank memory) answers ≡ ends (worked n q rank learned) →
+    Has r (heard_in (block_script job y n q rank memory) answers ++ begun_phase y q) →
+    HasPart job y r n q rank
+done_part job y r n q rank memory answers learned there board is_true whole has =
+    let i = processor_at y n rank in
+    let proc = (rank_parts y n rank there).1 in
+    let same = same_procs job y board in
+    let is : block_script job y n q rank memory ≡ part_script job y n q rank (memo_of memory i) =
+    rw there refl in
+    record {
+      memo = memo_of memory i;
+      is_true = is_true board.limits i (omega (arith, proc, same));
+      answers = answers;
+      learned = learned;
+      whole = subst (λ (s : Script Then). rest s answers ≡ ends (worked n q rank learned)) is whole;
+      has = subst (λ (s : Script Then). Has r (heard_in s answers ++ begun_phase y q)) is has;
+    }
+
+pub same_worked : {m n q p rank next : ℕ} (memo : Memo) → m ≡ n → q ≡ p → rank ≡ next →
+    ends (worked m q rank memo) ≡ ends (worked n p next memo)
+same_worked memo a b c = rw (a, b, c) refl
 
 known_on : (job : JobData) (y : LayoutData) (r : Record) (w : Walking)
-    (found : ℕ) (t : Script Then) → IsGoing w.now → IsInBlock y (node_of y w) w.now →
-    rest_after (rest_of job y w) found ≡ t →
+    (found : ℕ) (t : Script Then) → IsBoard job y → IsGoing w.now →
+    IsInBlock y (node_of y w) w.now → rest_after (rest_of job y w) found ≡ t →
     AllEnds (Brings job y w.number (node_of y w) w.now) t (heard_of job y (hearing w found)) →
     NewestPhase y (heard_of job y (hearing w found)) →
     Has r (heard_of job y (hearing w found)) →
-    HasBlock job y r w.number (node_of y w) w.now → Knows job y r (goes_on w found t)
-known_on job y r w found (asks op next) going block is each newest has before =
-    record { script = has; block = before }
-known_on job y r w found (ends (begins m)) going block is each newest has before =
-    record { script = tt; block = tt }
-known_on job y r w found (ends (turns m q)) going block is each newest has before = record {
-  script = has_begun job y w.number (node_of y w) m q w.now r
-      (heard_in (script_of job y w) (found ∷ w.heard)) going each newest has;
-  block = tt;
-}
-known_on job y r w found (ends (works m q rank)) going block is each newest has before = record {
-  script = has_begun_too job y w.number (node_of y w) m q rank w.now r
-      (heard_in (script_of job y w) (found ∷ w.heard)) going each has;
-  block = works_block job y w.number (node_of y w) m q rank w.now r (found ∷ w.heard) going block
-      each is has before;
-}
-known_on job y r w found (ends (stops e)) going block is each newest has before = record {
-  script = subst (λ (d : Doing). Has r (heard_in (script_by job y w.number (node_of y w) d)
-      (found ∷ w.heard) ++ phase_begun y d)) (stops_begin job y w.number (node_of y w) w.now e
-      (heard_of job y (hearing w found)) going each) has;
-  block = tt;
-}
+    HasBlock job y r (node_of y w) w.now → IsTrueMemory job w.memory →
+    IsTrueMemory job (goes_on job y w found t).memory → Knows job y r (goes_on job y w found t)
+known_on job y r w found (asks op next) board going block is each newest has before is_true new =
+    record { script = has; block = before; memory = is_true }
+known_on job y r w found (ends (begins m)) board going block is each newest has before is_true new =
+    record { script = tt; block = tt; memory = is_true }
+known_on job y r w found (ends (turns m q)) board going block is each newest has before is_true new =
+    record {
+      script = has_begun job y w.number (node_of y w) m q w.now r
+          (heard_in (script_of job y w) (found ∷ w.heard)) going each newest has;
+      block = tt;
+      memory = is_true;
+    }
+known_on job y r w found (ends (enters m q)) board going block is each newest has before is_true new =
+    entered_known w.now refl each
+  where
+    entered_known : (d : Doing) → w.now ≡ d →
+        Brings job y w.number (node_of y w) d (enters m q) (heard_of job y (hearing w found)) →
+        Knows job y r (goes_on job y w found (ends (enters m q)))
+    entered_known doing.Back e b = absurd b
+    entered_known doing.Begin e b = absurd b
+    entered_known (doing.Part p rank) e b = absurd b
+    entered_known (doing.Over o) e b = absurd (subst IsGoing e going)
+    entered_known (doing.Turn p) e b =
+        let begun : Has r (begun_phase y q) = rw b.2 (has_after r
+        (heard_in (script_of job y w) (found ∷ w.heard)) (begun_phase y p)
+        (subst (λ (d : Doing). Has r (heard_in (script_of job y w) (found ∷ w.heard)
+        ++ phase_begun y d)) e has)) in
+        record {
+          script = begun;
+          block = goes_parts job y r m q board b.3 begun 0 w.memory (λ k from below. is_true board.limits k below)
+              (λ earlier less. absurd (omega arith));
+          memory = new;
+        }
+known_on job y r w found (ends (worked m q rank memo)) board going block is each newest has before
+    is_true new = worked_known w.now refl each
+  where
+    worked_known : (d : Doing) → w.now ≡ d →
+        Brings job y w.number (node_of y w) d (worked m q rank memo)
+        (heard_of job y (hearing w found)) →
+        Knows job y r (goes_on job y w found (ends (worked m q rank memo)))
+    worked_known doing.Back e b = absurd b
+    worked_known doing.Begin e b = absurd b
+    worked_known (doing.Turn p) e b = absurd b
+    worked_known (doing.Over o) e b = absurd (subst IsGoing e going)
+    worked_known (doing.Part p at) e b =
+        let n = node_of y w in
+        let xs = found ∷ w.heard in
+        let script : script_of job y w ≡ block_script job y n p at w.memory =
+        ap (λ (d : Doing). script_by job y w.number n w.memory d) e in
+        let heard : Has r (heard_in (block_script job y n p at w.memory) xs ++ begun_phase y p) =
+        subst (λ (s : Script Then). Has r (heard_in s xs ++ begun_phase y p)) script
+        (subst (λ (d : Doing). Has r (heard_in (script_of job y w) xs ++ phase_begun y d)) e has) in
+        let whole : rest (block_script job y n p at w.memory) xs ≡ ends (worked n p at memo) =
+        subst (λ (s : Script Then). rest s xs ≡ ends (worked n p at memo)) script
+        (is ∙ same_worked memo b.node b.phase b.rank) in
+        let part = done_part job y r n p at w.memory xs memo b.there board is_true whole heard in
+        let begun = has_after r (heard_in (block_script job y n p at w.memory) xs)
+        (begun_phase y p) heard in
+        let earlier : HasBlock job y r n (doing.Part p at) =
+        subst (λ (d : Doing). HasBlock job y r n d) e before in
+        rw (b.node, b.phase, b.rank) (record {
+          script = begun;
+          block = goes_parts job y r n p board b.wide begun (suc at) _
+              (true_next job y n at w.memory memo (λ k from below. is_true board.limits k below))
+              (one_more job y r n p at earlier part);
+          memory = rw (b.node, b.phase, b.rank) at new;
+        })
+known_on job y r w found (ends (stops e)) board going block is each newest has before is_true new =
+    record {
+      script = subst (λ (d : Doing). Has r (heard_in (script_by job y w.number (node_of y w)
+          w.memory d) (found ∷ w.heard) ++ phase_begun y d)) (stops_begin job y w.number
+          (node_of y w) w.now e (heard_of job y (hearing w found)) going each) has;
+      block = tt;
+      memory = is_true;
+    }
 
 pub stay_known : KnownStayKnown
-stay_known job y r w found fits knows phase = elim (going_or_over w.now) [
-  | inl going ↦ (let new = after r (ask_of job y w) found in
-      let has : Has new (heard_of job y (hearing w found)) = subst (λ (es : List (Op × ℕ)).
-      Has new es) (sym (heard_more job y w found going fits.matches)) (inl (refl, knows.script)) in
+stay_known job y r w found board fits knows phase new = elim (going_or_over w.now) [
+  | inl going ↦ (let longer = after r (ask_of job y w) found in
+      let has : Has longer (heard_of job y (hearing w found)) = subst (λ (es : List (Op × ℕ)).
+      Has longer es) (sym (heard_more job y w found going fits.matches))
+      (inl (refl, knows.script)) in
       let newest : NewestPhase y (heard_of job y (hearing w found)) = subst (NewestPhase y)
       (sym (heard_more job y w found going fits.matches)) phase in
-      subst (λ (v : Walking). Knows job y new v)
-      (sym (told_going w.now w found (rest_after (rest_of job y w) found) going))
-      (known_on job y new w found (rest_after (rest_of job y w) found) going fits.block refl
-      (worker_ends job y (hearing w found)) newest has
-      (block_more job y r w.number (node_of y w) w.now (ask_of job y w) found knows.block)))
+      let told_is = told_going job y w.now w found (rest_after (rest_of job y w) found) going in
+      subst (λ (v : Walking). Knows job y longer v) (sym told_is)
+      (known_on job y longer w found (rest_after (rest_of job y w) found) board going fits.block
+      refl (worker_ends job y (hearing w found) fits.block) newest has
+      (block_more job y r (node_of y w) w.now (ask_of job y w) found knows.block) knows.memory
+      (subst (λ (v : Walking). IsTrueMemory job v.memory) told_is new)))
   | inr over ↦ subst (λ (v : Walking). Knows job y (after r (ask_of job y w) found) v)
-      (sym (told_over w found (rest_after (rest_of job y w) found) w.now over.0 over.1)) (record {
-        script = has_more r (ask_of job y w) found (heard_of job y w) knows.script;
-        block = block_more job y r w.number (node_of y w) w.now (ask_of job y w) found knows.block;
-      })
+      (sym (told_over job y w found (rest_after (rest_of job y w) found) w.now over.0 over.1))
+      (knows_more job y r w (ask_of job y w) found knows)
 ]
 
 -- a root that a board admits is one
 pub knows_next : (job : JobData) (y : LayoutData) (r : Record) (w : Walking) (found : ℕ) →
     IsBoard job y → Fits job y w → Knows job y r w → HearsAdmitted job y (ask_of job y w) found →
+    IsTrueMemory job (told job y w found).memory →
     Knows job y (after r (ask_of job y w) found) (told job y w found)
-knows_next job y r w found board fits knows admitted = stay_known job y r w found fits knows
+knows_next job y r w found board fits knows admitted new =
+    stay_known job y r w found board fits knows
     (λ root. root_formed job y found board
-    (subst (λ (op : Op). HearsAdmitted job y op found) root admitted))
+    (subst (λ (op : Op). HearsAdmitted job y op found) root admitted)) new

@@ -25,6 +25,7 @@ pub mod BoundHeard
 pub mod Passing
 pub mod Back
 pub mod Settling
+pub mod TakingUp
 pub mod Turning
 pub mod CellParts
 pub mod Passes
@@ -32,3 +33,16 @@ pub mod WidePasses
 pub mod Short
 pub mod Comes
 pub mod Workers
+pub mod Beginnings
+pub mod Forms
+pub mod Fetched
+pub mod Claimed
+pub mod Stepping
+pub mod Resting
+pub mod Silent
+pub mod Halted
+pub mod Shaped
+pub mod Idling
+pub mod Memories
+pub mod Nodes
+pub mod PassingOver

@@ -5,7 +5,7 @@ use Rattle.pram_job.specs.declared.instr.Rule.TheVariants.{Common, Priority, Cre
 use Rattle.pram_words.specs.declared.phases.Kind.{Kind}
 use Rattle.pram_words.specs.declared.phases.Kind.TheVariants.{Compute, Apply, Verify}
 use Rattle.walkx.specs.declared.left.Left.{Left}
-use Rattle.walkx.specs.Driving.{Standing, IsDue, Ends}
+use Rattle.walkx.specs.Driving.{Standing, Part, IsDue, Ends, IsNextPart, Plays}
 use Rattle.pram_job.specs.Job.{JobData}
 use Rattle.pram_words.specs.Words.{LayoutData}
 use Rattle.walkx.specs.Inner.Posts.{PostData, step_of, processor_of}
@@ -116,4 +116,20 @@ module _ {D : Type 0} (stands : Standing D) (d : D) (s t : Script Then → Scrip
   ends_as e r ends = record {
     on = λ from after here.
         ends.on from after (moved stands from d (s after) (t after) (same after) here);
+  }
+
+module _ {D A : Type 0} (stands : Standing D) (d : D) (s t : Part A)
+    (same : (after : Script Then) (next : A → Script Then) → s after next ≡ t after next) where
+  pub next_as : IsNextPart stands d s → IsNextPart stands d t
+  next_as is = record {
+    from = is.from;
+    after = is.after;
+    next = is.next;
+    here = moved stands is.from d _ _ (same is.after is.next) is.here;
+  }
+
+  pub plays_as : (e : D) (r : Result A Left) → Plays stands d t e r → Plays stands d s e r
+  plays_as e r plays = record {
+    on = λ from after next here.
+        plays.on from after next (moved stands from d _ _ (same after next) here);
   }

@@ -1,17 +1,23 @@
--- A script of a worker has at most thirteen operations.
+-- A script of a worker has at most fifteen operations.
 use Rattle.std.proofs.Common.{◌≡◌, ℕ, suc, ◌-◌, ◌*◌, ◌%◌, ◌<◌, ◌≤◌, ◌&&◌}
-use Rattle.std.proofs.Common.{◌==◌, nat_le, List, [], ◌∷◌, length, Some, arith}
+use Rattle.std.proofs.Common.{◌==◌, nat_le, List, [], ◌∷◌, length, Some, arith, sym, subst, inl, inr}
 use Rattle.std.proofs.lemmas.Bool.{cond_both}
 use Rattle.pram_job.specs.Job.{JobData}
 use Rattle.pram_words.specs.Phases.{step_at, kind_at}
 use Rattle.pram_words.specs.Words.{LayoutData}
+use Rattle.pram_words.specs.declared.layout.Form.TheVariants.{Compact}
+use Rattle.pram_words.proofs.Numbering.{cases_form}
 use Rattle.walkx.specs.declared.operation.Op.{Op}
 use Rattle.walkx.specs.Doing.{Doing}
 use Rattle.walkx.specs.Doing as doing
 use Rattle.walkx.specs.Scripts.{Script, asks, ends, rest_after, rest, first_op}
-use Rattle.walkx.specs.Walk.{Then, after_part, begin_script, has_rank, leaf_script, marks_node}
-use Rattle.walkx.specs.Walk.{part_script, processor_at, script_by, turn_script}
-use Rattle.walkx.proofs.BoundPasses.{form_within}
+use Rattle.walkx.specs.declared.memo.Memo.{Memo}
+use Rattle.walkx.specs.Memory.{at_start, memo_of}
+use Rattle.walkx.specs.Walk.{Then, IsWide, after_part, begin_script, block_script, enters, has_rank}
+use Rattle.walkx.specs.Walk.{leaf_script, marks_node, part_script, processor_at, script_by}
+use Rattle.walkx.specs.Walk.{turn_script, worked}
+use Rattle.walkx.proofs.BoundPasses.{compact_within, form_within}
+use Rattle.walkx.proofs.Forms.{form_cases, form_compact, form_wide_of}
 use Rattle.walkx.proofs.BoundTasks.{IsWithin}
 
 -- it asks for no more than so many operations
@@ -65,18 +71,45 @@ few_heard s k answers op short is = omega (
 marks_short : (y : LayoutData) (n q k : ℕ) → 1 ≤ k → Short (marks_node y n q) k
 marks_short y n q k h = (h, λ found. tt)
 
-part_short : (job : JobData) (y : LayoutData) (n q rank : ℕ) →
-    Short (part_script job y n q rank) 12
+-- in the compact form a task and the mark, in the wide form a task alone
+part_compact : (job : JobData) (y : LayoutData) (n q rank : ℕ) (memo : Memo) →
+    y.form ≡ Compact → Short (part_script job y n q rank memo) 12
 unfolding part_script
-part_short job y n q rank =
-    form_within Within short_within y 1 y.form job.rule (kind_at q) job (step_at q)
-    (processor_at y n rank) (after_part y n q rank)
-    (cond_both (has_rank y n (suc rank)) _ _ (λ s. Short s 1) (λ _. tt)
-    (λ _. marks_short y n q 1 (omega arith)))
+part_compact job y n q rank memo is =
+    compact_within Within short_within y 1 y.form job.rule (kind_at q) job (step_at q)
+    (processor_at y n rank) memo (after_part y n q rank) is
+    (subst (λ (s : Script Then). Short s 1)
+    (sym (form_compact y.form (marks_node y n q) (ends (worked n q rank memo)) is))
+    (marks_short y n q 1 (omega arith)))
+
+part_wide : (job : JobData) (y : LayoutData) (n q rank : ℕ) (memo : Memo) →
+    IsWide y.form → Short (part_script job y n q rank memo) 15
+unfolding part_script
+part_wide job y n q rank memo wide =
+    form_within Within short_within y 0 y.form job.rule (kind_at q) job (step_at q)
+    (processor_at y n rank) memo (after_part y n q rank) (λ m.
+    subst (λ (s : Script Then). Short s 0)
+    (sym (form_wide_of y.form (marks_node y n q) (ends (worked n q rank m)) wide)) tt)
+
+part_short : (job : JobData) (y : LayoutData) (n q rank : ℕ) (memo : Memo) →
+    Short (part_script job y n q rank memo) 15
+part_short job y n q rank memo = elim (cases_form y.form) [
+  | inl e ↦ short_more (part_script job y n q rank memo) 15 12 (omega arith)
+      (part_compact job y n q rank memo e)
+  | inr e ↦ part_wide job y n q rank memo (rw e.1 tt)
+]
+
+block_short : (job : JobData) (y : LayoutData) (n q rank : ℕ) (memory : List Memo) →
+    Short (block_script job y n q rank memory) 15
+block_short job y n q rank memory = cond_both (has_rank y n rank) _ _ (λ s. Short s 15)
+    (λ _. part_short job y n q rank (memo_of memory (processor_at y n rank)))
+    (λ _. marks_short y n q 15 (omega arith))
 
 leaf_short : (job : JobData) (y : LayoutData) (n q : ℕ) → Short (leaf_script job y n q) 12
 leaf_short job y n q = cond_both (has_rank y n 0) _ _ (λ s. Short s 12)
-    (λ _. part_short job y n q 0) (λ _. marks_short y n q 12 (omega arith))
+    (λ _. form_cases y.form (part_script job y n q 0 at_start) (ends (enters n q))
+    (λ s. Short s 12) (λ e. part_compact job y n q 0 at_start e) (λ w. tt))
+    (λ _. marks_short y n q 12 (omega arith))
 
 turn_short : (job : JobData) (y : LayoutData) (w n q : ℕ) → Short (turn_script job y w n q) 13
 unfolding turn_script
@@ -107,11 +140,13 @@ begin_short job y n = (
       )) (λ _. tt),
 )
 
-pub script_short : (job : JobData) (y : LayoutData) (w n : ℕ) (d : Doing) →
-    Short (script_by job y w n d) 13
-script_short job y w n doing.Back = (omega arith, λ found. tt)
-script_short job y w n doing.Begin = begin_short job y n
-script_short job y w n (doing.Turn q) = turn_short job y w n q
-script_short job y w n (doing.Part q rank) =
-    short_more (part_script job y n q rank) 13 12 (omega arith) (part_short job y n q rank)
-script_short job y w n (doing.Over e) = begin_short job y n
+pub script_short : (job : JobData) (y : LayoutData) (w n : ℕ) (memory : List Memo) (d : Doing) →
+    Short (script_by job y w n memory d) 15
+script_short job y w n memory doing.Back = (omega arith, λ found. tt)
+script_short job y w n memory doing.Begin =
+    short_more (begin_script job y n) 15 13 (omega arith) (begin_short job y n)
+script_short job y w n memory (doing.Turn q) =
+    short_more (turn_script job y w n q) 15 13 (omega arith) (turn_short job y w n q)
+script_short job y w n memory (doing.Part q rank) = block_short job y n q rank memory
+script_short job y w n memory (doing.Over e) =
+    short_more (begin_script job y n) 15 13 (omega arith) (begin_short job y n)

@@ -1,33 +1,40 @@
 -- A worker whose script is played back.
-use Rattle.std.proofs.Common.{◌≡◌, ℕ, ◌*◌, ◌<◌, ◌≤◌, List, length, Option, Some, None}
+use Rattle.std.proofs.Common.{◌≡◌, ℕ, suc, ◌*◌, ◌<◌, ◌≤◌, List, ◌∷◌, length, Option, Some, None}
 use Rattle.std.proofs.Common.{Result, Ok, Err, refl, sym, ap, subst, ◌∙◌, arith}
 use lib.ListN.{take}
-use Rattle.pram_job.specs.Job.{JobData}
-use Rattle.pram_words.specs.Words.{LayoutData}
+use Rattle.pram_job.specs.Job.{JobData, IsJob}
+use Rattle.pram_words.specs.Words.{LayoutData, grain}
 use Rattle.walkx.specs.declared.next.Next.{Next}
 use Rattle.walkx.specs.declared.next.Next.TheVariants as next
 use Rattle.walkx.specs.declared.operation.Activity.{Activity}
 use Rattle.walkx.specs.declared.operation.Activity.TheVariants as activity
 use Rattle.walkx.specs.declared.operation.Ended.{Ended}
 use Rattle.walkx.specs.declared.operation.Op.{Op}
+use Rattle.walkx.specs.declared.memo.Memo.{Memo}
 use Rattle.walkx.specs.Doing.{Doing}
 use Rattle.walkx.specs.Doing as doing
-use Rattle.walkx.specs.Inner.Posts.{PostData}
+use Rattle.walkx.specs.Inner.Posts.{PostData, post_data}
 use Rattle.walkx.specs.Inner.Heard.{newest}
 use Rattle.walkx.specs.Inner.Workers.{WorkerData, doing_in, worker_data}
-use Rattle.walkx.specs.Playing.{ScriptComesTo, IsPlayable, op_after}
+use Rattle.walkx.specs.Playing.{GoesOn, IsBlockPlace, IsPlayable, ScriptComesTo, op_after}
 use Rattle.walkx.specs.Playing.{come_to, hearing, phase_of_doing, stand_of}
 use Rattle.walkx.specs.Serving.{IsHeldAt, Serves}
 use Rattle.walkx.specs.Activities.{activity_of}
+use Rattle.walkx.specs.Memory.{FitsMemory, IsTrueMemory, blank}
+use Rattle.walkx.proofs.Memories.{all_start, start_fits}
+use Rattle.walkx.specs.Records.{Record, Knows}
 use Rattle.walkx.specs.Turns.{beginning}
 use Rattle.walkx.specs.Rests.{IsWithin, script_in, then_of}
 use Rattle.walkx.specs.Scripts.{Script, asks, ends, rest_after, rest, first_op, heard_in}
 use Rattle.walkx.specs.Walk.{Then, Walking, Fits, AllAdmitted, HearsAdmitted, IsBoard, IsGoing}
 use Rattle.walkx.specs.Walk.{IsPhase, ask_of, end_of, begin_script, goes_on, heard_of, node_of}
-use Rattle.walkx.specs.Walk.{phase_begun, rest_of, script_of, told, started, come_back}
+use Rattle.walkx.specs.Walk.{phase_begun, remembering, rest_of, script_of, told, started, come_back}
 use Rattle.walkx.proofs.Asking.{all_left}
-use Rattle.walkx.proofs.Fitting.{fits_told, heard_more, new_workers_fit, node_range}
-use Rattle.walkx.proofs.Firsts.{rank_parts}
+use Rattle.walkx.proofs.Beginnings.{start_true}
+use Rattle.walkx.proofs.Ends.{AllEnds, Brings, worker_ends}
+use Rattle.walkx.proofs.Fitting.{Within, enters_fits, fits_told, heard_more, new_workers_fit}
+use Rattle.walkx.proofs.Fitting.{worked_fits}
+use Rattle.walkx.proofs.Nodes.{node_range}
 use Rattle.walkx.proofs.Heard.{newest_all}
 use Rattle.walkx.proofs.Going.{asks_of, next_of, told_going, told_over}
 use Rattle.walkx.proofs.Short.{few_heard, script_short}
@@ -35,14 +42,15 @@ use Rattle.walkx.proofs.Short.{few_heard, script_short}
 -- ---- the script by the fields of the code
 
 pub script_is : (job : JobData) (y : LayoutData)
-    (number : ℕ) (n : Option ℕ) (now : Activity) (held_op : Option Op) (heard : List ℕ) →
-    script_of job y (worker_data number n now held_op heard).walking
-    ≡ script_in (stand_of job y (worker_data number n now held_op heard).walking) now
-script_is job y number n activity.Back held_op heard = refl
-script_is job y number n activity.Begin held_op heard = refl
-script_is job y number n (activity.Turn q) held_op heard = refl
-script_is job y number n (activity.Part q rank) held_op heard = refl
-script_is job y number n (activity.Over e) held_op heard = refl
+    (number : ℕ) (n : Option ℕ) (now : Activity) (held_op : Option Op) (heard : List ℕ)
+    (memory : List Memo) →
+    script_of job y (worker_data number n now held_op heard memory).walking
+    ≡ script_in (stand_of job y (worker_data number n now held_op heard memory).walking) now memory
+script_is job y number n activity.Back held_op heard memory = refl
+script_is job y number n activity.Begin held_op heard memory = refl
+script_is job y number n (activity.Turn q) held_op heard memory = refl
+script_is job y number n (activity.Part q rank) held_op heard memory = refl
+script_is job y number n (activity.Over e) held_op heard memory = refl
 
 -- ---- a worker that fits
 
@@ -61,6 +69,7 @@ playable job y w board fits = record {
   node = node_range job y w board.layout.leaves.0 fits;
   phase = phase_small job y w.now fits.phase;
   block = fits.block;
+  memory = fits.memory;
   admitted = all_left job y _ (phase_begun y w.now) fits.admitted;
 }
 
@@ -75,6 +84,7 @@ playable_more job y w found board fits going admitted =
       node = node_range job y w board.layout.leaves.0 fits;
       phase = phase_small job y w.now fits.phase;
       block = fits.block;
+      memory = fits.memory;
       admitted = all_left job y _ (phase_begun y w.now) all;
     }
 
@@ -82,11 +92,8 @@ pub room : (job : JobData) (y : LayoutData) (w : Walking) → Fits job y w →
     IsGoing w.now → length w.heard < 15
 room job y w fits going =
     let a = asks_of w.now (rest_of job y w) going fits.matches in
-    omega (
-      arith,
-      few_heard (script_of job y w) 13 w.heard a.op
-          (script_short job y w.number (node_of y w) w.now) a.first,
-    )
+    few_heard (script_of job y w) 15 w.heard a.op
+    (script_short job y w.number (node_of y w) w.memory w.now) a.first
 
 pub is_going : (d : Doing) → end_of d ≡ None → IsGoing d
 is_going doing.Back none = tt
@@ -97,45 +104,43 @@ is_going (doing.Over e) none = absurd (cc)
 
 -- its post fits what it is doing
 pub within_at : (job : JobData) (y : LayoutData) (number : ℕ) (n : Option ℕ) (now : Activity)
-    (held_op : Option Op) (heard : List ℕ) → IsBoard job y →
-    IsPlayable job y (worker_data number n now held_op heard).walking →
-    IsWithin (stand_of job y (worker_data number n now held_op heard).walking) now
-within_at job y number n activity.Back held_op heard board p = tt
-within_at job y number n activity.Begin held_op heard board p = tt
-within_at job y number n (activity.Turn q) held_op heard board p = (refl, p.phase)
-within_at job y number n (activity.Part q rank) held_op heard board p =
-    let there = rank_parts y _ rank p.block.2 in (
-      p.block.1,
-      record { board = board; first = p.block.0; rank = there.0; last = there.1; phase = p.phase },
-    )
-within_at job y number n (activity.Over e) held_op heard board p = tt
+    (held_op : Option Op) (heard : List ℕ) (memory : List Memo) →
+    IsPlayable job y (worker_data number n now held_op heard memory).walking →
+    IsWithin (stand_of job y (worker_data number n now held_op heard memory).walking) now
+within_at job y number n activity.Back held_op heard memory p = tt
+within_at job y number n activity.Begin held_op heard memory p = tt
+within_at job y number n (activity.Turn q) held_op heard memory p = (refl, p.phase)
+within_at job y number n (activity.Part q rank) held_op heard memory p =
+    record { leaf = p.block.0; rank = p.block.1; wide = p.block.2; phase = p.phase }
+within_at job y number n (activity.Over e) held_op heard memory p = tt
 
 -- ---- what comes of an answer
 
-goes_on_asks : (w : Walking) (found : ℕ) (s : Script Then) (op : Op) → first_op s ≡ Some op →
-    goes_on w found s ≡ hearing w found
-goes_on_asks w found (asks o next) op is = refl
-goes_on_asks w found (ends then) op is = absurd (cc)
+goes_on_asks : (job : JobData) (y : LayoutData) (w : Walking) (found : ℕ) (s : Script Then)
+    (op : Op) → first_op s ≡ Some op → goes_on job y w found s ≡ hearing w found
+goes_on_asks job y w found (asks o next) op is = refl
+goes_on_asks job y w found (ends then) op is = absurd (cc)
 
-goes_on_ends : (w : Walking) (found : ℕ) (n : Next) →
-    goes_on w found (ends (then_of n)) ≡ come_to (hearing w found) n
-goes_on_ends w found (next.Begins n) = refl
-goes_on_ends w found (next.Turns n q) = refl
-goes_on_ends w found (next.Works n q rank) = refl
-goes_on_ends w found (next.Stops e) = refl
+goes_on_ends : (job : JobData) (y : LayoutData) (w : Walking) (found : ℕ) (n : Next) →
+    goes_on job y w found (ends (then_of n)) ≡ come_to job y (hearing w found) n
+goes_on_ends job y w found (next.Begins n) = refl
+goes_on_ends job y w found (next.Turns n q) = refl
+goes_on_ends job y w found (next.Enters n q) = refl
+goes_on_ends job y w found (next.Worked n q rank memo) = refl
+goes_on_ends job y w found (next.Stops e) = refl
 
 pub told_ends : (job : JobData) (y : LayoutData) (w : Walking) (found : ℕ) (n : Next) →
     IsGoing w.now → rest_of job y (hearing w found) ≡ ends (then_of n) →
-    told job y w found ≡ come_to (hearing w found) n
+    told job y w found ≡ come_to job y (hearing w found) n
 told_ends job y w found n going is =
-    told_going w.now w found (rest_after (rest_of job y w) found) going
-    ∙ ap (goes_on w found) is ∙ goes_on_ends w found n
+    told_going job y w.now w found (rest_after (rest_of job y w) found) going
+    ∙ ap (goes_on job y w found) is ∙ goes_on_ends job y w found n
 
 pub told_asks : (job : JobData) (y : LayoutData) (w : Walking) (found : ℕ) (op : Op) →
     IsGoing w.now → first_op (rest_of job y (hearing w found)) ≡ Some op →
     told job y w found ≡ hearing w found
-told_asks job y w found op going is = told_going w.now w found (rest_after (rest_of job y w) found)
-    going ∙ goes_on_asks w found (rest_after (rest_of job y w) found) op is
+told_asks job y w found op going is = told_going job y w.now w found (rest_after (rest_of job y w) found)
+    going ∙ goes_on_asks job y w found (rest_after (rest_of job y w) found) op is
 
 some_over : (d : Doing) (e : Ended) → end_of d ≡ Some e → d ≡ doing.Over e
 some_over doing.Back e is = absurd (cc)
@@ -147,7 +152,7 @@ some_over (doing.Over f) e is = cc
 pub told_ended : (job : JobData) (y : LayoutData) (w : Walking) (found : ℕ) (e : Ended) →
     end_of w.now ≡ Some e → told job y w found ≡ w
 told_ended job y w found e is =
-    told_over w found (rest_after (rest_of job y w) found) w.now e (some_over w.now e is)
+    told_over job y w found (rest_after (rest_of job y w) found) w.now e (some_over w.now e is)
 
 pub held_at : (job : JobData) (y : LayoutData) (w : Walking) (op : Op) → IsGoing w.now →
     first_op (rest_of job y w) ≡ Some op → op ≡ ask_of job y w
@@ -157,48 +162,53 @@ held_at job y w op going is = sym (next_of w.now (rest_of job y w) op going is)
 
 module _ (job : JobData) (y : LayoutData) (number : ℕ)
     (node : Option ℕ) (now : Activity) (held_op : Option Op)
-    (count : ℕ) (heard d : List ℕ) (k : WorkerData) (at : PostData) (within : count ≤ length heard)
-    (is : d ≡ take count heard)
-    (view : worker_data number node now held_op (newest count heard) ≡ k)
+    (count : ℕ) (heard : List ℕ) (memory : List Memo) (d : List ℕ) (k : WorkerData)
+    (at : PostData) (within : count ≤ length heard) (is : d ≡ take count heard)
+    (view : worker_data number node now held_op (newest count heard) memory ≡ k)
     (stands : at ≡ stand_of job y k.walking) where
   same_heard : newest (length d) d ≡ k.walking.heard
   same_heard = subst (λ (xs : List ℕ). newest (length xs) xs ≡ newest count heard) (sym is)
       (newest_all count heard within) ∙ ap (λ (p : WorkerData). p.walking.heard) view
 
-  same_script : script_in at now ≡ script_of job y k.walking
-  same_script = ap (λ (a : PostData). script_in a now)
+  same_script : script_in at now memory ≡ script_of job y k.walking
+  same_script = ap (λ (a : PostData). script_in a now memory)
       (stands ∙ ap (λ (p : WorkerData). stand_of job y p.walking) (sym view))
-      ∙ sym (script_is job y number node now held_op (newest count heard))
+      ∙ sym (script_is job y number node now held_op (newest count heard) memory)
       ∙ ap (λ (p : WorkerData). script_of job y p.walking) view
 
   pub admitted_here : IsPlayable job y k.walking →
-      AllAdmitted at.job at.layout (heard_in (script_in at now) (newest (length d) d))
+      AllAdmitted at.job at.layout (heard_in (script_in at now memory) (newest (length d) d))
   admitted_here p =
       let one : AllAdmitted job y (heard_in (script_of job y k.walking) (newest (length d) d)) =
       subst (λ (xs : List ℕ). AllAdmitted job y (heard_in (script_of job y k.walking) xs))
       (sym same_heard) p.admitted in
-      let two : AllAdmitted job y (heard_in (script_in at now) (newest (length d) d)) =
+      let two : AllAdmitted job y (heard_in (script_in at now memory) (newest (length d) d)) =
       subst (λ (s : Script Then). AllAdmitted job y (heard_in s (newest (length d) d)))
       (sym same_script) one in
-      let three : AllAdmitted at.job y (heard_in (script_in at now) (newest (length d) d)) =
-      subst (λ (j : JobData). AllAdmitted j y (heard_in (script_in at now) (newest (length d) d)))
-      (sym (ap (λ (a : PostData). a.job) stands)) two in
-      subst
-      (λ (l : LayoutData). AllAdmitted at.job l (heard_in (script_in at now) (newest (length d) d)))
+      let h : List (Op × ℕ) = heard_in (script_in at now memory) (newest (length d) d) in
+      let three : AllAdmitted at.job y h =
+      subst (λ (j : JobData). AllAdmitted j y h) (sym (ap (λ (a : PostData). a.job) stands)) two in
+      subst (λ (l : LayoutData). AllAdmitted at.job l h)
       (sym (ap (λ (a : PostData). a.layout) stands)) three
 
   pub comes_here : (r : Result Next Op) →
-      ScriptComesTo (rest (script_in at now) (newest (length d) d)) r →
+      ScriptComesTo (rest (script_in at now memory) (newest (length d) d)) r →
       ScriptComesTo (rest_of job y k.walking) r
   comes_here r c =
       subst (λ (xs : List ℕ). ScriptComesTo (rest (script_of job y k.walking) xs) r) same_heard
       (subst (λ (s : Script Then). ScriptComesTo (rest s (newest (length d) d)) r) same_script c)
 
-  pub within_here : IsBoard job y → IsPlayable job y k.walking → IsWithin at now
-  within_here board p = subst (λ (a : PostData). IsWithin a now) (sym stands)
+  pub within_here : IsPlayable job y k.walking → IsWithin at now
+  within_here p = subst (λ (a : PostData). IsWithin a now) (sym stands)
       (subst (λ (w : WorkerData). IsWithin (stand_of job y w.walking) now) view
-      (within_at job y number node now held_op (newest count heard) board
+      (within_at job y number node now held_op (newest count heard) memory
       (subst (λ (w : WorkerData). IsPlayable job y w.walking) (sym view) p)))
+
+  pub memory_here : IsPlayable job y k.walking → FitsMemory at.job memory
+  memory_here p =
+      let fits : FitsMemory job memory =
+      subst (λ (w : WorkerData). FitsMemory job w.walking.memory) (sym view) p.memory in
+      subst (λ (j : JobData). FitsMemory j memory) (sym (ap (λ (a : PostData). a.job) stands)) fits
 
 -- ---- a worker that was told
 
@@ -216,11 +226,57 @@ pub record Heard (job : JobData) (y : LayoutData) (w : Walking) (found : ℕ)
   pub serves : Serves job y new
 
 held_after : (job : JobData) (y : LayoutData) (w : Walking) (n : Next) →
-    IsHeldAt job y (come_to w n) (op_after n)
+    IsHeldAt job y (come_to job y w n) (op_after n)
 held_after job y w (next.Begins n) = (tt, refl)
 held_after job y w (next.Turns n q) = (tt, refl)
-held_after job y w (next.Works n q rank) = (tt, refl)
+held_after job y w (next.Enters n q) = (tt, refl)
+held_after job y w (next.Worked n q rank memo) = (tt, refl)
 held_after job y w (next.Stops e) = refl
+
+-- where it goes on in a block
+pub goes_there : (job : JobData) (y : LayoutData) (w : Walking) (found : ℕ) (n : Next) →
+    IsBoard job y → Fits job y w → IsGoing w.now →
+    HearsAdmitted job y (ask_of job y w) found →
+    rest_of job y (hearing w found) ≡ ends (then_of n) → GoesOn job y w.number n
+goes_there job y w found n board fits going admitted is =
+    by n (subst (λ (s : Script Then). AllEnds (Brings job y w.number (node_of y w) w.now) s
+    (heard_of job y (hearing w found))) is (worker_ends job y (hearing w found) fits.block))
+  where
+    all : AllAdmitted job y (heard_of job y (hearing w found))
+    all = subst (AllAdmitted job y) (sym (heard_more job y w found going fits.matches))
+        (admitted, fits.admitted)
+
+    at : (1 ≤ node_of y w) × (node_of y w < 2 * y.leaves)
+    at = node_range job y w board.layout.leaves.0 fits
+
+    place : (m q rank : ℕ) → Within job y (node_of y w) m q → rank ≤ grain y →
+        IsBlockPlace (post_data job y w.number m q rank)
+    place m q rank b most = record {
+      post = record { board = board; worker = fits.number; some = b.node.0; most = b.node.1 };
+      block = record { leaf = b.leaf; rank = most; wide = b.wide; phase = b.phase.1 };
+    }
+
+    by : (next : Next) → Brings job y w.number (node_of y w) w.now (then_of next)
+        (heard_of job y (hearing w found)) → GoesOn job y w.number next
+    by (next.Begins m) each = tt
+    by (next.Turns m q) each = tt
+    by (next.Enters m q) each = place m q 0 (enters_fits job y w.number (node_of y w) m q w.now
+        (heard_in (script_of job y w) (found ∷ w.heard)) going fits.phase at.0 at.1 each all)
+        (omega arith)
+    by (next.Worked m q rank memo) each =
+        let b = worked_fits job y w.number (node_of y w) m q rank memo w.now
+        (heard_in (script_of job y w) (found ∷ w.heard)) going fits.phase fits.block at.0 at.1 each
+        all in (
+          record {
+            board = board;
+            first = b.within.leaf;
+            rank = b.rank;
+            last = b.last;
+            phase = b.within.phase.1;
+          },
+          place m q (suc rank) b.within (let r = b.rank in omega arith),
+        )
+    by (next.Stops e) each = tt
 
 module _ (job : JobData) (y : LayoutData) (w : Walking) (found : ℕ) (v : Walking)
     (r : Result Next Op) (new : WorkerData) (board : IsBoard job y) (fits : Fits job y w)
@@ -232,11 +288,11 @@ module _ (job : JobData) (y : LayoutData) (w : Walking) (found : ℕ) (v : Walki
   comes_heard : ScriptComesTo (rest_of job y (hearing w found)) r
   comes_heard = subst (λ (u : Walking). ScriptComesTo (rest_of job y u) r) is comes
 
-  pub heard_ends : (n : Next) → r ≡ Ok n → new.walking ≡ come_to v n →
+  pub heard_ends : (n : Next) → r ≡ Ok n → new.walking ≡ come_to job y v n →
       new.held_op ≡ op_after n → Heard job y w found new
   heard_ends n ok came held_op =
       let t : new.walking ≡ told job y w found =
-      came ∙ ap (λ (u : Walking). come_to u n) is ∙ sym (told_ends job y w found n going
+      came ∙ ap (λ (u : Walking). come_to job y u n) is ∙ sym (told_ends job y w found n going
       (comes_ok (rest_of job y (hearing w found)) r n ok comes_heard)) in
       record {
         told = t;
@@ -299,30 +355,80 @@ same_activity (activity.Over e) = refl
 
 -- ---- a new worker
 
-pub starts : (job : JobData) (y : LayoutData) (w : ℕ) → w < y.workers →
-    Serves job y (record { walking = started w; held_op = None })
-starts job y w worker = record { fits = (new_workers_fit job y w worker).0; held = (tt, refl) }
+blank_fits : (job : JobData) (size : ℕ) → FitsMemory job (blank size)
+blank_fits job size k = rw (all_start size k) (start_fits job)
 
-pub comes_anew : (job : JobData) (y : LayoutData) (w : ℕ) → w < y.workers →
-    Serves job y (record { walking = come_back w; held_op = None })
-comes_anew job y w worker = record { fits = (new_workers_fit job y w worker).1; held = (tt, refl) }
+pub blank_true : (job : JobData) (size : ℕ) → IsTrueMemory job (blank size)
+blank_true job size limits i below = rw (all_start size i) (start_true job limits i below)
 
--- a worker that begins anew at a node
-fits_anew : (job : JobData) (y : LayoutData) (number start : ℕ) → number < y.workers → 1 ≤ start →
-    start < 2 * y.leaves → Fits job y (beginning number start)
+pub starts : (job : JobData) (y : LayoutData) (w size : ℕ) → w < y.workers →
+    Serves job y (record { walking = remembering size (started w); held_op = None })
+starts job y w size worker =
+    let fits = (new_workers_fit job y w worker).0 in
+    record {
+      fits = record {
+        number = fits.number;
+        node = fits.node;
+        phase = fits.phase;
+        block = fits.block;
+        memory = blank_fits job size;
+        admitted = fits.admitted;
+        matches = fits.matches;
+      };
+      held = (tt, refl);
+    }
+
+pub comes_anew : (job : JobData) (y : LayoutData) (w size : ℕ) → w < y.workers →
+    Serves job y (record { walking = remembering size (come_back w); held_op = None })
+comes_anew job y w size worker =
+    let fits = (new_workers_fit job y w worker).1 in
+    record {
+      fits = record {
+        number = fits.number;
+        node = fits.node;
+        phase = fits.phase;
+        block = fits.block;
+        memory = blank_fits job size;
+        admitted = fits.admitted;
+        matches = fits.matches;
+      };
+      held = (tt, refl);
+    }
+
+-- a worker that begins anew at a node, with a memory
+fits_anew : (job : JobData) (y : LayoutData) (number start : ℕ) (memory : List Memo) →
+    number < y.workers → 1 ≤ start → start < 2 * y.leaves → FitsMemory job memory →
+    Fits job y (beginning number start memory)
 unfolding begin_script
-fits_anew job y number start worker low high =
+fits_anew job y number start memory worker low high fits =
     record {
       number = worker;
       node = (low, high);
       phase = tt;
       block = tt;
+      memory = fits;
       admitted = tt;
       matches = (_, refl);
     }
 
-pub begins_anew : (job : JobData) (y : LayoutData) (number start : ℕ) →
-    number < y.workers → 1 ≤ start → start < 2 * y.leaves →
-    Serves job y (record { walking = beginning number start; held_op = None })
-begins_anew job y number start worker low high =
-    record { fits = fits_anew job y number start worker low high; held = (tt, refl) }
+pub begins_anew : (job : JobData) (y : LayoutData) (number start : ℕ) (memory : List Memo) →
+    number < y.workers → 1 ≤ start → start < 2 * y.leaves → FitsMemory job memory →
+    Serves job y (record { walking = beginning number start memory; held_op = None })
+begins_anew job y number start memory worker low high fits = record {
+  fits = fits_anew job y number start memory worker low high fits;
+  held = (tt, refl);
+}
+
+pub known_anew : (job : JobData) (y : LayoutData) (past : Record) (number start : ℕ)
+    (memory : List Memo) → IsTrueMemory job memory →
+    Knows job y past (beginning number start memory)
+known_anew job y past number start memory is_true =
+    record { script = tt; block = tt; memory = is_true }
+
+pub known_new : (job : JobData) (y : LayoutData) (past : Record) (number size : ℕ) →
+    Knows job y past (remembering size (started number))
+    × Knows job y past (remembering size (come_back number))
+known_new job y past number size = (
+  record { script = tt; block = tt; memory = blank_true job size },
+  record { script = tt; block = tt; memory = blank_true job size },
+)

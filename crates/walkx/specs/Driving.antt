@@ -1,5 +1,9 @@
 -- Where a driver stands in a script that it plays, and what each function of the walk promises.
 use Rattle.std.specs.Prelude.{ℕ, Option, Some, None, Result, Ok, Err, IfOk}
+use Rattle.pram_machine.specs.declared.requests.Request.{Request}
+use Rattle.pram_machine.specs.declared.turn.Turn.{Turn}
+use Rattle.pram_machine.specs.Turns.{request_of}
+use Rattle.walkx.specs.declared.memo.Memo.{Memo}
 use Rattle.walkx.specs.declared.operation.Op.{Op}
 use Rattle.walkx.specs.Scripts.{Script, asks, ends}
 use Rattle.walkx.specs.Walk.{Then, HearsAdmitted}
@@ -91,3 +95,23 @@ abbrev pub settled_or_late : Result (Unit {0}) Left → Result (Unit {0}) Stoppe
 settled_or_late (Ok done) = Ok done
 settled_or_late (Err Late) = Ok tt
 settled_or_late (Err Held) = Err (record {})
+
+-- that of a task in a block: what is then known, late or not
+abbrev pub learns : Result (Unit {0}) Left → Memo → Result Memo Left
+learns (Ok done) memo = Ok memo
+learns (Err Late) memo = Ok memo
+learns (Err Held) memo = Err Held
+
+-- what was loaded, if it was
+abbrev pub loads : Result (Unit {0}) Left → Memo → Result Memo Left
+loads (Ok done) memo = Ok memo
+loads (Err why) memo = Err why
+
+abbrev pub learns_all : Result (Unit {0}) Stopped → Memo → Result Memo Stopped
+learns_all (Ok done) memo = Ok memo
+learns_all (Err why) memo = Err why
+
+-- what a turn asks for
+abbrev pub asked_as : Result Turn Left → Result Request Left
+asked_as (Ok turn) = Ok (request_of turn)
+asked_as (Err why) = Err why

@@ -3,6 +3,7 @@ use Rattle.std.specs.Prelude.{◌≡◌, ℕ, ◌<◌, List, length, None}
 use Rattle.pram_job.specs.Job.{JobData}
 use Rattle.pram_words.specs.Words.{LayoutData}
 use Rattle.walkx.specs.Bound.{told_all, history_of, IsHeard, most_steps}
+use Rattle.walkx.specs.Memory.{IsTrueMemory}
 use Rattle.walkx.specs.Records.{Record, after, Knows}
 use Rattle.walkx.specs.Walk.{Walking, Fits, IsBoard, IsGoing}
 use Rattle.walkx.specs.Walk.{HearsAdmitted, HearsPhase, AsksAdmitted, IsStepOn, ask_of, told}
@@ -21,12 +22,13 @@ AnswersKeepFit =
     Fits job layout (told job layout worker found)
 
 -- a record that knows a worker knows it with the next answer, once it has the step; a root has to be
--- a phase of the form, which in the compact form each number is
+-- a phase of the form, which in the compact form each number is, and what it then remembers true
 abbrev pub KnownStayKnown : Type 0
 KnownStayKnown =
     (job : JobData) (layout : LayoutData) (past : Record) (worker : Walking) (found : ℕ) →
-    Fits job layout worker → Knows job layout past worker →
+    IsBoard job layout → Fits job layout worker → Knows job layout past worker →
     HearsPhase layout (ask_of job layout worker) found →
+    IsTrueMemory job (told job layout worker found).memory →
     Knows job layout (after past (ask_of job layout worker) found) (told job layout worker found)
 
 -- each operation of a worker is on the board, and admitted

@@ -5,6 +5,7 @@ pub mod Activities
 pub mod Tasks
 pub mod Counters
 pub mod OwnWrites
+pub mod Memory
 pub mod Passes
 pub mod Walk
 pub mod Turns
@@ -21,3 +22,4 @@ pub mod Parts
 pub mod WideParts
 pub mod Playing
 pub mod Rests
+pub mod Passing

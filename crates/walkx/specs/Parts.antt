@@ -22,7 +22,8 @@ use Rattle.walkx.specs.Tasks.{compute_task}
 use Rattle.pram_words.specs.Stamps.{older, older_word}
 use Rattle.walkx.specs.Tasks.{is_late, loads_both, writes_place, hears_part}
 use Rattle.walkx.specs.Tasks.{if_data, carries, claim_of, claims, differs, reports, task_of}
-use Rattle.walkx.specs.Passes.{decides, task_in, wide_task_of}
+use Rattle.walkx.specs.declared.memo.Memo.{Memo}
+use Rattle.walkx.specs.Passes.{decides, wide_task_of}
 use Rattle.walkx.specs.Walk.{Then}
 use Rattle.walkx.specs.Inner.Posts.{PostData, step_of, processor_of, part_raised}
 use Rattle.walkx.specs.Driving.{Part}
@@ -165,12 +166,7 @@ abbrev pub compares_claims : PostData → Script Then → Script Then
 compares_claims at after =
     hears_request at 0 after (λ part. compares_claim at part after (λ done. after))
 
--- the task of the phase
-abbrev pub does : PostData → Script Then → Script Then
-does at = task_in at.layout.form at.job.rule (kind_at at.phase) at.job at.layout (step_of at)
-    (processor_of at)
-
--- in the compact form, that of a pass and that of the phase
+-- in the compact form, the task of a pass and that of the phase
 abbrev pub does_in : Kind → PostData → Script Then → Script Then
 does_in kind at = task_of at.job.rule kind at.job at.layout (step_of at) (processor_of at)
 
@@ -178,10 +174,11 @@ abbrev pub does_compact : PostData → Script Then → Script Then
 does_compact at = does_in (kind_at at.phase) at
 
 -- in the wide form
-abbrev pub does_wide_in : Kind → PostData → Script Then → Script Then
-does_wide_in kind at = wide_task_of at.job.rule kind at.job at.layout (step_of at) (processor_of at)
+abbrev pub does_wide_in : Kind → PostData → Memo → Part Memo
+does_wide_in kind at memo after next =
+    wide_task_of at.job.rule kind at.job at.layout (step_of at) (processor_of at) memo next
 
-abbrev pub does_wide : PostData → Script Then → Script Then
+abbrev pub does_wide : PostData → Memo → Part Memo
 does_wide at = does_wide_in (kind_at at.phase) at
 
 -- ---- the compute task

@@ -1,5 +1,5 @@
 -- Answers that are played back, and the worker that heard them.
-use Rattle.std.specs.Prelude.{◌≡◌, ℕ, ◌*◌, ◌<◌, ◌≤◌, [], ◌∷◌, length}
+use Rattle.std.specs.Prelude.{◌≡◌, ℕ, suc, ◌*◌, ◌<◌, ◌≤◌, [], ◌∷◌, length, slice_set}
 use Rattle.std.specs.Prelude.{Option, Some, None, Result, Ok, Err}
 use Rattle.pram_job.specs.Job.{JobData}
 use Rattle.pram_words.specs.Words.{LayoutData}
@@ -11,10 +11,12 @@ use Rattle.walkx.specs.declared.playback.Playback.{Playback}
 use Rattle.walkx.specs.Doing.{Doing}
 use Rattle.walkx.specs.Doing as doing
 use Rattle.walkx.specs.Inner.Heard.{newest}
-use Rattle.walkx.specs.Inner.Posts.{PostData, post_data}
-use Rattle.walkx.specs.Rests.{then_of}
+use Rattle.walkx.specs.Inner.Posts.{IsLeafPost, IsPost, PostData, post_data}
+use Rattle.walkx.specs.Rests.{IsBlockPost, then_of}
 use Rattle.walkx.specs.Scripts.{Script, ends, first_op, heard_in, rest}
-use Rattle.walkx.specs.Walk.{Then, Walking, AllAdmitted, IsInBlock, node_of, script_of}
+use Rattle.walkx.specs.Memory.{FitsMemory}
+use Rattle.walkx.specs.Walk.{Then, Walking, AllAdmitted, IsInBlock, goes_in, node_of, processor_at}
+use Rattle.walkx.specs.Walk.{script_of}
 
 -- this many of the answers were played back, and this is left of the script
 pub record Played (at : PostData) (from : Playback × Script Then) (playback : Playback)
@@ -66,24 +68,43 @@ pub record IsPlayable (job : JobData) (layout : LayoutData) (worker : Walking) :
   pub node : (1 ≤ node_of layout worker) × (node_of layout worker < 2 * layout.leaves)
   pub phase : phase_of_doing worker.now ≤ 3 * job.steps
   pub block : IsInBlock layout (node_of layout worker) worker.now
+  pub memory : FitsMemory job worker.memory
   pub admitted : AllAdmitted job layout (heard_in (script_of job layout worker) worker.heard)
+
+-- a worker on its board, in the block of its leaf
+pub record IsBlockPlace (at : PostData) : Type 0 where
+  pub post : IsPost at
+  pub block : IsBlockPost at
+
+-- where a worker of this number goes on in a block, it is there
+abbrev pub GoesOn : JobData → LayoutData → ℕ → Next → Type 0
+GoesOn job layout worker (next.Enters node phase) =
+    IsBlockPlace (post_data job layout worker node phase 0)
+GoesOn job layout worker (next.Worked node phase rank memo) =
+    IsLeafPost (post_data job layout worker node phase rank)
+    × IsBlockPlace (post_data job layout worker node phase (suc rank))
+GoesOn job layout worker _ = Unit {0}
 
 -- the worker with one answer more
 abbrev pub hearing : Walking → ℕ → Walking
 hearing worker found = record worker { heard = found ∷ worker.heard }
 
 -- the worker after a script that it heard whole, and where it is held then
-abbrev pub come_to : Walking → Next → Walking
-come_to worker (next.Begins node) =
-    record { number = worker.number; node = Some node; now = doing.Begin; heard = [] }
-come_to worker (next.Turns node phase) =
-    record { number = worker.number; node = Some node; now = doing.Turn phase; heard = [] }
-come_to worker (next.Works node phase rank) =
-    record { number = worker.number; node = Some node; now = doing.Part phase rank; heard = [] }
-come_to worker (next.Stops end) = record worker { now = doing.Over end }
+abbrev pub come_to : JobData → LayoutData → Walking → Next → Walking
+come_to job layout worker (next.Begins node) =
+    record worker { node = Some node; now = doing.Begin; heard = [] }
+come_to job layout worker (next.Turns node phase) =
+    record worker { node = Some node; now = doing.Turn phase; heard = [] }
+come_to job layout worker (next.Enters node phase) =
+    goes_in job layout worker.number node phase 0 worker.memory
+come_to job layout worker (next.Worked node phase rank memo) =
+    goes_in job layout worker.number node phase (suc rank)
+    (slice_set worker.memory (processor_at layout node rank) memo)
+come_to job layout worker (next.Stops end) = record worker { now = doing.Over end }
 
 abbrev pub op_after : Next → Option Op
 op_after (next.Begins node) = None
 op_after (next.Turns node phase) = None
-op_after (next.Works node phase rank) = None
+op_after (next.Enters node phase) = None
+op_after (next.Worked node phase rank memo) = None
 op_after (next.Stops end) = Some (Over end)

@@ -1,11 +1,10 @@
 -- What is left of a turn in its midst.
 use Rattle.std.specs.Prelude.{◌≡◌, ◌≤◌, ℕ, ◌*◌, ◌/◌, ◌%◌, ◌+◌, ◌&&◌, ◌==◌, nat_le, if◌then◌else◌}
-use Rattle.std.specs.Prelude.{Option, Some, None}
+use Rattle.std.specs.Prelude.{List, Option, Some, None}
 use Rattle.pram_words.specs.Phases.{next_phase}
 use Rattle.pram_words.specs.declared.words.Word.TheVariants.{Conflict, Node}
-use Rattle.pram_words.specs.Words.{number_of}
+use Rattle.pram_words.specs.Words.{grain, number_of}
 use Rattle.walkx.specs.declared.operation.Op.TheVariants.{Load}
-use Rattle.walkx.specs.Records.{script_at_rank}
 use Rattle.walkx.specs.Scripts.{Script, asks, ends}
 use Rattle.walkx.specs.declared.next.Next.{Next}
 use Rattle.walkx.specs.declared.next.Next.TheVariants as next
@@ -14,9 +13,12 @@ use Rattle.walkx.specs.declared.operation.Activity.TheVariants as activity
 use Rattle.walkx.specs.declared.operation.Ended.TheVariants as ended
 use Rattle.walkx.specs.declared.turns.Turned.{Turned}
 use Rattle.walkx.specs.declared.turns.Turned.TheVariants as turned
-use Rattle.walkx.specs.Walk.{Then, begins, turns, works, stops, back_script, begin_script}
-use Rattle.walkx.specs.Walk.{leaf_script, part_script, stands_at, turn_script, way_down}
-use Rattle.walkx.specs.Inner.Posts.{IsLeafPost, PostData, then_marks}
+use Rattle.walkx.specs.declared.memo.Memo.{Memo}
+use Rattle.walkx.specs.Memory.{at_start}
+use Rattle.walkx.specs.Walk.{Then, begins, turns, enters, worked, stops, back_script, begin_script}
+use Rattle.walkx.specs.Walk.{block_script, leaf_script, part_script, stands_at, turn_script}
+use Rattle.walkx.specs.Walk.{IsWide, way_down}
+use Rattle.walkx.specs.Inner.Posts.{PostData, then_marks}
 
 abbrev pub moves : PostData → ℕ → Script Then
 moves at to = stands_at at.layout at.worker to at.phase
@@ -45,23 +47,26 @@ after_node at found =
 abbrev pub turn_of : PostData → Script Then
 turn_of at = turn_script at.job at.layout at.worker at.node at.phase
 
--- the task of a processor
-abbrev pub part_rest : PostData → Script Then
-part_rest at = part_script at.job at.layout at.node at.phase at.rank
+-- the task of a processor of which the worker knows this, and what it leads to in the wide form
+abbrev pub part_rest : PostData → Memo → Script Then
+part_rest at memo = part_script at.job at.layout at.node at.phase at.rank memo
 
--- the script with that task
-abbrev pub script_at : PostData → Script Then
-script_at at = script_at_rank at.job at.layout at.worker at.node at.phase at.rank
+abbrev pub has_worked : PostData → Memo → Then
+has_worked at memo = worked at.node at.phase at.rank memo
+
+-- in a block: such a task, or the mark
+abbrev pub block_of : PostData → List Memo → Script Then
+block_of at memory = block_script at.job at.layout at.node at.phase at.rank memory
 
 -- what comes of a turn
 abbrev pub leads : PostData → Turned → Then
 leads at turned.Finished = begins 1
 leads at (turned.To node) = turns node at.phase
-leads at (turned.Within rank) = works at.node at.phase rank
+leads at turned.Enters = enters at.node at.phase
 
--- what is left of a script after a turn, or before the task of a processor
+-- what is left of a turn, or before the task at a leaf in the compact form
 abbrev pub entered : PostData → Option Turned → Script Then
-entered at None = part_rest at
+entered at None = part_rest at at_start
 entered at (Some turned) = ends (leads at turned)
 
 -- ---- the scripts back and begin
@@ -70,7 +75,8 @@ entered at (Some turned) = ends (leads at turned)
 abbrev pub then_of : Next → Then
 then_of (next.Begins node) = begins node
 then_of (next.Turns node phase) = turns node phase
-then_of (next.Works node phase rank) = works node phase rank
+then_of (next.Enters node phase) = enters node phase
+then_of (next.Worked node phase rank memo) = worked node phase rank memo
 then_of (next.Stops end) = stops end
 
 abbrev pub back_of : PostData → Script Then
@@ -94,21 +100,23 @@ after_root at root =
     if root % 3 == 0 then conflict_rest at root
     else ends (turns at.node (next_phase at.layout.form root))
 
--- the script of an activity; a worker that is over has heard a whole begin
-abbrev pub script_in : PostData → Activity → Script Then
-script_in at activity.Back = back_of at
-script_in at activity.Begin = begin_of at
-script_in at (activity.Turn phase) = turn_of at
-script_in at (activity.Part phase rank) = part_rest at
-script_in at (activity.Over end) = begin_of at
+-- the script of an activity, with this memory; a worker that is over has heard a whole begin
+abbrev pub script_in : PostData → Activity → List Memo → Script Then
+script_in at activity.Back memory = back_of at
+script_in at activity.Begin memory = begin_of at
+script_in at (activity.Turn phase) memory = turn_of at
+script_in at (activity.Part phase rank) memory = block_of at memory
+script_in at (activity.Over end) memory = begin_of at
 
--- a post where such a script can be played
-pub record IsPlayedAt (at : PostData) : Type 0 where
+-- a leaf in the wide form, at a rank of its block, or at its end
+pub record IsBlockPost (at : PostData) : Type 0 where
+  pub leaf : at.layout.leaves ≤ at.node
+  pub rank : at.rank ≤ grain at.layout
+  pub wide : IsWide at.layout.form
   pub phase : at.phase ≤ 3 * at.job.steps
-  pub leaf : 1 ≤ at.rank → IsLeafPost at
 
 -- an activity that the worker's post fits
 abbrev pub IsWithin : PostData → Activity → Type 0
 IsWithin at (activity.Turn phase) = (at.rank ≡ 0) × (at.phase ≤ 3 * at.job.steps)
-IsWithin at (activity.Part phase rank) = (1 ≤ at.rank) × IsLeafPost at
+IsWithin at (activity.Part phase rank) = IsBlockPost at
 IsWithin at _ = Unit {0}

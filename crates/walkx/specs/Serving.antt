@@ -18,14 +18,14 @@ pub record Serves (job : JobData) (layout : LayoutData) (worker : WorkerData) : 
   pub fits : Fits job layout worker.walking
   pub held : IsHeldAt job layout worker.walking worker.held_op
 
--- A worker of this number that stands so from the start: it serves on every board that it is a
--- worker of, and every record knows it.
+-- A worker of this number that stands so from the start: on every board that it is a worker of it
+-- serves, and every record knows it.
 pub record IsNewWorker (number : ℕ) (walking : Walking) (worker : WorkerData) : Type 0 where
   pub value : worker.walking ≡ walking
   pub serves : (job : JobData) (layout : LayoutData) → number < layout.workers →
       Serves job layout worker
   pub known : (job : JobData) (layout : LayoutData) (past : Record) →
-      Knows job layout past worker.walking
+      number < layout.workers → Knows job layout past worker.walking
 
 pub record FollowsScript (layout : LayoutData) (reader : ReaderData) : Type 0 where
   pub cell : reader.looking.cell < layout.cells

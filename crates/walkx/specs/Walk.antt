@@ -1,7 +1,8 @@
 -- The walk: the scripts back, begin and turn, and a worker that goes through them.
 use Rattle.std.specs.Prelude.{◌≡◌, ℕ, ◌+◌, ◌-◌, ◌*◌, ◌/◌, ◌%◌, ◌<◌}
 use Rattle.std.specs.Prelude.{◌≤◌, ◌&&◌, ◌==◌, nat_le, nat_lt, if◌then◌else◌, List, [], ◌∷◌}
-use Rattle.std.specs.Prelude.{suc, Bool, IsTrue, ◌++◌, Option, Some, None, IfSome, unwrap_or}
+use Rattle.std.specs.Prelude.{zero, suc, Bool, IsTrue, ◌++◌, Option, Some, None, IfSome, unwrap_or}
+use Rattle.std.specs.Prelude.{slice_set}
 use Rattle.std.specs.List.{AllByRecursion}
 use Rattle.pram_job.specs.Job.{JobData, IsJob}
 use Rattle.pram_words.specs.Phases.{step_at, kind_at, has_phase, next_phase, phase_before}
@@ -16,16 +17,23 @@ use Rattle.walkx.specs.declared.operation.Op.TheVariants.{Load, Store, Max, Swap
 use Rattle.walkx.specs.Doing.{Doing}
 use Rattle.walkx.specs.Doing as doing
 use Rattle.walkx.specs.Scripts.{Script, asks, ends, rest_after, rest, first_op, heard_in}
+use Rattle.pram_words.specs.Forms.{by_form}
+use Rattle.pram_words.specs.declared.layout.Form.{Form}
+use Rattle.pram_words.specs.declared.layout.Form.TheVariants.{Compact, Wide}
+use Rattle.walkx.specs.declared.memo.Memo.{Memo}
+use Rattle.walkx.specs.Memory.{FitsMemory, at_start, blank, memo_of}
 use Rattle.walkx.specs.Passes.{task_in}
 
 -- ---- the scripts
 
--- what comes of a script: the worker begins at a node, makes a turn at a node in a phase, does the
--- task of a processor of the node's block, by its rank there, or is over
+-- what comes of a script: the worker begins at a node, makes a turn at a node in a phase, enters the
+-- block of a leaf, has done the task of a processor there, by its rank, of which it now knows this,
+-- or is over
 pub data Then : Type 0 where
   begins : ℕ → Then
   turns : ℕ → ℕ → Then
-  works : ℕ → ℕ → ℕ → Then
+  enters : ℕ → ℕ → Then
+  worked : ℕ → ℕ → ℕ → Memo → Then
   stops : Ended → Then
 
 -- A worker that comes back stands where its position word says.
@@ -67,24 +75,35 @@ abbrev pub has_rank : LayoutData → ℕ → ℕ → Bool
 has_rank layout node rank =
     nat_lt rank (grain layout) && nat_lt (processor_at layout node rank) layout.procs
 
--- after a processor's task comes the next one's; after the last one's the leaf is marked
-abbrev pub after_part : LayoutData → ℕ → ℕ → ℕ → Script Then
-after_part layout node phase rank =
-    if has_rank layout node (suc rank) then ends (works node phase (suc rank))
-    else marks_node layout node phase
+-- in the compact form a leaf has one processor, and is marked after its task
+abbrev pub after_part : LayoutData → ℕ → ℕ → ℕ → Memo → Script Then
+after_part layout node phase rank memo =
+    by_form layout.form (marks_node layout node phase) (ends (worked node phase rank memo))
 
-unfoldable pub part_script : JobData → LayoutData → ℕ → ℕ → ℕ → Script Then
-part_script job layout node phase rank =
+-- the task of a processor of which the worker knows this
+abbrev pub task_at : {R : Type 0} → JobData → LayoutData → ℕ → ℕ → ℕ → Memo → (Memo → Script R) →
+    Script R
+task_at job layout node phase rank =
     task_in layout.form job.rule (kind_at phase) job layout (step_at phase)
     (processor_at layout node rank)
-    (after_part layout node phase rank)
 
--- the work at an unfinished leaf, which begins with the first processor of its block; the leaves
--- after those of the processors have none
+unfoldable pub part_script : JobData → LayoutData → ℕ → ℕ → ℕ → Memo → Script Then
+part_script job layout node phase rank memo =
+    task_at job layout node phase rank memo (after_part layout node phase rank)
+
+-- in a block: the task of the processor of this rank, or, after the last one's, the mark
+abbrev pub block_script : JobData → LayoutData → ℕ → ℕ → ℕ → List Memo → Script Then
+block_script job layout node phase rank memory =
+    if has_rank layout node rank
+    then part_script job layout node phase rank (memo_of memory (processor_at layout node rank))
+    else marks_node layout node phase
+
+-- the work at an unfinished leaf; the leaves after those of the processors have none
 abbrev pub leaf_script : JobData → LayoutData → ℕ → ℕ → Script Then
 leaf_script job layout node phase =
-    if has_rank layout node 0 then part_script job layout node phase 0
-    else marks_node layout node phase
+    if has_rank layout node 0
+    then by_form layout.form (part_script job layout node phase 0 at_start)
+    (ends (enters node phase)) else marks_node layout node phase
 
 -- A finished node is left upward, a leaf is worked at and marked, an inner node is marked or left
 -- downward.
@@ -101,36 +120,46 @@ turn_script job layout worker node phase = asks (Load (number_of layout (Node no
 -- ---- a worker
 
 -- its number, the node where it stands (none stands for its first leaf), the script in progress,
--- and the answers heard in it, the newest first
+-- the answers heard in it, the newest first, and what it remembers of each processor
 pub record Walking : Type 0 where
   pub number : ℕ
   pub node : Option ℕ
   pub now : Doing
   pub heard : List ℕ
+  pub memory : List Memo
 
 abbrev pub node_of : LayoutData → Walking → ℕ
 node_of layout worker = unwrap_or worker.node (first_leaf_in layout worker.number)
 
 -- A worker that is over has heard a whole begin.
-abbrev pub script_by : JobData → LayoutData → ℕ → ℕ → Doing → Script Then
-script_by job layout worker node doing.Back = back_script layout worker
-script_by job layout worker node doing.Begin = begin_script job layout node
-script_by job layout worker node (doing.Turn phase) = turn_script job layout worker node phase
-script_by job layout worker node (doing.Part phase rank) = part_script job layout node phase rank
-script_by job layout worker node (doing.Over end) = begin_script job layout node
+abbrev pub script_by : JobData → LayoutData → ℕ → ℕ → List Memo → Doing → Script Then
+script_by job layout worker node memory doing.Back = back_script layout worker
+script_by job layout worker node memory doing.Begin = begin_script job layout node
+script_by job layout worker node memory (doing.Turn phase) =
+    turn_script job layout worker node phase
+script_by job layout worker node memory (doing.Part phase rank) =
+    block_script job layout node phase rank memory
+script_by job layout worker node memory (doing.Over end) = begin_script job layout node
 
 abbrev pub script_of : JobData → LayoutData → Walking → Script Then
-script_of job layout worker = script_by job layout worker.number (node_of layout worker) worker.now
+script_of job layout worker =
+    script_by job layout worker.number (node_of layout worker) worker.memory worker.now
 
 abbrev pub rest_of : JobData → LayoutData → Walking → Script Then
 rest_of job layout worker = rest (script_of job layout worker) worker.heard
 
 -- a worker newly started, and one that comes back
 abbrev pub started : ℕ → Walking
-started worker = record { number = worker; node = None; now = doing.Begin; heard = [] }
+started worker =
+    record { number = worker; node = None; now = doing.Begin; heard = []; memory = [] }
 
 abbrev pub come_back : ℕ → Walking
-come_back worker = record { number = worker; node = None; now = doing.Back; heard = [] }
+come_back worker =
+    record { number = worker; node = None; now = doing.Back; heard = []; memory = [] }
+
+-- it, with a memory of so many processors
+abbrev pub remembering : ℕ → Walking → Walking
+remembering procs worker = record worker { memory = blank procs }
 
 -- the worker's next operation
 abbrev pub next_op : Doing → Script Then → Op
@@ -140,25 +169,57 @@ next_op _ script = unwrap_or (first_op script) (Over ended.Done)
 abbrev pub ask_of : JobData → LayoutData → Walking → Op
 ask_of job layout worker = next_op worker.now (rest_of job layout worker)
 
+-- In a block, from this rank on, processors whose task asks nothing are passed over, and what the
+-- worker then knows of them is remembered: the first other one, or the end of the block.
+abbrev pub if_ended : {A : Type 0} → Script Memo → A → (Memo → A) → A
+if_ended (asks op next) going ended = going
+if_ended (ends memo) going ended = ended memo
+
+abbrev pub passes_over : ℕ → JobData → LayoutData → ℕ → ℕ → ℕ → List Memo → ℕ × List Memo
+passes_over zero job layout node phase rank memory = (rank, memory)
+passes_over (suc more) job layout node phase rank memory =
+    if has_rank layout node rank
+    then if_ended (task_at job layout node phase rank
+    (memo_of memory (processor_at layout node rank)) (λ memo. ends memo)) (rank, memory)
+    (λ memo. passes_over more job layout node phase (suc rank)
+    (slice_set memory (processor_at layout node rank) memo)) else (rank, memory)
+
+-- the worker in a block, at such a rank
+abbrev pub stands_in : ℕ → ℕ → ℕ → ℕ × List Memo → Walking
+stands_in worker node phase passed = record {
+  number = worker;
+  node = Some node;
+  now = doing.Part phase passed.0;
+  heard = [];
+  memory = passed.1;
+}
+
+abbrev pub goes_in : JobData → LayoutData → ℕ → ℕ → ℕ → ℕ → List Memo → Walking
+goes_in job layout worker node phase rank memory =
+    stands_in worker node phase (passes_over (grain layout) job layout node phase rank memory)
+
 -- the worker with one answer more, this being the rest of its script
-abbrev pub goes_on : Walking → ℕ → Script Then → Walking
-goes_on worker found (asks op next) = record worker { heard = found ∷ worker.heard }
-goes_on worker found (ends (begins node)) =
-    record { number = worker.number; node = Some node; now = doing.Begin; heard = [] }
-goes_on worker found (ends (turns node phase)) =
-    record { number = worker.number; node = Some node; now = doing.Turn phase; heard = [] }
-goes_on worker found (ends (works node phase rank)) =
-    record { number = worker.number; node = Some node; now = doing.Part phase rank; heard = [] }
-goes_on worker found (ends (stops end)) =
+abbrev pub goes_on : JobData → LayoutData → Walking → ℕ → Script Then → Walking
+goes_on job layout worker found (asks op next) = record worker { heard = found ∷ worker.heard }
+goes_on job layout worker found (ends (begins node)) =
+    record worker { node = Some node; now = doing.Begin; heard = [] }
+goes_on job layout worker found (ends (turns node phase)) =
+    record worker { node = Some node; now = doing.Turn phase; heard = [] }
+goes_on job layout worker found (ends (enters node phase)) =
+    goes_in job layout worker.number node phase 0 worker.memory
+goes_on job layout worker found (ends (worked node phase rank memo)) =
+    goes_in job layout worker.number node phase (suc rank)
+    (slice_set worker.memory (processor_at layout node rank) memo)
+goes_on job layout worker found (ends (stops end)) =
     record worker { now = doing.Over end; heard = found ∷ worker.heard }
 
-abbrev pub told_by : Doing → Walking → ℕ → Script Then → Walking
-told_by (doing.Over end) worker found script = worker
-told_by _ worker found script = goes_on worker found script
+abbrev pub told_by : JobData → LayoutData → Doing → Walking → ℕ → Script Then → Walking
+told_by job layout (doing.Over end) worker found script = worker
+told_by job layout _ worker found script = goes_on job layout worker found script
 
 abbrev pub told : JobData → LayoutData → Walking → ℕ → Walking
 told job layout worker found =
-    told_by worker.now worker found (rest_after (rest_of job layout worker) found)
+    told_by job layout worker.now worker found (rest_after (rest_of job layout worker) found)
 
 -- how the worker ended, if it did
 abbrev pub end_of : Doing → Option Ended
@@ -237,10 +298,14 @@ IsPhase job layout (doing.Part phase rank) =
     (1 ≤ phase) × (phase ≤ 3 * job.steps) × IsTrue (has_phase layout.form phase)
 IsPhase job layout _ = Unit {0}
 
--- the node is a leaf with a processor of this rank, which is not the first one
+abbrev pub IsWide : Form → Type 0
+IsWide Compact = ⊥
+IsWide (Wide block) = Unit {0}
+
+-- the node is a leaf, in the wide form, and the rank one of its block, or the end of it
 abbrev pub IsInBlock : LayoutData → ℕ → Doing → Type 0
 IsInBlock layout node (doing.Part phase rank) =
-    (layout.leaves ≤ node) × (1 ≤ rank) × IsTrue (has_rank layout node rank)
+    (layout.leaves ≤ node) × (rank ≤ grain layout) × IsWide layout.form
 IsInBlock layout node _ = Unit {0}
 
 -- What is left of the script matches what the worker is doing: it goes on, or it ended as the
@@ -255,5 +320,6 @@ pub record Fits (job : JobData) (layout : LayoutData) (worker : Walking) : Type 
   pub node : IfSome worker.node (λ node. (1 ≤ node) × (node < 2 * layout.leaves))
   pub phase : IsPhase job layout worker.now
   pub block : IsInBlock layout (node_of layout worker) worker.now
+  pub memory : FitsMemory job worker.memory
   pub admitted : AllAdmitted job layout (heard_of job layout worker)
   pub matches : Matches worker.now (rest_of job layout worker)

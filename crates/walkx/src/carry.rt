@@ -26,7 +26,8 @@ pub(crate) fn write_data<S: Steps>(
     if is_none(place) {
         return Ok(());
     }
-    write_place(steps, leaf, place - 1, value)
+    let word = leaf.place_word(place - 1);
+    write_place(steps, leaf, place - 1, word, value)
 }
 
 /// A request is carried out: its data, if there is any, and the next counter.
@@ -45,7 +46,8 @@ pub(crate) fn carry<S: Steps>(
         steps.new result }
 {
     write_data(steps, leaf, place, value)?;
-    write_place(steps, leaf, leaf.counter_place(), count)
+    let counter = leaf.counter_place();
+    write_place(steps, leaf, counter, leaf.counter_word(), count)
 }
 
 /// The request of the processor is heard, and carried out by the rule.

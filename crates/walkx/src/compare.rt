@@ -32,7 +32,8 @@ fn compare_place<S: Steps>(steps: &mut S, leaf: &Leaf, place: u32, value: u32) -
     ensures plays { Plays (S.stands leaf.now) steps.old (compares_place leaf.now place value)
         steps.new result }
 {
-    let (first, second) = hear_both(steps, leaf, place)?;
+    let word = leaf.place_word(place);
+    let (first, second) = hear_both(steps, leaf, place, word)?;
     report_if(steps, leaf, either_differs(leaf, value, first, second))
 }
 

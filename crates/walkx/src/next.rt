@@ -1,4 +1,5 @@
 //! What comes of a script.
+use crate::memo::Memo;
 use crate::operation::Ended;
 
 /// What comes of a script.
@@ -8,8 +9,11 @@ pub(crate) enum Next {
     Begins(u32),
     /// The worker makes a turn at this node in this phase.
     Turns(u32, u64),
-    /// The worker does a task at this leaf in this phase: that of the processor of this rank.
-    Works(u32, u64, u32),
+    /// The worker enters the block of this leaf in this phase.
+    Enters(u32, u64),
+    /// At this leaf in this phase it has done the task of the processor of this rank, and knows
+    /// this of it.
+    Worked(u32, u64, u32, Memo),
     /// The worker is over.
     Stops(Ended),
 }

@@ -1,7 +1,8 @@
 //! Parts of a task.
-ghost use Rattle.std.specs.Prelude.{◌≡◌, ◌<◌, ◌≤◌, ◌==◌, IfOk};
+ghost use Rattle.std.specs.Prelude.{◌≡◌, ℕ, ◌+◌, ◌^◌, ◌<◌, ◌≤◌, ◌==◌, IfOk};
 ghost use Rattle.pram_words.specs.Words.{most_asked, places_of};
 ghost use Rattle.walkx.specs.Driving.{IsNextPart, Plays};
+ghost use Rattle.walkx.specs.Inner.Posts.{IsPairAt};
 ghost use Rattle.walkx.specs.Parts.{both_of, hears_request, swap_of, writes};
 
 use crate::left::Left;
@@ -27,18 +28,18 @@ pub(crate) fn hear_part<S: Steps>(steps: &mut S, leaf: &Leaf, j: u32) -> Result<
     }
 }
 
-/// Both words of a place.
+/// Both words of a place, the first of which is this.
 #[inline(always)]
 pub(crate) fn hear_both<S: Steps>(
     steps: &mut S,
     leaf: &Leaf,
     place: u32,
+    word: u32,
 ) -> Result<(u64, u64), Left>
-    requires place { place < places_of leaf.now.layout }
+    requires word { IsPairAt leaf.now.layout place word }
     requires next { IsNextPart (S.stands leaf.now) steps.old (both_of leaf.now place) }
     ensures plays { Plays (S.stands leaf.now) steps.old (both_of leaf.now place) steps.new result }
 {
-    let word = leaf.place_word(place);
     let first = steps.make(Op::Load(word))?;
     let second = steps.make(Op::Load(word + 1))?;
     Ok((first, second))
@@ -50,28 +51,29 @@ pub(crate) fn write_place<S: Steps>(
     steps: &mut S,
     leaf: &Leaf,
     place: u32,
+    word: u32,
     value: u32,
 ) -> Result<(), Left>
-    requires place { place < places_of leaf.now.layout }
+    requires word { IsPairAt leaf.now.layout place word }
     requires next { IsNextPart (S.stands leaf.now) steps.old (writes leaf.now place value) }
     ensures plays { Plays (S.stands leaf.now) steps.old (writes leaf.now place value) steps.new
         result }
 {
-    let (first, second) = hear_both(steps, leaf, place)?;
+    let (first, second) = hear_both(steps, leaf, place, word)?;
     if leaf.is_late(first, second) {
         return Ok(());
     }
-    steps.make(older_swap(leaf, place, value, first, second))?;
+    steps.make(older_swap(leaf, word, value, first, second))?;
     Ok(())
 }
 
 /// The older of the two words is swapped for the value.
 #[inline(always)]
-pub(crate) fn older_swap(leaf: &Leaf, place: u32, value: u32, first: u64, second: u64) -> Op
-    requires { place < places_of leaf.now.layout }
-    ensures { result ≡ swap_of leaf.now place value first second }
+pub(crate) fn older_swap(leaf: &Leaf, word: u32, value: u32, first: u64, second: u64) -> Op
+    requires { word + 1 < 2 ^ 32 }
+    ensures { (place : ℕ) → IsPairAt leaf.now.layout place word →
+        result ≡ swap_of leaf.now place value first second }
 {
-    let word = leaf.place_word(place);
     let new = stamped(leaf.step(), value);
     if stamp(first) <= stamp(second) {
         Op::Swap(word, first, new)

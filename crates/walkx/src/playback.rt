@@ -1,12 +1,14 @@
 //! The driver of a worker that is asked and told.
 ghost use Rattle.std.specs.Prelude.{◌≡◌, length};
 ghost use Rattle.walkx.specs.Inner.Heard.{newest};
+ghost use Rattle.walkx.specs.Memory.{FitsMemory};
 ghost use Rattle.walkx.specs.Playing.{ScriptComesTo};
 ghost use Rattle.walkx.specs.Rests.{IsWithin, script_in};
 ghost use Rattle.walkx.specs.Scripts.{heard_in, rest};
 ghost use Rattle.walkx.specs.Walk.{AllAdmitted};
 
 use crate::left::Stopped;
+use crate::memo::Memory;
 use crate::next::Next;
 use crate::operation::{Activity, Ended, Op};
 use crate::post::Post;
@@ -43,20 +45,25 @@ impl<'a> Steps for Playback<'a> {
 
 /// What the script of an activity comes to with these answers, or the operation that has none yet.
 #[inline(always)]
-pub(crate) fn play_back(post: &Post, activity: Activity, heard: &[u64]) -> Result<Next, Op>
+pub(crate) fn play_back(
+    post: &Post,
+    activity: Activity,
+    memory: &Memory,
+    heard: &[u64],
+) -> Result<Next, Op>
     requires within { IsWithin post.now activity }
+    requires memory { FitsMemory post.now.job memory.now }
     requires admitted { AllAdmitted post.now.job post.now.layout (heard_in (script_in post.now
-        activity) (newest (length heard.now) heard.now)) }
-    ensures { ScriptComesTo
-        (rest (script_in post.now activity) (newest (length heard.now) heard.now))
-        result }
+        activity memory.now) (newest (length heard.now) heard.now)) }
+    ensures { ScriptComesTo (rest (script_in post.now activity memory.now)
+        (newest (length heard.now) heard.now)) result }
 {
     let mut steps = Playback {
         heard,
         played: 0,
         held_op: Op::Over(Ended::Done),
     };
-    match play(&mut steps, post, activity) {
+    match play(&mut steps, post, activity, memory) {
         Ok(next) => Ok(next),
         Err(_) => Err(steps.held_op),
     }

@@ -1,22 +1,23 @@
 //! Where a worker stands.
 ghost use Rattle.std.specs.Prelude.{◌≡◌, ◌≢◌, ◌↔◌, IsTrue, ◌+◌, ◌-◌, ◌^◌, ◌<◌, ◌≤◌, ◌==◌, nat_lt};
+ghost use Rattle.std.specs.Prelude.{ℕ, ◌*◌, suc};
 ghost use Rattle.pram_words.specs.Stamps.{payload_of, stamp_of};
 ghost use Rattle.walkx.specs.Tasks.{is_late};
 ghost use Rattle.pram_machine.specs.Machine.{counter_place, register_place};
 ghost use Rattle.pram_words.specs.Phases.{kind_at};
-ghost use Rattle.pram_words.specs.Words.{counters_of, length_of, number_of, places_of};
+ghost use Rattle.pram_words.specs.Words.{counters_of, grain, length_of, number_of, places_of};
 ghost use Rattle.pram_words.specs.declared.words.Word.TheVariants.{Asked, Stored};
-ghost use Rattle.walkx.specs.Inner.Posts.{IsCell, IsLeafPost, IsLeafOf, IsPost, PostData};
-ghost use Rattle.walkx.specs.Inner.Posts.{at_rank, part_raised, post_data};
+ghost use Rattle.walkx.specs.Inner.Posts.{IsCell, IsLeafPost, IsLeafOf, IsPairAt, IsPost};
+ghost use Rattle.walkx.specs.Inner.Posts.{PostData, at_rank, part_raised, post_data};
 ghost use Rattle.walkx.specs.Inner.Posts.{processor_of, step_of};
 ghost use Rattle.walkx.specs.Tasks.{claim_of};
 ghost use Rattle.walkx.specs.Parts.{claim_loaded, claim_raised, differs_from, is_cell_part};
 ghost use Rattle.walkx.specs.Parts.{owner_place, report_made};
-ghost use Rattle.walkx.specs.Walk.{IsBoard, IsLayoutOf};
+ghost use Rattle.walkx.specs.Walk.{IsBoard, IsLayoutOf, IsWide, has_rank};
 
 use crate::operation::Op;
 use pram_job::{Job, Rule};
-use pram_words::{Form, Kind, Layout, kind_of, payload, stamp, stamped, step_of};
+use pram_words::{Kind, Layout, OwnWords, kind_of, payload, stamp, stamped, step_of};
 use std::marker::Model;
 
 /// Says to a proof that a job and the layout of its board are within their limits. It does nothing.
@@ -75,6 +76,40 @@ impl<'a> Post<'a> {
         Post { rank, ..self }
     }
 
+    /// The same by reference.
+    #[inline(always)]
+    pub fn at(&self, rank: u32) -> Post<'a>
+        ensures { result ≡ at_rank self.now rank }
+    {
+        Post { rank, ..*self }
+    }
+
+    /// The node where the worker stands.
+    #[inline(always)]
+    pub fn node(&self) -> u32
+        ensures { result ≡ self.now.node }
+    {
+        self.node
+    }
+
+    /// The processor of the rank.
+    #[inline(always)]
+    pub fn processor(&self) -> u32
+        requires { IsLeafPost self.now }
+        ensures { result ≡ processor_of self.now }
+    {
+        self.processor_at(self.rank)
+    }
+
+    // The processor of another rank.
+    #[inline(always)]
+    fn processor_at(&self, rank: u32) -> u32
+        requires { IsLeafPost (at_rank self.now rank) }
+        ensures { result ≡ processor_of (at_rank self.now rank) }
+    {
+        self.layout.grain() * (self.node - self.layout.leaves()) + rank
+    }
+
     /// Says to a proof that the worker is on its board. It does nothing.
     #[inline(always)]
     pub(crate) fn limits_hold(&self)
@@ -83,11 +118,34 @@ impl<'a> Post<'a> {
         let _ = &self.node;
     }
 
+    /// How many processors the leaf's block has.
+    #[inline(always)]
+    pub fn block_len(&self) -> u32
+        requires leaf { self.now.layout.leaves ≤ self.now.node }
+        ensures ranks { (rank : ℕ) → has_rank self.now.layout self.now.node rank
+            ≡ nat_lt rank result }
+        ensures most { result ≤ grain self.now.layout }
+    {
+        self.limits_hold();
+        let layout = self.layout;
+        let first = layout.grain() * (self.node - layout.leaves());
+        layout.grain().min(layout.procs().saturating_sub(first))
+    }
+
     /// This post, known to be a leaf of a processor.
     #[inline(always)]
-    pub(crate) fn leaf(&self) -> Leaf<'a>
+    pub fn leaf(&self) -> Leaf<'a>
         requires { IsLeafPost self.now }
         ensures { result ≡ self.now }
+    {
+        self.leaf_at(self.rank)
+    }
+
+    /// The post at the processor of another rank, known to be a leaf.
+    #[inline(always)]
+    pub(crate) fn leaf_at(&self, rank: u32) -> Leaf<'a>
+        requires { IsLeafPost (at_rank self.now rank) }
+        ensures { result ≡ at_rank self.now rank }
     {
         Leaf {
             job: self.job,
@@ -96,15 +154,18 @@ impl<'a> Post<'a> {
             node: self.node,
             phase: self.phase,
             step: step_of(self.phase),
-            rank: self.rank,
-            processor: self.layout.grain() * (self.node - self.layout.leaves()) + self.rank,
+            kind: kind_of(self.phase),
+            rank,
+            processor: self.processor_at(rank),
+            own: self.layout.own_words(self.processor_at(rank)),
+            first_cell: self.layout.cells_word(),
         }
     }
 }
 
 /// A worker at the leaf of a processor.
 #[derive(Drop)]
-pub(crate) struct Leaf<'a> {
+pub struct Leaf<'a> {
     job: &'a Job,
     layout: &'a Layout,
     worker: u32,
@@ -112,7 +173,10 @@ pub(crate) struct Leaf<'a> {
     phase: u64,
     rank: u32,
     step: u32,
+    kind: Kind,
     processor: u32,
+    own: OwnWords,
+    first_cell: u32,
 }
 
 impl<'a> Model for Leaf<'a> {
@@ -121,12 +185,39 @@ impl<'a> Model for Leaf<'a> {
     ghost view = { λ p. post_data p.job.now p.layout.now p.worker p.node p.phase p.rank };
 
     ghost invariant = { λ p. IsLeafOf
-        (post_data p.job.now p.layout.now p.worker p.node p.phase p.rank) p.step p.processor };
+        (post_data p.job.now p.layout.now p.worker p.node p.phase p.rank) p.step p.kind
+        p.processor p.own p.first_cell };
 }
 
 impl<'a> Leaf<'a> {
+    /// The leaf at the next processor of the block, in the wide form.
     #[inline(always)]
-    pub(crate) fn job(&self) -> &Job
+    pub fn next(&self) -> Leaf<'a>
+        requires wide { IsWide self.now.layout.form }
+        requires leaf { IsLeafPost (at_rank self.now (suc self.now.rank)) }
+        ensures { result ≡ at_rank self.now (suc self.now.rank) }
+    {
+        Leaf {
+            rank: self.rank + 1,
+            processor: self.processor + 1,
+            own: OwnWords {
+                counter: self.own.counter + 16,
+                registers: self.own.registers + 16,
+            },
+            ..*self
+        }
+    }
+
+    /// The processor's rank in the block.
+    #[inline(always)]
+    pub fn rank(&self) -> u32
+        ensures { result ≡ self.now.rank }
+    {
+        self.rank
+    }
+
+    #[inline(always)]
+    pub(crate) fn job(&self) -> &'a Job
         ensures value { result.now ≡ self.now.job }
         ensures limits { IsLeafPost self.now }
     {
@@ -154,20 +245,11 @@ impl<'a> Leaf<'a> {
 
     /// What the phase does.
     #[inline(always)]
-    pub(crate) fn kind(&self) -> Kind
+    pub fn kind(&self) -> Kind
         ensures value { result ≡ kind_at self.now.phase }
         ensures limits { IsLeafPost self.now }
     {
-        kind_of(self.phase)
-    }
-
-    /// The form of the board.
-    #[inline(always)]
-    pub(crate) fn form(&self) -> Form
-        ensures value { result ≡ self.now.layout.form }
-        ensures limits { IsLeafPost self.now }
-    {
-        self.layout.form()
+        self.kind
     }
 
     #[inline(always)]
@@ -176,6 +258,15 @@ impl<'a> Leaf<'a> {
         ensures limits { IsLeafPost self.now }
     {
         self.job.rule()
+    }
+
+    /// How many cells there are.
+    #[inline(always)]
+    pub(crate) fn cells(&self) -> u32
+        ensures value { result ≡ self.now.job.cells }
+        ensures limits { IsLeafPost self.now }
+    {
+        self.job.cells()
     }
 
     /// The place of the processor's counter.
@@ -237,15 +328,40 @@ impl<'a> Leaf<'a> {
         part != 0 && part - 1 < self.job.cells()
     }
 
+    /// The first word of the processor's counter.
+    #[inline(always)]
+    pub(crate) fn counter_word(&self) -> u32
+        ensures { IsPairAt self.now.layout (counter_place self.now.job (processor_of self.now))
+            result }
+    {
+        self.own.counter
+    }
+
+    /// That of one of its registers.
+    #[inline(always)]
+    pub(crate) fn register_word(&self, register: u8) -> u32
+        requires { register < 4 }
+        ensures { IsPairAt self.now.layout
+            (register_place self.now.job (processor_of self.now) register) result }
+    {
+        self.own.registers + 2 * u32::from(register)
+    }
+
+    /// That of a cell.
+    #[inline(always)]
+    pub(crate) fn cell_word(&self, cell: u32) -> u32
+        requires { cell < self.now.job.cells }
+        ensures { IsPairAt self.now.layout cell result }
+    {
+        self.first_cell + 2 * cell
+    }
+
     /// The first word of a place; the second one comes next.
     #[tactic(auto, using(crate::proofs::Boards::length_small))]
     #[inline(always)]
     pub(crate) fn place_word(&self, place: u32) -> u32
         requires { place < places_of self.now.layout }
-        ensures first { result ≡ number_of self.now.layout (Stored place 0) }
-        ensures second { result + 1 ≡ number_of self.now.layout (Stored place 1) }
-        ensures below { result + 1 < 2 ^ 32 }
-        ensures limits { IsLeafPost self.now }
+        ensures { IsPairAt self.now.layout place result }
     {
         self.layout.place_word(place)
     }
@@ -264,8 +380,8 @@ impl<'a> Leaf<'a> {
     pub(crate) fn is_late(&self, first: u64, second: u64) -> bool
         ensures { result ≡ is_late (step_of self.now) first second }
     {
-        let step = self.step();
-        step <= stamp(first) || step <= stamp(second)
+        let first_late = u64::from(self.step()) << 32;
+        first_late <= first || first_late <= second
     }
 
     /// A cell is claimed for the processor.

@@ -1,10 +1,11 @@
 //! The compute task.
-ghost use Rattle.std.specs.Prelude.{◌≡◌, ◌<◌, ◌^◌, length, slice_get, IfOk, IfSome, Some};
+ghost use Rattle.std.specs.Prelude.{◌≡◌, ◌<◌, ◌^◌, length, slice_get, IfOk, IfSome, MatchOption};
+ghost use Rattle.std.specs.Prelude.{None, Some};
 ghost use Rattle.pram_job.specs.Job.{IsInstr};
 ghost use Rattle.pram_machine.specs.Instructions.{HasShape, cell_read, decided, place_part};
 ghost use Rattle.pram_machine.specs.Machine.{register_place};
 ghost use Rattle.pram_words.specs.Words.{places_of};
-ghost use Rattle.walkx.specs.Inner.Posts.{IsLeafPost, processor_of};
+ghost use Rattle.walkx.specs.Inner.Posts.{IsLeafPost, IsPairAt, processor_of};
 ghost use Rattle.walkx.specs.Driving.{Ends, IsDue, IsNextPart, Plays};
 ghost use Rattle.walkx.specs.Parts.{computes, decides_at, executes_at, raises, raises_part, reads};
 ghost use Rattle.walkx.specs.Parts.{reads_cell_of, reads_operands};
@@ -21,12 +22,17 @@ use pram_words::newer_payload;
 
 /// What a place held before the step.
 #[inline(always)]
-pub(crate) fn read_place<S: Steps>(steps: &mut S, leaf: &Leaf, place: u32) -> Result<u32, Left>
-    requires place { place < places_of leaf.now.layout }
+pub(crate) fn read_place<S: Steps>(
+    steps: &mut S,
+    leaf: &Leaf,
+    place: u32,
+    word: u32,
+) -> Result<u32, Left>
+    requires word { IsPairAt leaf.now.layout place word }
     requires next { IsNextPart (S.stands leaf.now) steps.old (reads leaf.now place) }
     ensures plays { Plays (S.stands leaf.now) steps.old (reads leaf.now place) steps.new result }
 {
-    let (first, second) = hear_both(steps, leaf, place)?;
+    let (first, second) = hear_both(steps, leaf, place, word)?;
     if leaf.is_late(first, second) {
         Err(Left::Late)
     } else {
@@ -43,7 +49,8 @@ pub(crate) fn read_register<S: Steps>(steps: &mut S, leaf: &Leaf, r: u8) -> Resu
     ensures plays { Plays (S.stands leaf.now) steps.old (reads leaf.now (register_place leaf.now.job
         (processor_of leaf.now) r)) steps.new result }
 {
-    read_place(steps, leaf, leaf.register_place(r))
+    let place = leaf.register_place(r);
+    read_place(steps, leaf, place, leaf.register_word(r))
 }
 
 /// What the registers that an instruction reads held before the step, and 0 for each that it has
@@ -87,7 +94,7 @@ pub(crate) fn read_cell<S: Steps>(
         result }
 {
     match cell_of(leaf, instr, a) {
-        Some(cell) => read_place(steps, leaf, cell),
+        Some(cell) => read_place(steps, leaf, cell, leaf.cell_word(cell)),
         None => Ok(0),
     }
 }
@@ -170,24 +177,23 @@ pub(crate) fn compute<S: Steps>(steps: &mut S, leaf: &Leaf) -> Result<(), Left>
     requires due { IsDue (S.stands leaf.now) steps.old (computes leaf.now) }
     ensures ends { Ends (S.stands leaf.now) steps.old (computes leaf.now) steps.new result }
 {
-    let counter = read_place(steps, leaf, leaf.counter_place())?;
+    let place = leaf.counter_place();
+    let counter = read_place(steps, leaf, place, leaf.counter_word())?;
     match fetch(leaf, counter) {
         None => raise_request(steps, leaf, goes_to(counter)),
-        Some(instr) => execute(steps, leaf, counter, instr),
+        Some(instr) => execute(steps, leaf, counter, *instr),
     }
 }
 
 /// The instruction at a counter, if there is one.
 #[inline(always)]
-pub(crate) fn fetch(leaf: &Leaf, counter: u32) -> Option<Instr>
-    ensures value { result ≡ slice_get leaf.now.job.code counter }
+pub(crate) fn fetch<'a>(leaf: &Leaf<'a>, counter: u32) -> Option<&'a Instr>
+    ensures value { MatchOption result (slice_get leaf.now.job.code counter ≡ None)
+        (λ instr. slice_get leaf.now.job.code counter ≡ Some instr.now) }
     ensures fits { IfSome result (λ instr. (counter < length leaf.now.job.code)
-        × IsInstr leaf.now.job.cells (length leaf.now.job.code) instr) }
+        × IsInstr leaf.now.job.cells (length leaf.now.job.code) instr.now) }
 {
-    match leaf.job().code().get(counter as usize) {
-        None => None,
-        Some(instr) => Some(*instr),
-    }
+    leaf.job().code().get(counter as usize)
 }
 
 // The cell that an instruction reads, if it reads one.

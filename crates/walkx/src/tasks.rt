@@ -1,35 +1,27 @@
 //! The task of a phase, by the form of the board, the kind of the phase and the rule of writing.
-ghost use Rattle.std.specs.Prelude.{◌≡◌};
-ghost use Rattle.walkx.specs.Driving.{Ends, IsDue};
-ghost use Rattle.walkx.specs.Parts.{does, does_compact, does_wide, does_wide_in};
+ghost use Rattle.std.specs.Prelude.{◌≡◌, None};
+ghost use Rattle.walkx.specs.Driving.{Ends, IsDue, IsNextPart, Plays, learns};
+ghost use Rattle.walkx.specs.Memory.{FitsMemo};
+ghost use Rattle.walkx.specs.Inner.Posts.{step_of};
+ghost use Rattle.walkx.specs.Parts.{does_compact, does_wide, does_wide_in};
+ghost use Rattle.walkx.specs.Passing.{Passes, idle};
 
 use crate::carry::apply;
 use crate::claim::claim_cell;
 use crate::compare::{compare, compare_claims};
 use crate::left::Left;
+use crate::memo::Memo;
 use crate::post::Leaf;
 use crate::request::compute;
 use crate::steps::Steps;
-use crate::wide_own::{own, own_claimed};
+use crate::wide_own::own;
 use crate::wide_store::{store_common, store_crew, store_priority};
 use pram_job::Rule;
-use pram_words::{Form, Kind};
+use pram_words::Kind;
 
-/// The task of the phase at the leaf of a processor.
+/// The task of the phase in the compact form.
 #[inline(always)]
-pub(crate) fn task<S: Steps>(steps: &mut S, leaf: &Leaf) -> Result<(), Left>
-    requires due { IsDue (S.stands leaf.now) steps.old (does leaf.now) }
-    ensures ends { Ends (S.stands leaf.now) steps.old (does leaf.now) steps.new result }
-{
-    match leaf.form() {
-        Form::Compact => compact_task(steps, leaf),
-        Form::Wide(_) => wide_task(steps, leaf),
-    }
-}
-
-// The same in the compact form.
-#[inline(always)]
-fn compact_task<S: Steps>(steps: &mut S, leaf: &Leaf) -> Result<(), Left>
+pub(crate) fn compact_task<S: Steps>(steps: &mut S, leaf: &Leaf) -> Result<(), Left>
     requires due { IsDue (S.stands leaf.now) steps.old (does_compact leaf.now) }
     ensures ends { Ends (S.stands leaf.now) steps.old (does_compact leaf.now) steps.new result }
 {
@@ -44,42 +36,37 @@ fn compact_task<S: Steps>(steps: &mut S, leaf: &Leaf) -> Result<(), Left>
     }
 }
 
-// In the wide form, which has no second phase.
+/// The task of the phase in the wide form, which has no second phase, for a processor of which this
+/// is known: what is then known of it.
 #[inline(always)]
-fn wide_task<S: Steps>(steps: &mut S, leaf: &Leaf) -> Result<(), Left>
-    requires due { IsDue (S.stands leaf.now) steps.old (does_wide leaf.now) }
-    ensures ends { Ends (S.stands leaf.now) steps.old (does_wide leaf.now) steps.new result }
+pub(crate) fn wide_task<S: Steps>(steps: &mut S, leaf: &Leaf, memo: &mut Memo) -> Result<(), Left>
+    requires memo { FitsMemo leaf.now.job memo.old }
+    requires next { IsNextPart (S.stands leaf.now) steps.old (does_wide leaf.now memo.old) }
+    ensures idle { Passes (idle leaf.now memo.old) steps.old steps.new memo.new }
+    ensures plays { Plays (S.stands leaf.now) steps.old (does_wide leaf.now memo.old) steps.new
+        (learns result memo.new) }
 {
     match leaf.kind() {
-        Kind::Compute => first_pass(steps, leaf),
-        Kind::Apply => Ok(()),
-        Kind::Verify => second_pass(steps, leaf),
-    }
-}
-
-// The first of its passes.
-#[inline(always)]
-fn first_pass<S: Steps>(steps: &mut S, leaf: &Leaf) -> Result<(), Left>
-    requires due { IsDue (S.stands leaf.now) steps.old (does_wide_in Kind.Compute leaf.now) }
-    ensures ends { Ends (S.stands leaf.now) steps.old (does_wide_in Kind.Compute leaf.now)
-        steps.new result }
-{
-    match leaf.rule() {
-        Rule::Common => own(steps, leaf),
-        _ => own_claimed(steps, leaf),
+        Kind::Compute => own(steps, leaf, memo),
+        Kind::Apply => Err(Left::Late),
+        Kind::Verify => second_pass(steps, leaf, memo),
     }
 }
 
 // The second one.
 #[inline(always)]
-fn second_pass<S: Steps>(steps: &mut S, leaf: &Leaf) -> Result<(), Left>
-    requires due { IsDue (S.stands leaf.now) steps.old (does_wide_in Kind.Verify leaf.now) }
-    ensures ends { Ends (S.stands leaf.now) steps.old (does_wide_in Kind.Verify leaf.now)
-        steps.new result }
+pub(crate) fn second_pass<S: Steps>(steps: &mut S, leaf: &Leaf, memo: &Memo) -> Result<(), Left>
+    requires memo { FitsMemo leaf.now.job memo.now }
+    requires next { IsNextPart (S.stands leaf.now) steps.old
+        (does_wide_in Kind.Verify leaf.now memo.now) }
+    ensures none { memo.now.step ≡ step_of leaf.now → memo.now.store ≡ None →
+        steps.new ≡ steps.old }
+    ensures plays { Plays (S.stands leaf.now) steps.old
+        (does_wide_in Kind.Verify leaf.now memo.now) steps.new (learns result memo.now) }
 {
     match leaf.rule() {
-        Rule::Common => store_common(steps, leaf),
-        Rule::Priority => store_priority(steps, leaf),
-        Rule::Crew => store_crew(steps, leaf),
+        Rule::Common => store_common(steps, leaf, memo),
+        Rule::Priority => store_priority(steps, leaf, memo),
+        Rule::Crew => store_crew(steps, leaf, memo),
     }
 }

@@ -3,33 +3,35 @@ ghost use Rattle.std.specs.Prelude.{◌≡◌, ℕ, ◌+◌, ◌*◌, ◌<◌, �
 ghost use Rattle.std.specs.Prelude.{IfOk, Option, None};
 ghost use Rattle.pram_words.specs.Words.{number_of};
 ghost use Rattle.pram_words.specs.declared.words.Word.TheVariants.{Node, Position};
-ghost use Rattle.walkx.specs.Inner.Posts.{IsLeafPost, IsPost, next_rank, then_marks};
-ghost use Rattle.walkx.specs.Walk.{has_rank, way_down};
-ghost use Rattle.walkx.specs.Driving.{IsHere, Leads, Reaches, settled_or_late};
-ghost use Rattle.walkx.specs.Rests.{entered, inner_of, leads, leaves_up, moves, part_rest};
-ghost use Rattle.walkx.specs.Rests.{IsPlayedAt, script_at, turn_of};
+ghost use Rattle.walkx.specs.Inner.Posts.{IsLeafPost, IsPost, then_marks};
+ghost use Rattle.walkx.specs.Memory.{FitsMemo, at_start};
+ghost use Rattle.walkx.specs.Walk.{IsWide, has_rank, way_down};
+ghost use Rattle.walkx.specs.Driving.{IsHere, Leads, Reaches, learns_all, settled_or_late};
+ghost use Rattle.walkx.specs.Rests.{entered, has_worked, inner_of, leads, leaves_up, moves};
+ghost use Rattle.walkx.specs.Rests.{part_rest, turn_of};
 
 use crate::left::{Left, Stopped};
+use crate::memo::Memo;
 use crate::operation::Op;
 use crate::post::Post;
 use crate::steps::Steps;
-use crate::tasks::task;
-use pram_words::{left, parent, right};
+use crate::tasks::{compact_task, wide_task};
+use pram_words::{Form, left, parent, right};
 
-/// What comes of a turn, or of a task in a block.
+/// What comes of a turn.
 #[derive(Clone, Copy, Debug, PartialEq, Eq)]
 pub enum Turned {
     /// The root is finished.
     Finished,
     /// The next turn is at this node.
     To(u32),
-    /// The next task is that of the processor of this rank in the leaf's block.
-    Within(u32),
+    /// The worker enters the block of the leaf, as it does in the wide form.
+    Enters,
 }
 
-// The node is raised to the phase.
+/// The node is raised to the phase.
 #[inline(always)]
-fn mark<S: Steps>(steps: &mut S, post: &Post) -> Result<Turned, Stopped>
+pub fn mark<S: Steps>(steps: &mut S, post: &Post) -> Result<Turned, Stopped>
     requires here { IsHere (S.stands post.now) steps.old (then_marks post.now) }
     ensures reaches { Reaches (S.stands post.now) steps.old (then_marks post.now) (leads post.now)
         steps.new result }
@@ -49,19 +51,30 @@ fn stand<S: Steps>(steps: &mut S, post: &Post, to: u32) -> Result<Turned, Stoppe
     Ok(Turned::To(to))
 }
 
-// The task of a processor of a leaf's block, and the mark after the last one's.
+// The task at a leaf of the compact form, and its mark.
 #[inline(always)]
-fn part<S: Steps>(steps: &mut S, post: &Post) -> Result<Turned, Stopped>
+fn whole<S: Steps>(steps: &mut S, post: &Post) -> Result<Turned, Stopped>
     requires leaf { IsLeafPost post.now }
-    requires here { IsHere (S.stands post.now) steps.old (part_rest post.now) }
-    ensures reaches { Reaches (S.stands post.now) steps.old (part_rest post.now) (leads post.now)
-        steps.new result }
+    requires compact { post.now.layout.form ≡ Form.Compact }
+    requires here { IsHere (S.stands post.now) steps.old (part_rest post.now at_start) }
+    ensures reaches { Reaches (S.stands post.now) steps.old (part_rest post.now at_start)
+        (leads post.now) steps.new result }
 {
-    settle(task(steps, &post.leaf()))?;
-    match next_rank(post) {
-        Some(rank) => Ok(Turned::Within(rank)),
-        None => mark(steps, post),
-    }
+    settle(compact_task(steps, &post.leaf()))?;
+    mark(steps, post)
+}
+
+/// The task of a processor of a block, of which this is known: what is then known of it.
+#[inline(always)]
+pub fn part<S: Steps>(steps: &mut S, post: &Post, memo: &mut Memo) -> Result<(), Stopped>
+    requires leaf { IsLeafPost post.now }
+    requires wide { IsWide post.now.layout.form }
+    requires memo { FitsMemo post.now.job memo.old }
+    requires here { IsHere (S.stands post.now) steps.old (part_rest post.now memo.old) }
+    ensures reaches { Reaches (S.stands post.now) steps.old (part_rest post.now memo.old)
+        (has_worked post.now) steps.new (learns_all result memo.new) }
+{
+    settle(wide_task(steps, &post.leaf(), memo))
 }
 
 // The turn at an unfinished inner node.
@@ -95,7 +108,7 @@ fn leave<S: Steps>(steps: &mut S, post: &Post) -> Result<Turned, Stopped>
     }
 }
 
-// A turn up to the task of the leaf's first processor: what came of the turn, or none where that
+// A turn up to the task at a leaf of the compact form: what came of the turn, or none where that
 // task is next.
 #[inline(always)]
 fn enter<S: Steps>(steps: &mut S, post: &Post) -> Result<Option<Turned>, Stopped>
@@ -104,7 +117,8 @@ fn enter<S: Steps>(steps: &mut S, post: &Post) -> Result<Option<Turned>, Stopped
     requires here { IsHere (S.stands post.now) steps.old (turn_of post.now) }
     ensures leads { Leads (S.stands post.now) steps.old (turn_of post.now) (entered post.now)
         steps.new result }
-    ensures leaf { IfOk result (λ turned. turned ≡ None → IsLeafPost post.now) }
+    ensures leaf { IfOk result (λ turned. turned ≡ None → IsLeafPost post.now
+        × (post.now.layout.form ≡ Form.Compact)) }
 {
     let found = steps.make(looking(post, post.node))?;
     if is_finished(post, found) {
@@ -112,46 +126,33 @@ fn enter<S: Steps>(steps: &mut S, post: &Post) -> Result<Option<Turned>, Stopped
     } else if !is_leaf(post) {
         Ok(Some(inner(steps, post)?))
     } else if has_rank(post, 0) {
-        Ok(None)
+        Ok(match post.layout.form() {
+            Form::Compact => None,
+            Form::Wide(_) => Some(Turned::Enters),
+        })
     } else {
         Ok(Some(mark(steps, post)?))
     }
 }
 
-// A script up to the task of a processor, in the same way.
+/// A turn.
 #[inline(always)]
-fn reach<S: Steps>(steps: &mut S, post: &Post) -> Result<Option<Turned>, Stopped>
-    requires place { IsPlayedAt post.now }
-    requires here { IsHere (S.stands post.now) steps.old (script_at post.now) }
-    ensures leads { Leads (S.stands post.now) steps.old (script_at post.now) (entered post.now)
-        steps.new result }
-    ensures leaf { IfOk result (λ turned. turned ≡ None → IsLeafPost post.now) }
-{
-    if post.rank == 0 {
-        enter(steps, post)
-    } else {
-        Ok(None)
-    }
-}
-
-/// A turn; or the task of a processor of a block that is not the first one.
-/// It calls `part` once: a compiler may refuse to inline what is called twice.
-#[inline(always)]
-pub fn script<S: Steps>(steps: &mut S, post: &Post) -> Result<Turned, Stopped>
-    requires place { IsPlayedAt post.now }
-    requires here { IsHere (S.stands post.now) steps.old (script_at post.now) }
-    ensures reaches { Reaches (S.stands post.now) steps.old (script_at post.now) (leads post.now)
+pub fn turn<S: Steps>(steps: &mut S, post: &Post) -> Result<Turned, Stopped>
+    requires first { post.now.rank ≡ 0 }
+    requires phase { post.now.phase ≤ 3 * post.now.job.steps }
+    requires here { IsHere (S.stands post.now) steps.old (turn_of post.now) }
+    ensures reaches { Reaches (S.stands post.now) steps.old (turn_of post.now) (leads post.now)
         steps.new result }
 {
-    match reach(steps, post)? {
+    match enter(steps, post)? {
         Some(turned) => Ok(turned),
-        None => part(steps, post),
+        None => whole(steps, post),
     }
 }
 
-// What a task came to, late or not.
+/// What a task came to, late or not.
 #[inline(always)]
-fn settle(done: Result<(), Left>) -> Result<(), Stopped>
+pub(crate) fn settle(done: Result<(), Left>) -> Result<(), Stopped>
     ensures { result ≡ settled_or_late done }
 {
     match done {
@@ -208,9 +209,9 @@ fn is_leaf(post: &Post) -> bool
     post.layout.leaves() <= post.node
 }
 
-// The leaf's block has a processor of this rank.
+/// The leaf's block has a processor of this rank.
 #[inline(always)]
-fn has_rank(post: &Post, rank: u32) -> bool
+pub fn has_rank(post: &Post, rank: u32) -> bool
     requires leaf { post.now.layout.leaves ≤ post.now.node }
     requires rank { rank ≤ 64 }
     ensures value { result ≡ has_rank post.now.layout post.now.node rank }
@@ -219,16 +220,6 @@ fn has_rank(post: &Post, rank: u32) -> bool
     let layout = post.layout;
     let first = layout.grain() * (post.node - layout.leaves());
     rank < layout.grain() && first + rank < layout.procs()
-}
-
-// The rank of the next processor of the leaf's block, if there is one.
-#[inline(always)]
-fn next_rank(post: &Post) -> Option<u32>
-    requires leaf { IsLeafPost post.now }
-    ensures { result ≡ next_rank post.now }
-{
-    let next = post.rank + 1;
-    has_rank(post, next).then_some(next)
 }
 
 #[inline(always)]

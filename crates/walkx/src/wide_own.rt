@@ -1,112 +1,179 @@
 //! The first pass of the wide form: what is a processor's own is written, and a store claimed.
-ghost use Rattle.std.specs.Prelude.{◌≡◌, ◌≢◌, ◌<◌, IfSome};
-ghost use Rattle.pram_machine.specs.Instructions.{HasShape};
-ghost use Rattle.pram_words.specs.Words.{places_of};
-ghost use Rattle.walkx.specs.Driving.{Ends, IsDue, IsNextPart, Plays};
-ghost use Rattle.walkx.specs.Inner.Posts.{IsCellOf, IsLeafPost, processor_of};
-ghost use Rattle.walkx.specs.OwnWrites.{cell_write, own_write, register_write};
-ghost use Rattle.walkx.specs.WideParts.{claims_or_writes, does_own, does_own_claimed, writes_own};
+ghost use Rattle.std.specs.Prelude.{◌≡◌, ◌<◌, suc, false, length, slice_get, IfSome, None, Some, Ok};
+ghost use Rattle.std.specs.Prelude.{option_map};
+ghost use Rattle.pram_job.specs.Job.{IsInstr};
+ghost use Rattle.pram_machine.specs.Turns.{request_of};
+ghost use Rattle.walkx.specs.Driving.{IsNextPart, Plays, learns};
+ghost use Rattle.walkx.specs.Inner.Posts.{IsCell, IsCellOf, IsLeafPost, IsPairAt, processor_of};
+ghost use Rattle.walkx.specs.Inner.Posts.{step_of};
+ghost use Rattle.walkx.specs.OwnWrites.{cell_write, own_write};
+ghost use Rattle.walkx.specs.Passing.{Passes, idle_in, if_so};
+ghost use Rattle.walkx.specs.WideParts.{IsShaped, claimed_cell, does_own, does_own_by, makes_own};
+ghost use Rattle.walkx.specs.WideParts.{own_made, own_written};
 
 use crate::left::Left;
+use crate::memo::Memo;
 use crate::parts::write_place;
 use crate::post::Leaf;
+use crate::request::fetch;
 use crate::steps::Steps;
-use crate::wide_request::{advanced, ask_for};
-use pram_job::Rule;
-use pram_machine::Request;
+use crate::wide_request::{advanced, ask_by, know, turn_by};
+use pram_job::{Instr, Rule};
+use pram_machine::{Put, Request, Turn, cell_named};
+use pram_words::Kind;
 
-/// The own write of a request, if it has one.
+/// The own write of a turn, if it has one.
 #[inline(always)]
 pub(crate) fn write_own<S: Steps>(
     steps: &mut S,
     leaf: &Leaf,
     counter: u32,
-    request: Request,
+    turn: Turn,
 ) -> Result<(), Left>
-    requires shape { HasShape leaf.now.job (processor_of leaf.now) request }
+    requires shape { IsShaped leaf.now turn }
     requires next { IsNextPart (S.stands leaf.now) steps.old
-        (writes_own leaf.now counter request) }
-    ensures plays { Plays (S.stands leaf.now) steps.old (writes_own leaf.now counter request)
-        steps.new result }
+        (own_written leaf.now counter (request_of turn)) }
+    ensures none { own_write leaf.now.job (processor_of leaf.now) counter (request_of turn) ≡ None →
+        (result ≡ Ok tt) × (steps.new ≡ steps.old) }
+    ensures plays { Plays (S.stands leaf.now) steps.old
+        (own_written leaf.now counter (request_of turn)) steps.new result }
 {
-    match own_write(leaf, counter, request) {
+    match own_write(leaf, counter, turn) {
         None => Ok(()),
-        Some((place, value)) => write_place(steps, leaf, place, value),
+        Some((place, word, value)) => write_place(steps, leaf, place, word, value),
     }
 }
 
-/// The store of a request is claimed; where it has none, its own write is made.
+/// The store of a turn is claimed; where it has none, its own write is made. Under common no store
+/// is claimed.
 #[inline(always)]
-pub(crate) fn claim_or_write<S: Steps>(
-    steps: &mut S,
-    leaf: &Leaf,
-    counter: u32,
-    request: Request,
-) -> Result<(), Left>
-    requires rule { leaf.now.job.rule ≢ Rule.Common }
-    requires shape { HasShape leaf.now.job (processor_of leaf.now) request }
+fn make_own<S: Steps>(steps: &mut S, leaf: &Leaf, counter: u32, turn: Turn) -> Result<(), Left>
+    requires shape { IsShaped leaf.now turn }
     requires next { IsNextPart (S.stands leaf.now) steps.old
-        (claims_or_writes leaf.now counter request) }
-    ensures plays { Plays (S.stands leaf.now) steps.old (claims_or_writes leaf.now counter request)
-        steps.new result }
+        (own_made leaf.now.job.rule leaf.now counter (request_of turn)) }
+    ensures none { makes_own leaf.now.job.rule leaf.now counter (request_of turn) ≡ false →
+        (result ≡ Ok tt) × (steps.new ≡ steps.old) }
+    ensures plays { Plays (S.stands leaf.now) steps.old
+        (own_made leaf.now.job.rule leaf.now counter (request_of turn)) steps.new result }
 {
-    match cell_write(leaf, request) {
-        None => write_own(steps, leaf, counter, request),
-        Some((cell, _)) => {
+    match claimed(leaf, turn) {
+        Some(cell) => {
             steps.make(leaf.claiming(cell))?;
             Ok(())
         }
+        None => write_own(steps, leaf, counter, turn),
     }
 }
 
-/// The first pass under the rule common.
+/// The first pass, for a processor that is known before the step, by its instruction.
 #[inline(always)]
-pub(crate) fn own<S: Steps>(steps: &mut S, leaf: &Leaf) -> Result<(), Left>
-    requires due { IsDue (S.stands leaf.now) steps.old (does_own leaf.now) }
-    ensures ends { Ends (S.stands leaf.now) steps.old (does_own leaf.now) steps.new result }
+pub(crate) fn own_by<S: Steps>(
+    steps: &mut S,
+    leaf: &Leaf,
+    memo: &mut Memo,
+    instr: &Instr,
+) -> Result<(), Left>
+    requires counter { memo.old.counter < length leaf.now.job.code }
+    requires instr { IsInstr leaf.now.job.cells (length leaf.now.job.code) instr.now }
+    requires next { IsNextPart (S.stands leaf.now) steps.old
+        (does_own_by leaf.now memo.old instr.now) }
+    ensures idle { suc memo.old.step ≡ step_of leaf.now →
+        slice_get leaf.now.job.code memo.old.counter ≡ Some instr.now →
+        Passes (idle_in Kind.Compute leaf.now memo.old) steps.old steps.new memo.new }
+    ensures plays { Plays (S.stands leaf.now) steps.old (does_own_by leaf.now memo.old instr.now)
+        steps.new (learns result memo.new) }
 {
-    let (counter, request) = ask_for(steps, leaf)?;
-    write_own(steps, leaf, counter, request)
+    let turn = match ask_by(steps, leaf, memo, instr) {
+        Ok(turn) => turn,
+        Err(why) => {
+            memo.forget();
+            return Err(why);
+        }
+    };
+    make_own(steps, leaf, memo.counter, turn)?;
+    memo.take_up(leaf, turn);
+    Ok(())
 }
 
-/// The first pass under the rules with claims, which all stand when stores are carried out.
+/// The first pass.
 #[inline(always)]
-pub(crate) fn own_claimed<S: Steps>(steps: &mut S, leaf: &Leaf) -> Result<(), Left>
-    requires rule { leaf.now.job.rule ≢ Rule.Common }
-    requires due { IsDue (S.stands leaf.now) steps.old (does_own_claimed leaf.now) }
-    ensures ends { Ends (S.stands leaf.now) steps.old (does_own_claimed leaf.now) steps.new
-        result }
+pub(crate) fn own<S: Steps>(steps: &mut S, leaf: &Leaf, memo: &mut Memo) -> Result<(), Left>
+    requires next { IsNextPart (S.stands leaf.now) steps.old
+        (does_own leaf.now.job.rule leaf.now memo.old) }
+    ensures idle { Passes (idle_in Kind.Compute leaf.now memo.old) steps.old steps.new memo.new }
+    ensures plays { Plays (S.stands leaf.now) steps.old
+        (does_own leaf.now.job.rule leaf.now memo.old) steps.new (learns result memo.new) }
 {
-    let (counter, request) = ask_for(steps, leaf)?;
-    claim_or_write(steps, leaf, counter, request)
+    know(steps, leaf, memo)?;
+    match fetch(leaf, memo.counter) {
+        None => {
+            memo.stay(leaf);
+            Ok(())
+        }
+        Some(instr) => own_by(steps, leaf, memo, instr),
+    }
 }
 
-// What a request writes of the processor's own: its counter, where that does not go on by one, or a
+/// Whether the task of a processor that is known before the step asks nothing, by its instruction.
+/// Then this is what is known after it.
+#[inline(always)]
+pub(crate) fn passes_by(leaf: &Leaf, memo: &mut Memo, instr: &Instr) -> bool
+    requires before { suc memo.old.step ≡ step_of leaf.now }
+    requires instr { slice_get leaf.now.job.code memo.old.counter ≡ Some instr.now }
+    ensures idle { idle_in Kind.Compute leaf.now memo.old ≡ if_so result memo.new }
+    ensures other { result ≡ false → memo.new ≡ memo.old }
+{
+    if cell_named(leaf.job(), instr, &memo.registers).is_some() {
+        return false;
+    }
+    let turn = turn_by(leaf, memo, instr, 0);
+    if writes(leaf, memo.counter, turn) {
+        return false;
+    }
+    memo.take_up(leaf, turn);
+    true
+}
+
+// The turn writes something of the processor's own, or claims a cell.
+#[inline(always)]
+fn writes(leaf: &Leaf, counter: u32, turn: Turn) -> bool
+    requires { IsShaped leaf.now turn }
+    ensures { result ≡ makes_own leaf.now.job.rule leaf.now counter (request_of turn) }
+{
+    claimed(leaf, turn).is_some() || own_write(leaf, counter, turn).is_some()
+}
+
+// The cell that the turn claims, if it claims one.
+#[inline(always)]
+fn claimed(leaf: &Leaf, turn: Turn) -> Option<u32>
+    requires { IsShaped leaf.now turn }
+    ensures value { result ≡ claimed_cell leaf.now.job.rule leaf.now.job (request_of turn) }
+    ensures below { IfSome result (λ cell. cell < leaf.now.job.cells) }
+    ensures cell { IfSome result (λ cell. IsCell leaf.now.layout cell) }
+{
+    match (leaf.rule(), turn.put) {
+        (Rule::Priority | Rule::Crew, Put::Cell(cell, _)) => Some(cell),
+        _ => None,
+    }
+}
+
+// What a turn writes of the processor's own: its counter, where that does not go on by one, or a
 // register.
 #[inline(always)]
-fn own_write(leaf: &Leaf, counter: u32, request: Request) -> Option<(u32, u32)>
-    requires shape { HasShape leaf.now.job (processor_of leaf.now) request }
-    ensures value { result ≡ own_write leaf.now.job (processor_of leaf.now) counter request }
-    ensures below { IfSome result (λ write. write.0 < places_of leaf.now.layout) }
+fn own_write(leaf: &Leaf, counter: u32, turn: Turn) -> Option<(u32, u32, u32)>
+    requires { IsShaped leaf.now turn }
+    ensures value { option_map (λ write. (write.0, write.2)) result
+        ≡ own_write leaf.now.job (processor_of leaf.now) counter (request_of turn) }
+    ensures pair { IfSome result (λ write. IsPairAt leaf.now.layout write.0 write.1) }
 {
-    if request.next == advanced(leaf.job(), 1, counter) {
-        register_write(leaf, request)
-    } else {
-        Some((leaf.counter_place(), request.next))
+    if turn.next != advanced(leaf.job(), 1, counter) {
+        return Some((leaf.counter_place(), leaf.counter_word(), turn.next));
     }
-}
-
-// Its write to a register, if it has one.
-#[inline(always)]
-fn register_write(leaf: &Leaf, request: Request) -> Option<(u32, u32)>
-    requires shape { HasShape leaf.now.job (processor_of leaf.now) request }
-    ensures value { result ≡ register_write leaf.now.job request.put }
-    ensures below { IfSome result (λ write. write.0 < places_of leaf.now.layout) }
-    ensures limits { IsLeafPost leaf.now }
-{
-    let cells = leaf.job().cells();
-    match request.put {
-        Some((place, value)) if cells <= place => Some((place, value)),
+    match turn.put {
+        Put::Register(place, value) => {
+            let register = place - leaf.register_place(0);
+            Some((place, leaf.register_word(register as u8), value))
+        }
         _ => None,
     }
 }

@@ -1,18 +1,22 @@
-//! What a processor of the wide form asks for in a step, worked out from its own places.
-ghost use Rattle.std.specs.Prelude.{◌≡◌, IfOk};
-ghost use Rattle.pram_machine.specs.Instructions.{HasShape};
+//! What a processor of the wide form asks for in a step, worked out from what is remembered of it,
+//! or from its own places.
+ghost use Rattle.std.specs.Prelude.{◌≡◌, suc, ◌<◌, length, IfOk, None, Some, Ok, Err};
+ghost use Rattle.pram_job.specs.Job.{IsInstr};
+ghost use Rattle.pram_machine.specs.Turns.{request_of};
 ghost use Rattle.walkx.specs.Counters.{advanced};
-ghost use Rattle.walkx.specs.Driving.{IsNextPart, Plays};
-ghost use Rattle.walkx.specs.Inner.Posts.{processor_of};
-ghost use Rattle.walkx.specs.WideParts.{asks_for, counter_told, counts};
+ghost use Rattle.walkx.specs.Driving.{IsNextPart, Plays, asked_as, loads};
+ghost use Rattle.walkx.specs.Inner.Posts.{step_of};
+ghost use Rattle.walkx.specs.WideParts.{IsShaped, asked_with, asks_by, cell_of_memo, named_cell};
+ghost use Rattle.walkx.specs.WideParts.{counter_told, counts, memo_known, memo_loaded, reads_all};
 
 use crate::left::Left;
+use crate::memo::Memo;
 use crate::parts::hear_both;
 use crate::post::Leaf;
-use crate::request::{decide, fetch};
+use crate::request::{read_place, read_register};
 use crate::steps::Steps;
-use pram_job::Job;
-use pram_machine::Request;
+use pram_job::{Instr, Job};
+use pram_machine::{Turn, cell_named, decided_by};
 use pram_words::{newer, payload, stamp};
 
 /// What a counter becomes in so many steps, each of which takes it on by one, up to K, where it
@@ -50,7 +54,8 @@ pub(crate) fn read_counter<S: Steps>(steps: &mut S, leaf: &Leaf) -> Result<u32, 
     requires next { IsNextPart (S.stands leaf.now) steps.old (counts leaf.now) }
     ensures plays { Plays (S.stands leaf.now) steps.old (counts leaf.now) steps.new result }
 {
-    let (first, second) = hear_both(steps, leaf, leaf.counter_place())?;
+    let place = leaf.counter_place();
+    let (first, second) = hear_both(steps, leaf, place, leaf.counter_word())?;
     if leaf.is_late(first, second) {
         Err(Left::Late)
     } else {
@@ -58,19 +63,110 @@ pub(crate) fn read_counter<S: Steps>(steps: &mut S, leaf: &Leaf) -> Result<u32, 
     }
 }
 
-/// The counter, and what the processor asks for; one that has stopped asks for nothing.
+/// All registers of the processor before the step.
 #[inline(always)]
-pub(crate) fn ask_for<S: Steps>(steps: &mut S, leaf: &Leaf) -> Result<(u32, Request), Left>
-    requires next { IsNextPart (S.stands leaf.now) steps.old (asks_for leaf.now) }
-    ensures shape { IfOk result (λ asked. HasShape leaf.now.job (processor_of leaf.now) asked.1) }
-    ensures plays { Plays (S.stands leaf.now) steps.old (asks_for leaf.now) steps.new result }
+fn read_all<S: Steps>(steps: &mut S, leaf: &Leaf) -> Result<[u32; 4], Left>
+    requires next { IsNextPart (S.stands leaf.now) steps.old (reads_all leaf.now) }
+    ensures plays { Plays (S.stands leaf.now) steps.old (reads_all leaf.now) steps.new result }
+{
+    let a = read_register(steps, leaf, 0)?;
+    let b = read_register(steps, leaf, 1)?;
+    let c = read_register(steps, leaf, 2)?;
+    let d = read_register(steps, leaf, 3)?;
+    Ok([a, b, c, d])
+}
+
+/// What the processor's own places hold before the step.
+#[inline(always)]
+fn load_memo<S: Steps>(steps: &mut S, leaf: &Leaf) -> Result<Memo, Left>
+    requires next { IsNextPart (S.stands leaf.now) steps.old (memo_loaded leaf.now) }
+    ensures plays { Plays (S.stands leaf.now) steps.old (memo_loaded leaf.now) steps.new result }
 {
     let counter = read_counter(steps, leaf)?;
-    match fetch(leaf, counter) {
-        None => Err(Left::Late),
-        Some(instr) => {
-            let asked = decide(steps, leaf, counter, instr)?;
-            Ok((counter, asked))
-        }
+    let registers = read_all(steps, leaf)?;
+    Ok(Memo {
+        step: leaf.step().saturating_sub(1),
+        counter,
+        registers,
+        store: None,
+    })
+}
+
+/// What is known of the processor before the step: remembered, or loaded.
+#[inline(always)]
+pub(crate) fn know<S: Steps>(steps: &mut S, leaf: &Leaf, memo: &mut Memo) -> Result<(), Left>
+    requires next { IsNextPart (S.stands leaf.now) steps.old (memo_known leaf.now memo.old) }
+    ensures late { result ≡ Err Left.Late → memo.new ≡ memo.old }
+    ensures known { suc memo.old.step ≡ step_of leaf.now →
+        (result ≡ Ok tt) × (memo.new ≡ memo.old) × (steps.new ≡ steps.old) }
+    ensures plays { Plays (S.stands leaf.now) steps.old (memo_known leaf.now memo.old) steps.new
+        (loads result memo.new) }
+{
+    if !memo.is_before(leaf.step()) {
+        *memo = load_memo(steps, leaf)?;
     }
+    Ok(())
+}
+
+/// What the cell that an instruction reads held before the step, and 0 where it reads none.
+#[inline(always)]
+fn read_named<S: Steps>(
+    steps: &mut S,
+    leaf: &Leaf,
+    known: &Memo,
+    instr: &Instr,
+) -> Result<u32, Left>
+    requires instr { IsInstr leaf.now.job.cells (length leaf.now.job.code) instr.now }
+    requires next { IsNextPart (S.stands leaf.now) steps.old
+        (cell_of_memo leaf.now known.now instr.now) }
+    ensures none { named_cell leaf.now known.now instr.now ≡ None →
+        (result ≡ Ok 0) × (steps.new ≡ steps.old) }
+    ensures plays { Plays (S.stands leaf.now) steps.old (cell_of_memo leaf.now known.now instr.now)
+        steps.new result }
+{
+    match cell_named(leaf.job(), instr, &known.registers) {
+        Some(cell) => read_place(steps, leaf, cell, leaf.cell_word(cell)),
+        None => Ok(0),
+    }
+}
+
+/// What the processor asks for by the instruction at its counter.
+#[inline(always)]
+pub(crate) fn ask_by<S: Steps>(
+    steps: &mut S,
+    leaf: &Leaf,
+    known: &Memo,
+    instr: &Instr,
+) -> Result<Turn, Left>
+    requires counter { known.now.counter < length leaf.now.job.code }
+    requires instr { IsInstr leaf.now.job.cells (length leaf.now.job.code) instr.now }
+    requires next { IsNextPart (S.stands leaf.now) steps.old
+        (asks_by leaf.now known.now (Some instr.now)) }
+    ensures shape { IfOk result (IsShaped leaf.now) }
+    ensures none { named_cell leaf.now known.now instr.now ≡ None → (steps.new ≡ steps.old)
+        × (asked_as result ≡ Ok (asked_with leaf.now known.now instr.now 0)) }
+    ensures plays { Plays (S.stands leaf.now) steps.old
+        (asks_by leaf.now known.now (Some instr.now)) steps.new (asked_as result) }
+{
+    let value = read_named(steps, leaf, known, instr)?;
+    Ok(turn_by(leaf, known, instr, value))
+}
+
+/// What it asks for, the cell having held this.
+#[inline(always)]
+pub(crate) fn turn_by(leaf: &Leaf, known: &Memo, instr: &Instr, value: u32) -> Turn
+    requires counter { known.now.counter < length leaf.now.job.code }
+    requires instr { IsInstr leaf.now.job.cells (length leaf.now.job.code) instr.now }
+    ensures value { request_of result ≡ asked_with leaf.now known.now instr.now value }
+    ensures shape { IsShaped leaf.now result }
+{
+    let (job, processor) = (leaf.job(), leaf.processor());
+    decided_by(
+        job,
+        processor,
+        known.counter,
+        instr,
+        &known.registers,
+        value,
+    )
 }

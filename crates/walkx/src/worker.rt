@@ -1,4 +1,6 @@
 //! The worker.
+use crate::idle::pass_over;
+use crate::memo::Memory;
 use crate::next::Next;
 use crate::operation::{Activity, Ended, Op};
 use crate::playback::play_back;
@@ -6,6 +8,7 @@ use crate::post::{Post, within_limits};
 use pram_job::Job;
 use pram_words::Layout;
 use std::marker::Model;
+use std::mem;
 
 /// A worker. It asks for one atomic step at a time, and is told the answer.
 #[derive(Drop)]
@@ -16,52 +19,73 @@ pub struct Worker {
     held_op: Option<Op>,
     heard: [u64; 15],
     count: usize,
+    memory: Memory,
 }
 
 impl Model for Worker {
-    ghost use Rattle.std.specs.Prelude.{◌≤◌};
+    ghost use Rattle.std.specs.Prelude.{◌≡◌, ◌≤◌, length};
     ghost use Rattle.walkx.specs.Inner.Heard.{newest};
     ghost use Rattle.walkx.specs.Inner.Workers.{WorkerData, worker_data};
 
     ghost Value = { WorkerData };
 
-    ghost view = { λ w. worker_data w.number w.node w.activity w.held_op (newest w.count w.heard) };
+    ghost view = { λ w. worker_data w.number w.node w.activity w.held_op (newest w.count w.heard)
+        w.memory };
 
-    ghost invariant = { λ w. w.count ≤ 15 };
+    ghost invariant = { λ w. (w.count ≤ 15) × (length w.heard ≡ 15) };
 }
 
 impl Worker {
     ghost use Rattle.std.specs.Prelude.{◌≡◌, ◌<◌, ◌≤◌, ◌*◌, Some, None, [], length};
+    ghost use Rattle.std.specs.Prelude.{suc};
     ghost use Rattle.pram_job.specs.Job.{JobData};
     ghost use Rattle.pram_words.specs.Words.{LayoutData};
     ghost use Rattle.walkx.specs.Activities.{activity_of};
     ghost use Rattle.walkx.specs.Inner.Workers.{worker_data};
+    ghost use Rattle.walkx.specs.Memory.{FitsMemory, IsTrueMemory, blank};
     ghost use Rattle.walkx.specs.Playing.{ScriptComesTo, IsPlayable, op_after, come_to, hearing};
-    ghost use Rattle.walkx.specs.Playing.{stand_of};
+    ghost use Rattle.walkx.specs.Inner.Posts.{post_data};
+    ghost use Rattle.walkx.specs.Playing.{GoesOn, IsBlockPlace, stand_of};
     ghost use Rattle.walkx.specs.Records.{Record, Knows};
     ghost use Rattle.walkx.specs.Serving.{IsNewWorker, Serves};
     ghost use Rattle.walkx.specs.Turns.{beginning, turn_begun};
     ghost use Rattle.walkx.specs.Walk.{AsksAdmitted, HearsAdmitted, IsBoard, IsLayoutOf};
-    ghost use Rattle.walkx.specs.Walk.{IsStepOn, ask_of, come_back, end_of, rest_of, script_of};
-    ghost use Rattle.walkx.specs.Walk.{started, told};
+    ghost use Rattle.walkx.specs.Walk.{IsStepOn, ask_of, come_back, end_of, goes_in, rest_of};
+    ghost use Rattle.walkx.specs.Walk.{remembering, started, told};
 
     /// Worker w, at its first leaf.
     pub fn start(w: u32) -> Worker
         ensures { IsNewWorker w (started w) result }
     {
-        Worker::about_to(w, Activity::Begin)
+        Worker::about_to(w, Activity::Begin, Memory::none())
     }
 
     /// Worker w, come back: it will stand where its position word says.
     pub fn back(w: u32) -> Worker
         ensures { IsNewWorker w (come_back w) result }
     {
-        Worker::about_to(w, Activity::Back)
+        Worker::about_to(w, Activity::Back, Memory::none())
+    }
+
+    /// Worker w, at its first leaf, with a memory, by which it loads less in the wide form.
+    pub fn start_with(w: u32, memory: Memory) -> Worker
+        requires { memory ≡ blank (length memory) }
+        ensures { IsNewWorker w (remembering (length memory) (started w)) result }
+    {
+        Worker::about_to(w, Activity::Begin, memory)
+    }
+
+    /// Worker w, come back, with a memory.
+    pub fn back_with(w: u32, memory: Memory) -> Worker
+        requires { memory ≡ blank (length memory) }
+        ensures { IsNewWorker w (remembering (length memory) (come_back w)) result }
+    {
+        Worker::about_to(w, Activity::Back, memory)
     }
 
     // Worker w at the start of a script, not moved yet.
-    fn about_to(w: u32, activity: Activity) -> Worker
-        ensures { result ≡ worker_data w None activity None [] }
+    fn about_to(w: u32, activity: Activity, memory: Memory) -> Worker
+        ensures { result ≡ worker_data w None activity None [] memory }
     {
         Worker {
             number: w,
@@ -70,6 +94,7 @@ impl Worker {
             held_op: None,
             heard: [0; 15],
             count: 0,
+            memory,
         }
     }
 
@@ -119,18 +144,28 @@ impl Worker {
         }
     }
 
-    /// Begins anew at a node of the tree, having heard nothing since: what whole turns lead to.
-    pub fn begin_at(&mut self, start: u32)
-        ensures value { self.new.walking ≡ beginning self.old.walking.number start }
-        ensures serves { (job : JobData) (y : LayoutData) → Serves job y self.old → 1 ≤ start →
-            start < 2 * y.leaves → Serves job y self.new }
-        ensures known { (job : JobData) (y : LayoutData) (r : Record) →
+    /// Takes the memory out, for whole turns.
+    pub fn lend(&mut self) -> Memory
+        ensures value { result ≡ self.old.walking.memory }
+        ensures rest { self.new.walking ≡ record self.old.walking { memory = [] } }
+    {
+        mem::replace(&mut self.memory, Memory::none())
+    }
+
+    /// Begins anew at a node of the tree with this memory, having heard nothing since: what whole
+    /// turns lead to.
+    pub fn begin_at(&mut self, start: u32, memory: Memory)
+        ensures value { self.new.walking ≡ beginning self.old.walking.number start memory }
+        ensures serves { (job : JobData) (y : LayoutData) → self.old.walking.number < y.workers →
+            1 ≤ start → start < 2 * y.leaves → FitsMemory job memory → Serves job y self.new }
+        ensures known { (job : JobData) (y : LayoutData) (r : Record) → IsTrueMemory job memory →
             Knows job y r self.new.walking }
     {
         self.node = Some(start);
         self.activity = Activity::Begin;
         self.held_op = None;
         self.count = 0;
+        self.memory = memory;
     }
 
     /// How many answers of the script in progress the worker has heard.
@@ -208,7 +243,7 @@ impl Worker {
         within_limits(job, layout);
         self.hear(answer);
         match self.left(job, layout) {
-            Ok(next) => self.go_on(next),
+            Ok(next) => self.go_on(job, layout, next),
             Err(op) => self.hold(op),
         }
     }
@@ -222,7 +257,12 @@ impl Worker {
     {
         within_limits(job, layout);
         let post = self.post(job, layout);
-        play_back(&post, self.activity, &self.heard[..self.count])
+        play_back(
+            &post,
+            self.activity,
+            &self.memory,
+            &self.heard[..self.count],
+        )
     }
 
     // Where the worker stands.
@@ -266,33 +306,52 @@ impl Worker {
 
     // The script was heard whole.
     #[inline(always)]
-    fn go_on(&mut self, next: Next)
-        ensures walking { self.new.walking ≡ come_to self.old.walking next }
+    fn go_on(&mut self, job: &Job, layout: &Layout, next: Next)
+        requires layout { IsLayoutOf job.now layout.now }
+        requires goes { GoesOn job.now layout.now self.old.walking.number next }
+        ensures walking { self.new.walking ≡ come_to job.now layout.now self.old.walking next }
         ensures op { self.new.held_op ≡ op_after next }
     {
         match next {
-            Next::Begins(node) => {
-                self.node = Some(node);
-                self.activity = Activity::Begin;
-                self.held_op = None;
-                self.count = 0;
-            }
-            Next::Turns(node, phase) => {
-                self.node = Some(node);
-                self.activity = Activity::Turn(phase);
-                self.held_op = None;
-                self.count = 0;
-            }
-            Next::Works(node, phase, rank) => {
-                self.node = Some(node);
-                self.activity = Activity::Part(phase, rank);
-                self.held_op = None;
-                self.count = 0;
+            Next::Begins(node) => self.come(node, Activity::Begin),
+            Next::Turns(node, phase) => self.come(node, Activity::Turn(phase)),
+            Next::Enters(node, phase) => self.go_in(job, layout, node, phase, 0),
+            Next::Worked(node, phase, rank, memo) => {
+                let post = Post::new(job, layout, self.number, node, phase).at_rank(rank);
+                self.memory.keep(post.processor(), memo);
+                self.go_in(job, layout, node, phase, rank + 1);
             }
             Next::Stops(ended) => {
                 self.activity = Activity::Over(ended);
                 self.held_op = Some(Op::Over(ended));
             }
         }
+    }
+
+    // It goes on in a block, from this rank on.
+    #[inline(always)]
+    fn go_in(&mut self, job: &Job, layout: &Layout, node: u32, phase: u64, rank: u32)
+        requires layout { IsLayoutOf job.now layout.now }
+        requires place { IsBlockPlace (post_data job.now layout.now self.old.walking.number node
+            phase rank) }
+        ensures walking { self.new.walking ≡ goes_in job.now layout.now self.old.walking.number node
+            phase rank self.old.walking.memory }
+        ensures op { self.new.held_op ≡ None }
+    {
+        let post = Post::new(job, layout, self.number, node, phase).at_rank(rank);
+        let next = pass_over(&mut self.memory, &post);
+        self.come(node, Activity::Part(phase, next));
+    }
+
+    // It is at the start of another script.
+    #[inline(always)]
+    fn come(&mut self, node: u32, activity: Activity)
+        ensures { self.new ≡ worker_data self.old.walking.number (Some node) activity None []
+            self.old.walking.memory }
+    {
+        self.node = Some(node);
+        self.activity = activity;
+        self.held_op = None;
+        self.count = 0;
     }
 }

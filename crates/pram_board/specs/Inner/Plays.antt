@@ -1,16 +1,19 @@
 -- A script that is played through a seat, and the ticks that come of it.
-use Rattle.std.specs.Prelude.{◌≡◌, ◌≤◌, ◌<◌, ℕ, Bool, false, ◌⊎◌, ◌+◌, ◌%◌, ◌^◌}
+use Rattle.std.specs.Prelude.{◌≡◌, ◌≤◌, ◌<◌, ℕ, Bool, false, ◌⊎◌, ◌+◌, ◌%◌, ◌^◌, nat_lt, suc}
 use Rattle.std.specs.Prelude.{List, [], ◌∷◌, length, Option, Some, None}
 use Rattle.walkx.specs.declared.operation.Op.{Op}
-use Rattle.walkx.specs.Inner.Posts.{PostData}
+use Rattle.walkx.specs.Inner.Posts.{IsLeafPost, PostData, at_rank}
+use Rattle.walkx.specs.Memory.{FitsMemory}
 use Rattle.walkx.specs.Bound.{told_all}
 use Rattle.walkx.specs.Inner.Workers.{WorkerData}
 use Rattle.walkx.specs.Records.{Knows}
 use Rattle.walkx.specs.Scripts.{Script, rest, first_op, heard_in}
-use Rattle.walkx.specs.Turns.{beginning, turning, working}
+use Rattle.walkx.specs.Turns.{beginning, turning}
 use Rattle.walkx.specs.declared.turns.Turned.{Turned}
 use Rattle.walkx.specs.declared.turns.Turned.TheVariants as turned
-use Rattle.walkx.specs.Walk.{Then, Walking, Fits, IsBoard, IsGoing, AllAdmitted, end_of, script_of}
+use Rattle.walkx.specs.declared.memo.Memo.{Memo}
+use Rattle.walkx.specs.Walk.{Then, Walking, Fits, IsBoard, IsGoing, AllAdmitted, end_of, goes_in}
+use Rattle.walkx.specs.Walk.{has_rank, script_of}
 use Rattle.pram_board.specs.declared.driver.Driver.{Driver}
 use Rattle.pram_board.specs.declared.task.Task.{Task}
 use Rattle.pram_board.specs.Seats.{Desk, SeatData, hears_all}
@@ -107,18 +110,50 @@ pub record IsWalking (task : Task) (driver : Driving) (walking : Walking) : Type
   pub fits : Fits task.job task.layout walking
   pub knows : Knows task.job task.layout driver.seat.record_of walking
 
--- ticks that led a worker on, at least one
+-- ticks that led a worker on, or none
+pub record Moved (task : Task) (before : Driving) (walking : Walking) (later : Driving)
+    (now : Walking) : Type 0 where
+  pub walks : IsWalking task later now
+  pub went : Went task before walking later now
+
+-- at least one
 pub record Led (task : Task) (before : Driving) (walking : Walking) (later : Driving)
     (now : Walking) : Type 0 where
   pub walks : IsWalking task later now
   pub went : Went task before walking later now
   pub some : 1 ≤ went.ticks
 
--- the worker of a post at the start of its script, and where the script leads it
-abbrev pub working_at : PostData → Walking
-working_at at = working at.worker at.node at.phase at.rank
+-- the worker of a post, with this memory: at the start of a turn, and at a rank in its block
+abbrev pub turning_at : PostData → List Memo → Walking
+turning_at at memory = turning at.worker at.node at.phase memory
 
-abbrev pub led_to : PostData → Turned → Walking
-led_to at turned.Finished = beginning at.worker 1
-led_to at (turned.To node) = turning at.worker node at.phase
-led_to at (turned.Within rank) = working at.worker at.node at.phase rank
+abbrev pub in_block : PostData → ℕ → List Memo → Walking
+in_block at rank memory = goes_in at.job at.layout at.worker at.node at.phase rank memory
+
+-- the worker is at the task of this leaf's processor, in a block of this length
+pub record AtTask (at : PostData) (len : ℕ) (driver : Driving) (memory : List Memo) : Type 0 where
+  pub leaf : IsLeafPost at
+  pub ranks : (rank : ℕ) → has_rank at.layout at.node rank ≡ nat_lt rank len
+  pub fits : FitsMemory at.job memory
+  pub walks : IsWalking (task_at at) driver (in_block at at.rank memory)
+
+-- the tasks of a block of this length were done, from this leaf's processor up to that of a leaf
+pub record DoneTo (at : PostData) (len : ℕ) (before : Driving) (memory : List Memo)
+    (last : PostData) (later : Driving) (now : List Memo) : Type 0 where
+  pub same : last ≡ at_rank at last.rank
+  pub onward : at.rank ≤ last.rank
+  pub within : last.rank < len
+  pub fits : FitsMemory at.job now
+  pub moved : Moved (task_at at) before (in_block at at.rank memory) later
+      (in_block at (suc last.rank) now)
+
+-- where a turn leads it
+abbrev pub led_to : PostData → List Memo → Turned → Walking
+led_to at memory turned.Finished = beginning at.worker 1 memory
+led_to at memory (turned.To node) = turning at.worker node at.phase memory
+led_to at memory turned.Enters = in_block at 0 memory
+
+-- at the start of the next turn, at this node; or the root is finished
+abbrev pub next_turn : PostData → List Memo → Option ℕ → Walking
+next_turn at memory None = beginning at.worker 1 memory
+next_turn at memory (Some node) = turning at.worker node at.phase memory

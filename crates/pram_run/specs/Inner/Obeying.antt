@@ -1,12 +1,11 @@
 -- What the threads of a run give back.
 use Rattle.std.specs.Prelude.{◌≡◌, ◌<◌, ◌⊎◌, ℕ, true, List}
-use Rattle.walkx.specs.Walk.{started}
 use Rattle.lawful_walk.specs.Seen.{BeginsWith}
 use Rattle.stop_plan.specs.declared.plan.Row.{Row}
 use Rattle.stop_plan.specs.Plan.{PlanData, stops}
 use Rattle.pram_board.specs.Seats.{SeatData}
 use Rattle.pram_board.specs.declared.task.Task.{Task}
-use Rattle.pram_run.specs.Obeyed.{AllObeyed, Obeys}
+use Rattle.pram_run.specs.Obeyed.{AllObeyed, ObeysAnew}
 use Rattle.pram_run.specs.Running.{ShowsEnd}
 use Rattle.pram_run.specs.declared.runner.Obeyed.{Obeyed}
 use Rattle.pram_run.specs.declared.watcher.Watched.{Watched}
@@ -33,7 +32,7 @@ pub record AllWorked (task : Task) (plan : PlanData) (given later : SeatData) : 
 -- the rows stop the worker, and came about by obeying them.
 abbrev pub HasObeyed : List Row → ℕ → SeatData → SeatData → Type 0
 HasObeyed rows worker given seat = GoesOn given seat × EndsOrStops rows worker seat
-    × Obeys given.desk.task worker rows given (started worker) seat
+    × ObeysAnew given.desk.task worker rows given seat
 
 -- what a thread has to keep: it was given this seat, to obey these rows as this worker
 pub record IsToObey (plan : List Row) (number : ℕ) (given : SeatData) (promise : Obeyed)

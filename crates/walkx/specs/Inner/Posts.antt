@@ -1,16 +1,18 @@
 -- Where a worker stands, with the job and its board.
-use Rattle.std.specs.Prelude.{◌≡◌, ◌≢◌, IsTrue, ℕ, suc, ◌*◌, ◌<◌, ◌≤◌, Option, Some, None}
-use Rattle.std.specs.Prelude.{if◌then◌else◌}
+use Rattle.std.specs.Prelude.{◌≡◌, ◌≢◌, IsTrue, ℕ, ◌+◌, ◌*◌, ◌^◌, ◌<◌, ◌≤◌}
 use Rattle.pram_job.specs.declared.instr.Rule.TheVariants.{Common}
 use Rattle.pram_job.specs.Job.{JobData}
-use Rattle.pram_words.specs.Phases.{step_at}
+use Rattle.pram_words.specs.Phases.{kind_at, step_at}
+use Rattle.pram_words.specs.declared.phases.Kind.{Kind}
 use Rattle.pram_words.specs.Stamps.{stamped_word}
-use Rattle.pram_words.specs.Words.{LayoutData, grain, number_of, places_of}
-use Rattle.pram_words.specs.declared.words.Word.TheVariants.{Asked}
+use Rattle.pram_words.specs.Words.{AreOwn, LayoutData, grain, number_of, places_of}
+use Rattle.pram_words.specs.declared.layout.OwnWords.{OwnWords}
+use Rattle.pram_words.specs.declared.words.Word.TheVariants.{Asked, Stored}
 use Rattle.walkx.specs.declared.operation.Op.{Op}
 use Rattle.walkx.specs.declared.operation.Op.TheVariants.{Max}
+use Rattle.walkx.specs.declared.memo.Memo.{Memo}
 use Rattle.walkx.specs.Scripts.{Script}
-use Rattle.walkx.specs.Walk.{Then, IsBoard, after_part, has_rank, marks_node}
+use Rattle.walkx.specs.Walk.{Then, IsBoard, after_part, marks_node}
 use Rattle.walkx.specs.Walk.{processor_at}
 
 -- a worker at a node, in the phase of its turn, at the processor of a rank in the node's block
@@ -48,31 +50,39 @@ pub record IsLeafPost (at : PostData) : Type 0 where
   pub last : processor_of at < at.layout.procs
   pub phase : at.phase ≤ 3 * at.job.steps
 
--- the post at the processor of another rank, and the rank of the next one
+-- the post at the processor of another rank
 abbrev pub at_rank : PostData → ℕ → PostData
 at_rank at rank = record at { rank = rank }
 
-abbrev pub next_rank : PostData → Option ℕ
-next_rank at =
-    if has_rank at.layout at.node (suc at.rank) then Some (suc at.rank) else None
-
--- a post that is a leaf's, with its step and its processor
-pub record IsLeafOf (at : PostData) (t i : ℕ) : Type 0 where
+-- a post that is a leaf's, with its step, what the phase does, its processor, and where that one's
+-- words begin, and those of the cells
+pub record IsLeafOf (at : PostData) (t : ℕ) (kind : Kind) (i : ℕ) (words : OwnWords)
+    (first_cell : ℕ) : Type 0 where
   pub leaf : IsLeafPost at
   pub step : t ≡ step_of at
+  pub does : kind ≡ kind_at at.phase
   pub processor : i ≡ processor_of at
+  pub own : AreOwn at.layout i words
+  pub cells : (cell : ℕ) → cell < at.layout.cells →
+      number_of at.layout (Stored cell 0) ≡ first_cell + 2 * cell
 
 -- the node is marked; what comes after a processor's task
 abbrev pub then_marks : PostData → Script Then
 then_marks at = marks_node at.layout at.node at.phase
 
-abbrev pub then_next : PostData → Script Then
-then_next at = after_part at.layout at.node at.phase at.rank
+abbrev pub then_next : PostData → Memo → Script Then
+then_next at memo = after_part at.layout at.node at.phase at.rank memo
 
 -- part j of the processor's request is raised to this payload
 abbrev pub part_raised : PostData → ℕ → ℕ → Op
 part_raised at j payload =
     Max (number_of at.layout (Asked (processor_of at) j)) (stamped_word (step_of at) payload)
+
+-- the two words of a place begin at this one
+pub record IsPairAt (layout : LayoutData) (place word : ℕ) : Type 0 where
+  pub first : word ≡ number_of layout (Stored place 0)
+  pub second : word + 1 ≡ number_of layout (Stored place 1)
+  pub below : word + 1 < 2 ^ 32
 
 -- a cell with a claim word
 abbrev pub IsCell : LayoutData → ℕ → Type 0

@@ -3,6 +3,7 @@ use Rattle.std.specs.Prelude.{ℕ, List, Option}
 use Rattle.walkx.specs.declared.operation.Activity.{Activity}
 use Rattle.walkx.specs.declared.operation.Activity.TheVariants as activity
 use Rattle.walkx.specs.declared.operation.Op.{Op}
+use Rattle.walkx.specs.declared.memo.Memo.{Memo}
 use Rattle.walkx.specs.Doing.{Doing}
 use Rattle.walkx.specs.Doing as doing
 use Rattle.walkx.specs.Walk.{Walking}
@@ -20,9 +21,15 @@ pub record WorkerData : Type 0 where
   pub held_op : Option Op
 
 -- by the fields of the code
-abbrev pub worker_data : ℕ → Option ℕ → Activity → Option Op → List ℕ → WorkerData
-worker_data number node now held_op heard =
+abbrev pub worker_data : ℕ → Option ℕ → Activity → Option Op → List ℕ → List Memo → WorkerData
+worker_data number node now held_op heard memory =
     record {
-      walking = record { number = number; node = node; now = doing_in now; heard = heard };
+      walking = record {
+        number = number;
+        node = node;
+        now = doing_in now;
+        heard = heard;
+        memory = memory;
+      };
       held_op = held_op;
     }

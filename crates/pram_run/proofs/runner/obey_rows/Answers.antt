@@ -1,10 +1,9 @@
-use Rattle.std.proofs.Common.{ap, sym, subst}
-use Rattle.walkx.specs.Walk.{started}
+use Rattle.std.proofs.Common.{rules, ap, length, refl, sym, subst, inl}
 use Rattle.pram_board.specs.declared.task.Task.{Task}
 use Rattle.pram_board.specs.Seats.{Desk}
-use Rattle.pram_run.specs.Obeyed.{Obeys}
-use Rattle.pram_run.proofs.Endings.{goes_self, goes_trans, worked_goes, acts_goes}
-use Rattle.pram_run.proofs.Obeying.{other_row, own_row, no_row}
+use Rattle.pram_run.specs.Obeyed.{ObeysAnew}
+use Rattle.pram_run.proofs.Endings.{goes_self, goes_trans, worked_ends, worked_goes, acts_goes}
+use Rattle.pram_run.proofs.Obeying.{other_row, own_row, no_row, stop_row}
 use Rattle.pram_run.proofs.runner.obey_rows.Goals as goal
 use Rattle.pram_run.proofs.runner.obey_rows.Goals.{then-row-number+else-eq, else-row-number}
 
@@ -13,12 +12,12 @@ loop-row-init g c = record {
   goes_on = goes_self c.args.seat;
   works = record {
     desk = c.requires.seat;
-    serves = c.start-worker.ensures.serves c.args.shared.now.board.now.task.job
+    serves = c.start_with-worker.ensures.serves c.args.shared.now.board.now.task.job
         c.args.shared.now.board.now.task.layout c.requires.worker;
-    knows = c.start-worker.ensures.known c.args.shared.now.board.now.task.job
-        c.args.shared.now.board.now.task.layout c.args.seat.record_of;
+    knows = c.start_with-worker.ensures.known c.args.shared.now.board.now.task.job
+        c.args.shared.now.board.now.task.layout c.args.seat.record_of c.requires.worker;
   };
-  obeys = λ q h. rw (← c.start-worker.ensures.value) h;
+  obeys = λ q h. (length c.worker_memory.result, rw (← c.start_with-worker.ensures.value) h);
 }
 
 pub loop-row-preserved : goal.loop-row-preserved
@@ -46,7 +45,18 @@ returns-clause-goes_on g c = goes_trans c.args.seat c.loop-row.seat c.work-stay.
 
 pub returns-clause-obeys : goal.returns-clause-obeys
 returns-clause-obeys g c =
-    subst (λ (t : Task). Obeys t c.args.number c.args.rows.now c.args.seat
-    (started c.args.number) c.work-stay.new.seat) (sym (ap (λ (d : Desk). d.task) c.requires.seat))
+    subst (λ (t : Task). ObeysAnew t c.args.number c.args.rows.now c.args.seat
+    c.work-stay.new.seat) (sym (ap (λ (d : Desk). d.task) c.requires.seat))
     (c.loop-row.invariant.obeys c.work-stay.new.seat
     (no_row _ _ _ _ _ _ _ _ _ c.loop-row-test.false c.work-stay.ensures.worked))
+
+pub returns-then-eq-clause-obeys : goal.returns-then-eq-clause-obeys
+returns-then-eq-clause-obeys g c =
+    subst (λ (t : Task). ObeysAnew t c.args.number c.args.rows.now c.args.seat c.loop-row.seat)
+    (sym (ap (λ (d : Desk). d.task) c.requires.seat))
+    (c.loop-row.invariant.obeys c.loop-row.seat (stop_row _ _ _ _ _ _ _ _ c.loop-row-test.true
+    c.if-row-number.true (search rules) refl))
+
+pub returns-clause-ends : goal.returns-clause-ends
+returns-clause-ends g c = inl (worked_ends _ _ _ _ _ _ c.work-stay.ensures.works.desk
+    c.work-stay.ensures.worked)

@@ -1,9 +1,8 @@
 use Rattle.std.proofs.Common.{drop}
-use Rattle.walkx.specs.Walk.{started}
 use Rattle.pram_board.specs.Seats.{SeatData}
 use Rattle.pram_board.specs.Worked.{Works}
 use Rattle.pram_run.specs.Inner.Obeying.{GoesOn}
-use Rattle.pram_run.specs.Obeyed.{Obeys}
+use Rattle.pram_run.specs.Obeyed.{Obeys, ObeysAnew}
 use Rattle.pram_run.proofs.runner.obey_rows.Given as goal
 
 -- what comes of the rest of the rows comes of all of them
@@ -13,5 +12,5 @@ invariant-loop-row g l = record {
   works : Works l.shared.board.now l.seat l.worker;
   obeys : (q : SeatData) →
       Obeys l.shared.board.now.task l.number (drop l.row-index l.rows) l.seat l.worker.walking q →
-      Obeys l.shared.board.now.task l.number l.rows l.fn.seat (started l.number) q;
+      ObeysAnew l.shared.board.now.task l.number l.rows l.fn.seat q;
 }

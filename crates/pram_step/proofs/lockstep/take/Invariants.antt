@@ -1,16 +1,11 @@
-use Rattle.std.proofs.Common.{◌≡◌, length}
-use Rattle.pram_machine.specs.Machine.{State, place_count}
-use Rattle.pram_step.specs.Inner.Passes.{IsPassed, IsUnderWay, bound}
-use Rattle.pram_step.specs.Running.{AreRunning}
+use Rattle.std.proofs.Common.{◌-◌, length}
+use Rattle.pram_step.specs.Inner.Passes.{TurnsGoOn}
 use Rattle.pram_step.proofs.lockstep.take.Given as goal
 
-abbrev pub invariant-loop-taken : goal.invariant-loop-taken
-invariant-loop-taken l = record {
-  begun : IsUnderWay l.job l.running l.places l.asked
-      (record { taken = l.taken; stores = l.stores });
-  passed : (start : State) → length start ≡ place_count l.job → AreRunning l.job start l.running →
-      IsPassed l.job start (bound l.job l.running l.fn.turns.taken) l.initial.places
-      l.initial.asked l.fn.turns.stores →
-      IsPassed l.job start (bound l.job l.running l.taken) l.places l.asked l.stores;
-  first : l.taken ≡ l.fn.turns.taken → l.places ≡ l.initial.places;
+abbrev pub invariant-loop-turns : goal.invariant-loop-turns
+invariant-loop-turns l = record {
+  on : TurnsGoOn l.job l.running l.fn.places l.fn.asked l.fn.turns l.places l.asked l.turns;
 }
+
+abbrev pub decreases-loop-turns : goal.decreases-loop-turns
+decreases-loop-turns l = length l.running - l.turns.taken

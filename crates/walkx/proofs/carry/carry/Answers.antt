@@ -25,11 +25,15 @@ returns-in_err-write_data g c =
       };
     })
 
+pub write_place-requires-clause-word : goal.write_place-requires-clause-word
+write_place-requires-clause-word g c =
+    rw c.counter_place-counter.ensures.value c.counter_word.ensures
+
 pub write_place-requires-clause-next : goal.write_place-requires-clause-next
 write_place-requires-clause-next g c =
     let at = c.args.leaf.now in
     let r = c.requires.next in
-    rw c.counter_place.ensures.value (record {
+    rw c.counter_place-counter.ensures.value (record {
       from = r.from;
       after = r.after;
       next = r.next;
@@ -44,7 +48,7 @@ returns g c =
     record {
       plays = record {
         on = λ from after next here.
-            rw c.counter_place.ensures.value at (c.write_place.ensures.plays.on from after next)
+            rw c.counter_place-counter.ensures.value at (c.write_place.ensures.plays.on from after next)
             (c.in_ok-write_data.ensures.plays.on from after (λ done.
             writes at (counter_place at.job (processor_of at)) c.args.count after next) here);
       };

@@ -9,7 +9,7 @@ pub make-requires : goal.make-requires
 make-requires g c =
     let at = c.args.leaf.now in
     let r = c.requires.next in
-    rw c.place_word-word.ensures.first (
+    rw c.requires.word.first (
       at,
       record {
         from = r.from;
@@ -23,9 +23,9 @@ pub make-requires-2 : goal.make-requires-2
 make-requires-2 g c =
     let at = c.args.leaf.now in
     let r = c.requires.next in
-    let first = rw c.place_word-word.ensures.first at (c.in_ok-first.ensures.on at r.from
+    let first = rw c.requires.word.first at (c.in_ok-first.ensures.on at r.from
     (λ a. asks (Load (number_of at.layout (Stored c.args.place 1))) (λ b. r.next (a, b)))) in
-    rw c.place_word-word.ensures.second (
+    rw c.requires.word.second (
       at,
       record {
         from = r.from;
@@ -42,10 +42,10 @@ returns-in_err-second g c =
     (record {
       plays = record {
         on = λ from after next here.
-            let first = rw c.place_word-word.ensures.first at (c.in_ok-first.ensures.on at from
+            let first = rw c.requires.word.first at (c.in_ok-first.ensures.on at from
             (λ a. asks (Load (number_of at.layout (Stored c.args.place 1))) (λ b. next (a, b))))
             here in
-            rw c.place_word-word.ensures.second at
+            rw c.requires.word.second at
             (c.in_err-second.ensures.on at from (λ b. next (c.in_ok-first.first, b))) first;
       };
     })
@@ -54,9 +54,9 @@ pub returns : goal.returns
 returns g c = let at = c.args.leaf.now in record {
   plays = record {
     on = λ from after next here.
-        let first = rw c.place_word-word.ensures.first at (c.in_ok-first.ensures.on at from
+        let first = rw c.requires.word.first at (c.in_ok-first.ensures.on at from
         (λ a. asks (Load (number_of at.layout (Stored c.args.place 1))) (λ b. next (a, b)))) here in
-        rw c.place_word-word.ensures.second at
+        rw c.requires.word.second at
         (c.in_ok-second.ensures.on at from (λ b. next (c.in_ok-first.first, b))) first;
   };
 }

@@ -38,7 +38,7 @@ make-requires g c =
     let r = c.requires.next in
     let loads = rw (sym c.is_late.ensures ∙ c.if-is_late.false) at (c.in_ok-first.ensures.plays.on
     r.from r.after (writes_after at c.args.place c.args.value (r.next tt)) r.here) in
-    rw c.older_swap.ensures
+    rw (c.older_swap.ensures c.args.place c.requires.word)
     (at, record { from = r.from; after = r.after; next = λ found. r.next tt; here = loads })
 
 pub returns-in_err-make : goal.returns-in_err-make
@@ -50,7 +50,7 @@ returns-in_err-make g c =
             let loads = rw (sym c.is_late.ensures ∙ c.if-is_late.false) at
             (c.in_ok-first.ensures.plays.on from after
             (writes_after at c.args.place c.args.value (next tt)) here) in
-            rw c.older_swap.ensures at (c.in_err-make.ensures.on at from (λ found. next tt)) loads;
+            rw (c.older_swap.ensures c.args.place c.requires.word) at (c.in_err-make.ensures.on at from (λ found. next tt)) loads;
       };
     })
 
@@ -63,6 +63,6 @@ returns g c =
             let loads = rw (sym c.is_late.ensures ∙ c.if-is_late.false) at
             (c.in_ok-first.ensures.plays.on from after
             (writes_after at c.args.place c.args.value (next tt)) here) in
-            rw c.older_swap.ensures at (c.in_ok-make.ensures.on at from (λ found. next tt)) loads;
+            rw (c.older_swap.ensures c.args.place c.requires.word) at (c.in_ok-make.ensures.on at from (λ found. next tt)) loads;
       };
     }

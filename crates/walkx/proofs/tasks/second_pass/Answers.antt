@@ -1,43 +1,40 @@
 use Rattle.std.proofs.Common.{sym, ◌∙◌}
-use Rattle.walkx.proofs.Passes.{due_as, ends_as}
+use Rattle.walkx.proofs.Passes.{next_as, plays_as}
 use Rattle.walkx.proofs.WidePasses.{carry_common, carry_crew, carry_priority}
 use Rattle.walkx.proofs.tasks.second_pass.Goals as goal
 
-pub store_common-requires : goal.store_common-requires
-store_common-requires g c = let at = c.args.leaf.now in record {
-  due = due_as (g.S.Steps.stands at) _ _ _
-      (λ after. carry_common at after _ (sym c.rule.ensures.value ∙ c.in-Common.is))
-      c.requires.due;
-}
+pub store_common-requires-clause-next : goal.store_common-requires-clause-next
+store_common-requires-clause-next g c = let at = c.args.leaf.now in
+    next_as (g.S.Steps.stands at) _ _ _
+    (λ late next. carry_common at c.args.memo.now late next _
+    (sym c.rule.ensures.value ∙ c.in-Common.is)) c.requires.next
 
-pub returns-in-Common : goal.returns-in-Common
-returns-in-Common g c = let at = c.args.leaf.now in record {
-  ends = ends_as (g.S.Steps.stands at) _ _ _
-      (λ after. carry_common at after _ (sym c.rule.ensures.value ∙ c.in-Common.is))
-      _ _ c.store_common.ensures.ends;
-}
+pub returns-in-Common-clause-plays : goal.returns-in-Common-clause-plays
+returns-in-Common-clause-plays g c = let at = c.args.leaf.now in plays_as (g.S.Steps.stands at) _ _ _
+    (λ late next. carry_common at c.args.memo.now late next _
+    (sym c.rule.ensures.value ∙ c.in-Common.is))
+    _ _ c.store_common.ensures.plays
 
-pub store_priority-requires-clause-due : goal.store_priority-requires-clause-due
-store_priority-requires-clause-due g c =
-    let at = c.args.leaf.now in due_as (g.S.Steps.stands at) _ _ _
-    (λ after. carry_priority at after _ (sym c.rule.ensures.value ∙ c.in-Priority.is))
-    c.requires.due
+pub store_priority-requires-clause-next : goal.store_priority-requires-clause-next
+store_priority-requires-clause-next g c = let at = c.args.leaf.now in
+    next_as (g.S.Steps.stands at) _ _ _
+    (λ late next. carry_priority at c.args.memo.now late next _
+    (sym c.rule.ensures.value ∙ c.in-Priority.is)) c.requires.next
 
-pub returns-in-Priority : goal.returns-in-Priority
-returns-in-Priority g c = let at = c.args.leaf.now in record {
-  ends = ends_as (g.S.Steps.stands at) _ _ _
-      (λ after. carry_priority at after _ (sym c.rule.ensures.value ∙ c.in-Priority.is))
-      _ _ c.store_priority.ensures.ends;
-}
+pub returns-in-Priority-clause-plays : goal.returns-in-Priority-clause-plays
+returns-in-Priority-clause-plays g c = let at = c.args.leaf.now in plays_as (g.S.Steps.stands at) _ _ _
+    (λ late next. carry_priority at c.args.memo.now late next _
+    (sym c.rule.ensures.value ∙ c.in-Priority.is))
+    _ _ c.store_priority.ensures.plays
 
-pub store_crew-requires-clause-due : goal.store_crew-requires-clause-due
-store_crew-requires-clause-due g c = let at = c.args.leaf.now in due_as (g.S.Steps.stands at) _ _ _
-    (λ after. carry_crew at after _ (sym c.rule.ensures.value ∙ c.in-Crew.is))
-    c.requires.due
+pub store_crew-requires-clause-next : goal.store_crew-requires-clause-next
+store_crew-requires-clause-next g c = let at = c.args.leaf.now in
+    next_as (g.S.Steps.stands at) _ _ _
+    (λ late next. carry_crew at c.args.memo.now late next _
+    (sym c.rule.ensures.value ∙ c.in-Crew.is)) c.requires.next
 
-pub returns-in-Crew : goal.returns-in-Crew
-returns-in-Crew g c = let at = c.args.leaf.now in record {
-  ends = ends_as (g.S.Steps.stands at) _ _ _
-      (λ after. carry_crew at after _ (sym c.rule.ensures.value ∙ c.in-Crew.is))
-      _ _ c.store_crew.ensures.ends;
-}
+pub returns-in-Crew-clause-plays : goal.returns-in-Crew-clause-plays
+returns-in-Crew-clause-plays g c = let at = c.args.leaf.now in plays_as (g.S.Steps.stands at) _ _ _
+    (λ late next. carry_crew at c.args.memo.now late next _
+    (sym c.rule.ensures.value ∙ c.in-Crew.is))
+    _ _ c.store_crew.ensures.plays

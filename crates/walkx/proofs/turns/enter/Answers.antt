@@ -3,7 +3,11 @@ use Rattle.walkx.specs.Scripts.{ends}
 use Rattle.walkx.specs.Walk.{turn_script, turns}
 use Rattle.walkx.specs.Rests.{after_node}
 use Rattle.walkx.proofs.Passing.{passed}
-use Rattle.walkx.proofs.Turning.{moved, node_is, part_first}
+use Rattle.std.proofs.Common.{refl}
+use Rattle.walkx.specs.Memory.{at_start}
+use Rattle.walkx.specs.Walk.{enters, part_script}
+use Rattle.walkx.proofs.Forms.{form_compact, form_wide_of}
+use Rattle.walkx.proofs.Turning.{moved, node_is, form_is, part_first, wide_is}
 use Rattle.walkx.proofs.turns.enter.Goals as goal
 
 pub make-requires : goal.make-requires
@@ -124,13 +128,31 @@ returns-in_ok-mark-clause-leads g c =
           c.in_ok-mark.ensures.reaches.on from (rw (sym c.is_finished.ensures ∙ c.if-is_finished.false, sym c.is_leaf.ensures ∙ c.if-not-is_leaf.false, sym c.has_rank.ensures.value ∙ c.if-has_rank.false) at node);
     })
 
-pub returns-then-has_rank-clause-leads : goal.returns-then-has_rank-clause-leads
+pub returns-in-Compact-clause-leads : goal.returns-in-Compact-clause-leads
 unfolding turn_script
-returns-then-has_rank-clause-leads g c =
+returns-in-Compact-clause-leads g c =
     let at = c.args.post.now in
     record {
       on = λ from here.
           let node = rw (c.looking.ensures, node_is c.post.view_is) at
           (c.in_ok-found.ensures.on at from (after_node at)) here in
-          moved (g.S.Steps.stands at) from _ _ _ (part_first at c.requires.first) (rw (sym c.is_finished.ensures ∙ c.if-is_finished.false, sym c.is_leaf.ensures ∙ c.if-not-is_leaf.false, sym c.has_rank.ensures.value ∙ c.if-has_rank.true) at node);
+          moved (g.S.Steps.stands at) from _ _ _ (part_first at c.requires.first)
+          (moved (g.S.Steps.stands at) from _ _ _
+          (form_compact at.layout.form (part_script at.job at.layout at.node at.phase 0 at_start)
+          (ends (enters at.node at.phase)) (form_is c.post.view_is ∙ sym c.form.ensures.value ∙ c.in-Compact.is))
+          (rw (sym c.is_finished.ensures ∙ c.if-is_finished.false, sym c.is_leaf.ensures ∙ c.if-not-is_leaf.false, sym c.has_rank.ensures.value ∙ c.if-has_rank.true) at node));
+    }
+
+pub returns-in-Wide-clause-leads : goal.returns-in-Wide-clause-leads
+unfolding turn_script
+returns-in-Wide-clause-leads g c =
+    let at = c.args.post.now in
+    record {
+      on = λ from here.
+          let node = rw (c.looking.ensures, node_is c.post.view_is) at
+          (c.in_ok-found.ensures.on at from (after_node at)) here in
+          moved (g.S.Steps.stands at) from _ _ _
+          (form_wide_of at.layout.form (part_script at.job at.layout at.node at.phase 0 at_start)
+          (ends (enters at.node at.phase)) (wide_is _ _ (form_is c.post.view_is ∙ sym c.form.ensures.value ∙ c.in-Wide.is)))
+          (rw (sym c.is_finished.ensures ∙ c.if-is_finished.false, sym c.is_leaf.ensures ∙ c.if-not-is_leaf.false, sym c.has_rank.ensures.value ∙ c.if-has_rank.true) at node);
     }

@@ -1,49 +1,30 @@
-use Rattle.std.proofs.Common.{sym, ◌∙◌}
-use Rattle.walkx.proofs.Passing.{passed}
-use Rattle.walkx.specs.WideParts.{stores_after}
+use Rattle.std.proofs.Common.{◌≡◌, ◌==◌, false, sym, ◌∙◌}
+use Rattle.std.proofs.lemmas.Bool.{ne_eqb}
+use Rattle.walkx.specs.Inner.Posts.{step_of}
 use Rattle.walkx.proofs.wide_store.store.Goals as goal
 
-pub read_counter-requires : goal.read_counter-requires
-read_counter-requires g c =
+pub load_store-requires : goal.load_store-requires
+load_store-requires g c =
+    let at = c.args.leaf.now in
     let r = c.requires.next in
+    let other : (c.args.memo.now.step == step_of at) ≡ false =
+    ne_eqb c.args.memo.now.step (step_of at)
+    (λ e. c.if-memo-step.false (e ∙ sym c.step.ensures.value)) in
     record {
       next = record {
         from = r.from;
         after = r.after;
-        next = stores_after c.args.leaf.now r.after r.next;
-        here = r.here;
+        next = r.next;
+        here = rw other at r.here;
       };
     }
 
-pub returns-in_err-counter-clause-plays : goal.returns-in_err-counter-clause-plays
-returns-in_err-counter-clause-plays g c =
-    rw (passed c.from_residual.result _ c.from_residual.ensures.1) (record {
-      on = λ from after next here. c.in_err-counter.ensures.plays.on from after
-          (stores_after c.args.leaf.now after next) here;
-    })
-
-pub returns-in-None-clause-plays : goal.returns-in-None-clause-plays
-returns-in-None-clause-plays g c = record {
-  on = λ from after next here. rw (sym c.fetch.ensures.value ∙ c.in-None.is) at
-      (c.in_ok-counter.ensures.plays.on from after (stores_after c.args.leaf.now after next) here);
-}
-
-pub store_by-requires-clause-next : goal.store_by-requires-clause-next
-store_by-requires-clause-next g c =
-    let r = c.requires.next in
+pub returns-else-memo-step-clause-plays : goal.returns-else-memo-step-clause-plays
+returns-else-memo-step-clause-plays g c =
+    let at = c.args.leaf.now in
+    let other : (c.args.memo.now.step == step_of at) ≡ false =
+    ne_eqb c.args.memo.now.step (step_of at)
+    (λ e. c.if-memo-step.false (e ∙ sym c.step.ensures.value)) in
     record {
-      from = r.from;
-      after = r.after;
-      next = r.next;
-      here = rw (sym c.fetch.ensures.value ∙ c.in-Some.is) at
-          (c.in_ok-counter.ensures.plays.on r.from r.after
-          (stores_after c.args.leaf.now r.after r.next) r.here);
+      on = λ from after next here. c.load_store.ensures.plays.on from after next (rw other at here);
     }
-
-pub returns-in-Some-clause-plays : goal.returns-in-Some-clause-plays
-returns-in-Some-clause-plays g c = record {
-  on = λ from after next here. c.store_by.ensures.plays.on from after next
-      (rw (sym c.fetch.ensures.value ∙ c.in-Some.is) at
-      (c.in_ok-counter.ensures.plays.on from after (stores_after c.args.leaf.now after next)
-      here));
-}

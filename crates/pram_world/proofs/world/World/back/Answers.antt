@@ -12,18 +12,18 @@ invariant_of-self c =
     let at : slice_get c.self.inside.bodies.items c.args.b ≡ Some c.index.result.now =
     slice_get_read _ _ _ _ (search rules) c.if-b-len.true c.index.ensures in
     let below = number_below _ _ _ _ c.args.b c.index.result.now c.self.invariant at in
-    back_keeps _ _ _ _ c.args.b _ c.returning-worker.result
+    rw c.put.ensures (back_keeps _ _ _ _ c.args.b _ c.returning-worker.result
     c.self.invariant below c.returning-worker.ensures.value
-    (c.returning-worker.ensures.serves c.self.inside.job c.self.inside.layout below)
+    (c.returning-worker.ensures.serves c.self.inside.job c.self.inside.layout below))
 
 pub returns-then-b-len : goal.returns-then-b-len
 returns-then-b-len c =
     let at : slice_get c.self.inside.bodies.items c.args.b ≡ Some c.index.result.now =
     slice_get_read _ _ _ _ (search rules) c.if-b-len.true c.index.ensures in
-    back_world c.self.inside.job c.self.inside.layout
+    rw c.put.ensures (back_world c.self.inside.job c.self.inside.layout
     c.self.inside.words.items c.self.inside.bodies.items c.args.b
     _ c.returning-worker.result c.index.result.now at refl c.returning-worker.ensures.value
-    ∙ ap (λ (x : WorldData). happens x (Back c.args.b)) c.self.view_is
+    ∙ ap (λ (x : WorldData). happens x (Back c.args.b)) c.self.view_is)
 
 pub returns-else-b-len : goal.returns-else-b-len
 returns-else-b-len c =

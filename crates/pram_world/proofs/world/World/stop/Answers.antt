@@ -12,17 +12,17 @@ invariant_of-self c =
     let at : slice_get c.self.inside.bodies.items c.args.b ≡ Some c.index.result.now =
     slice_get_read _ _ _ _ (search rules) c.if-b-len.true c.index.ensures in
     let y = c.self.inside.layout in
-    stop_keeps _ _ _ _ c.args.b c.number-number.result c.self.invariant
+    rw c.put.ensures (stop_keeps _ _ _ _ c.args.b c.number-number.result c.self.invariant
     (subst (λ n. n < y.workers) (sym c.number-number.ensures)
-    (number_below _ _ _ _ c.args.b c.index.result.now c.self.invariant at))
+    (number_below _ _ _ _ c.args.b c.index.result.now c.self.invariant at)))
 
 pub returns-then-b-len : goal.returns-then-b-len
 returns-then-b-len c =
     let at : slice_get c.self.inside.bodies.items c.args.b ≡ Some c.index.result.now =
     slice_get_read _ _ _ _ (search rules) c.if-b-len.true c.index.ensures in
-    stop_world c.self.inside.job c.self.inside.layout c.self.inside.words.items
+    rw c.put.ensures (stop_world c.self.inside.job c.self.inside.layout c.self.inside.words.items
     c.self.inside.bodies.items c.args.b c.number-number.result c.index.result.now at
-    c.number-number.ensures ∙ ap (λ (x : WorldData). happens x (Stop c.args.b)) c.self.view_is
+    c.number-number.ensures ∙ ap (λ (x : WorldData). happens x (Stop c.args.b)) c.self.view_is)
 
 pub returns-else-b-len : goal.returns-else-b-len
 returns-else-b-len c =

@@ -1,11 +1,11 @@
-use Rattle.std.proofs.Common.{refl, rules}
-use Rattle.walkx.proofs.Workers.{starts}
+use Rattle.std.proofs.Common.{refl}
+use Rattle.walkx.proofs.Workers.{known_new, starts}
 use Rattle.walkx.proofs.worker.Worker.start.Goals as goal
 
 pub returns : goal.returns
 returns c =
-    rw c.about_to.ensures (record {
+    rw (c.about_to.ensures, c.none.ensures) (record {
       value = refl;
-      serves = λ job y worker. starts job y c.args.w worker;
-      known = λ job y past. search rules;
+      serves = λ job y worker. starts job y c.args.w 0 worker;
+      known = λ job y past _. (known_new job y past c.args.w 0).0;
     })

@@ -1,0 +1,253 @@
+//! What a worker remembers.
+ghost use Rattle.std.specs.Prelude.{◌≡◌, ◌==◌, suc, List, slice_get, slice_set, IfOk, IfSome, []};
+ghost use Rattle.std.specs.Prelude.{IsTrue, Some, None};
+ghost use Rattle.pram_machine.specs.Instructions.{goes_to};
+ghost use Rattle.pram_machine.specs.Turns.{request_of};
+ghost use Rattle.walkx.specs.declared.memo.Memo.{Memo};
+ghost use Rattle.walkx.specs.Driving.{IsNextPart};
+ghost use Rattle.pram_words.specs.Phases.{kind_at};
+ghost use Rattle.walkx.specs.Inner.Posts.{processor_of};
+ghost use Rattle.walkx.specs.Memory.{FitsMemo, at_start, blank, memo_of};
+ghost use Rattle.walkx.specs.Parts.{does_wide};
+ghost use Rattle.walkx.specs.Passing.{StandsAt, TakesUp};
+ghost use Rattle.walkx.specs.WideParts.{IsShaped, learned};
+
+use crate::left::Stopped;
+use crate::post::Leaf;
+use crate::request::fetch;
+use crate::steps::Steps;
+use crate::tasks::wide_task;
+use crate::turns::settle;
+use crate::wide_own::own_by;
+use pram_job::Instr;
+use pram_machine::{Put, Turn};
+use pram_words::Kind;
+use std::alloc::{AllocError, Global};
+use std::marker::Model;
+
+/// What a worker of the wide form knows of a processor.
+#[derive(Clone, Copy, Debug, PartialEq, Eq)]
+pub struct Memo {
+    /// After how many steps it is so.
+    pub step: u32,
+    pub counter: u32,
+    pub registers: [u32; 4],
+    /// The cell and the value of the store in the last of them, if it was one.
+    pub store: Option<(u32, u32)>,
+}
+
+impl Memo {
+    /// What is known of each processor before the first step.
+    #[inline(always)]
+    pub fn at_start() -> Memo
+        ensures { result ≡ at_start }
+    {
+        Memo {
+            step: 0,
+            counter: 0,
+            registers: [0; 4],
+            store: None,
+        }
+    }
+
+    /// What was known is forgotten.
+    #[inline(always)]
+    pub(crate) fn forget(&mut self)
+        ensures { self.new ≡ at_start }
+    {
+        *self = Memo::at_start();
+    }
+
+    /// It is of the step before this one.
+    #[inline(always)]
+    pub(crate) fn is_before(&self, t: u32) -> bool
+        ensures { result ≡ (suc self.now.step == t) }
+    {
+        u64::from(self.step) + 1 == u64::from(t)
+    }
+
+    /// What is known after a turn of the leaf's step.
+    #[inline(always)]
+    pub(crate) fn take_up(&mut self, leaf: &Leaf, turn: Turn)
+        requires { IsShaped leaf.now turn }
+        ensures { self.new ≡ learned leaf.now self.old (request_of turn) }
+    {
+        self.step = leaf.step();
+        self.counter = turn.next;
+        self.store = match turn.put {
+            Put::Cell(cell, value) => Some((cell, value)),
+            _ => None,
+        };
+        if let Put::Register(place, value) = turn.put {
+            self.registers[(place - leaf.register_place(0)) as usize] = value;
+        }
+    }
+
+    /// What is known after a step of a processor that has stopped.
+    #[inline(always)]
+    pub(crate) fn stay(&mut self, leaf: &Leaf)
+        ensures { self.new ≡ learned leaf.now self.old (goes_to self.old.counter) }
+    {
+        self.step = leaf.step();
+        self.store = None;
+    }
+}
+
+/// The instruction at a counter, which processors stand at.
+#[derive(Clone, Copy)]
+pub struct Stand<'a> {
+    pub counter: u32,
+    pub instr: &'a Instr,
+}
+
+impl<'a> Stand<'a> {
+    /// The same instruction by a name that tells its form.
+    #[inline(always)]
+    pub fn with(self, instr: &'a Instr) -> Self
+        requires { instr.now ≡ self.instr.now }
+        ensures counter { result.counter ≡ self.entry.counter }
+        ensures instr { result.instr.now ≡ self.entry.instr.now }
+    {
+        Stand {
+            counter: self.counter,
+            instr,
+        }
+    }
+}
+
+/// What a worker remembers of each processor. One without memory knows what each is before the
+/// first step, and nothing else.
+#[derive(Drop)]
+pub struct Memory {
+    memos: Option<Vec<Memo>>,
+}
+
+impl Model for Memory {
+    ghost Value = { List Memo };
+
+    ghost view = { λ m. elim m.memos [ None ↦ [] | Some memos ↦ memos.items ] };
+}
+
+impl Memory {
+    /// No memory.
+    #[inline(always)]
+    pub fn none() -> Memory
+        ensures { result ≡ [] }
+    {
+        Memory { memos: None }
+    }
+
+    /// A memory for so many processors: about 40 bytes for each.
+    pub fn of(alloc: Global, procs: u32) -> Result<Memory, AllocError>
+        ensures { IfOk result (λ memory. memory ≡ blank procs) }
+    {
+        let memos = vec![in alloc; Memo::at_start(); procs as usize]?;
+        Ok(Memory { memos: Some(memos) })
+    }
+
+    /// What is known of processor i.
+    #[inline(always)]
+    pub fn memo(&self, i: u32) -> Memo
+        ensures { result ≡ memo_of self.now i }
+    {
+        match &self.memos {
+            Some(memos) => match memos.as_slice().get(i as usize) {
+                Some(memo) => *memo,
+                None => Memo::at_start(),
+            },
+            None => Memo::at_start(),
+        }
+    }
+
+    /// This is known of it now. Without memory it is forgotten.
+    #[inline(always)]
+    pub fn keep(&mut self, i: u32, memo: Memo)
+        ensures { self.new ≡ slice_set self.old i memo }
+    {
+        match &mut self.memos {
+            Some(memos) => {
+                if (i as usize) < memos.len() {
+                    memos.as_mut_slice()[i as usize] = memo;
+                }
+            }
+            None => {}
+        }
+    }
+
+    /// The task of a processor of a block, with what is remembered of it, whether it asks something
+    /// or not.
+    #[inline(always)]
+    pub fn take_up<S: Steps>(&mut self, steps: &mut S, leaf: &Leaf) -> Result<(), Stopped>
+        requires memo { FitsMemo leaf.now.job (memo_of self.old (processor_of leaf.now)) }
+        requires next { IsNextPart (S.stands leaf.now) steps.old
+            (does_wide leaf.now (memo_of self.old (processor_of leaf.now))) }
+        ensures { TakesUp (S.stands leaf.now) leaf.now steps.old self.old steps.new self.new
+            result }
+    {
+        let i = leaf.processor() as usize;
+        match &mut self.memos {
+            Some(memos) => {
+                if i < memos.len() {
+                    return settle(wide_task(steps, leaf, &mut memos[i]));
+                }
+            }
+            None => {}
+        }
+        let mut memo = Memo::at_start();
+        settle(wide_task(steps, leaf, &mut memo))
+    }
+
+    /// The instruction that the leaf's processor stands at, where it is known before the step.
+    #[inline(always)]
+    pub fn stand<'a>(&self, leaf: &Leaf<'a>) -> Option<Stand<'a>>
+        ensures { IfSome result (λ stand. StandsAt leaf.now self.now stand.counter
+            stand.instr.now) }
+    {
+        let memo = self.memo(leaf.processor());
+        if !memo.is_before(leaf.step()) {
+            return None;
+        }
+        let counter = memo.counter;
+        let instr = fetch(leaf, counter)?;
+        Some(Stand { counter, instr })
+    }
+
+    /// Whether the leaf's processor is known before the step, and stands at this instruction.
+    #[inline(always)]
+    pub fn stands_at(&self, leaf: &Leaf, stand: Stand<'_>) -> bool
+        requires { slice_get leaf.now.job.code stand.counter ≡ Some stand.instr.now }
+        ensures { IsTrue result → StandsAt leaf.now self.now stand.entry.counter stand.entry.instr.now }
+    {
+        let memo = self.memo(leaf.processor());
+        memo.is_before(leaf.step()) && memo.counter == stand.counter
+    }
+
+    /// As `take_up`, in the first pass, for a processor that is known to stand at this instruction.
+    #[inline(always)]
+    pub fn take_up_by<S: Steps>(
+        &mut self,
+        steps: &mut S,
+        leaf: &Leaf,
+        stand: Stand<'_>,
+    ) -> Result<(), Stopped>
+        requires first { kind_at leaf.now.phase ≡ Kind.Compute }
+        requires stands { StandsAt leaf.now self.old stand.counter stand.instr.now }
+        requires memo { FitsMemo leaf.now.job (memo_of self.old (processor_of leaf.now)) }
+        requires next { IsNextPart (S.stands leaf.now) steps.old
+            (does_wide leaf.now (memo_of self.old (processor_of leaf.now))) }
+        ensures { TakesUp (S.stands leaf.now) leaf.now steps.old self.old steps.new self.new
+            result }
+    {
+        let i = leaf.processor() as usize;
+        match &mut self.memos {
+            Some(memos) => {
+                if i < memos.len() {
+                    return settle(own_by(steps, leaf, &mut memos[i], stand.instr));
+                }
+            }
+            None => {}
+        }
+        let mut memo = Memo::at_start();
+        settle(own_by(steps, leaf, &mut memo, stand.instr))
+    }
+}
