@@ -174,7 +174,7 @@ class Runs(unittest.TestCase):
 
     def test_a_pace_is_kept(self):
         began = time.monotonic()
-        kaolinsilk.run(TINY, 1, [(0, "go", 20)], pace=0.002)
+        kaolinsilk.run(TINY, 1, [(0, "go", 20)], pace=0.004)
         self.assertGreater(time.monotonic() - began, 0.04)
 
     def test_no_thread_is_left(self):
