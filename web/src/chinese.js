@@ -29,6 +29,8 @@ export const CHINESE = {
     '{10} 到下一次和上一次内存访问，{11} 到下一个停止处。由工作者执行时，{12} 让全体各走一步，{13} 到 {14} 让其中一个走一步，{15} 到下一次字的改变，' +
     '{16} 到下一个完成的步。{17} 可到达每个控件。{18}',
   Language: '语言',
+  'Hand in': '提交',
+  'save the solved exercises as one file': '把已解出的练习保存为一个文件',
   Judge: '评判',
   'Try this input': '试这个输入',
   'Begin anew': '重新开始',

@@ -36,6 +36,8 @@ export const FRENCH = {
     'au prochain changement d’un mot, {16} à la prochaine étape finie. {17} atteint chaque ' +
     'commande. {18}',
   Language: 'Langue',
+  'Hand in': 'Rendre',
+  'save the solved exercises as one file': 'enregistrer les exercices résolus dans un fichier',
   Judge: 'Juger',
   'Try this input': 'Essayer cette entrée',
   'Begin anew': 'Recommencer',

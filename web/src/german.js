@@ -36,6 +36,8 @@ export const GERMAN = {
     'Schritt machen, {13} bis {14} einen von ihnen, {15} geht zur nächsten Änderung eines ' +
     'Wortes, {16} zum nächsten fertigen Schritt. {17} erreicht jedes Bedienelement. {18}',
   Language: 'Sprache',
+  'Hand in': 'Abgeben',
+  'save the solved exercises as one file': 'die gelösten Aufgaben als eine Datei speichern',
   Judge: 'Prüfen',
   'Try this input': 'Diese Eingabe probieren',
   'Begin anew': 'Neu beginnen',

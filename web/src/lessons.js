@@ -6,6 +6,8 @@ import { EXERCISES, isOf, sizesOf, startOf } from './exercises.js';
 import { judgeExercise } from './judge.js';
 import { grouped } from './numbers.js';
 import { PUZZLES, judgePuzzle } from './puzzles.js';
+import { keepSolved, solved } from './solved.js';
+import { save } from './styled_svg.js';
 import { TOUR } from './tour.js';
 import { english, phrase } from './words.js';
 
@@ -25,8 +27,26 @@ const KINDS = {
 
 const group = (label, options) => make('optgroup', { label }, ...options);
 
-const optionsOf = (kind) => KINDS[kind].list.map(({ number, title }) =>
-  make('option', { value: `${kind} ${number}` }, `${number}: ${phrase(title)}`));
+function optionsOf(kind) {
+  const right = solved();
+  return KINDS[kind].list.map(({ number, title }) => {
+    const value = `${kind} ${number}`;
+    const mark = Object.hasOwn(right, value) ? '✓ ' : '';
+    return make('option', { value }, `${mark}${number}: ${phrase(title)}`);
+  });
+}
+
+// The exercises that were solved, one after the other, as one file.
+function handIn() {
+  const right = solved();
+  const texts = KINDS.exercise.list.flatMap(({ number, title }) => {
+    const text = right[`exercise ${number}`];
+    return text === undefined ? [] : [`; ${number}: ${phrase(title)}\n${text}`];
+  });
+  save('exercises.txt', 'text/plain', texts.join('\n'));
+}
+
+const areHandedIn = () => Object.keys(solved()).some((name) => name.startsWith('exercise '));
 
 function taskInWords({ task, growth, model, ...exercise }) {
   const sizes = sizesOf(exercise).map(grouped);
@@ -50,6 +70,7 @@ class Lessons {
         name: this.nameOf(english('Exercise {0}, this input')), lesson: this.lesson,
       }));
     onClick('lesson-close', () => this.close());
+    onClick('hand-in', handIn);
   }
 
   fillMenu() {
@@ -150,6 +171,7 @@ class Lessons {
     byId('lesson-panel').hidden = false;
     this.stopJudging();
     setHidden(byId('judge'), this.kind === 'tour');
+    setHidden(byId('hand-in'), this.kind !== 'exercise' || !areHandedIn());
     setDisabled(byId('lesson-back'), this.stop === 0);
     setDisabled(byId('lesson-on'), this.stop === this.list.length - 1);
     this.say({ isRight: false, said: '' });
@@ -186,14 +208,24 @@ class Lessons {
     app.editor.look();
     if (this.kind === 'exercise') {
       this.say({ isRight: false, said: phrase('It is being judged.') });
-      this.say(await judgeExercise((...call) => this.ask(...call), lesson, app.text));
+      const { text } = app;
+      this.tell(await judgeExercise((...call) => this.ask(...call), lesson, text), text);
     } else if (app.isWaiting) {
       this.later = setTimeout(() => this.judge(), PAUSE);
     } else if (app.job) {
-      this.say(judgePuzzle(lesson, app.views.workers.board, this.outcome()));
+      this.tell(judgePuzzle(lesson, app.views.workers.board, this.outcome()), app.text);
     } else {
       this.say({ isRight: false, said: phrase('Not yet: the program has a fault.') });
     }
+  }
+
+  // What was judged; what is right stays marked.
+  tell(judged, text) {
+    this.say(judged);
+    if (!judged.isRight) return;
+    keepSolved(`${this.kind} ${this.stop + 1}`, text);
+    this.fillMenu();
+    setHidden(byId('hand-in'), this.kind !== 'exercise');
   }
 
   // Calls the core in the thread of lessons; what was asked for before is forgotten.

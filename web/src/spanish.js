@@ -35,6 +35,8 @@ export const SPANISH = {
     'trabajadores, {12} da un paso de todos, {13} a {14} de uno, {15} va al próximo cambio de ' +
     'una palabra, {16} al próximo paso terminado. {17} llega a cada control. {18}',
   Language: 'Idioma',
+  'Hand in': 'Entregar',
+  'save the solved exercises as one file': 'guardar los ejercicios resueltos en un archivo',
   Judge: 'Evaluar',
   'Try this input': 'Probar esta entrada',
   'Begin anew': 'Empezar de nuevo',

@@ -1,7 +1,7 @@
 // What a lecture needs: ends, costs, the plot of the steps, exercises, puzzles and the tour.
 import { writeAddress } from '../src/address.js';
 import { Schedule } from '../src/schedule.js';
-import { count, focused, has, is, isShown, open, page, picture, text, valueOf, write }
+import { count, focused, has, is, isShown, open, page, picture, saved, text, valueOf, write }
   from './drive.js';
 import { NO_SCHEDULES, SCHEDULES, SOLUTIONS, WRONG } from './solutions.js';
 
@@ -93,6 +93,10 @@ export async function testExercises() {
     is('it is shown as right', await count('#lesson-said.right'), 1);
   }
   await picture('exercise');
+  is('all stay marked', await count('#lesson [label] option[value^=exercise]'), SOLUTIONS.length);
+  is('as solved', (await text('#lesson option[value="exercise 2"]')).startsWith('✓ 2: '), true);
+  const file = await saved('#hand-in', 'exercises.txt');
+  is('and are handed in as one file', SOLUTIONS.every((lines) => file.includes(lines)), true);
   await page.choose('#lesson', 'exercise 1');
   is('what was begun goes on', (await valueOf('#text')).endsWith(`${SOLUTIONS[0]}\n`), true);
   await page.click('#lesson-anew');

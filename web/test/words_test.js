@@ -46,6 +46,7 @@ const OTHERS = {
   'main.js': ['pardo 1\nrule crew\nprocs i < 1\nshared s\ncode\ns := i\n'],
   'plan_export.js': ['pramx replay 0 --workers 0 --plan plan.csv'],
   'program_view.js': ['clash next', 'current next'],
+  'solved.js': ['kaolinsilk solved'],
   'structs.js': ['Status'],
   'tree.js': ['body worker00'],
   'tree_bars.js': ['block pass00'],
