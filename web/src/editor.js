@@ -141,6 +141,7 @@ export class Editor {
   }
 
   onPaste(event, data) {
+    if (data?.types.includes('Files')) return;
     const text = data?.getData('text/plain') ?? '';
     if (text.length <= LARGE && !this.isAll) return;
     event.preventDefault();

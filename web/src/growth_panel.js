@@ -4,7 +4,7 @@ import { byId, make, makeSvg, onClick, setHidden, setText } from './dom.js';
 import { HEIGHT, WIDTH, plotOf } from './growth_plot.js';
 import { grouped } from './numbers.js';
 import { pictureOf, saveSvg, withStyles } from './styled_svg.js';
-import { english, phrase } from './words.js';
+import { english, language, phrase } from './words.js';
 
 const CONSTANT = /^(?<before>\s*const\s+(?<name>[A-Za-z_]\w*)\s*=\s*)\d+(?<after>\s*(?:;.*)?)$/;
 const CODE_LINE = /^[ \t]*code\b/;
@@ -72,9 +72,11 @@ export class GrowthPanel {
     onClick('save-growth', () => this.save());
   }
 
-  // What was measured is another program's.
+  // What was measured is another program's, or is said in another language.
   show() {
     const { text, isProgram } = this.app;
+    if (text === this.text && language() === this.spoken) return;
+    this.spoken = language();
     if (text === this.text) {
       this.draw();
       return;

@@ -3,7 +3,7 @@ const KEY = 'kaolinsilk solved';
 
 export function solved() {
   try {
-    return JSON.parse(localStorage.getItem(KEY) ?? '{}');
+    return JSON.parse(localStorage.getItem(KEY)) ?? {};
   } catch {
     return {};
   }
