@@ -141,7 +141,7 @@ export class Editor {
   }
 
   onPaste(event, data) {
-    if (data?.types.includes('Files')) return;
+    if (data?.files.length > 0) return;
     const text = data?.getData('text/plain') ?? '';
     if (text.length <= LARGE && !this.isAll) return;
     event.preventDefault();
