@@ -411,6 +411,27 @@ static void try_boards(const struct text *text) {
   expect("closed handles", !board.at && !seat.at);
 }
 
+/* A worker has a memory, and one that came back has one: without, these would take more atomic
+   steps. */
+static void try_memories(void) {
+  static char job[] = "pram 1\ncells 1\nprocs 1\nsteps 3\ncode\nset r1 1\nsub r2 r0 r1\nst r0 r2\n";
+  const struct text text = {"", (void *)job, sizeof job - 1};
+  ks_board board = {NULL};
+  ks_seat seat = {NULL};
+  ks_worker worker = {NULL};
+  struct ks_progress progress;
+  if (ks_open(text.bytes, text.length, 1, 0, &board) || ks_seat_of(&board, &seat)) exit(5);
+  if (ks_worker_of(&board, 0, &worker)) exit(5);
+  if (ks_work(&worker, 11) != KS_UNFINISHED || ks_progress(&seat, &progress)) exit(5);
+  expect("a worker's memory", progress.step == 1);
+  if (ks_back(&worker) || ks_work(&worker, 34) == KS_FAILED) exit(5);
+  if (ks_progress(&seat, &progress)) exit(5);
+  expect("the memory of one that came back", progress.step == 3);
+  ks_close(&board);
+  ks_close_seat(&seat);
+  ks_close_worker(&worker);
+}
+
 static int try_wrong(const struct text *texts, int count) {
   for (int i = 0; i < count; i++) {
     try_requests(&texts[i]);
@@ -418,6 +439,7 @@ static int try_wrong(const struct text *texts, int count) {
     try_boards(&texts[i]);
   }
   try_sizes();
+  try_memories();
   printf("%d of %d wrong calls as promised, %ld blocks left\n", made_wrong - faults, made_wrong,
          living);
   return faults + (living != 0);
