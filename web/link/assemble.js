@@ -1,7 +1,9 @@
-// assemble.js CORE.wasm EXAMPLES OUT.html: puts the page into one file. The modules of src/ are
-// written one after the other, each as a function of its own after those that it imports.
+// assemble.js CORE.wasm EXAMPLES OUT.html: puts the page into one file. Debian's esbuild makes one
+// script of the modules of src/.
+import { execFileSync } from 'node:child_process';
 import { createHash } from 'node:crypto';
-import { readFileSync, readdirSync, writeFileSync } from 'node:fs';
+import { mkdtempSync, readFileSync, readdirSync, rmSync, writeFileSync } from 'node:fs';
+import { tmpdir } from 'node:os';
 import { dirname, join } from 'node:path';
 import { fileURLToPath } from 'node:url';
 import { deflateRawSync } from 'node:zlib';
@@ -14,36 +16,30 @@ import { declaredModule } from './declared_module.js';
 
 const source = join(dirname(fileURLToPath(import.meta.url)), '..', 'src');
 const read = (name) => readFileSync(join(source, name), 'utf8');
-const IMPORT = /^import \{([^}]*)\} from '\.\/([a-z_]+)\.js';\n/gm;
-const COMMENT = /^ *\/\/.*\n/gm;
-const INDENT = /^ +/gm;
-const EXPORT = /^export (?:async )?(?:function|const|let|class) (\w+)/gm;
 
-// A module and those that it imports, each after its own imports.
-function modulesOf(name, found = new Set()) {
-  for (const [, , imported] of read(`${name}.js`).matchAll(IMPORT)) {
-    if (!found.has(imported)) modulesOf(imported, found);
+// Names and values stay, and no line says where a module was: the same modules give the same bytes.
+const BUNDLING = ['--bundle', '--minify', '--format=esm', '--target=es2022', '--charset=utf8',
+  '--log-level=warning'];
+
+// The modules as texts. What the core's sources declare stands in the place of the module that
+// reads them.
+function modules() {
+  const names = readdirSync(source).filter((name) => name.endsWith('.js'));
+  const texts = new Map(names.map((name) => [name.replace(/\.js$/, ''), read(name)]));
+  texts.delete('declared');
+  return texts.set('declared', declaredModule(texts));
+}
+
+// One script for each of these modules, of it and of those that it imports.
+function bundlesOf(...names) {
+  const folder = mkdtempSync(join(tmpdir(), 'page-'));
+  try {
+    for (const [name, text] of modules()) writeFileSync(join(folder, `${name}.js`), text);
+    return names.map((name) =>
+      execFileSync('esbuild', [`${name}.js`, ...BUNDLING], { cwd: folder, encoding: 'utf8' }));
+  } finally {
+    rmSync(folder, { recursive: true });
   }
-  return found.add(name);
-}
-
-// A module as a function of its own, which gives what it exports; without its indents, and without
-// its comments, which stand in lines of their own. No line of a text begins with a blank.
-function enclosed(name, text) {
-  const exported = [...text.matchAll(EXPORT)].map(([, word]) => word);
-  const body = text
-    .replace(COMMENT, '')
-    .replace(IMPORT, (_, words, module) => `const {${words}} = ${module}_module;\n`)
-    .replace(/^export /gm, '')
-    .replace(INDENT, '');
-  return `const ${name}_module = (() => {\n${body}return { ${exported.join(', ')} };\n})();\n`;
-}
-
-// What the core's sources declare stands in the place of the module that reads them.
-function bundleOf(name) {
-  const texts = new Map([...modulesOf(name)].map((module) => [module, read(`${module}.js`)]));
-  texts.set('declared', declaredModule(texts));
-  return `\n${[...texts].map(([module, text]) => enclosed(module, text)).join('\n')}`;
 }
 
 const packed = (bytes) => deflateRawSync(bytes, { level: 9 }).toString('base64');
@@ -94,14 +90,14 @@ const policyOf = (style, script) =>
 
 const [core, examples, out] = process.argv.slice(2);
 const style = `\n${read('style.css')}`;
-const script = bundleOf('main');
+const [script, thread] = bundlesOf('main', 'far_core');
 const parts = {
   POLICY: policyOf(style, script),
   STYLE: style,
   EXAMPLES: packed(JSON.stringify(examplesOf(examples))),
   DOCUMENTS: packed(documentsOf(join(source, '..', '..', 'docs'))),
   WORDS: packed(JSON.stringify(textsOfLanguages())),
-  FAR: packed(bundleOf('far_core')),
+  FAR: packed(thread),
   CORE: packed(readFileSync(core)),
   PAGE: script,
 };

@@ -3,7 +3,7 @@ import * as declared from './declared.js';
 
 const IMPORT = /^import \{([^}]*)\} from '\.\/declared\.js';\n/m;
 
-const importsOf = (text) => IMPORT.exec(text)?.[1].match(/\w+/g) ?? [];
+export const importsOf = (text) => IMPORT.exec(text)?.[1].match(/\w+/g) ?? [];
 
 // What a module has of the sources must be there: the words that it imports, and names of theirs,
 // as CODE.DONE.
@@ -17,7 +17,8 @@ function check(module, text) {
   }
 }
 
-const written = (value) => JSON.stringify(value).replace(/"(\w+)":/g, '$1:');
+// A value as the page has it.
+export const written = (value) => JSON.stringify(value).replace(/"(\w+)":/g, '$1:');
 
 // Of all that is declared the module has what these modules import: texts by their names.
 export function declaredModule(texts) {

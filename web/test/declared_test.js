@@ -1,7 +1,9 @@
 // declared_test.js PAGE: what is read of sources, in Node, and that the page and its core have what
 // the sources declare.
+import { readFileSync, readdirSync } from 'node:fs';
 import * as declared from '../src/declared.js';
 import * as kinds from '../src/kinds.js';
+import { importsOf, written } from '../link/declared_module.js';
 import {
   callsIn, constantsIn, layoutsOf, numbersIn, structsIn, variantsIn, wordsIn,
 } from '../link/rattle.js';
@@ -192,14 +194,18 @@ function testKinds() {
   }
 }
 
+const folder = new URL('../src/', import.meta.url);
+const importedBy = (name) => importsOf(readFileSync(new URL(name, folder), 'utf8'));
+
 // The page's maker wrote there what the sources declare now.
 function testPage() {
-  const modules = [...scriptsOf(pagePath).matchAll(/const declared_module = \(\(\) => \{\n([^]*?)return \{/g)];
-  is('modules of it', modules.length, 2);
-  for (const [, text] of modules) {
-    for (const [, word, value] of text.matchAll(/^const (\w+) = (.*);$/gm)) {
-      same(`${word} in the page`, new Function(`return ${value}`)(), declared[word]);
-    }
+  const { script, thread } = scriptsOf(pagePath);
+  const modules = readdirSync(folder).filter((name) => name.endsWith('.js'));
+  for (const word of new Set(modules.flatMap(importedBy))) {
+    is(`${word} in the page`, script.includes(written(declared[word])), true);
+  }
+  for (const word of ['core.js', 'structs.js'].flatMap(importedBy)) {
+    is(`${word} in its thread`, thread.includes(written(declared[word])), true);
   }
   const core = new WebAssembly.Module(coreBytesOf(pagePath));
   const exported = new Set(WebAssembly.Module.exports(core).map(({ name }) => name));

@@ -13,5 +13,8 @@ export const coreBytesOf = (path) => unpacked(path, 'core');
 
 export const coreOf = (path) => openCore(coreBytesOf(path));
 
-// The scripts: that of the page, and that of its thread.
-export const scriptsOf = (path) => readFileSync(path, 'utf8') + unpacked(path, 'far').toString();
+// The script of the page, and that of its thread.
+export function scriptsOf(path) {
+  const [, script] = /<script type="module">([^]*?)<\/script>/.exec(readFileSync(path, 'utf8'));
+  return { script, thread: unpacked(path, 'far').toString() };
+}
