@@ -11,6 +11,7 @@ import { english } from './words.js';
 const QUIET = 30;
 const LARGE = 20000;
 const WINDOW = 400;
+const WIDTH_OF_HEAT = 7;
 const SIGHT = {
   from: english('from line {0}'),
   earlier: english('earlier lines'),
@@ -20,15 +21,27 @@ const SIGHT = {
 const makeMark = () => make('div', { class: 'mark' }, make('span', { class: 'badge' }));
 const makeNumber = () => make('div', { class: 'line-number' },
   make('span', { class: 'stop', title: english('Stop here, or no more') }),
+  make('span', { class: 'heat' }, make('span'), make('span')),
   make('span', { class: 'number', title: english('To this line') }));
 
-function drawNumbers(gutter, first, count, marks, stops) {
+const UNTOLD = { parts: [0, 0], times: '', active: '', title: '' };
+
+// How hot a line is: a bar, two numbers, and the same in words.
+function drawHeat(place, { parts, times, active, title }) {
+  setText(place.firstElementChild, times);
+  setText(place.lastElementChild, active);
+  setAttribute(place, 'title', title);
+  ['--now', '--all'].forEach((name, k) => place.style.setProperty(name, parts[k].toFixed(3)));
+}
+
+function drawNumbers(gutter, first, count, { marks, stops, heat, isHot }) {
   fit(gutter, count, makeNumber).forEach((row, k) => {
     const line = first + k;
     setText(row.lastElementChild, String(line));
     setAttribute(row, 'data-line', line);
     const stop = stops.has(line) ? ' stops' : '';
     setAttribute(row, 'class', `line-number ${marks.get(line)?.kind ?? ''}${stop}`);
+    if (isHot) drawHeat(row.children[1], heat.get(line) ?? UNTOLD);
   });
 }
 
@@ -60,6 +73,8 @@ export class Editor {
     this.sheet = new Sheet();
     this.marks = new Map();
     this.stops = new Set();
+    this.heat = new Map();
+    this.isHot = false;
     this.isChosen = false;
     this.showAtWork = openAtWork();
     this.sight = openWindow(SIGHT, WINDOW, (line) => this.moveTo(line), 1);
@@ -253,11 +268,13 @@ export class Editor {
     const inSight = Math.ceil(this.height / lineHeight) + 1;
     const count = Math.max(Math.min(inSight, sheet.linesInPart - above), 0);
     const shift = `translateY(${above * lineHeight - area.scrollTop}px)`;
-    drawNumbers(gutter, first, count, marks, this.stops);
+    drawNumbers(gutter, first, count, this);
     drawMarks(paper, first, count, marks);
     gutter.style.transform = shift;
     paper.style.transform = shift;
-    gutter.parentElement.style.width = `${Math.max(String(sheet.lines).length, 2) + 3}ch`;
+    gutter.parentElement.toggleAttribute('data-heat', this.isHot);
+    const digits = Math.max(String(sheet.lines).length, 2) + 3;
+    gutter.parentElement.style.width = `${digits + (this.isHot ? WIDTH_OF_HEAT : 0)}ch`;
   }
 
   // Has this text. Where it is another version of what stands there the cursor goes to the change,
@@ -281,6 +298,13 @@ export class Editor {
     if (byLine.size === 0 && this.marks.size === 0) return;
     this.marks = byLine;
     this.showAtWork(byLine, this.sheet.text);
+    this.draw();
+  }
+
+  // How hot lines are, by line; and whether there is room for it.
+  setHeat(byLine, isShown) {
+    if (!isShown && !this.isHot) return;
+    Object.assign(this, { heat: byLine, isHot: isShown });
     this.draw();
   }
 

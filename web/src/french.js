@@ -536,8 +536,20 @@ export const FRENCH = {
   'A plan has no twins: go back to a moment before the first one.':
     'Un plan n’a pas de jumeaux : revenez à un moment avant le premier.',
   '❚❚ Pause': '❚❚ Pause',
-  'Step {0}: {1} at work, {2} read a cell, {3} write one.':
-    'Étape {0} : {1} au travail, {2} lisent une cellule, {3} en écrivent une.',
+  '{0} heat': '{0} chaleur',
+  'How often each line is executed, and by how many processors':
+    'Combien de fois chaque ligne est exécutée, et par combien de processeurs',
+  line: 'ligne',
+  'executed so far': 'exécutée jusqu’ici',
+  'in the whole run': 'dans toute l’exécution',
+  'active so far': 'actifs jusqu’ici',
+  'at most at once': 'au plus à la fois',
+  'Executed so far: {0} of {1} times.': 'Exécutée jusqu’ici : {0} fois sur {1}.',
+  'Active processors, counted each time: {0} of {1}, at most {2} at once.':
+    'Processeurs actifs, comptés chaque fois : {0} sur {1}, au plus {2} à la fois.',
+  'Steps {0} to {1}.': 'Étapes {0} à {1}.',
+  'Step {0}: {1} read a cell, {2} write one.':
+    'Étape {0} : {1} lisent une cellule, {2} en écrivent une.',
   'after step {0} of {1}': 'après l’étape {0} de {1}',
   'steps {0} to {1}': 'étapes {0} à {1}',
   processor: 'processeur',

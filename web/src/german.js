@@ -534,8 +534,20 @@ export const GERMAN = {
   'A plan has no twins: go back to a moment before the first one.':
     'Ein Plan hat keine Zwillinge: Gehen Sie zu einem Moment vor dem ersten zurück.',
   '❚❚ Pause': '❚❚ Pause',
-  'Step {0}: {1} at work, {2} read a cell, {3} write one.':
-    'Schritt {0}: {1} bei der Arbeit, {2} lesen eine Zelle, {3} schreiben eine.',
+  '{0} heat': '{0} Hitze',
+  'How often each line is executed, and by how many processors':
+    'Wie oft jede Zeile ausgeführt wird, und von wie vielen Prozessoren',
+  line: 'Zeile',
+  'executed so far': 'bisher ausgeführt',
+  'in the whole run': 'im ganzen Lauf',
+  'active so far': 'bisher aktiv',
+  'at most at once': 'höchstens zugleich',
+  'Executed so far: {0} of {1} times.': 'Bisher ausgeführt: {0} von {1} Malen.',
+  'Active processors, counted each time: {0} of {1}, at most {2} at once.':
+    'Aktive Prozessoren, jedes Mal gezählt: {0} von {1}, höchstens {2} zugleich.',
+  'Steps {0} to {1}.': 'Schritte {0} bis {1}.',
+  'Step {0}: {1} read a cell, {2} write one.':
+    'Schritt {0}: {1} lesen eine Zelle, {2} schreiben eine.',
   'after step {0} of {1}': 'nach Schritt {0} von {1}',
   'steps {0} to {1}': 'Schritte {0} bis {1}',
   processor: 'Prozessor',

@@ -89,9 +89,8 @@ export class Link {
     if (work !== this.app.work) return address;
     setText(byId('link-said'), address === undefined ? phrase(TOO_LONG) : '');
     showWhole(address);
-    const { embedded } = this.app;
-    const embed = embedded && `embed=${embedded}`;
-    this.enter(`#${[embed, address].filter(Boolean).join('&')}`);
+    const { frame } = this.app;
+    this.enter(`#${[frame.address, address].filter(Boolean).join('&')}`);
     return address;
   }
 

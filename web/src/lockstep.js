@@ -265,6 +265,7 @@ export class LockstepView {
     this.plot.show({ step, steps, last, procs: job.procs }, whole.stepsAbout(step));
     this.costs.show(job, whole.cost(), whole.lines());
     this.growth.show();
+    app.heat.show();
   }
 
   showButtons(pace) {

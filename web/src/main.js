@@ -9,6 +9,7 @@ import { roomForEvents } from './event_words.js';
 import { Far } from './far.js';
 import { openFiles } from './files.js';
 import { openGallery } from './gallery.js';
+import { Heat } from './heat.js';
 import { listenToKeys } from './keys.js';
 import { openLanguage } from './language.js';
 import { openLessons } from './lessons.js';
@@ -37,8 +38,8 @@ const MOST_PACKED = 16777216;
 // What is shown: a work, which is a text with its schedule and its step, the text's job and answer,
 // and the view. The views read it, and change the schedule and the step.
 class Playground {
-  constructor(core, far, examples) {
-    Object.assign(this, { core, far, examples, view: 'lockstep', written: -Infinity });
+  constructor(core, far, examples, frame) {
+    Object.assign(this, { core, far, examples, frame, view: 'lockstep', written: -Infinity });
     this.firstShown = new Promise((done) => { this.onShown = done; });
     this.works = new Works(makeWork('', new Schedule(WORKERS)));
     this.drafts = new Drafts((areKept) => setHidden(byId('unkept'), areKept));
@@ -56,6 +57,7 @@ class Playground {
     this.stopping = openStops(this.editor, {
       onChange: () => this.show(), toLine: (line) => this.toLine(line),
     });
+    this.heat = new Heat(this, frame.part && frame.isHot);
     this.tabs = openTabs((view) => this.turnTo(view));
     this.lessons = openLessons(this);
     this.link = new Link(this, examples, (shown, more) => this.showAddress(shown, more));
@@ -79,7 +81,7 @@ class Playground {
   // In a frame the keys of a remote control go on and back, too.
   get keysOfView() {
     const { keys } = this.views[this.view];
-    return this.embedded ? { PageUp: keys.ArrowLeft, PageDown: keys.ArrowRight, ...keys } : keys;
+    return this.frame.part ? { PageUp: keys.ArrowLeft, PageDown: keys.ArrowRight, ...keys } : keys;
   }
 
   get work() {
@@ -141,6 +143,7 @@ class Playground {
     if (isLost) this.editor.area.focus();
     this.tabs.show(this.view);
     this.views[this.view].show();
+    this.heat.show();
     this.showEnds();
     this.onShown();
   }
@@ -153,6 +156,7 @@ class Playground {
   showRun() {
     this.showEnds();
     this.views[this.view].hearFar();
+    this.heat.show();
   }
 
   // Shows the work of now, whose text stands in the editor: a program, or a text of the machine.
@@ -302,11 +306,16 @@ function sayTrouble(why) {
   byId('trouble').textContent = phrase('Something went wrong in this page: {0}', why);
 }
 
-// In a frame of another page the machine stands alone, or the text, or both.
+// In a frame of another page the machine stands alone, or the text, or both; and the heat of lines
+// is shown where one asks for it.
 const PARTS = ['1', 'text', 'both'];
-const embedded = () => [location.search, location.hash]
-  .map((part) => new URLSearchParams(part.slice(1)).get('embed'))
-  .find((part) => PARTS.includes(part));
+
+function readFrame() {
+  const fields = [location.search, location.hash].map((part) => new URLSearchParams(part.slice(1)));
+  const part = fields.map((one) => one.get('embed')).find((one) => PARTS.includes(one));
+  const isHot = fields.some((one) => one.get('heat') === '1');
+  return { part, isHot, address: part && `embed=${part}${isHot ? '&heat=1' : ''}` };
+}
 
 // Each call once, of the least job: a browser compiles a function of the core when it is first
 // called.
@@ -334,12 +343,11 @@ async function start() {
   const bytes = await unpacked('core');
   const examples = JSON.parse(await readPacked('examples'));
   const script = await readPacked('far');
-  const part = embedded();
-  if (part) document.documentElement.setAttribute('data-embed', part);
+  const frame = readFrame();
+  if (frame.part) document.documentElement.setAttribute('data-embed', frame.part);
   await openLanguage(async () => JSON.parse(await readPacked('words')), () => app?.redraw());
   const core = await openCore(bytes);
-  app = new Playground(core, new Far(script, bytes), examples);
-  app.embedded = part;
+  app = new Playground(core, new Far(script, bytes), examples, frame);
   openReference(() => readPacked('documents'));
   await app.link.open();
   await app.firstShown;

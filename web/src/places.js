@@ -1,5 +1,6 @@
 // Places of the machine: the cells, four registers of each processor, the counters.
 import { LIMIT } from './declared.js';
+import { STATUS } from './kinds.js';
 import { phrase } from './words.js';
 
 const { REGISTERS } = LIMIT;
@@ -19,6 +20,12 @@ export const registerPlace = (sizes, processor, register) =>
 
 export const counterPlace = (sizes, processor) =>
   sizes.cells + REGISTERS * sizes.procs + processor;
+
+// A counter is the index of an instruction, or one or two after the last one.
+export function statusOf(sizes, counter) {
+  if (counter < sizes.instructions) return STATUS.RUNS;
+  return counter === sizes.instructions ? STATUS.HALTED : STATUS.OUT_OF_RANGE;
+}
 
 // The four registers and the counter of a processor, in a state.
 export function registersOf(sizes, places, processor) {

@@ -24,10 +24,15 @@ function barsOf(list, procs, { name, left, width }) {
   }).join('');
 }
 
-function stepInWords(step, row) {
+// What the steps from this one on do. How many are at work, or active in a line, stands above.
+function stepsInWords(step, steps, row) {
   if (!row) return '';
-  return phrase('Step {0}: {1} at work, {2} read a cell, {3} write one.', grouped(step + 1),
-    grouped(row.running), grouped(row.reading), grouped(row.writing));
+  if (steps > 1) {
+    return phrase('Steps {0} to {1}.', grouped(step + 1), grouped(step + steps));
+  }
+  const { reading, writing } = row;
+  return phrase('Step {0}: {1} read a cell, {2} write one.', grouped(step + 1), grouped(reading),
+    grouped(writing));
 }
 
 // `onStep` hears the step to go to.
@@ -61,7 +66,7 @@ export function openPlot(onStep) {
       shown = told;
       setAttribute(now, 'x', step - first);
       setAttribute(now, 'width', steps);
-      setText(byId('plot-said'), stepInWords(step, list[step - first]));
+      setText(byId('plot-said'), stepsInWords(step, steps, list[step - first]));
       setText(byId('plot-range'), list.length === 0 ? '' :
         phrase('steps {0} to {1}', grouped(first + 1), grouped(first + list.length)));
     },

@@ -3,7 +3,7 @@ import { byId, fit, make, setAttribute, setText } from './dom.js';
 import { followText } from './following.js';
 import { STATUS, TARGET } from './kinds.js';
 import { grouped } from './numbers.js';
-import { counterPlace, nameOfPlace, registersOf } from './places.js';
+import { counterPlace, nameOfPlace, registersOf, statusOf } from './places.js';
 import { openWindow } from './window.js';
 import { english, phrase } from './words.js';
 
@@ -39,12 +39,6 @@ function stopInWords(instructions, status, last) {
   if (!last) return phrase(WHY[status]);
   return phrase(WHERE[status], grouped(last.step),
     instructionInWords(instructions, { counter: last.index }));
-}
-
-// A counter is the index of an instruction, or one or two after the last one.
-export function statusOf(job, counter) {
-  if (counter < job.instructions) return STATUS.RUNS;
-  return counter === job.instructions ? STATUS.HALTED : STATUS.OUT_OF_RANGE;
 }
 
 function readsInWords(job, { reads, held }) {

@@ -140,9 +140,14 @@ export class Source {
     }
   }
 
-  // Whether a processor is active in a line: it is in all the `if`s that are open before it.
+  // The first cell of the mask that says who is in all the `if`s that are open before a line.
+  maskOf(line) {
+    return this.masks[(this.depths.get(line) ?? 0) - 1]?.base;
+  }
+
+  // Whether a processor is active in a line.
   isActive(places, processor, line) {
-    const mask = this.masks[(this.depths.get(line) ?? 0) - 1];
-    return mask === undefined || places[mask.base + processor] !== 0;
+    const mask = this.maskOf(line);
+    return mask === undefined || places[mask + processor] !== 0;
   }
 }

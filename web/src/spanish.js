@@ -528,8 +528,19 @@ export const SPANISH = {
   'A plan has no twins: go back to a moment before the first one.':
     'Un plan no tiene gemelos: vuelva a un momento anterior al primero.',
   '❚❚ Pause': '❚❚ Pausa',
-  'Step {0}: {1} at work, {2} read a cell, {3} write one.':
-    'Paso {0}: {1} trabajando, {2} leen una celda, {3} escriben una.',
+  '{0} heat': '{0} calor',
+  'How often each line is executed, and by how many processors':
+    'Cuántas veces se ejecuta cada línea, y por cuántos procesadores',
+  line: 'línea',
+  'executed so far': 'ejecutada hasta aquí',
+  'in the whole run': 'en toda la ejecución',
+  'active so far': 'activos hasta aquí',
+  'at most at once': 'como máximo a la vez',
+  'Executed so far: {0} of {1} times.': 'Ejecutada hasta aquí: {0} de {1} veces.',
+  'Active processors, counted each time: {0} of {1}, at most {2} at once.':
+    'Procesadores activos, contados cada vez: {0} de {1}, como máximo {2} a la vez.',
+  'Steps {0} to {1}.': 'Pasos {0} a {1}.',
+  'Step {0}: {1} read a cell, {2} write one.': 'Paso {0}: {1} leen una celda, {2} escriben una.',
   'after step {0} of {1}': 'tras el paso {0} de {1}',
   'steps {0} to {1}': 'pasos {0} a {1}',
   processor: 'procesador',

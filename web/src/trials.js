@@ -1,5 +1,6 @@
 // Trials: what the core tells of a program's whole run, for who judges it. They are calls of many
 // calls, and made in a thread.
+import { countActive } from './activity.js';
 import { CODE } from './declared.js';
 import { TARGET } from './kinds.js';
 
@@ -33,6 +34,15 @@ export function trialCalls(core) {
       if (made.code !== CODE.DONE) return { code: made.code };
       const { code } = core.answer(made.text, core.judge(made.text), MOST);
       return code === CODE.DONE ? core.cost(made.text) : { code };
+    },
+
+    // How many processors are active in each of these lines: after how many steps it begins, and
+    // the first cell of its mask.
+    active(text, job, lines) {
+      return lines.map(({ step, mask }) => {
+        const { state } = core.moment(text, job, step, MOST);
+        return state.code === CODE.DONE ? countActive(job, state.places, mask) : 0;
+      });
     },
 
     // The line by which a cell was written last; nothing where it was not.

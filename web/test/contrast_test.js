@@ -74,6 +74,8 @@ const USES = {
   '.line-number.fault | background': text('paper'),
   '.line-number.fault | color': text('bad'),
   '.line-number.current, .line-number.clash | color': text('paper'),
+  '.line-number .heat | color': text('paper', 'hot', 'warm'),
+  '.line-number .heat | background': free('the numbers in it'),
   '.editor:focus-within | outline': edge,
   '.mark.fault, .mark.clash | background': text('ink'),
   '.mark.current | background': text('ink'),

@@ -1,7 +1,7 @@
 // core_test.js PAGE EXAMPLES [PRAMX]: the core that stands in the page, in Node. The gallery
 // against its answers, and against the program `pramx` where a path is given; walks of all three
 // rules.
-import { execFileSync } from 'node:child_process';
+import { execFileSync, spawnSync } from 'node:child_process';
 import { readFileSync, readdirSync, writeFileSync } from 'node:fs';
 import { tmpdir } from 'node:os';
 import { join } from 'node:path';
@@ -14,16 +14,17 @@ import { effectOf } from '../src/effects.js';
 import { countEvents, firstEvents, putEvent, roomForEvents } from '../src/event_words.js';
 import { wordsOfFault } from '../src/faults.js';
 import { DOING, STATUS, TARGET } from '../src/kinds.js';
+import { LineCounts } from '../src/line_counts.js';
 import { lineInWords } from '../src/lockstep_words.js';
 import { LinePace } from '../src/paces.js';
 import { planOf } from '../src/plan.js';
-import { counterPlace, registerPlace } from '../src/places.js';
-import { statusOf } from '../src/processors.js';
+import { counterPlace, registerPlace, statusOf } from '../src/places.js';
 import { wordsOfProgramFault } from '../src/program_faults.js';
 import { ACT, actOf, readActs, writeActs } from '../src/acts.js';
 import { readAddress, readShown, writeAddress, writeShown } from '../src/address.js';
 import { Schedule } from '../src/schedule.js';
 import { Source } from '../src/source.js';
+import { trialCalls } from '../src/trials.js';
 import { testExercises } from './exercise_rows.js';
 import { coreOf } from './page_parts.js';
 import { report } from './report.js';
@@ -207,6 +208,36 @@ function sourceOf(core, text) {
   return new Source(list, made);
 }
 
+// How often each line is executed, as the page counts it, beside what the program tells of lines
+// that are counted; a branch of an `if` has a mask of its own.
+function countsAgree(core, source, job, answer, told) {
+  const { list } = core.starts(source.text, answer.step, MOST, source.starts);
+  const isConflict = answer.code === CODE.CONFLICT;
+  const end = isConflict ? answer.step - 1 : answer.step;
+  const pace = new LinePace(list, source.program, end, isConflict);
+  const wanted = pace.lines.map((line, k) => ({ step: pace.stepAt(k), mask: source.maskOf(line) }));
+  const counts = new LineCounts(pace.lines, trialCalls(core).active(source.text, job, wanted));
+  const half = Math.floor(pace.last / 2);
+  for (const number of [pace.last, half]) counts.moveTo(number);
+  const rows = counts.byLine;
+  const done = [...rows.values()].reduce((sum, { timesNow }) => sum + timesNow, 0);
+  if (done !== half) return `${done} of ${half} lines done`;
+  for (const [line, times, , active, most, words] of told) {
+    const row = rows.get(Number(line));
+    const counted = [row?.times, row?.active, row?.most].join();
+    if (counted !== [times, active, most].join() && !/^\s*elsif\b/.test(words)) {
+      return `line ${line}: ${counted}`;
+    }
+  }
+  return 'agree';
+}
+
+// The lines that the program counts: line, times, time, operations, most, text.
+function countedLines(path) {
+  const { stdout } = spawnSync(pramx, ['cost', '--lines', path], { encoding: 'utf8' });
+  return stdout.split('\n').filter((row) => /^\d/.test(row)).map((row) => row.split(','));
+}
+
 function testPardo(core, name) {
   const path = join(folder, `${name}.pardo`);
   const text = readFileSync(path, 'utf8');
@@ -219,6 +250,10 @@ function testPardo(core, name) {
   is(`${name}.pardo: cost`, costByNames(core, source, wanted),
     costOfJob(readFileSync(join(folder, `${name}.pardo.cost`), 'utf8')));
   is(`${name}.pardo: lines`, linesAgree(core, source, job, answer), 'agree');
+  if (pramx) {
+    is(`${name}.pardo: how often they are executed`,
+      countsAgree(core, source, job, answer, countedLines(path)), 'agree');
+  }
   const walked = walk(core, source.text, job);
   is(`${name}.pardo: a walk ends`, walked.code, CODE.DONE);
   if (walked.code !== CODE.DONE) return;

@@ -51,12 +51,12 @@ export async function testCosts() {
 
 export async function testPlot() {
   await open('#example=maximum');
-  await has('the first step', '#plot-said', 'Step 1: 16 at work, 0 read a cell, 0 write one.');
+  await has('the first step', '#plot-said', 'Step 1: 0 read a cell, 0 write one.');
   is('all steps', await text('#plot-range'), 'steps 1 to 20');
   await page.click('#plot');
   const step = Number(await valueOf('#step'));
   is('a click in the middle', step === 9 || step === 10 || step, true);
-  await has('says that step', '#plot-said', `Step ${step + 1}: 16 at work`);
+  await has('says that step', '#plot-said', `Step ${step + 1}: 0 read a cell`);
   await page.evaluate('document.getElementById("plot-step").focus()');
   await page.press('ArrowRight');
   is('keys go on', await valueOf('#step'), `${step + 1}`);

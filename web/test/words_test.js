@@ -36,6 +36,7 @@ const OTHERS = {
   'files.js': ['Files'],
   'gallery.js': ['; my program\npardo 1\nrule common\nconst n = 4\nprocs i < n\nshared A[n]\n' +
     'code\nA[i] := i               ; each processor writes its number\n'],
+  'heat.js': ['kaolinsilk heat'],
   'keys.js': ['kaolinsilk keys', 'input, select, textarea', 'button, summary, a'],
   'language.js': ['kaolinsilk language'],
   'languages.js': ['English', 'Deutsch', 'Français', 'Español'],
