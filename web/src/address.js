@@ -18,12 +18,13 @@ async function unpackText(packed) {
 const exampleOf = ({ text }, examples) => examples.find((candidate) => candidate.text === text);
 
 // What an address says besides the text, or nothing where the acts would be too long.
-function writeMoment({ view, step, schedule }, most) {
+function writeMoment({ view, step, schedule, lesson }, most) {
   const { workers, acts, at } = schedule;
   const parts = [`view=${view}`, `step=${step}`, `workers=${workers}`];
   const written = writeActs(acts, most);
   if (written === undefined) return undefined;
   if (acts.length > 0) parts.push(`acts=${written}`, `at=${at}`);
+  if (lesson) parts.push(`${lesson.kind}=${lesson.name}`);
   return parts.join('&');
 }
 
@@ -57,6 +58,14 @@ function readNumber(fields, name, least, most, otherwise) {
   return number;
 }
 
+const LESSONS = ['exercise', 'puzzle', 'tour'];
+
+// The lesson whose panel is open, by its kind and its name.
+function readLesson(fields) {
+  const kind = LESSONS.find((one) => fields.has(one));
+  return kind && { kind, name: fields.get(kind) };
+}
+
 async function readText(fields, examples) {
   const name = fields.get('example');
   const packed = fields.get('text');
@@ -79,6 +88,7 @@ export async function readAddress(address, examples) {
     text,
     view: fields.get('view') === 'workers' ? 'workers' : 'lockstep',
     step: readNumber(fields, 'step', 0, 4294967295, 0),
+    lesson: readLesson(fields),
     schedule: workers === undefined ? undefined : new Schedule(workers, acts, at),
   };
 }

@@ -1,17 +1,34 @@
-// One's own programs, the newest first. They are kept in the browser, where it lets the page.
+// One's own programs, the newest first. They are kept in the browser, where it lets the page, and
+// pages that are open at once agree on them.
 const KEY = 'kaolinsilk drafts';
+const KEY_OF_DELETED = 'kaolinsilk deleted drafts';
 const MOST = 100;
+const MOST_DELETED = 1000;
 const MOST_CHARACTERS = 2000000;
 const QUIET = 300;
 
-const isDraft = (draft) => Number.isInteger(draft?.number) && typeof draft.text === 'string';
+const isDraft = (draft) => Number.isInteger(draft?.number) && typeof draft.text === 'string' &&
+  ['string', 'undefined'].includes(typeof draft.name);
 
-function read() {
+function listAt(key) {
   try {
-    const found = JSON.parse(localStorage.getItem(KEY) ?? '[]');
-    return Array.isArray(found) ? found.filter(isDraft).slice(0, MOST) : [];
+    const found = JSON.parse(localStorage.getItem(key) ?? '[]');
+    return Array.isArray(found) ? found : [];
   } catch {
     return [];
+  }
+}
+
+const read = () => listAt(KEY).filter(isDraft).slice(0, MOST);
+
+// The numbers of those that were deleted, by any page.
+const readDeleted = () => new Set(listAt(KEY_OF_DELETED));
+
+function writeDeleted(numbers) {
+  try {
+    localStorage.setItem(KEY_OF_DELETED, JSON.stringify([...numbers].slice(-MOST_DELETED)));
+  } catch {
+    // It is deleted as long as the page lasts.
   }
 }
 
@@ -25,21 +42,18 @@ function fittingOf(list) {
   });
 }
 
-// Keeps these, and of those that stand there all others, as far as there is room. Tells which are
-// kept, and whether all are: the others of these last as long as the page.
-function write(list, there) {
-  const others = there.filter(({ number }) => !list.some((draft) => draft.number === number));
-  const all = [...list, ...others];
-  const kept = fittingOf(all);
+// Keeps these as far as there is room. Tells which are kept: the others last as long as the page.
+function write(list) {
+  const kept = fittingOf(list);
   try {
     localStorage.setItem(KEY, JSON.stringify(kept));
   } catch {
-    return { kept: [], areAll: false };
+    return [];
   }
-  return { kept, areAll: kept.length === all.length };
+  return kept;
 }
 
-const byNumber = (list) => new Map(list.map(({ number, text }) => [number, text]));
+const byNumber = (list) => new Map(list.map((draft) => [draft.number, draft]));
 
 const LEAST = 40;
 
@@ -56,23 +70,21 @@ function isAnother(before, after) {
 }
 
 export class Drafts {
-  // `onKept` hears whether the browser keeps all of them.
-  constructor(onKept) {
-    this.onKept = onKept;
+  // `on` has what follows where not all of them are kept, where one has another number, and where
+  // another page changed some: of these the texts that they had, by their numbers.
+  constructor(on) {
+    this.on = on;
     this.list = read();
     this.known = byNumber(this.list);
-    this.moved = new Map();
+    this.deleted = [];
     this.isWritten = true;
-  }
-
-  // The number that a draft has now.
-  standing(number) {
-    return this.moved.has(number) ? this.standing(this.moved.get(number)) : number;
+    window.addEventListener('storage', ({ key }) => {
+      if (key === KEY || key === KEY_OF_DELETED) this.on.other(this.merge());
+    });
   }
 
   find(number) {
-    const standing = this.standing(number);
-    return this.list.find((draft) => draft.number === standing);
+    return this.list.find((draft) => draft.number === number);
   }
 
   // The draft that has a text that is opened: the one that is known, or another one.
@@ -87,10 +99,9 @@ export class Drafts {
   }
 
   // Keeps a text as the draft of this number, or as a new one; tells its number.
-  keep(text, given = this.freshNumber) {
-    const number = this.standing(given);
+  keep(text, number = this.freshNumber) {
     const others = this.list.filter((draft) => draft.number !== number);
-    this.list = [{ number, text }, ...others];
+    this.list = [{ number, text, name: this.find(number)?.name }, ...others];
     this.isWritten = false;
     clearTimeout(this.timer);
     this.timer = setTimeout(() => this.write(), QUIET);
@@ -105,32 +116,91 @@ export class Drafts {
     return this.keep(text, goesOn ? draft : undefined);
   }
 
-  // Keeps what is shown again after an undo: the draft is what one sees.
-  goBackTo({ text, draft }) {
-    if (draft !== undefined && text !== '' && this.find(draft)?.text !== text) {
-      this.keep(text, draft);
-    }
+  // Keeps what is shown again after an undo, since the draft is what one sees; but what another page
+  // made of it and nobody saw here, and one that was deleted, stays so.
+  goBackTo({ text, draft }, works) {
+    const found = this.find(draft);
+    const wasSeen = found && works.some((work) => work.draft === draft && work.text === found.text);
+    if (wasSeen && text !== '' && found.text !== text) this.keep(text, draft);
   }
 
-  // A draft that another page changed stays as it is there; what was made of it here is another.
+  // Without a name it is called by its first line.
+  rename(number, name) {
+    this.list = this.list.map((draft) =>
+      (draft.number === number ? { ...draft, name: name || undefined } : draft));
+    this.writeNow();
+  }
+
+  // The last one that was deleted can be had again, and then the one before.
+  delete(number) {
+    this.merge();
+    const found = this.find(number);
+    if (!found) return;
+    this.deleted.push(found);
+    this.list = this.list.filter((draft) => draft !== found);
+    writeDeleted(readDeleted().add(found.number));
+    this.writeNow();
+  }
+
+  restore() {
+    const found = this.deleted.pop();
+    if (!found) return;
+    const deleted = readDeleted();
+    deleted.delete(found.number);
+    writeDeleted(deleted);
+    this.known.delete(found.number);
+    this.list = [found, ...this.list];
+    this.writeNow();
+  }
+
+  writeNow() {
+    this.isWritten = false;
+    this.write();
+  }
+
   write() {
     if (this.isWritten) return;
+    clearTimeout(this.timer);
+    this.merge();
     this.isWritten = true;
-    const there = read();
-    const theirs = byNumber(there);
-    const isTheirs = ({ number, text }) => theirs.has(number) &&
-      ![text, this.known.get(number)].includes(theirs.get(number));
-    this.list = this.list.map((draft) => (
-      isTheirs(draft) && draft.text !== this.known.get(draft.number) ? this.move(draft) : draft));
-    const own = this.list.filter((draft) => !isTheirs(draft));
-    const { kept, areAll } = write(own, there);
-    for (const draft of own) if (kept.includes(draft)) this.known.set(draft.number, draft.text);
-    this.onKept(areAll);
+    const kept = write(this.list);
+    for (const draft of kept) this.known.set(draft.number, draft);
+    this.on.kept(kept.length === this.list.length);
   }
 
-  move({ number, text }) {
-    const fresh = this.freshNumber;
-    this.moved.set(number, fresh);
-    return { number: fresh, text };
+  // Takes what other pages made of the drafts since they were read or written here. One that was
+  // changed here and there is two from now on, and one that was changed here and deleted there is
+  // another one. Tells the texts that were replaced, by number.
+  merge() {
+    const [there, deleted] = [byNumber(read()), readDeleted()];
+    const before = byNumber(this.list);
+    const isOwn = ({ number, text }) => text !== this.known.get(number)?.text;
+    this.list = this.list.flatMap((draft) => {
+      const theirs = there.get(draft.number);
+      if (deleted.has(draft.number)) return isOwn(draft) ? [this.move(draft)] : [];
+      if (!theirs || !this.isChanged(theirs)) return [this.withName(draft, theirs)];
+      return isOwn(draft) && draft.text !== theirs.text ? [this.move(draft), theirs] : [theirs];
+    });
+    const others = [...there.values()].filter((draft) => !deleted.has(draft.number) &&
+      !this.list.some(({ number }) => number === draft.number));
+    this.list = this.isWritten ? [...others, ...this.list] : [...this.list, ...others];
+    for (const [number, draft] of there) this.known.set(number, draft);
+    return before;
+  }
+
+  isChanged({ number, text }) {
+    return text !== this.known.get(number)?.text;
+  }
+
+  // A draft with the name that another page gave it, where none was given here.
+  withName(draft, theirs) {
+    const isNamedHere = draft.name !== this.known.get(draft.number)?.name;
+    return !theirs || isNamedHere ? draft : { ...draft, name: theirs.name };
+  }
+
+  move(draft) {
+    const number = this.freshNumber;
+    this.on.moved(draft.number, number);
+    return { ...draft, number };
   }
 }

@@ -28,12 +28,14 @@ const OF_POWERS = valuesWith(7, POWERS);
 // are the lines that one begins with.
 export const EXERCISES = [
   {
+    name: 'own_numbers',
     title: english('own numbers'),
     task: english('A[i] becomes i.'),
     growth: CONSTANT, model: EREW, shared: ['A[n]'], inputs: ANY, begin: ['A[i] := A[i]'],
     want: (a) => indices(a.length),
   },
   {
+    name: 'double',
     title: english('double'),
     task: english('B[i] becomes twice A[i], modulo 2^32.'),
     growth: CONSTANT, model: EREW, shared: ['A[n]', 'B[n]'], inputs: ANY,
@@ -41,6 +43,7 @@ export const EXERCISES = [
     want: (a) => a.map((value) => (2 * value) % 2 ** 32),
   },
   {
+    name: 'reverse',
     title: english('reverse'),
     task: english('B becomes A in reverse: B[0] is A[n - 1].'),
     growth: CONSTANT, model: EREW, shared: ['A[n]', 'B[n]'], inputs: ANY,
@@ -48,6 +51,7 @@ export const EXERCISES = [
     want: (a) => [...a].reverse(),
   },
   {
+    name: 'neighbours',
     title: english('neighbours'),
     task: english(
       'B[i] becomes A[i] + A[i + 1], and B[n - 1] becomes A[n - 1] + A[0], modulo 2^32.'),
@@ -56,12 +60,14 @@ export const EXERCISES = [
     want: (a) => a.map((value, i) => sumOf([value, a[(i + 1) % a.length]])),
   },
   {
+    name: 'broadcast',
     title: english('broadcast'),
     task: english('Each A[i] becomes A[0]. No two may read it in one step: copies make copies.'),
     growth: LOGARITHMIC, model: EREW, shared: ['A[n]'], inputs: ANY, begin: ['A[i] := A[i]'],
     want: (a) => a.map(() => a[0]),
   },
   {
+    name: 'seven',
     title: english('is a seven among them'),
     task: english('found becomes 1 if some A[i] is 7, and else stays 0.'),
     growth: CONSTANT, model: COMMON, shared: ['A[n]', 'found'], inputs: ANY,
@@ -69,6 +75,7 @@ export const EXERCISES = [
     want: (a) => [a.includes(7) ? 1 : 0],
   },
   {
+    name: 'sum',
     title: english('sum'),
     task: english(
       'total becomes the sum of all A[i], modulo 2^32. n is a power of two. A may change.'),
@@ -77,6 +84,7 @@ export const EXERCISES = [
     want: (a) => [sumOf(a)],
   },
   {
+    name: 'maximum',
     title: english('maximum'),
     task: english('greatest becomes the greatest of all A[i]. n is a power of two. A may change.'),
     growth: LOGARITHMIC, model: EREW, shared: ['A[n]', 'greatest'],
@@ -84,6 +92,7 @@ export const EXERCISES = [
     want: (a) => [Math.max(...a)],
   },
   {
+    name: 'prefix',
     title: english('prefix sums'),
     task: english('A[i] becomes A[0] + .. + A[i], modulo 2^32. n is a power of two.'),
     growth: LOGARITHMIC, model: EREW, shared: ['A[n]'], inputs: OF_POWERS,
@@ -91,6 +100,7 @@ export const EXERCISES = [
     want: (a) => a.map((_, i) => sumOf(a.slice(0, i + 1))),
   },
   {
+    name: 'ranking',
     title: english('ranks in a list'),
     task: english(
       'N[i] is the element after i in a list, and of its last one that itself. R[i] becomes how ' +

@@ -1,10 +1,13 @@
 // The programs in a menu: one's own, and those of examples/.
 import { byId, make } from './dom.js';
 import { shortened } from './numbers.js';
+import { nameOfDraft, openOwnPrograms, sayingOf } from './own_programs.js';
 import { english, phrase } from './words.js';
 
 const NEW = 'new';
 const LINKED = 'linked';
+const RENAME = 'rename';
+const DELETE = 'delete';
 const SAMPLE = `; my program
 pardo 1
 rule common
@@ -15,11 +18,6 @@ code
 A[i] := i               ; each processor writes its number
 `;
 
-// What its first line that is a comment says.
-function sayingOf(text) {
-  return /^[ \t]*;\s*(.*)/.exec(text.slice(0, 400))?.[1] ?? '';
-}
-
 const isProgram = ({ name }) => name.endsWith('.pardo');
 
 function titleOf(example) {
@@ -28,20 +26,18 @@ function titleOf(example) {
   return says === '' ? name : `${name}: ${shortened(says, 80)}`;
 }
 
-function titleOfDraft(draft) {
-  const [line] = draft.text.slice(0, 400).trimStart().split('\n', 1);
-  const says = sayingOf(draft.text) || line.trim() || phrase('empty');
-  return phrase('your own: {0}', shortened(says, 60));
-}
+const titleOfDraft = (draft) => phrase('your own: {0}', nameOfDraft(draft));
 
 const OWN = 'own ';
 const valueOf = (draft) => OWN + draft.number;
 const numberIn = (value) => (value.startsWith(OWN) ? Number(value.slice(OWN.length)) : undefined);
 const optionOf = (value, title) => make('option', { value }, title);
 
-// `choose` hears a text, and of an own program the number of its draft.
-export function openGallery(examples, drafts, choose) {
+// `choose` hears a text, and of an own program the number of its draft; `workNow` gives what stands
+// in the editor.
+export function openGallery({ examples, drafts, choose, workNow }) {
   const menu = byId('example');
+  const ownPrograms = openOwnPrograms(drafts, () => show(workNow()));
   const own = make('optgroup', { label: english('Your own') });
   const groupOf = (label, isOf) => make('optgroup', { label },
     ...examples.filter(isOf).map((example) => optionOf(example.name, titleOf(example))));
@@ -53,25 +49,48 @@ export function openGallery(examples, drafts, choose) {
     if (example) choose(example.text);
     else if (draft) choose(draft.text, draft.number);
     else if (menu.value === NEW) choose(SAMPLE);
+    else change(menu.value);
   });
 
-  function valueNow({ text, draft }) {
-    const example = examples.find((candidate) => candidate.text === text);
-    const own = drafts.find(draft);
-    if (own?.text === text) return valueOf(own);
-    return example?.name ?? (text === SAMPLE ? NEW : LINKED);
+  // The program that is shown is renamed or deleted, and is still shown then.
+  function change(how) {
+    const own = ownOf(workNow());
+    if (own && how === RENAME) ownPrograms.rename(own);
+    if (own && how === DELETE) ownPrograms.delete(own);
+    show(workNow());
   }
 
-  return {
-    // The menu names the program that stands in the editor.
-    show(work) {
-      const value = valueNow(work);
-      const title = work.name?.() ?? phrase('the program of this link');
-      const linked = value === LINKED ? [optionOf(LINKED, title)] : [];
-      own.replaceChildren(...linked,
-        ...drafts.list.map((draft) => optionOf(valueOf(draft), titleOfDraft(draft))),
-        optionOf(NEW, phrase('a new program')));
-      menu.value = value;
-    },
-  };
+  function ownOf({ text, draft }) {
+    const own = drafts.find(draft);
+    return own?.text === text ? own : undefined;
+  }
+
+  function valueNow(work) {
+    const example = examples.find((candidate) => candidate.text === work.text);
+    const own = ownOf(work);
+    if (own) return valueOf(own);
+    return example?.name ?? (work.text === SAMPLE ? NEW : LINKED);
+  }
+
+  // What one that is none of these is called.
+  function titleOfOther({ name, draft }) {
+    const deleted = drafts.deleted.find(({ number }) => number === draft);
+    if (deleted) return phrase('deleted: {0}', nameOfDraft(deleted));
+    return name?.() ?? phrase('the program of this link');
+  }
+
+  // The menu names the program that stands in the editor.
+  function show(work) {
+    const value = valueNow(work);
+    const linked = value === LINKED ? [optionOf(LINKED, titleOfOther(work))] : [];
+    const changes = ownOf(work) ? [optionOf(RENAME, phrase('rename this program')),
+      optionOf(DELETE, phrase('delete this program'))] : [];
+    own.replaceChildren(...linked,
+      ...drafts.list.map((draft) => optionOf(valueOf(draft), titleOfDraft(draft))),
+      optionOf(NEW, phrase('a new program')), ...changes);
+    menu.value = value;
+    ownPrograms.show();
+  }
+
+  return { show };
 }

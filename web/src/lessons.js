@@ -6,7 +6,7 @@ import { EXERCISES, isOf, sizesOf, startOf } from './exercises.js';
 import { judgeExercise } from './judge.js';
 import { grouped } from './numbers.js';
 import { PUZZLES, judgePuzzle } from './puzzles.js';
-import { keepSolved, solved } from './solved.js';
+import { keepSolved, listenToSolved, solved } from './solved.js';
 import { save } from './styled_svg.js';
 import { TOUR } from './tour.js';
 import { english, phrase } from './words.js';
@@ -46,6 +46,9 @@ function handIn() {
   save('exercises.txt', 'text/plain', texts.join('\n'));
 }
 
+// A lesson of a list by its name, or else by its number.
+const nameIn = (list, stop) => list[stop].name ?? `${stop + 1}`;
+
 const areHandedIn = () => Object.keys(solved()).some((name) => name.startsWith('exercise '));
 
 function taskInWords({ task, growth, model, ...exercise }) {
@@ -71,6 +74,7 @@ class Lessons {
       }));
     onClick('lesson-close', () => this.close());
     onClick('hand-in', handIn);
+    listenToSolved(() => this.fillMenu());
   }
 
   fillMenu() {
@@ -102,6 +106,35 @@ class Lessons {
     return () => phrase(text, number);
   }
 
+  // Which one is shown, as an address has it; none where the panel is closed.
+  get shown() {
+    if (this.kind === '' || byId('lesson-panel').hidden) return undefined;
+    return { kind: this.kind, name: nameIn(this.list, this.stop) };
+  }
+
+  // What an address shows: with the lesson that it names, and with what that begins with where the
+  // address has no text.
+  async complete(shown) {
+    if (!shown?.lesson) return shown;
+    const { kind, name } = shown.lesson;
+    const { list } = KINDS[kind];
+    const stop = list.findIndex((_, k) => [nameIn(list, k), `${k + 1}`].includes(name));
+    if (stop < 0) throw new RangeError(phrase('there is no such lesson'));
+    const lesson = { kind, stop };
+    if (shown.text !== undefined) return { ...shown, lesson };
+    if (kind !== 'exercise') {
+      return { ...await readAddress(list[stop].address, this.app.examples), lesson };
+    }
+    const text = this.begunOf(list[stop])?.text ?? startOf(list[stop]);
+    return { ...shown, text, lesson, name: () => phrase(KINDS.exercise.name, stop + 1) };
+  }
+
+  // Opens the panel of a lesson whose text is shown already.
+  open(lesson) {
+    Object.assign(this, lesson);
+    this.showPanel();
+  }
+
   // Which one is shown, as works keep it.
   get lesson() {
     return { kind: this.kind, stop: this.stop };
@@ -123,8 +156,7 @@ class Lessons {
       if (this.kind === 'tour') this.leave();
     } else if (byId('lesson-panel').hidden || lesson.kind !== this.kind ||
       lesson.stop !== this.stop) {
-      Object.assign(this, lesson);
-      this.showPanel();
+      this.open(lesson);
     }
   }
 
@@ -144,6 +176,7 @@ class Lessons {
     byId('lesson').value = '';
     byId('lesson-panel').hidden = true;
     byId('lesson').focus();
+    this.app.saved();
   }
 
   moveBy(count) {
@@ -175,6 +208,12 @@ class Lessons {
     setDisabled(byId('lesson-back'), this.stop === 0);
     setDisabled(byId('lesson-on'), this.stop === this.list.length - 1);
     this.say({ isRight: false, said: '' });
+    this.app.saved();
+  }
+
+  // The own program that an exercise was begun with, the newest one.
+  begunOf(exercise) {
+    return this.app.drafts.list.find(({ text }) => isOf(exercise, text));
   }
 
   // An exercise that was begun goes on; what someone sent stays. One that is only looked at is no
@@ -186,7 +225,7 @@ class Lessons {
       app.work.lesson = this.lesson;
       return;
     }
-    const begun = isAnew ? undefined : app.drafts.list.find(({ text }) => isOf(exercise, text));
+    const begun = isAnew ? undefined : this.begunOf(exercise);
     const name = this.nameOf(KINDS.exercise.name);
     const more = { draft: begun?.number, name, lesson: this.lesson };
     app.choose(begun?.text ?? startOf(exercise), more);

@@ -79,7 +79,7 @@ export class Link {
     if (!this.isOpen || isFrame) return;
     this.note();
     const { app, examples, addresses } = this;
-    keepShown(app, examples, { draft: app.drafts.standing(app.work.draft), addresses });
+    keepShown(app, examples, { draft: app.work.draft, addresses });
   }
 
   // The address follows what is shown, a moment after the last change.
@@ -117,7 +117,8 @@ export class Link {
   async open() {
     const again = isFrame ? undefined : await shownAgain(location.hash, this.examples);
     if (!again) return this.read();
-    this.show(again.shown, again.draft);
+    const { lesson, ...shown } = again.shown;
+    this.show(await this.app.lessons.complete(again.shown).catch(() => shown), again.draft);
     return this.write();
   }
 
@@ -126,7 +127,8 @@ export class Link {
     if (location.hash === this.written) return;
     let shown;
     try {
-      shown = await readAddress(location.hash.slice(1), this.examples);
+      const address = await readAddress(location.hash.slice(1), this.examples);
+      shown = await this.app.lessons.complete(address);
     } catch (why) {
       setText(byId('link-said'), phrase('The address can\'t be read: {0}.', why.message));
       if (this.isOpen) return;

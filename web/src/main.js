@@ -42,7 +42,11 @@ class Playground {
     Object.assign(this, { core, far, examples, frame, view: 'lockstep', written: -Infinity });
     this.firstShown = new Promise((done) => { this.onShown = done; });
     this.works = new Works(makeWork('', new Schedule(WORKERS)));
-    this.drafts = new Drafts((areKept) => setHidden(byId('unkept'), areKept));
+    this.drafts = new Drafts({
+      kept: (areKept) => setHidden(byId('unkept'), areKept),
+      moved: (draft, number) => this.works.renumber(draft, number),
+      other: (before) => this.followDraft(before),
+    });
     this.whole = new Whole(this, () => this.showRun());
     this.editor = new Editor({
       change: (text) => this.changeText(text),
@@ -51,8 +55,12 @@ class Playground {
       toLine: (line) => this.toLine(line),
       stop: (line) => this.stopping.toggle(line),
     });
-    this.gallery = openGallery(examples, this.drafts, (text, draft) =>
-      this.choose(text, { draft }));
+    this.gallery = openGallery({
+      examples,
+      drafts: this.drafts,
+      choose: (text, draft) => this.choose(text, { draft }),
+      workNow: () => this.work,
+    });
     this.views = { lockstep: new LockstepView(this), workers: new WorkersView(this) };
     this.stopping = openStops(this.editor, {
       onChange: () => this.show(), toLine: (line) => this.toLine(line),
@@ -94,6 +102,11 @@ class Playground {
 
   get schedule() {
     return this.work.schedule;
+  }
+
+  // The lesson whose panel is open.
+  get lesson() {
+    return this.lessons.shown;
   }
 
   get step() {
@@ -246,7 +259,7 @@ class Playground {
     this.settle();
     if (!(count < 0 ? this.works.canUndo : this.works.canRedo)) return;
     this.works.moveBy(count);
-    this.drafts.goBackTo(this.work);
+    this.drafts.goBackTo(this.work, this.works.list);
     this.editor.set(this.text, true);
     this.saved();
     this.showNow();
@@ -259,6 +272,28 @@ class Playground {
     this.works.add(makeWork(text, new Schedule(this.schedule.workers), more));
     this.editor.set(text);
     this.link.push();
+    this.showNow();
+  }
+
+  // Another page wrote on the own program that is shown: it is shown as it is there, and what stood
+  // here is an undo away.
+  followDraft(before) {
+    this.settle();
+    const { work, works, drafts } = this;
+    const draft = drafts.find(work.draft);
+    const { text } = draft ?? work;
+    if (text === work.text || before.get(work.draft)?.text !== work.text) {
+      this.gallery.show(work);
+      return;
+    }
+    const { draft: number, lesson, isFollowing } = work;
+    if (isFollowing) Object.assign(work, { text, schedule: new Schedule(work.schedule.workers) });
+    else {
+      const more = { draft: number, lesson, step: work.step, isFollowing: true };
+      works.add(makeWork(text, new Schedule(work.schedule.workers), more));
+    }
+    this.editor.set(text, true);
+    this.saved();
     this.showNow();
   }
 
@@ -287,16 +322,17 @@ class Playground {
 
   // Shows what an address says, and the first example where it says nothing; `draft` is the one
   // that was shown there before, `lesson` the one that sends there.
-  showAddress(shown, { draft, lesson } = {}) {
+  showAddress(shown, { draft, lesson = shown?.lesson } = {}) {
     this.settle();
     const first = this.examples.find((example) => example.name === FIRST_EXAMPLE);
     const text = shown?.text ?? (first ?? this.examples[0]).text;
     const work = makeWork(text, shown?.schedule ?? new Schedule(WORKERS),
-      { step: shown?.step ?? 0, draft: this.drafts.numberOf(text, draft), lesson });
+      { step: shown?.step ?? 0, draft: this.drafts.numberOf(text, draft), lesson, name: shown?.name });
     if (this.text === '' && !this.works.canUndo) this.works = new Works(work);
     else this.works.add(work);
     this.view = shown?.view ?? this.view;
     this.editor.set(text);
+    if (lesson) this.lessons.open(lesson);
     this.showNow();
   }
 }

@@ -17,3 +17,8 @@ export function keepSolved(name, text) {
     // What was said beside the button says that it was right.
   }
 }
+
+// `onChange` hears that another page solved one.
+export function listenToSolved(onChange) {
+  window.addEventListener('storage', ({ key }) => key === KEY && onChange());
+}

@@ -48,6 +48,11 @@ export class Works {
     }
   }
 
+  // Has a draft's works go by its other number.
+  renumber(draft, number) {
+    for (const work of this.all.values()) if (work.draft === draft) work.draft = number;
+  }
+
   moveBy(count) {
     this.at = Math.min(Math.max(this.at + count, 0), this.list.length - 1);
   }

@@ -68,6 +68,16 @@ class Page {
     return this.connection.call(method, params, this.session);
   }
 
+  // Lets `work` have another tab, and closes it.
+  async withAnother(work) {
+    const other = await openTab(this.connection);
+    try {
+      return await work(other);
+    } finally {
+      await other.call('Page.close');
+    }
+  }
+
   async evaluate(expression) {
     const params = { expression, returnByValue: true, awaitPromise: true };
     const { result, exceptionDetails } = await this.call('Runtime.evaluate', params);
@@ -169,6 +179,15 @@ class Page {
   }
 }
 
+// A new tab.
+async function openTab(connection) {
+  const { targetId } = await connection.call('Target.createTarget', { url: 'about:blank' });
+  const attached = await connection.call('Target.attachToTarget', { targetId, flatten: true });
+  const page = new Page(connection, attached.sessionId);
+  for (const domain of ['Runtime', 'Page', 'Log']) await page.call(`${domain}.enable`);
+  return page;
+}
+
 // Opens a browser, lets `work` have a page, and closes both.
 export async function withPage(work) {
   const folder = mkdtempSync(join(tmpdir(), 'playground-'));
@@ -177,11 +196,7 @@ export async function withPage(work) {
   const ended = new Promise((done) => { chromium.on('exit', done); });
   try {
     const connection = new Connection(chromium);
-    const { targetId } = await connection.call('Target.createTarget', { url: 'about:blank' });
-    const attached = await connection.call('Target.attachToTarget', { targetId, flatten: true });
-    const page = new Page(connection, attached.sessionId);
-    for (const domain of ['Runtime', 'Page', 'Log']) await page.call(`${domain}.enable`);
-    return await work(page, folder);
+    return await work(await openTab(connection), folder);
   } finally {
     chromium.kill();
     await ended;

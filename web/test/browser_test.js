@@ -29,7 +29,7 @@ async function testLockstep() {
   await page.click('#step-back');
   is('one back', await valueOf('#step'), '2');
   await has('the mark in the text', '.mark.current .badge', 'P0-15');
-  is('the marked line', await text('.line-number.current'), '20');
+  is('the marked line', await text('.line-number.current .number'), '20');
   await page.click('#step');
   await page.selectAll();
   await page.insert('14');
@@ -105,7 +105,7 @@ async function testFaults() {
   is('a fault is said', await text('#fault'),
     'Line 7: the instruction has too few operands, or too many. “ld” needs two registers, as in ' +
     '“ld r1 r0”, or in pram 3 of an array A “ld r1 A r0”.');
-  is('its line is marked', await text('.line-number.fault'), '7');
+  is('its line is marked', await text('.line-number.fault .number'), '7');
   is('no machine', await isShown('#machine'), false);
   await has('the menu', '#example option:checked', 'your own: pram 1');
   await picture('fault');

@@ -28,6 +28,44 @@ export async function testCopiedLink() {
   server.close();
 }
 
+const PANEL = '#lesson-title';
+
+// An exercise has an address, with its own text or without.
+export async function testAddressOfLesson() {
+  await open();
+  await page.evaluate('localStorage.clear()');
+  await open('#exercise=sum');
+  await has('an exercise', PANEL, 'Exercise 7 of 10: sum');
+  is('begins', (await valueOf('#text')).includes('; your lines'), true);
+  await has('by its name', '#example option:checked', 'Exercise 7');
+  await open('#exercise=2');
+  await has('or by its number', PANEL, 'Exercise 2 of 10: double');
+  await page.evaluate('document.getElementById("text").focus()');
+  await page.insert('; mine\n');
+  await page.until('location.hash.includes("text=")');
+  await page.until('false', 0.6);
+  const hash = await page.evaluate('location.hash');
+  is('the address has it', hash.includes('exercise=double'), true);
+  await open();
+  is('there is none', await isShown(PANEL), false);
+  await open(hash);
+  await has('what was sent', PANEL, 'double');
+  is('with its text', (await valueOf('#text')).startsWith('; mine\n'), true);
+  await page.call('Page.reload');
+  await page.until('document.documentElement?.hasAttribute("data-ready")');
+  await has('loaded anew', PANEL, 'double');
+  await page.click('#lesson-close');
+  is('closed it is not in the address',
+    await page.until('!location.hash.includes("exercise")', 5), true);
+  await open('#puzzle=2');
+  await has('a puzzle', PANEL, 'Find a schedule 2 of 3');
+  await open('#tour=3');
+  await has('a stop of the tour', PANEL, 'Tour 3 of');
+  is('with what it shows', await isShown('#workers'), true);
+  await open('#exercise=none');
+  await has('no such one', '#link-said', 'there is no such lesson');
+}
+
 export async function testForm() {
   await open('#example=sum&view=workers');
   const said = (await text('#form')).replace(/\s+/g, ' ');

@@ -47,11 +47,11 @@ export async function testProgramByLines() {
   await open();
   await has('the first example', '#answer', 'A = 3 4 8 9 14 23 25 31.');
   const line = lineOf('prefix', 'A[i] :=');
-  is('the first line', await text('.line-number.next'), `${lineOf('prefix', 'for h')}`);
+  is('the first line', await text('.line-number.next .number'), `${lineOf('prefix', 'for h')}`);
   await clicks('#step-on', 2);
   is('two lines', await valueOf('#step'), '2');
   is('one arrow in the text', await count('.line-number.next'), 1);
-  is('at the line', await text('.line-number.next'), `${line}`);
+  is('at the line', await text('.line-number.next .number'), `${line}`);
   is('no other mark', await count('.mark.current, .mark.clash'), 1);
   is('with those that are active', await text('.mark.current .badge'), 'P1-7');
   is('which are lit', await EACH('#strip .is-active'), 'P1 P2 P3 P4 P5 P6 P7');
@@ -133,7 +133,7 @@ export async function testProgramConflict() {
   await has('both processors', '#plain-said', 'Conflict: line 8 is against the rule common, at ' +
     'sum: processor 0 writes 12, processor 1 writes 14.');
   is('after the line before', await EACH('#program-processors td:nth-child(3)'), '2 4 6 8');
-  is('marked in the text', await text('.line-number.clash'), '8');
+  is('marked in the text', await text('.line-number.clash .number'), '8');
   is('marked in the cell', await count('.cell.is-disputed'), 1);
   await has('why no weaker model', '#cost-reasons',
     'Not EREW: in line 8, step 5, processors 0 and 1 read sum.');
@@ -158,7 +158,7 @@ export async function testProgramByWorkers() {
   await has('cells by name', '#read-cells li:nth-child(3) .cell-number', 'A[2]');
   await page.click('#next-finish');
   await page.click('#next-finish');
-  is('the line that is worked on', await text('.line-number.next'),
+  is('the line that is worked on', await text('.line-number.next .number'),
     `${lineOf('prefix', 'for h')}`);
   await has('its step', '.mark.current .badge', 'step 2');
   await page.click('#read-cells li:nth-child(2)');

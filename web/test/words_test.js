@@ -29,7 +29,7 @@ const modules = readdirSync(folder)
 const OTHERS = {
   'address.js': ['there is no text'],
   'core.js': ['the page is out of memory', 'Told', 'Judgement', 'Scene'],
-  'drafts.js': ['kaolinsilk drafts'],
+  'drafts.js': ['kaolinsilk drafts', 'kaolinsilk deleted drafts'],
   'event_words.js': ['Event'],
   'exercises.js': ['; your own variables', '; your lines'],
   'far.js': ['the thread of the core: 0'],
@@ -45,6 +45,7 @@ const OTHERS = {
   'link.js': ['http:', 'https:'],
   'lockstep.js': ['said bad'],
   'main.js': ['pardo 1\nrule crew\nprocs i < 1\nshared s\ncode\ns := i\n'],
+  'own_programs.js': ['Enter', 'Escape'],
   'plan_export.js': ['pramx replay 0 --workers 0 --plan plan.csv'],
   'program_view.js': ['clash next', 'current next'],
   'solved.js': ['kaolinsilk solved'],

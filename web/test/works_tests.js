@@ -1,5 +1,5 @@
 // No work is lost: drafts, undo, and the browser's history.
-import { clicks, count, has, is, isShown, open, page, paste, reload, text, valueOf, write }
+import { clicks, count, folders, has, is, isShown, open, page, paste, reload, text, valueOf, write }
   from './drive.js';
 
 const HEAD = 'pram 1\ncells 2\nprocs 2\nsteps 2\ncode\n';
@@ -141,7 +141,9 @@ export async function testDraftsOfTwoPages() {
   await page.choose('#example', 'new');
   await writeAtStart('; other\n');
   is('theirs stays', (await kept()).includes('; theirs\n'), true);
-  await chooseOwn('your own: mine');
+  await page.chord('z');
+  await page.chord('z');
+  is('undone to what was written', await valueOf('#text'), OWN);
   await writeAtStart('; more\n');
   is('theirs stays again', (await kept()).includes('; theirs\n'), true);
   is('beside what is written here', (await kept()).includes(`; more\n${OWN}`), true);
@@ -158,6 +160,85 @@ export async function testDraftsOfTwoPages() {
   await writeAtStart('; last\n');
   is('theirs stays once more', (await kept()).includes('; theirs, too\n'), true);
   is('beside what goes on here', (await kept()).includes(`; last\n; still\n; more\n${OWN}`), true);
+  await page.evaluate('localStorage.clear()');
+}
+
+const changeName = async (tab, name) => {
+  await tab.choose('#example', 'rename');
+  await tab.evaluate('document.getElementById("rename-name").select()');
+  await tab.insert(name);
+  await tab.press('Enter', 'Enter', '\r');
+};
+
+export async function testRenameAndDelete() {
+  await open();
+  await page.evaluate('localStorage.clear()');
+  await open();
+  is('a program of the gallery has no name of one’s own', await count('[value=rename]'), 0);
+  await write(OWN);
+  await changeName(page, 'My best');
+  is('renamed', await chosen(), 'your own: My best');
+  await writeAtStart('; changed\n');
+  is('the name stays', await chosen(), 'your own: My best');
+  await reload();
+  is('it is kept', await chosen(), 'your own: My best');
+  await page.choose('#example', 'delete');
+  await has('deleted', '#deleted-said', '“My best” is deleted.');
+  is('its text is still shown', await valueOf('#text'), `; changed\n${OWN}`);
+  is('by its name', await chosen(), 'deleted: My best');
+  is('nothing is kept', await kept(), '');
+  await page.choose('#example', 'sum');
+  await page.click('#undelete');
+  is('it is there again', await kept(), `; changed\n${OWN}`);
+  is('nothing more was deleted', await isShown('#deleted'), false);
+  await chooseOwn('your own: My best');
+  is('with its text', await valueOf('#text'), `; changed\n${OWN}`);
+  await changeName(page, '');
+  is('without a name', await chosen(), 'your own: changed');
+  await page.choose('#example', 'delete');
+  await page.chord('z');
+  is('an undo of the text brings none back', await kept(), '');
+  await page.evaluate('localStorage.clear()');
+}
+
+const isIn = (tab, expression) => tab.until(expression, 5);
+
+// Two tabs have the same programs at any time.
+export async function testTwoTabs() {
+  await open();
+  await page.evaluate('localStorage.clear()');
+  await open();
+  await write(OWN);
+  await page.until('false', 0.5);
+  await page.withAnother(async (other) => {
+    await other.open(folders.address);
+    const own = await other.evaluate('document.querySelector("#example [value^=own]").value');
+    await other.choose('#example', own);
+    const isText = (tab, words) =>
+      isIn(tab, `document.getElementById('text').value === ${JSON.stringify(words)}`);
+    is('both show it', await isText(other, OWN), true);
+    await changeName(other, 'Ours');
+    is('a name', await isIn(page, `document.querySelector('#example option:checked')
+      .textContent === 'your own: Ours'`), true);
+    await other.evaluate('document.getElementById("text").setSelectionRange(0, 0)');
+    await other.evaluate('document.getElementById("text").focus()');
+    await other.insert('; there\n');
+    is('what is written', await isText(page, `; there\n${OWN}`), true);
+    await page.chord('z');
+    is('an undo', await isText(other, OWN), true);
+    await other.choose('#example', 'delete');
+    is('what is deleted', await isIn(page, '!document.querySelector("#example [value^=own]")'), true);
+    is('its text stays', await valueOf('#text'), OWN);
+    await other.click('#undelete');
+    is('and is there again', await isIn(page, '!!document.querySelector("#example [value^=own]")'),
+      true);
+    is('by its name', await chosen(), 'your own: Ours');
+    await page.insert('; here\n');
+    is('on it goes', await isIn(other, `document.getElementById('text').value
+      .includes('; here')`), true);
+    is('no exception there', other.exceptions.join(), '');
+  });
+  is('it is one program', (await kept()).split('===').length, 1);
   await page.evaluate('localStorage.clear()');
 }
 
