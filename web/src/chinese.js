@@ -65,6 +65,8 @@ export const CHINESE = {
     '浏览器为本页面保留的空间放不下您的全部程序：请把以后还要用的保存为文件。',
   'The link': '链接',
   'The machine is shown once the program has no fault.': '程序没有错误时才显示机器。',
+  'Write “{0}”': '改写为“{0}”',
+  'The machine stays on the last text that had no fault.': '机器停留在最后一个没有错误的文本。',
   'In lockstep': '同步执行',
   'By workers': '由工作者执行',
   Views: '视图',

@@ -58,7 +58,7 @@ const byNumber = (list) => new Map(list.map((draft) => [draft.number, draft]));
 const LEAST = 40;
 
 // Whether a text is no version of the one before: hardly anything of it is left.
-function isAnother(before, after) {
+export function isAnother(before, after) {
   const most = Math.min(before.length, after.length);
   let [head, tail] = [0, 0];
   while (head < most && before.charCodeAt(head) === after.charCodeAt(head)) head += 1;

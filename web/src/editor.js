@@ -1,6 +1,7 @@
 // The editor: a plain text area, with line numbers beside it and marks behind it. A long text is
 // shown by a window on its lines, and of these only those in sight have a number drawn.
 import { openAtWork } from './at_work.js';
+import { blockAround, piecesOfLine } from './colours.js';
 import { byId, fit, make, setAttribute, setText } from './dom.js';
 import { isProgram, lineBreak } from './indent.js';
 import { Sheet } from './sheet.js';
@@ -17,6 +18,9 @@ const SIGHT = {
   earlier: english('earlier lines'),
   later: english('later lines'),
 };
+
+// Longer lines have no colours.
+const MOST_COLOURED = 1000;
 
 const makeMark = () => make('div', { class: 'mark' }, make('span', { class: 'badge' }));
 const makeNumber = () => make('div', { class: 'line-number' },
@@ -53,6 +57,18 @@ function drawMarks(paper, first, count, marks) {
   });
 }
 
+// The lines in sight once more, in colours, behind the text area, whose own are not seen then.
+function drawColours(layer, lines, language, block) {
+  fit(layer, lines.length, () => make('div')).forEach((row, k) => {
+    row.classList.toggle('of-block', block.has(k));
+    const shown = `${language} ${lines[k]}`;
+    if (row.shown === shown) return;
+    row.shown = shown;
+    row.replaceChildren(...piecesOfLine(lines[k], language).map(({ text, kind }) =>
+      (kind === '' ? text : make('span', { class: kind }, text))));
+  });
+}
+
 // Where two texts differ last: the end of the difference in the second one.
 function endOfChange(before, after) {
   let same = 0;
@@ -84,7 +100,10 @@ export class Editor {
 
   listen() {
     const { area } = this;
-    area.addEventListener('input', () => this.wait());
+    area.addEventListener('input', () => {
+      this.wait();
+      this.drawColours();
+    });
     area.addEventListener('scroll', () => this.draw());
     area.addEventListener('keydown', (event) => this.onKey(event));
     area.addEventListener('beforeinput', (event) => this.onInput(event));
@@ -93,7 +112,11 @@ export class Editor {
     area.addEventListener('copy', (event) => this.onCopy(event));
     area.addEventListener('cut', (event) => this.onCopy(event) && this.replaceAll(''));
     area.addEventListener('compositionstart', () => this.isAll && this.replaceAll(''));
-    document.addEventListener('selectionchange', () => { this.isChosen &&= this.isAll; });
+    document.addEventListener('selectionchange', () => {
+      this.isChosen &&= this.isAll;
+      if (document.activeElement === area) this.drawColours();
+    });
+    area.addEventListener('blur', () => this.drawColours());
     byId('gutter').addEventListener('click', (event) => this.onClick(event.target));
     new ResizeObserver(() => this.measure()).observe(area);
     this.measure();
@@ -270,11 +293,30 @@ export class Editor {
     const shift = `translateY(${above * lineHeight - area.scrollTop}px)`;
     drawNumbers(gutter, first, count, this);
     drawMarks(paper, first, count, marks);
+    this.drawColours();
     gutter.style.transform = shift;
     paper.style.transform = shift;
     gutter.parentElement.toggleAttribute('data-heat', this.isHot);
     const digits = Math.max(String(sheet.lines).length, 2) + 3;
     gutter.parentElement.style.width = `${digits + (this.isHot ? WIDTH_OF_HEAT : 0)}ch`;
+  }
+
+  // In what stands in the text area now, which may not be looked at yet.
+  drawColours() {
+    const { area, lineHeight, height } = this;
+    const lines = area.value.split('\n');
+    const above = Math.floor(area.scrollTop / lineHeight);
+    const inSight = lines.slice(above, above + Math.ceil(height / lineHeight) + 1);
+    const isPlain = inSight.some((line) => line.length > MOST_COLOURED);
+    area.classList.toggle('plain', isPlain);
+    const language = isProgram(this.sheet.text) ? 'pardo' : 'pram';
+    const isAtCaret = document.activeElement === area && language === 'pardo';
+    const at = isAtCaret ? area.value.slice(0, area.selectionEnd).split('\n').length - 1 : -1;
+    const block = isAtCaret ? blockAround(lines, at) : [];
+    const layer = byId('colours');
+    drawColours(layer, isPlain ? [] : inSight, language, new Set(block.map((k) => k - above)));
+    const [left, top] = [-area.scrollLeft, above * lineHeight - area.scrollTop];
+    layer.style.transform = `translate(${left}px, ${top}px)`;
   }
 
   // Has this text. Where it is another version of what stands there the cursor goes to the change,

@@ -76,6 +76,9 @@ export const FRENCH = {
   'The link': 'Le lien',
   'The machine is shown once the program has no fault.':
     'La machine est montrée dès que le programme n’a pas d’erreur.',
+  'Write “{0}”': 'Écrire « {0} »',
+  'The machine stays on the last text that had no fault.':
+    'La machine en reste au dernier texte sans erreur.',
   'In lockstep': 'En synchrone',
   'By workers': 'Par travailleurs',
   Views: 'Vues',

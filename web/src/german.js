@@ -76,6 +76,9 @@ export const GERMAN = {
   'The link': 'Der Link',
   'The machine is shown once the program has no fault.':
     'Die Maschine wird gezeigt, sobald das Programm keinen Fehler hat.',
+  'Write “{0}”': '„{0}“ schreiben',
+  'The machine stays on the last text that had no fault.':
+    'Die Maschine bleibt beim letzten Text, der keinen Fehler hatte.',
   'In lockstep': 'Im Gleichtakt',
   'By workers': 'Durch Arbeiter',
   Views: 'Ansichten',

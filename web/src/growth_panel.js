@@ -74,7 +74,7 @@ export class GrowthPanel {
 
   // What was measured is another program's, or is said in another language.
   show() {
-    const { text, isProgram } = this.app;
+    const { runText: text, job } = this.app;
     if (text === this.text && language() === this.spoken) return;
     this.spoken = language();
     if (text === this.text) {
@@ -83,7 +83,7 @@ export class GrowthPanel {
     }
     this.stop();
     Object.assign(this, { text, rows: [], said: () => '' });
-    this.constants = isProgram ? constantsOf(text) : [];
+    this.constants = job.source ? constantsOf(text) : [];
     setHidden(byId('growth'), this.constants.length === 0);
     byId('growth-name').replaceChildren(
       ...this.constants.map(({ name }, k) => make('option', { value: k }, name)));

@@ -88,8 +88,9 @@ export class Heat {
     this.counts?.moveTo(pace.numberAt(app.step));
     const rows = this.counts?.byLine ?? new Map();
     const isTold = this.counts?.active !== undefined;
-    app.editor.setHeat(new Map([...rows].map(([line, row]) => [line, shown(row, isTold)])),
-      box.checked && app.isProgram && app.view === 'lockstep');
+    const inText = app.isStale ? [] : [...rows];
+    app.editor.setHeat(new Map(inText.map(([line, row]) => [line, shown(row, isTold)])),
+      box.checked && app.job?.source !== undefined && app.view === 'lockstep');
     if (byId('by-lines').open) this.showTable(rows, isTold);
   }
 
@@ -112,13 +113,13 @@ export class Heat {
   }
 
   showTable(rows, isTold) {
-    const { text } = this.app;
+    const { runText } = this.app;
     fit(byId('by-lines-head'), HEADS.length, () => make('th', { scope: 'col' }))
       .forEach((cell, k) => setText(cell, phrase(HEADS[k])));
     const lines = [...rows];
     fit(byId('by-lines-rows'), lines.length, makeRow).forEach((part, k) => {
       const [line, row] = lines[k];
-      const words = shortened(lineOf(text, line).split(';', 1)[0].trim(), 40);
+      const words = shortened(lineOf(runText, line).split(';', 1)[0].trim(), 40);
       [`${grouped(line)}: ${words}`, ...cellsOf(row, isTold)]
         .forEach((said, column) => setText(part.children[column], said));
     });

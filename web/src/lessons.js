@@ -251,7 +251,7 @@ class Lessons {
       this.tell(await judgeExercise((...call) => this.ask(...call), lesson, text), text);
     } else if (app.isWaiting) {
       this.later = setTimeout(() => this.judge(), PAUSE);
-    } else if (app.job) {
+    } else if (app.job && !app.isStale) {
       this.tell(judgePuzzle(lesson, app.views.workers.board, this.outcome()), app.text);
     } else {
       this.say({ isRight: false, said: phrase('Not yet: the program has a fault.') });

@@ -303,7 +303,6 @@ export class LockstepView {
     const { app, now } = this;
     const marks = pace instanceof LinePace
       ? this.program.marksOf(now, pace) : marksOf(app.job.program, now.asked[0], now.fault);
-    app.editor.mark(marks);
-    if (marks.size > 0) app.editor.reveal(Math.min(...marks.keys()));
+    app.mark(marks);
   }
 }

@@ -40,7 +40,7 @@ export function momentInWords(app, requests, fault) {
 
 // The variables of the loops around a line: each has one value for all that are there, active or
 // not. One that is gone keeps what it had.
-function loopsInWords({ job, text }, line, places, processor) {
+function loopsInWords({ job, runText: text }, line, places, processor) {
   const { loops } = job.source;
   const names = loopsAround(text, line);
   return loops.slice(0, names.length)
@@ -73,7 +73,7 @@ const doneInWords = (lines, steps) => phrase('{0}, {1} of the machine',
 
 // What a line is about: `requests` are those of its last step, `states` say who is active.
 export function lineInWords(app, { line, number, places, states, requests, fault }) {
-  const { job, text } = app;
+  const { job, runText: text } = app;
   if (fault) return clashInWords(job, line, requests, fault);
   const lines = doneInWords(number, app.step);
   if (line === undefined) {

@@ -2,12 +2,13 @@
 import { openCore } from './core.js';
 import { CODE } from './declared.js';
 import { byId, ignoreDisabled, onClick, setDisabled, setHidden, setText } from './dom.js';
-import { Drafts } from './drafts.js';
+import { Drafts, isAnother } from './drafts.js';
 import { Editor } from './editor.js';
 import { endInWords } from './ends.js';
 import { roomForEvents } from './event_words.js';
 import { Far } from './far.js';
 import { openFiles } from './files.js';
+import { showFixes } from './fix_buttons.js';
 import { openGallery } from './gallery.js';
 import { Heat } from './heat.js';
 import { listenToKeys } from './keys.js';
@@ -15,6 +16,7 @@ import { openLanguage } from './language.js';
 import { openLessons } from './lessons.js';
 import { Link } from './link.js';
 import { LockstepView } from './lockstep.js';
+import { LinePace } from './paces.js';
 import { unpack } from './packing.js';
 import { listenToPrinting } from './print.js';
 import { answerFar, foundOf, refused, showJudgement, showWaiting } from './program.js';
@@ -24,6 +26,7 @@ import { Schedule } from './schedule.js';
 import { Source } from './source.js';
 import { openStops } from './stops.js';
 import { openTabs } from './tabs.js';
+import { movedLines } from './text_lines.js';
 import { Whole } from './whole.js';
 import { phrase } from './words.js';
 import { WorkersView } from './workers.js';
@@ -33,13 +36,15 @@ const FIRST_EXAMPLE = 'prefix.pardo';
 const WORKERS = 4;
 const PAUSE = 1000;
 const PATIENCE = 200;
+const TELLING = 600;
 const MOST_PACKED = 16777216;
 
 // What is shown: a work, which is a text with its schedule and its step, the text's job and answer,
-// and the view. The views read it, and change the schedule and the step.
+// and the view. The views read it, and change the schedule and the step. While one writes a text that
+// has a fault the job is that of the last one that had none, `runText`.
 class Playground {
   constructor(core, far, examples, frame) {
-    Object.assign(this, { core, far, examples, frame, view: 'lockstep', written: -Infinity });
+    Object.assign(this, { core, far, examples, frame, view: 'lockstep', written: -Infinity, isStale: false });
     this.firstShown = new Promise((done) => { this.onShown = done; });
     this.works = new Works(makeWork('', new Schedule(WORKERS)));
     this.drafts = new Drafts({
@@ -153,6 +158,8 @@ class Playground {
     const isLost = this.job === undefined && byId('machine').contains(document.activeElement);
     byId('machine').hidden = this.job === undefined;
     byId('no-machine').hidden = this.job !== undefined;
+    byId('machine').toggleAttribute('data-stale', this.isStale);
+    setHidden(byId('stale'), !this.isStale);
     if (isLost) this.editor.area.focus();
     this.tabs.show(this.view);
     this.views[this.view].show();
@@ -167,14 +174,26 @@ class Playground {
   }
 
   showRun() {
+    this.returnToLine();
     this.showEnds();
     this.views[this.view].hearFar();
     this.heat.show();
   }
 
-  // Shows the work of now, whose text stands in the editor: a program, or a text of the machine.
-  showNow() {
+  // Marks lines of the run in the text, unless it is no longer that of the run.
+  mark(marks) {
+    if (this.isStale) return;
+    this.editor.mark(marks);
+    if (marks.size > 0 && this.view === 'lockstep') this.editor.reveal(Math.min(...marks.keys()));
+  }
+
+  // Shows the work of now, whose text stands in the editor: a program, or a text of the machine. It
+  // may be a version of what was shown, and one that is being written.
+  showNow({ isVersion = false, isWritten = false } = {}) {
     this.pause();
+    clearTimeout(this.telling);
+    this.editor.area.classList.remove('untold');
+    Object.assign(this, { isVersion, isWritten });
     const { work, works } = this;
     this.lessons.follow(work.lesson);
     this.far.forget();
@@ -192,7 +211,8 @@ class Playground {
     this.found = undefined;
     clearTimeout(this.late);
     this.late = setTimeout(() => {
-      this.job = undefined;
+      this.isStale = this.canStay;
+      if (!this.isStale) this.job = undefined;
       showWaiting(words);
       this.show();
     }, PATIENCE);
@@ -217,16 +237,68 @@ class Playground {
   // What the core says of the text.
   hear(found) {
     clearTimeout(this.late);
-    const { job, answer, most, isAnswering } = found;
-    Object.assign(this, { job, answer, most, isAnswering, found, isWaiting: false });
-    this.showFound();
-    if (isAnswering) answerFar(this.far, found, (told) => this.hear(told));
+    Object.assign(this, { found, isWaiting: false });
+    this.isStale = !found.job && this.canStay;
+    if (!this.isStale) this.run(found);
+    if (found.job || !this.isWritten) this.showFound();
+    else this.tellLater();
+    if (found.isAnswering) answerFar(this.far, found, (told) => this.hear(told));
     this.show();
   }
 
+  // A fault is told once one pauses.
+  tellLater() {
+    this.editor.area.classList.add('untold');
+    this.telling = setTimeout(() => {
+      this.editor.area.classList.remove('untold');
+      this.showFound();
+    }, TELLING);
+  }
+
+  // Whether the machine is still one of the text that is being written.
+  get canStay() {
+    const { job, isVersion, runText, text } = this;
+    return job !== undefined && isVersion && text !== '' && !isAnother(runText, text);
+  }
+
+  // Has the machine of this text, at the line where the one before stands.
+  run({ job, answer, most, isAnswering }) {
+    if (job !== this.job) {
+      this.returning = job && this.isWritten && this.canStay ? this.standing : undefined;
+      if (this.isWritten && !this.canStay) this.step = 0;
+    }
+    Object.assign(this, { job, answer, most, isAnswering, runText: this.text });
+    this.returnToLine();
+  }
+
+  // Which line of the program is next, as it is numbered in the text of now, and the how-manieth
+  // time; nothing where one goes by other steps.
+  get standing() {
+    const { views: { lockstep: { shownPace: pace } }, view, step, runText, text } = this;
+    if (view !== 'lockstep' || !(pace instanceof LinePace)) return undefined;
+    const number = pace.numberAt(step);
+    const line = pace.lineAt(number);
+    const times = pace.lines.slice(0, number + 1).filter((one) => one === line).length;
+    const [moved] = line === undefined ? [] : movedLines([line], runText, text);
+    return { line: moved, times, isKept: moved !== undefined || line === undefined };
+  }
+
+  // Back to this line as soon as the lines of the run are told; to the start where it is gone.
+  returnToLine() {
+    const pace = this.returning && this.whole.lines();
+    if (!pace) return;
+    const { line, times, isKept } = this.returning;
+    this.returning = undefined;
+    const numbers = pace.lines.flatMap((one, number) => (one === line ? [number] : []));
+    const number = isKept ? numbers[Math.min(times, numbers.length) - 1] : undefined;
+    this.step = pace.stepAt(number ?? 0);
+  }
+
   showFound() {
-    const { found, job, isAnswering } = this;
-    if (found) showJudgement(found, this, job && !isAnswering ? this.whole.lines() : undefined);
+    const { found, isAnswering } = this;
+    if (!found) return;
+    showJudgement(found, this, found.job && !isAnswering ? this.whole.lines() : undefined);
+    showFixes(found, this, (text) => this.rewrite(text));
   }
 
   // Says all of it in another language.
@@ -248,11 +320,18 @@ class Playground {
     const isNew = now - this.written > PAUSE || draft !== work.draft || works.canRedo ||
       work.schedule.past.length > 0 || work.schedule.length > 0;
     this.written = now;
-    const more = { draft, lesson: work.lesson };
+    const more = { draft, lesson: work.lesson, step: work.step };
     if (isNew) works.add(makeWork(text, new Schedule(work.schedule.workers), more));
-    else Object.assign(work, { text, step: 0 });
+    else Object.assign(work, { text });
     this.saved();
-    this.showNow();
+    this.showNow({ isVersion: true, isWritten: true });
+  }
+
+  // Writes another version of the text, as a change of its own.
+  rewrite(text) {
+    this.settle();
+    this.editor.set(text, true);
+    this.changeText(text);
   }
 
   undoText(count) {
@@ -262,7 +341,7 @@ class Playground {
     this.drafts.goBackTo(this.work, this.works.list);
     this.editor.set(this.text, true);
     this.saved();
-    this.showNow();
+    this.showNow({ isVersion: true });
   }
 
   // A chosen program, with a name where it is neither one's own nor of the gallery, and the lesson
@@ -294,7 +373,7 @@ class Playground {
     }
     this.editor.set(text, true);
     this.saved();
-    this.showNow();
+    this.showNow({ isVersion: true, isWritten: true });
   }
 
   // Shows a work of this number again, if it is still there.
@@ -315,7 +394,7 @@ class Playground {
 
   toLine(line) {
     this.editor.look();
-    if (!this.job) return;
+    if (!this.job || this.isStale) return;
     if (this.view !== 'lockstep') this.turnTo('lockstep');
     this.views.lockstep.seekLine(line);
   }

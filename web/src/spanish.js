@@ -75,6 +75,9 @@ export const SPANISH = {
   'The link': 'El enlace',
   'The machine is shown once the program has no fault.':
     'La máquina se muestra en cuanto el programa no tiene errores.',
+  'Write “{0}”': 'Escribir «{0}»',
+  'The machine stays on the last text that had no fault.':
+    'La máquina sigue en el último texto sin errores.',
   'In lockstep': 'En sincronía',
   'By workers': 'Por trabajadores',
   Views: 'Vistas',

@@ -16,7 +16,7 @@ export class Whole {
   }
 
   forget() {
-    this.text = this.app.job?.text;
+    this.job = this.app.job;
     this.kept = new Map();
   }
 
@@ -24,7 +24,7 @@ export class Whole {
   ask(name, wanted, steps) {
     const { core, far, job } = this.app;
     const { text } = job;
-    if (this.text !== text) this.forget();
+    if (this.job !== job) this.forget();
     const key = `${name} ${steps}`;
     if (this.kept.has(key)) return this.kept.get(key);
     if (steps * job.procs + text.length <= NEAR) return this.keep(key, core[name](text, ...wanted));

@@ -255,7 +255,7 @@ export class WorkersView {
     this.showBodies();
     this.showCells();
     this.showControls();
-    app.editor.mark(this.marks);
+    app.mark(this.marks);
   }
 
   // The line of a program in which the machine is after the last finished step.

@@ -17,6 +17,7 @@ import * as links from './link_tests.js';
 import * as programs from './program_tests.js';
 import * as speed from './speed_tests.js';
 import * as steps from './steps_tests.js';
+import * as typing from './typing_tests.js';
 import * as works from './works_tests.js';
 
 const [pagePath, examples, pictures] = process.argv.slice(2);
@@ -382,7 +383,7 @@ async function testWidths() {
 const OWN = [testLockstep, testLockstepKeys, testConflict, testGallery, testFaults, testHostile,
   testLongTexts, testWorkers, testPlan, testTwinsAndTime, testEnds, testWorkersKeys, testLink,
   testReading, testWidths];
-const MODULES = [works, programs, layout, steps, lessons, links, heat, languages, speed];
+const MODULES = [works, typing, programs, layout, steps, lessons, links, heat, languages, speed];
 const TESTS = [...OWN, ...MODULES.flatMap((module) => Object.values(module))];
 
 // With names after the folders only the tests of these names are made.

@@ -10,9 +10,11 @@ import { atWorkInWords } from '../src/at_work.js';
 import {
   CODE, END, JOB_FAULT, LIMIT, MODELS, OP, PROGRAM_FAULT, TEXT_FAULT,
 } from '../src/declared.js';
+import { blockAround, piecesOfLine } from '../src/colours.js';
 import { effectOf } from '../src/effects.js';
 import { countEvents, firstEvents, putEvent, roomForEvents } from '../src/event_words.js';
 import { wordsOfFault } from '../src/faults.js';
+import { fixesOf } from '../src/fixes.js';
 import { DOING, STATUS, TARGET } from '../src/kinds.js';
 import { LineCounts } from '../src/line_counts.js';
 import { lineInWords } from '../src/lockstep_words.js';
@@ -287,7 +289,7 @@ function momentsInWords(core, text) {
   const { list } = core.starts(source.text, step, MOST, source.starts);
   const job = { ...sizes, source, program: source.program };
   const pace = new LinePace(list, job.program, step, false);
-  const app = { job, text, whole: { fates: () => undefined } };
+  const app = { job, runText: text, whole: { fates: () => undefined } };
   return pace.steps.map((at, number) => {
     const { places } = core.moment(source.text, sizes, at, MOST).state;
     const line = pace.lineAt(number);
@@ -566,12 +568,54 @@ function testFile() {
   is('nor one of its style', /@import|url\(/.exec(page.split('<script', 1)[0])?.[0] ?? '', '');
 }
 
+const FIXED = [
+  ['A[i] = 1', 'A[i] := 1'],
+  ['A[i] <- 1 ; said', 'A[i] := 1 ; said'],
+  ['A[i] += 2', 'A[i] := A[i] + 2'],
+  ['x++', 'x := x + 1'],
+  ['if i == 1\nend', 'if i = 1'],
+  ['if i := 1\nend', 'if i = 1'],
+  ['if i = 1\nelse if i = 2\nend', 'elsif i = 2'],
+  ['if i = 1\nelseif i == 2\nend', 'elsif i = 2'],
+  ['if i = 1 then\nend', 'if i = 1'],
+  ['if i = 1\nend if', 'end'],
+  ['x := i mod 2', 'x := i % 2'],
+  ['x := log(4)', 'x := lg(4)'],
+  ['x := 1 // one', 'x := 1 ; one'],
+  ['for k = 0 to 3\n   if i = k\n      x := k', 'end'],
+  ['x := 1', undefined],
+  ['x := y', undefined],
+];
+
+// Each fix makes a program of what was none, and says the line that is another one.
+function testFixes(core) {
+  const head = 'pardo 1\nrule crew\nprocs i < 4\nshared A[4]\nprivate x\ncode\n';
+  for (const [written, said] of FIXED) {
+    const text = `${head}${written}\n`;
+    const [fix] = fixesOf(core, text, core.lines(text));
+    is(`a fix of “${written}”`, fix?.said, said);
+    if (fix) is(`it is one: “${written}”`, core.lines(fix.text).code, CODE.DONE);
+  }
+}
+
+function testColours() {
+  const said = piecesOfLine('if i = 12 ; a 1', 'pardo')
+    .map(({ text, kind }) => (kind ? `${kind} ${text}` : text));
+  is('pieces of a line', said.join('|'), 'word if| |i| = |number 12| |comment ; a 1');
+  const lines = ['for k = 0 to 3', '  if i = k', '    x := 1', '  else', '    x := 2', '  end', 'end',
+    'x := 3'];
+  const blocks = [0, 2, 3, 6, 7].map((at) => blockAround(lines, at).join());
+  is('blocks around lines', blocks.join(' '), '0,6 1,3,5 1,3,5 0,6 ');
+}
+
 const core = await coreOf(pagePath);
 const names = readdirSync(folder).filter((name) => name.endsWith('.pram')).sort();
 for (const name of names) testProgram(core, name.replace(/\.pram$/, ''));
 const programs = readdirSync(folder).filter((name) => name.endsWith('.pardo')).sort();
 for (const name of programs) testPardo(core, name.replace(/\.pardo$/, ''));
 testFile();
+testFixes(core);
+testColours();
 testNames(core);
 testHiddenRows(core);
 testPardoRefusals(core);

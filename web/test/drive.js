@@ -37,13 +37,13 @@ export async function clicks(selector, times) {
   for (let k = 0; k < times; k += 1) await page.click(selector);
 }
 
-// Writes a text into the editor, and waits until it was looked at.
+// Writes a text into the editor, and waits until it was looked at, and its fault told.
 export async function write(content) {
   await page.click('#text');
   await page.selectAll();
   if (content === '') await page.press('Delete');
   else await page.insert(content);
-  await page.until('!document.getElementById("text").classList.contains("waits")');
+  await page.until('!document.getElementById("text").matches(".waits, .untold")');
 }
 
 // Pastes a text in the place of all there is, as the keys for it do.
