@@ -38,10 +38,10 @@ const optionOf = (value, title) => make('option', { value }, title);
 export function openGallery({ examples, drafts, choose, workNow }) {
   const menu = byId('example');
   const ownPrograms = openOwnPrograms(drafts, () => show(workNow()));
-  const own = make('optgroup', { label: english('Your own') });
+  const group = make('optgroup', { label: english('Your own') });
   const groupOf = (label, isOf) => make('optgroup', { label },
     ...examples.filter(isOf).map((example) => optionOf(example.name, titleOf(example))));
-  menu.replaceChildren(own, groupOf(english('Gallery, in pardo'), isProgram),
+  menu.replaceChildren(group, groupOf(english('Gallery, in pardo'), isProgram),
     groupOf(english('Gallery, for the machine itself'), (example) => !isProgram(example)));
   menu.addEventListener('change', () => {
     const example = examples.find((candidate) => candidate.name === menu.value);
@@ -85,7 +85,7 @@ export function openGallery({ examples, drafts, choose, workNow }) {
     const linked = value === LINKED ? [optionOf(LINKED, titleOfOther(work))] : [];
     const changes = ownOf(work) ? [optionOf(RENAME, phrase('rename this program')),
       optionOf(DELETE, phrase('delete this program'))] : [];
-    own.replaceChildren(...linked,
+    group.replaceChildren(...linked,
       ...drafts.list.map((draft) => optionOf(valueOf(draft), titleOfDraft(draft))),
       optionOf(NEW, phrase('a new program')), ...changes);
     menu.value = value;

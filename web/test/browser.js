@@ -3,6 +3,7 @@ import { spawn } from 'node:child_process';
 import { mkdtempSync, rmSync, writeFileSync } from 'node:fs';
 import { tmpdir } from 'node:os';
 import { join } from 'node:path';
+import { Tab, wait } from './tab.js';
 
 const OPTIONS = ['--headless=new', '--no-sandbox', '--disable-gpu', '--remote-debugging-pipe',
   '--hide-scrollbars', '--force-color-profile=srgb', '--font-render-hinting=none'];
@@ -11,8 +12,6 @@ const PATIENCE = 30000;
 const KEY_CODES = {
   ArrowLeft: 37, ArrowRight: 39, Home: 36, End: 35, ' ': 32, Tab: 9, Delete: 46, Enter: 13,
 };
-
-const wait = (milliseconds) => new Promise((done) => { setTimeout(done, milliseconds).unref(); });
 
 class Connection {
   constructor(chromium) {
@@ -52,8 +51,9 @@ class Connection {
 }
 
 // One page in the browser.
-class Page {
+class Page extends Tab {
   constructor(connection, session) {
+    super();
     this.session = session;
     this.connection = connection;
     this.exceptions = [];
@@ -85,18 +85,12 @@ class Page {
     return result.value;
   }
 
-  async until(expression, seconds = 20) {
-    for (let tries = 0; tries < seconds * 20; tries += 1) {
-      if (await this.evaluate(expression)) return true;
-      await wait(50);
-    }
-    return false;
+  refresh() {
+    return this.call('Page.reload');
   }
 
-  async open(address) {
-    await this.call('Page.navigate', { url: 'about:blank' });
-    await this.call('Page.navigate', { url: address });
-    return this.until('document.documentElement?.hasAttribute("data-ready")');
+  goTo(url) {
+    return this.call('Page.navigate', { url });
   }
 
   resize(width, height, scale = 1) {
@@ -111,12 +105,7 @@ class Page {
 
   // A click of the mouse in the middle of what the selector finds.
   async click(selector) {
-    const [x, y] = await this.evaluate(`(() => {
-      const found = document.querySelector(${JSON.stringify(selector)});
-      found.scrollIntoView({ block: 'center' });
-      const box = found.getBoundingClientRect();
-      return [box.x + box.width / 2, box.y + box.height / 2];
-    })()`);
+    const [x, y] = await this.middleOf(selector);
     const at = { x, y, button: 'left', clickCount: 1 };
     await this.call('Input.dispatchMouseEvent', { type: 'mousePressed', ...at });
     await this.call('Input.dispatchMouseEvent', { type: 'mouseReleased', ...at });
@@ -148,17 +137,6 @@ class Page {
     await this.call('Input.dispatchKeyEvent',
       { type: 'keyDown', ...event, commands: ['selectAll'] });
     await this.call('Input.dispatchKeyEvent', { type: 'keyUp', ...event });
-  }
-
-  // Chooses an option of a menu by keys, as a reader does who types its beginning.
-  async choose(selector, value) {
-    await this.evaluate(`(() => {
-      const menu = document.querySelector(${JSON.stringify(selector)});
-      menu.focus();
-      menu.value = ${JSON.stringify(value)};
-      menu.dispatchEvent(new Event('input', { bubbles: true }));
-      menu.dispatchEvent(new Event('change', { bubbles: true }));
-    })()`);
   }
 
   // What is in sight, in the folder that was set for pictures.
@@ -196,7 +174,9 @@ export async function withPage(work) {
   const ended = new Promise((done) => { chromium.on('exit', done); });
   try {
     const connection = new Connection(chromium);
-    return await work(await openTab(connection), folder);
+    const page = await openTab(connection);
+    await page.call('Browser.setDownloadBehavior', { behavior: 'allow', downloadPath: folder });
+    return await work(page, folder);
   } finally {
     chromium.kill();
     await ended;

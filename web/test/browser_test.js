@@ -1,12 +1,11 @@
-// browser_test.js PAGE EXAMPLES PICTURES [TEST..]: the page in Debian's Chromium, by real clicks
-// and keys.
+// browser_test.js PAGE EXAMPLES PICTURES [--firefox] [TEST..]: the page in Debian's Chromium, or in
+// its Firefox, by real clicks and keys.
 // Pictures of what a reader sees are saved to the folder PICTURES, to be looked at.
 import { readFileSync, readdirSync } from 'node:fs';
 import { join, resolve } from 'node:path';
 import { deflateRawSync } from 'node:zlib';
 import { writeAddress } from '../src/address.js';
 import { Schedule } from '../src/schedule.js';
-import { withPage } from './browser.js';
 import { clicks, count, drive, end, has, is, isShown, open, page, picture, saved, text,
   valueOf, write } from './drive.js';
 import * as heat from './heat_tests.js';
@@ -20,7 +19,9 @@ import * as steps from './steps_tests.js';
 import * as typing from './typing_tests.js';
 import * as works from './works_tests.js';
 
-const [pagePath, examples, pictures] = process.argv.slice(2);
+const [pagePath, examples, pictures, ...rest] = process.argv.slice(2);
+const isFirefox = rest[0] === '--firefox';
+const { withPage } = await import(isFirefox ? './firefox.js' : './browser.js');
 
 async function testLockstep() {
   await open('#example=maximum');
@@ -387,7 +388,7 @@ const MODULES = [works, typing, programs, layout, steps, lessons, links, heat, l
 const TESTS = [...OWN, ...MODULES.flatMap((module) => Object.values(module))];
 
 // With names after the folders only the tests of these names are made.
-const names = process.argv.slice(5);
+const names = isFirefox ? rest.slice(1) : rest;
 
 await withPage(async (opened, scratch) => {
   drive(opened, {
@@ -395,11 +396,10 @@ await withPage(async (opened, scratch) => {
   });
   page.pictures = pictures;
   await page.resize(1280, 900);
-  await page.call('Browser.setDownloadBehavior', { behavior: 'allow', downloadPath: scratch });
   for (const test of TESTS) {
     if (names.length > 0 && !names.includes(test.name)) continue;
     console.log(test.name);
-    await test();
+    await test().catch(({ message }) => is(`${test.name} ends`, message, ''));
   }
   is('no exception and no error', page.exceptions.join('; '), '');
 });

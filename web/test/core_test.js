@@ -364,7 +364,7 @@ function testPardoRefusals(core) {
   }
 }
 
-function testPlan(core) {
+function testPlan() {
   const acts = readActs(3, '0.1.2*5~l1~0.2*9~b1~1*3~l2~0.2.0');
   is('a plan', planOf(acts).split('\n').length > 20, true);
   is('its beginning', planOf(acts).startsWith('worker,act,ticks\n0,go,1\n1,go,1\n2,go,1\n'), true);
@@ -622,7 +622,7 @@ testPardoRefusals(core);
 testAtWork();
 testLoopsInWords(core);
 testActs();
-testPlan(core);
+testPlan();
 await testAddress();
 await testShown();
 testRefusals(core);

@@ -37,13 +37,17 @@ export async function clicks(selector, times) {
   for (let k = 0; k < times; k += 1) await page.click(selector);
 }
 
-// Writes a text into the editor, and waits until it was looked at, and its fault told.
+// Waits until what was written was looked at, and its fault told.
+export const isTold = () =>
+  page.until('!document.getElementById("text").matches(".waits, .untold")', 5);
+
+// Writes a text into the editor.
 export async function write(content) {
   await page.click('#text');
   await page.selectAll();
   if (content === '') await page.press('Delete');
   else await page.insert(content);
-  await page.until('!document.getElementById("text").matches(".waits, .untold")');
+  await isTold();
 }
 
 // Pastes a text in the place of all there is, as the keys for it do.
@@ -65,7 +69,7 @@ export async function open(hash = '') {
 // Loads the page anew where it is.
 export async function reload() {
   await page.evaluate('document.documentElement.setAttribute("data-old", "")');
-  await page.call('Page.reload');
+  await page.refresh();
   await page.until(`document.documentElement?.hasAttribute('data-ready') &&
     !document.documentElement.hasAttribute('data-old')`);
 }

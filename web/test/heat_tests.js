@@ -42,7 +42,7 @@ export async function testHeatIsSwitched() {
   await reload();
   is('which is kept', await isShown(heatOf(13)), false);
   await page.click('#heat');
-  is('and on', await isShown(heatOf(13)), true);
+  await has('and on', heatOf(13, ' :last-child'), '0');
   await page.click('#tab-workers');
   is('by workers there is none', await isShown(heatOf(13)), false);
   await page.open(`${folders.address}?embed=both#example=sum.pardo`);
@@ -55,7 +55,7 @@ export async function testHeatIsSwitched() {
 export async function testSaidOnce() {
   await open('#example=prefix.pardo&step=11');
   await has('who is active', '#plain-said', '7 of 8, are active');
-  is('the steps', await text('#plot-said'), 'Steps 12 to 18.');
+  is('the steps', await text('#plot-said'), 'Steps 12 to 22.');
   is('it is said once', await page.evaluate(`document.body.innerText.match(
     /[0-9] (?:at work|are active|of 8,)/g).length`), 1);
 }

@@ -51,7 +51,7 @@ export async function testAddressOfLesson() {
   await open(hash);
   await has('what was sent', PANEL, 'double');
   is('with its text', (await valueOf('#text')).startsWith('; mine\n'), true);
-  await page.call('Page.reload');
+  await page.refresh();
   await page.until('document.documentElement?.hasAttribute("data-ready")');
   await has('loaded anew', PANEL, 'double');
   await page.click('#lesson-close');

@@ -1,6 +1,7 @@
 // While one writes: the machine stays, the step is kept, faults are told after a pause and mended by
 // a click, and the text has colours.
-import { clicks, count, has, is, isShown, open, page, text, valueOf, write } from './drive.js';
+import { clicks, count, has, is, isShown, isTold, open, page, text, valueOf, write }
+  from './drive.js';
 
 const PARDO = 'pardo 1\nrule common\nprocs i < 4\nshared A[4]\ncode\n';
 const LINES = 'A[i] := i\nA[i] := A[i] + 1\nA[i] := A[i] * 2\n';
@@ -16,9 +17,6 @@ async function typeAfter(words, typed) {
   await page.insert(typed);
 }
 
-const isToldSoon = () =>
-  page.until('!document.getElementById("text").matches(".waits, .untold")', 5);
-
 export async function testMachineStays() {
   await open();
   await write(PARDO + LINES);
@@ -27,7 +25,7 @@ export async function testMachineStays() {
   await typeAfter('A[i] + ', '(');
   is('nothing is told at once', await text('#fault'), '');
   is('no fault is marked yet', await count('.line-number.fault'), 0);
-  await isToldSoon();
+  await isTold();
   await has('after a pause it is', '#fault', 'Line 7: ');
   is('its role is polite', await page.evaluate('document.getElementById("fault").role'), 'status');
   is('it is marked', await text('.line-number.fault .number'), '7');
@@ -51,7 +49,7 @@ export async function testStepIsKept() {
   await write(PARDO + LINES);
   await clicks('#step-on', 2);
   await typeAfter('code\n', '; one more\n');
-  await isToldSoon();
+  await isTold();
   await page.until('document.querySelector(".line-number.next .number")?.textContent === "9"', 5);
   is('the line goes with its text', await text('.line-number.next .number'), '9');
   is('the step is kept', await valueOf('#step'), '2');

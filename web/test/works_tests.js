@@ -1,6 +1,6 @@
 // No work is lost: drafts, undo, and the browser's history.
-import { clicks, count, folders, has, is, isShown, open, page, paste, reload, text, valueOf, write }
-  from './drive.js';
+import { clicks, count, folders, has, is, isShown, isTold, open, page, paste, reload, text, valueOf,
+  write } from './drive.js';
 
 const HEAD = 'pram 1\ncells 2\nprocs 2\nsteps 2\ncode\n';
 const OWN = `; mine\n${HEAD}pid r0\nhalt\n`;
@@ -401,6 +401,7 @@ export async function testReloadOfLongText() {
   await page.choose('#example', 'new');
   await page.evaluate(paste(LONG));
   await has('it has no link', '#link-said', 'too long for a link');
+  await isTold();
   const line = await text('#fault');
   const length = await page.evaluate(LENGTH);
   await reload();
@@ -490,7 +491,7 @@ export async function testHistory() {
   await has('with its schedule', '#moment-said', '60 of 60');
   await page.evaluate('history.forward()');
   is('forward', await isShown('sum'), true);
-  await page.call('Page.reload');
+  await page.refresh();
   await page.until('document.documentElement?.hasAttribute("data-ready")');
   is('loaded anew', await isShown('sum'), true);
   await page.evaluate('history.back()');
