@@ -146,9 +146,18 @@ class FirefoxPage extends Tab {
     return this.chord('a');
   }
 
-  async wholePicture(file) {
-    const { value } = await this.call('WebDriver:TakeScreenshot', { full: true });
+  async takePicture(file, full) {
+    const { value } = await this.call('WebDriver:TakeScreenshot', { full });
     writeFileSync(file, Buffer.from(value, 'base64'));
+  }
+
+  // What is in sight, in the folder that was set for pictures.
+  sightPicture(name) {
+    return this.takePicture(join(this.pictures, `${name}.png`), false);
+  }
+
+  wholePicture(file) {
+    return this.takePicture(file, true);
   }
 }
 

@@ -174,6 +174,7 @@ export async function testFreshKeys() {
 // The panel of growth: a row for each value, lines beside, and what is refused.
 export async function testGrowth() {
   await open('#example=sum.pardo');
+  await has('what stands above is told', '#cost-model', 'This run needs');
   await page.click('#growth summary');
   await page.click('#growth-run');
   await has('all values', '#growth-said', 'All values were tried.');
