@@ -24,9 +24,9 @@ import { isNear, readJob, readText } from './reading.js';
 import { openReference } from './reference.js';
 import { Schedule } from './schedule.js';
 import { Source } from './source.js';
+import { numberOfStanding, standingOf } from './standing.js';
 import { openStops } from './stops.js';
 import { openTabs } from './tabs.js';
-import { movedLines } from './text_lines.js';
 import { Whole } from './whole.js';
 import { phrase } from './words.js';
 import { WorkersView } from './workers.js';
@@ -263,35 +263,25 @@ class Playground {
 
   // Has the machine of this text, at the line where the one before stands.
   run({ job, answer, most, isAnswering }) {
-    if (job !== this.job) {
-      this.returning = job && this.isWritten && this.canStay ? this.standing : undefined;
-      if (this.isWritten && !this.canStay) this.step = 0;
-    }
+    if (job !== this.job) this.returning = this.isWritten ? this.placeToKeep(job) : undefined;
     Object.assign(this, { job, answer, most, isAnswering, runText: this.text });
     this.returnToLine();
   }
 
-  // Which line of the program is next, as it is numbered in the text of now, and the how-manieth
-  // time; nothing where one goes by other steps.
-  get standing() {
+  // By the steps of the machine the step stays; by lines it is found once those of the run are told.
+  placeToKeep(job) {
     const { views: { lockstep: { shownPace: pace } }, view, step, runText, text } = this;
-    if (view !== 'lockstep' || !(pace instanceof LinePace)) return undefined;
-    const number = pace.numberAt(step);
-    const line = pace.lineAt(number);
-    const times = pace.lines.slice(0, number + 1).filter((one) => one === line).length;
-    const [moved] = line === undefined ? [] : movedLines([line], runText, text);
-    return { line: moved, times, isKept: moved !== undefined || line === undefined };
+    if (!this.canStay) this.step = 0;
+    const isByLine = job?.source && view === 'lockstep' && pace instanceof LinePace;
+    return this.canStay && isByLine
+      ? { to: standingOf(pace, pace.numberAt(step), runText, text) } : undefined;
   }
 
-  // Back to this line as soon as the lines of the run are told; to the start where it is gone.
   returnToLine() {
     const pace = this.returning && this.whole.lines();
     if (!pace) return;
-    const { line, times, isKept } = this.returning;
+    this.step = pace.stepAt(numberOfStanding(pace, this.returning.to));
     this.returning = undefined;
-    const numbers = pace.lines.flatMap((one, number) => (one === line ? [number] : []));
-    const number = isKept ? numbers[Math.min(times, numbers.length) - 1] : undefined;
-    this.step = pace.stepAt(number ?? 0);
   }
 
   showFound() {

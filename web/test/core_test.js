@@ -26,6 +26,7 @@ import { ACT, actOf, readActs, writeActs } from '../src/acts.js';
 import { readAddress, readShown, writeAddress, writeShown } from '../src/address.js';
 import { Schedule } from '../src/schedule.js';
 import { Source } from '../src/source.js';
+import { numberOfStanding, standingOf } from '../src/standing.js';
 import { trialCalls } from '../src/trials.js';
 import { testExercises } from './exercise_rows.js';
 import { coreOf } from './page_parts.js';
@@ -598,6 +599,20 @@ function testFixes(core) {
   }
 }
 
+function testStanding() {
+  const code = 'code\nfor k = 0 to 1\n   a := 1\n   b := 2\nend\n';
+  const lines = [2, 3, 4, 5, 3, 4, 5, undefined];
+  const stands = (number, after, others = lines) =>
+    numberOfStanding({ lines: others }, standingOf({ lines }, number, code, after));
+  is('where it stood', stands(5, code), 5);
+  is('after a line that is new', stands(5, code.replace('for', '; new\nfor'),
+    [3, 4, 5, 6, 4, 5, 6, undefined]), 5);
+  is('in fewer rounds', stands(5, code.replace('to 1', 'to 0'), [2, 3, 4, 5, undefined]), 2);
+  is('at a line that is gone', stands(5, code.replace('   b := 2\n', ''),
+    [2, 3, 4, 3, 4, undefined]), 0);
+  is('at the end', stands(7, `${code}c := 3\n`, [2, 3, 4, 5, 3, 4, 5, 6, undefined]), 8);
+}
+
 function testColours() {
   const said = piecesOfLine('if i = 12 ; a 1', 'pardo')
     .map(({ text, kind }) => (kind ? `${kind} ${text}` : text));
@@ -616,6 +631,7 @@ for (const name of programs) testPardo(core, name.replace(/\.pardo$/, ''));
 testFile();
 testFixes(core);
 testColours();
+testStanding();
 testNames(core);
 testHiddenRows(core);
 testPardoRefusals(core);
