@@ -20,6 +20,7 @@ async function typeAfter(words, typed) {
 export async function testMachineStays() {
   await open();
   await write(PARDO + LINES);
+  await has('it runs', '#answer', 'done after 9 steps');
   await clicks('#step-on', 2);
   is('the machine stands at the third line', await text('.line-number.next .number'), '8');
   await typeAfter('A[i] + ', '(');
@@ -47,6 +48,7 @@ export async function testMachineStays() {
 export async function testStepIsKept() {
   await open();
   await write(PARDO + LINES);
+  await has('it runs', '#answer', 'done after 9 steps');
   await clicks('#step-on', 2);
   await typeAfter('code\n', '; one more\n');
   await isTold();
