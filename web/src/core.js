@@ -289,6 +289,13 @@ function readNodes(memory, words, numbers) {
   return phases;
 }
 
+// All that is told of the board and of the events: what each word holds, and their rows whole.
+const wholeOf = (memory, rows, words, told) => ({
+  board: Array.from({ length: told.words }, (_, k) =>
+    wide(memory, words + k * WORD_WORDS + WORD.value)),
+  events: readElements(memory, rows, 'EventRow', told.rows),
+});
+
 // Scenes: the tree, the bodies, the two words of one place, the effects of the events from `from`
 // on, and the cells as a reader gets them, all or none: step and value, one pair after the other.
 class Scenes {
@@ -330,12 +337,13 @@ class Scenes {
     return { ...this.read(desk.memory(), told, rooms, wanted), pairs };
   }
 
-  read(memory, told, { rows, words, bodies }, { places, place }) {
+  read(memory, told, { rows, words, bodies }, { places, place, isWhole }) {
     this.known.index ??= indexOf(memory, words, told, places);
     const { nodes, stored } = this.known.index;
     const wordOf = (k) => readStruct(memory, words + k * WORD_WORDS, 'WordRow');
     return {
       ...told,
+      ...(isWhole && wholeOf(memory, rows, words, told)),
       nodes: readNodes(memory, words, nodes),
       bodies: readElements(memory, bodies, 'BodyRow', told.bodies),
       stored: place === undefined ? []

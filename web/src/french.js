@@ -154,6 +154,27 @@ export const FRENCH = {
   'Later ones': 'Plus récentes',
   'Atomic steps': 'Étapes atomiques',
   'Earlier ones': 'Plus anciennes',
+  'An adversary': 'Un adversaire',
+  ['Whatever it does, the answer is the plain machine’s: that is the theorem. What it finds ' +
+    'here is evidence.']:
+    'Quoi qu’il fasse, la réponse est celle de la machine simple : c’est le théorème. Ce qu’il ' +
+    'trouve ici en est un indice.',
+  'Random schedule': 'Ordonnancement au hasard',
+  'seed {0}': 'graine {0}',
+  'how mean {0}': 'méchanceté {0}',
+  'kind: some sleep for a while': 'gentil : certains dorment un moment',
+  'mean: some are lost, too': 'méchant : certains sont aussi perdus',
+  'cruel: most are lost, few come back': 'cruel : la plupart sont perdus, peu reviennent',
+  'The schedule is full before the job ends.':
+    'L’ordonnancement est plein avant la fin de la tâche.',
+  'The answer is the plain machine’s.': 'La réponse est celle de la machine simple.',
+  'ANOTHER ANSWER THAN the plain machine’s.':
+    'UNE AUTRE RÉPONSE QUE celle de la machine simple.',
+  'Seed {0}, {1}.': 'Graine {0}, {1}.',
+  'Atomic steps: {0}. Losses: {1}. Returns: {2}. Sleeps: {3}.':
+    'Étapes atomiques : {0}. Pertes : {1}. Retours : {2}. Sommeils : {3}.',
+  'A click ended it.': 'Un clic l’a arrêté.',
+  'Acts so far: {0}.': 'Actes jusqu’ici : {0}.',
   'Take the schedule home: a plan for {0}': 'Emporter l’ordonnancement : un plan pour {0}',
   'Save plan.csv': 'Enregistrer plan.csv',
   'The plan': 'Le plan',

@@ -154,6 +154,25 @@ export const GERMAN = {
   'Later ones': 'Spätere',
   'Atomic steps': 'Atomare Schritte',
   'Earlier ones': 'Frühere',
+  'An adversary': 'Ein Gegner',
+  ['Whatever it does, the answer is the plain machine’s: that is the theorem. What it finds ' +
+    'here is evidence.']:
+    'Was er auch tut, die Antwort ist die der einfachen Maschine: Das ist der Satz. Was er hier ' +
+    'findet, ist ein Beleg.',
+  'Random schedule': 'Zufälliger Ablauf',
+  'seed {0}': 'Startwert {0}',
+  'how mean {0}': 'wie gemein {0}',
+  'kind: some sleep for a while': 'freundlich: manche schlafen eine Weile',
+  'mean: some are lost, too': 'gemein: manche gehen auch verloren',
+  'cruel: most are lost, few come back': 'grausam: die meisten gehen verloren, wenige kehren zurück',
+  'The schedule is full before the job ends.': 'Der Ablauf ist voll, ehe der Auftrag endet.',
+  'The answer is the plain machine’s.': 'Die Antwort ist die der einfachen Maschine.',
+  'ANOTHER ANSWER THAN the plain machine’s.': 'EINE ANDERE ANTWORT ALS die der einfachen Maschine.',
+  'Seed {0}, {1}.': 'Startwert {0}, {1}.',
+  'Atomic steps: {0}. Losses: {1}. Returns: {2}. Sleeps: {3}.':
+    'Atomare Schritte: {0}. Verluste: {1}. Rückkehren: {2}. Schlafzeiten: {3}.',
+  'A click ended it.': 'Ein Klick hat es beendet.',
+  'Acts so far: {0}.': 'Ereignisse bisher: {0}.',
   'Take the schedule home: a plan for {0}': 'Den Ablauf mitnehmen: ein Plan für {0}',
   'Save plan.csv': 'plan.csv speichern',
   'The plan': 'Der Plan',

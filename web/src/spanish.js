@@ -153,6 +153,26 @@ export const SPANISH = {
   'Later ones': 'Posteriores',
   'Atomic steps': 'Pasos atómicos',
   'Earlier ones': 'Anteriores',
+  'An adversary': 'Un adversario',
+  ['Whatever it does, the answer is the plain machine’s: that is the theorem. What it finds ' +
+    'here is evidence.']:
+    'Haga lo que haga, la respuesta es la de la máquina simple: ese es el teorema. Lo que halla ' +
+    'aquí es un indicio.',
+  'Random schedule': 'Planificación al azar',
+  'seed {0}': 'semilla {0}',
+  'how mean {0}': 'maldad {0}',
+  'kind: some sleep for a while': 'amable: algunos duermen un rato',
+  'mean: some are lost, too': 'malo: algunos también se pierden',
+  'cruel: most are lost, few come back': 'cruel: la mayoría se pierde, pocos vuelven',
+  'The schedule is full before the job ends.':
+    'La planificación está llena antes de que acabe la tarea.',
+  'The answer is the plain machine’s.': 'La respuesta es la de la máquina simple.',
+  'ANOTHER ANSWER THAN the plain machine’s.': 'OTRA RESPUESTA QUE la de la máquina simple.',
+  'Seed {0}, {1}.': 'Semilla {0}, {1}.',
+  'Atomic steps: {0}. Losses: {1}. Returns: {2}. Sleeps: {3}.':
+    'Pasos atómicos: {0}. Pérdidas: {1}. Regresos: {2}. Sueños: {3}.',
+  'A click ended it.': 'Un clic lo terminó.',
+  'Acts so far: {0}.': 'Actos hasta ahora: {0}.',
   'Take the schedule home: a plan for {0}': 'Llevarse la planificación: un plan para {0}',
   'Save plan.csv': 'Guardar plan.csv',
   'The plan': 'El plan',

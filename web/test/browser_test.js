@@ -9,6 +9,7 @@ import { Schedule } from '../src/schedule.js';
 import { withPage } from './browser.js';
 import { clicks, count, drive, end, has, is, isShown, open, page, picture, saved, text,
   valueOf, write } from './drive.js';
+import * as adversary from './adversary_tests.js';
 import * as languages from './language_tests.js';
 import * as layout from './layout_tests.js';
 import * as lessons from './lesson_tests.js';
@@ -381,7 +382,7 @@ async function testWidths() {
 const OWN = [testLockstep, testLockstepKeys, testConflict, testGallery, testFaults, testHostile,
   testLongTexts, testWorkers, testPlan, testTwinsAndTime, testEnds, testWorkersKeys, testLink,
   testReading, testWidths];
-const MODULES = [works, programs, layout, steps, lessons, links, languages, speed];
+const MODULES = [works, programs, layout, steps, lessons, links, languages, adversary, speed];
 const TESTS = [...OWN, ...MODULES.flatMap((module) => Object.values(module))];
 
 // With names after the folders only the tests of these names are made.
