@@ -1,5 +1,6 @@
 // The panel of the adversary: what it is asked for, how far it is, and what it found.
 import { byId, onClick, setText } from './dom.js';
+import { namesOfBodies } from './meaning.js';
 import { grouped, numberWithin } from './numbers.js';
 import { phrase } from './words.js';
 
@@ -21,10 +22,22 @@ const randomInWords = (seed, meanness, found) => [
   answerInWords(found),
 ].join(' ');
 
+const lossInWords = (names, { lost, moment, most, least, tried, moments }) =>
+  phrase('{0}, lost at moment {1}: those who are left make {2} atomic steps from here on, and {3} ' +
+    'if the moment is the kindest. Moments tried: {4} of {5}.',
+  names[lost], ...[moment, most, least, tried, moments].map(grouped));
+
+const worstInWords = (names, { tries, losses, ...found }) => [
+  phrase('Schedules tried: {0}.', grouped(tries)),
+  ...losses.map((loss) => lossInWords(names, loss)),
+  answerInWords(found),
+].join(' ');
+
 export class AdversaryPanel {
   constructor(app, view) {
     Object.assign(this, { app, view, text: undefined, said: () => '' });
     onClick('adversary-random', () => this.random());
+    onClick('adversary-worst', () => this.worst());
     byId('adversary-seed').addEventListener('keydown', ({ key }) => {
       if (key === 'Enter') this.random();
     });
@@ -86,6 +99,24 @@ export class AdversaryPanel {
       (found) => {
         this.adopt(workers, 0, found.acts);
         this.say(() => randomInWords(grouped(seed), () => choice.textContent, found));
+      });
+  }
+  // From the moment that is shown.
+  worst() {
+    const { app: { schedule }, view } = this;
+    view.pause();
+    const { workers, at } = schedule;
+    const bodies = schedule.bodies();
+    const going = view.board.goingInTurn();
+    if (going.length < 2) {
+      this.say(() => phrase('Fewer than two workers are going: nobody is to be lost.'));
+      return;
+    }
+    this.search('worst', { acts: schedule.acts.slice(0, at), going },
+      ({ tries }) => phrase('Schedules tried: {0}.', grouped(tries)),
+      (found) => {
+        if (!found.isFull) this.adopt(workers, at, found.acts);
+        this.say(() => worstInWords(namesOfBodies(bodies, workers), found));
       });
   }
 }

@@ -1,7 +1,7 @@
 // A random schedule: who makes steps, sleeps, wakes, is lost and comes back, drawn by lot. The core
 // tells when a worker is over. One is always awake until then, so that the job ends.
 import { ACT, MOST_ACTS, actOf, bodyOf, isEvent, kindOf } from './acts.js';
-import { eventsOf, isAnswered, isOver, sceneAfter } from './adversary_scene.js';
+import { eventsOf, isAnswered, isOver, readWhole, sceneAfter } from './adversary_scene.js';
 import { Draw } from './draw.js';
 
 // How many steps a worker makes in a row at most, how often the lot falls on one in about as many
@@ -94,7 +94,7 @@ export class RandomSearch {
   cut(draft) {
     const before = this.acts.filter(isEvent).length;
     const events = eventsOf([...this.acts, ...draft]);
-    const { events: rows } = sceneAfter(this.core, this.asked, events, before, true);
+    const { effects: rows } = sceneAfter(this.core, this.asked, events, before, readWhole);
     const last = rows.findIndex(({ now }) => isOver(now));
     if (last < 0) return { taken: draft };
     let seen = -1;

@@ -2,22 +2,39 @@
 import { bodyOf, isEvent, kindOf } from './acts.js';
 import { areAlike } from './alike.js';
 import { CODE } from './declared.js';
-import { putEvent, roomForEvents } from './event_words.js';
+import { firstEvents, putEvent, roomForEvents } from './event_words.js';
 import { DOING } from './kinds.js';
+import { offsetsOf, readElements, wordsOf } from './structs.js';
+
+const ROW_WORDS = wordsOf('EventRow');
+const { kind: KIND } = offsetsOf('EventRow');
 
 export const isOver = ({ doing }) => doing === DOING.DONE || doing === DOING.CONFLICT;
 
 // The core's events of acts.
 export function eventsOf(acts) {
-  const events = acts.filter(isEvent);
-  const words = roomForEvents(events.length);
-  events.forEach((act, k) => putEvent(words, k, kindOf(act), bodyOf(act)));
-  return words;
+  const words = roomForEvents(acts.length);
+  let count = 0;
+  for (const act of acts) {
+    if (!isEvent(act)) continue;
+    putEvent(words, count, kindOf(act), bodyOf(act));
+    count += 1;
+  }
+  return firstEvents(words, count);
 }
 
-// The scene after these events, with what those from `from` on did.
-export function sceneAfter(core, { text, job, workers }, events, from, isWhole = false) {
-  const wanted = { from, places: job.places, cells: 0, isWhole };
+// Of each event the kind of its atomic step.
+function readKinds(memory, rows, count) {
+  const kinds = new Uint8Array(count);
+  for (let k = 0; k < count; k += 1) kinds[k] = memory[rows + k * ROW_WORDS + KIND];
+  return kinds;
+}
+
+export const readWhole = (memory, rows, count) => readElements(memory, rows, 'EventRow', count);
+
+// The scene after these events, and what those from `from` on did, which is read so.
+export function sceneAfter(core, { text, job, workers }, events, from, readRows = readKinds) {
+  const wanted = { from, places: job.places, cells: 0, readRows };
   const scene = core.scene(text, workers, events, wanted);
   if (scene.code !== CODE.DONE) throw new RangeError(`the core tells no scene: ${scene.code}`);
   return scene;

@@ -147,7 +147,7 @@ export const CHINESE = {
   'how mean {0}': '有多坏 {0}',
   'kind: some sleep for a while': '和善：有的睡一会儿',
   'mean: some are lost, too': '坏：还有的会失去',
-  'cruel: most are lost, few come back': '残忍：大多失去，很少回来',
+  'cruel: they are lost again and again': '残忍：一再失去',
   'The schedule is full before the job ends.': '任务还没有结束，调度就满了。',
   'The answer is the plain machine’s.': '答案与普通机器的相同。',
   'ANOTHER ANSWER THAN the plain machine’s.': '答案与普通机器的不同！',
@@ -156,6 +156,15 @@ export const CHINESE = {
     '原子步骤：{0}。失去：{1}。回来：{2}。睡眠：{3}。',
   'A click ended it.': '被点击终止。',
   'Acts so far: {0}.': '至今的动作：{0}。',
+  'lose each worker at its worst moment': '让每个工作者在最坏的时刻失去',
+  'Worst moments': '最坏时刻',
+  'from here on, each worker but one is lost; within 2,000 schedules and 10 seconds':
+    '从这里起，除一个外每个工作者都会失去；最多试 2,000 个调度，10 秒',
+  'Schedules tried: {0}.': '试过的调度：{0}。',
+  ['{0}, lost at moment {1}: those who are left make {2} atomic steps from here on, and {3} if ' +
+    'the moment is the kindest. Moments tried: {4} of {5}.']:
+    '{0} 在时刻 {1} 失去：其余的从这里起共走 {2} 个原子步骤，在最和善的时刻则走 {3} 个。试过的时刻：{5} 个中的 {4} 个。',
+  'Fewer than two workers are going: nobody is to be lost.': '在工作的少于两个：没有谁可以失去。',
   'Take the schedule home: a plan for {0}': '把调度带走：供 {0} 使用的计划',
   'Save plan.csv': '保存 plan.csv',
   'The plan': '计划',

@@ -289,15 +289,13 @@ function readNodes(memory, words, numbers) {
   return phases;
 }
 
-// All that is told of the board and of the events: what each word holds, and their rows whole.
-const wholeOf = (memory, rows, words, told) => ({
-  board: Array.from({ length: told.words }, (_, k) =>
-    wide(memory, words + k * WORD_WORDS + WORD.value)),
-  events: readElements(memory, rows, 'EventRow', told.rows),
-});
+// What each word of the board holds.
+const readBoard = (memory, words, count) => Array.from({ length: count }, (_, k) =>
+  wide(memory, words + k * WORD_WORDS + WORD.value));
 
-// Scenes: the tree, the bodies, the two words of one place, the effects of the events from `from`
-// on, and the cells as a reader gets them, all or none: step and value, one pair after the other.
+// Scenes: the tree, the bodies, the two words of one place or all of the board, the effects of the
+// events from `from` on, or what `readRows` reads of them, and the cells as a reader gets them, all
+// or none: step and value, one pair after the other.
 class Scenes {
   constructor(exports) {
     this.exports = exports;
@@ -337,18 +335,18 @@ class Scenes {
     return { ...this.read(desk.memory(), told, rooms, wanted), pairs };
   }
 
-  read(memory, told, { rows, words, bodies }, { places, place, isWhole }) {
+  read(memory, told, { rows, words, bodies }, { places, place, isWhole, readRows = readEffects }) {
     this.known.index ??= indexOf(memory, words, told, places);
     const { nodes, stored } = this.known.index;
     const wordOf = (k) => readStruct(memory, words + k * WORD_WORDS, 'WordRow');
     return {
       ...told,
-      ...(isWhole && wholeOf(memory, rows, words, told)),
       nodes: readNodes(memory, words, nodes),
       bodies: readElements(memory, bodies, 'BodyRow', told.bodies),
       stored: place === undefined ? []
         : [wordOf(stored[2 * place]), wordOf(stored[2 * place + 1])],
-      effects: readEffects(memory, rows, told.rows),
+      board: isWhole ? readBoard(memory, words, told.words) : [],
+      effects: readRows(memory, rows, told.rows),
     };
   }
 }

@@ -164,7 +164,7 @@ export const FRENCH = {
   'how mean {0}': 'méchanceté {0}',
   'kind: some sleep for a while': 'gentil : certains dorment un moment',
   'mean: some are lost, too': 'méchant : certains sont aussi perdus',
-  'cruel: most are lost, few come back': 'cruel : la plupart sont perdus, peu reviennent',
+  'cruel: they are lost again and again': 'cruel : ils sont perdus encore et encore',
   'The schedule is full before the job ends.':
     'L’ordonnancement est plein avant la fin de la tâche.',
   'The answer is the plain machine’s.': 'La réponse est celle de la machine simple.',
@@ -175,6 +175,18 @@ export const FRENCH = {
     'Étapes atomiques : {0}. Pertes : {1}. Retours : {2}. Sommeils : {3}.',
   'A click ended it.': 'Un clic l’a arrêté.',
   'Acts so far: {0}.': 'Actes jusqu’ici : {0}.',
+  'lose each worker at its worst moment': 'perdre chaque travailleur à son pire moment',
+  'Worst moments': 'Pires moments',
+  'from here on, each worker but one is lost; within 2,000 schedules and 10 seconds':
+    'à partir d’ici, chaque travailleur sauf un est perdu ; en 2,000 ordonnancements et 10 ' +
+    'secondes au plus',
+  'Schedules tried: {0}.': 'Ordonnancements essayés : {0}.',
+  ['{0}, lost at moment {1}: those who are left make {2} atomic steps from here on, and {3} if ' +
+    'the moment is the kindest. Moments tried: {4} of {5}.']:
+    '{0}, perdu au moment {1} : ceux qui restent font {2} étapes atomiques à partir d’ici, et ' +
+    '{3} au moment le plus clément. Moments essayés : {4} sur {5}.',
+  'Fewer than two workers are going: nobody is to be lost.':
+    'Moins de deux travailleurs avancent : personne n’est à perdre.',
   'Take the schedule home: a plan for {0}': 'Emporter l’ordonnancement : un plan pour {0}',
   'Save plan.csv': 'Enregistrer plan.csv',
   'The plan': 'Le plan',

@@ -164,7 +164,7 @@ export const GERMAN = {
   'how mean {0}': 'wie gemein {0}',
   'kind: some sleep for a while': 'freundlich: manche schlafen eine Weile',
   'mean: some are lost, too': 'gemein: manche gehen auch verloren',
-  'cruel: most are lost, few come back': 'grausam: die meisten gehen verloren, wenige kehren zurück',
+  'cruel: they are lost again and again': 'grausam: sie gehen immer wieder verloren',
   'The schedule is full before the job ends.': 'Der Ablauf ist voll, ehe der Auftrag endet.',
   'The answer is the plain machine’s.': 'Die Antwort ist die der einfachen Maschine.',
   'ANOTHER ANSWER THAN the plain machine’s.': 'EINE ANDERE ANTWORT ALS die der einfachen Maschine.',
@@ -173,6 +173,18 @@ export const GERMAN = {
     'Atomare Schritte: {0}. Verluste: {1}. Rückkehren: {2}. Schlafzeiten: {3}.',
   'A click ended it.': 'Ein Klick hat es beendet.',
   'Acts so far: {0}.': 'Ereignisse bisher: {0}.',
+  'lose each worker at its worst moment': 'jeden Arbeiter im schlimmsten Moment verlieren',
+  'Worst moments': 'Schlimmste Momente',
+  'from here on, each worker but one is lost; within 2,000 schedules and 10 seconds':
+    'von hier an gehen alle Arbeiter bis auf einen verloren; in höchstens 2,000 Abläufen und 10 ' +
+    'Sekunden',
+  'Schedules tried: {0}.': 'Versuchte Abläufe: {0}.',
+  ['{0}, lost at moment {1}: those who are left make {2} atomic steps from here on, and {3} if ' +
+    'the moment is the kindest. Moments tried: {4} of {5}.']:
+    '{0}, verloren im Moment {1}: Die Übrigen machen von hier an {2} atomare Schritte, und ' +
+    '{3} im freundlichsten Moment. Versuchte Momente: {4} von {5}.',
+  'Fewer than two workers are going: nobody is to be lost.':
+    'Weniger als zwei Arbeiter sind am Werk: Niemand soll verloren gehen.',
   'Take the schedule home: a plan for {0}': 'Den Ablauf mitnehmen: ein Plan für {0}',
   'Save plan.csv': 'plan.csv speichern',
   'The plan': 'Der Plan',

@@ -163,7 +163,7 @@ export const SPANISH = {
   'how mean {0}': 'maldad {0}',
   'kind: some sleep for a while': 'amable: algunos duermen un rato',
   'mean: some are lost, too': 'malo: algunos también se pierden',
-  'cruel: most are lost, few come back': 'cruel: la mayoría se pierde, pocos vuelven',
+  'cruel: they are lost again and again': 'cruel: se pierden una y otra vez',
   'The schedule is full before the job ends.':
     'La planificación está llena antes de que acabe la tarea.',
   'The answer is the plain machine’s.': 'La respuesta es la de la máquina simple.',
@@ -173,6 +173,18 @@ export const SPANISH = {
     'Pasos atómicos: {0}. Pérdidas: {1}. Regresos: {2}. Sueños: {3}.',
   'A click ended it.': 'Un clic lo terminó.',
   'Acts so far: {0}.': 'Actos hasta ahora: {0}.',
+  'lose each worker at its worst moment': 'perder cada trabajador en su peor momento',
+  'Worst moments': 'Peores momentos',
+  'from here on, each worker but one is lost; within 2,000 schedules and 10 seconds':
+    'desde aquí se pierde cada trabajador menos uno; en 2,000 planificaciones y 10 segundos como ' +
+    'máximo',
+  'Schedules tried: {0}.': 'Planificaciones probadas: {0}.',
+  ['{0}, lost at moment {1}: those who are left make {2} atomic steps from here on, and {3} if ' +
+    'the moment is the kindest. Moments tried: {4} of {5}.']:
+    '{0}, perdido en el momento {1}: los que quedan dan {2} pasos atómicos desde aquí, y {3} en ' +
+    'el momento más benigno. Momentos probados: {4} de {5}.',
+  'Fewer than two workers are going: nobody is to be lost.':
+    'Avanzan menos de dos trabajadores: no hay a quién perder.',
   'Take the schedule home: a plan for {0}': 'Llevarse la planificación: un plan para {0}',
   'Save plan.csv': 'Guardar plan.csv',
   'The plan': 'El plan',

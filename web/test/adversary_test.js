@@ -2,10 +2,12 @@
 // in Node.
 import { readFileSync } from 'node:fs';
 import { join } from 'node:path';
-import { ACT, actOf, bodyOf, kindOf, writeActs } from '../src/acts.js';
+import { ACT, actOf, kindOf, writeActs } from '../src/acts.js';
 import { RandomSearch } from '../src/adversary_random.js';
 import { eventsOf, isOver, sceneAfter } from '../src/adversary_scene.js';
+import { WorstSearch } from '../src/adversary_worst.js';
 import { CODE } from '../src/declared.js';
+import { Draw } from '../src/draw.js';
 import { DOING } from '../src/kinds.js';
 import { coreOf } from './page_parts.js';
 import { report } from './report.js';
@@ -62,6 +64,58 @@ function testRandom(core) {
   is('is found by random workers, too', found.isSame, true);
 }
 
+// The atomic steps of the others where a worker is lost before the turn of this number, told act by
+// act: each in turn, the lost one left out from then on.
+function stepsOfOthers(core, asked, lost, turn) {
+  const bodies = [...Array(asked.workers).keys()];
+  const acts = [];
+  let steps = 0;
+  for (let k = 0; ; k += 1) {
+    const body = k % bodies.length;
+    if (k === turn) acts.push(actOf(ACT.LOSE, lost));
+    if (body === lost && k >= turn) continue;
+    acts.push(actOf(ACT.GO, body));
+    const { bodies: rows, effects } = sceneAfter(core, asked, eventsOf(acts), acts.length - 1);
+    if (effects[0] > 0 && body !== lost) steps += 1;
+    if (bodies.every((one) => (one === lost && k >= turn) || isOver(rows[one]))) return steps;
+  }
+}
+
+function testWorst(core) {
+  const going = [0, 1];
+  const tiny = askedOf(core, machineText(1, 1, 'set r0 7'), { acts: [], going });
+  const found = foundBy(new WorstSearch(core, tiny));
+  const [{ most, least, tried, moments }] = found.losses;
+  const all = going.flatMap((lost) => Array.from({ length: 33 }, (_, k) =>
+    stepsOfOthers(core, tiny, lost, 2 * k + lost)));
+  is('the worst of all moments', most, Math.max(...all));
+  is('the kindest', least, Math.min(...all));
+  is('each is tried', [tried, found.tries].join(), [moments, moments].join());
+  is('one is lost', kindsIn(found.acts, ACT.LOSE), 1);
+  is('and the answer is right', found.isSame, true);
+}
+
+// It is at least as bad as losses drawn by lot.
+function testWorstOfSome(core) {
+  const going = [0, 1, 2];
+  const text = machineText(4, 3, 'pid r0', 'st r0 r0', 'halt').replace('cells 2', 'cells 4');
+  const asked = askedOf(core, text, { workers: 3, acts: [], going });
+  const { losses, acts } = foundBy(new WorstSearch(core, asked));
+  is('each but one is lost', losses.map(({ lost }) => lost).sort().length, 2);
+  is('and one ends', endsWell(core, asked, acts), true);
+  const draw = new Draw(1);
+  const drawn = Array.from({ length: 40 }, () =>
+    stepsOfOthers(core, asked, draw.below(3), draw.below(900)));
+  is('it is the worst', drawn.every((steps) => steps <= losses[0].most), true);
+  const later = { ...asked, acts: acts.slice(0, 100), going: [1, 0] };
+  const second = foundBy(new WorstSearch(core, later));
+  is('from a moment on', second.losses.every(({ moment }) => moment >= 100), true);
+  const alone = foundBy(new WorstSearch(core, { ...asked, going: [0] }));
+  is('nobody is lost where one is alone', alone.losses.length, 0);
+}
+
 const core = await coreOf(pagePath);
 testRandom(core);
+testWorst(core);
+testWorstOfSome(core);
 end();

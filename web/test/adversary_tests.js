@@ -1,5 +1,10 @@
 // The adversary of the workers' view.
+import { writeAddress } from '../src/address.js';
+import { Schedule } from '../src/schedule.js';
 import { has, is, open, page, picture, text, valueOf } from './drive.js';
+
+const addressOf = (content) =>
+  writeAddress({ text: content, view: 'workers', step: 0, schedule: new Schedule(2) }, []);
 
 const opened = async (hash) => {
   await open(hash);
@@ -35,7 +40,7 @@ export async function testRandomSchedule() {
   await seedIs('8');
   await page.choose('#adversary-meanness', 'cruel');
   await page.click('#adversary-random');
-  await has('another seed', '#adversary-said', 'Seed 8, cruel: most are lost, few come back.');
+  await has('another seed', '#adversary-said', 'Seed 8, cruel: they are lost again and again.');
   is('is another schedule', (await text('#moment-said')) === moment, false);
   await page.evaluate('document.getElementById("adversary").scrollIntoView()');
   await page.sightPicture('adversary');
@@ -47,4 +52,23 @@ export async function testRandomSchedule() {
   await has('a plan of it', '#plan', 'worker,act,ticks');
   await page.choose('#example', 'sum');
   is('another program forgets it', await text('#adversary-said'), '');
+}
+
+export async function testWorstMoments() {
+  await opened('#example=levels&view=workers&workers=3&acts=0.1.2*5');
+  await page.click('#adversary-worst');
+  await has('it is on its way', '#adversary-said', 'On the way. Any other click ends it here.');
+  await page.click('#all-1');
+  await has('a click ends it', '#adversary-said', 'A click ended it.');
+  is('and does what it does', await text('#moment-said'), '18 of 18');
+  await opened(`#${await addressOf('pram 1\ncells 2\nprocs 2\nsteps 1\ncode\npid r0\n')}`);
+  await page.click('#adversary-worst');
+  await has('how many were tried', '#adversary-said', 'Schedules tried: ');
+  await has('who is lost when', '#adversary-said', ', lost at moment ');
+  await has('one of two is lost', '#cards', ', lost');
+  await has('the answer', '#outcome', 'Done: the same answer as the plain machine’s.');
+  await page.click('#adversary-worst');
+  await has('then nobody goes', '#adversary-said', 'Fewer than two workers are going');
+  await page.click('#undo-acts');
+  is('it is undone at once', await text('#moment-said'), '0 of 0');
 }
