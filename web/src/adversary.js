@@ -1,10 +1,11 @@
 // An adversary's searches, in the thread of the core: a piece of one at a time, so that the page
 // hears how far it is.
+import { WholeSearch } from './adversary_all.js';
 import { RandomSearch } from './adversary_random.js';
 import { WorstSearch } from './adversary_worst.js';
 
 const PIECE = 200;
-const SEARCHES = { random: RandomSearch, worst: WorstSearch };
+const SEARCHES = { random: RandomSearch, worst: WorstSearch, all: WholeSearch };
 
 export function adversaryCalls(core) {
   let search;

@@ -1,10 +1,19 @@
 // The panel of the adversary: what it is asked for, how far it is, and what it found.
-import { byId, onClick, setText } from './dom.js';
+import { byId, onClick, setHidden, setText } from './dom.js';
 import { namesOfBodies } from './meaning.js';
-import { grouped, numberWithin } from './numbers.js';
+import { grouped, great, numberWithin } from './numbers.js';
 import { phrase } from './words.js';
 
 const GREATEST_SEED = 2 ** 32 - 1;
+
+// Of which all schedules can be met.
+const SMALL = `pardo 1
+rule crew
+procs i < 2
+shared A[2]
+code
+A[i] := i
+`;
 
 const sizesOf = ({ cells, procs, steps, places }) => ({ cells, procs, steps, places });
 
@@ -23,8 +32,8 @@ const randomInWords = (seed, meanness, found) => [
 ].join(' ');
 
 const lossInWords = (names, { lost, moment, most, least, tried, moments }) =>
-  phrase('{0}, lost at moment {1}: those who are left make {2} atomic steps from here on, and {3} ' +
-    'if the moment is the kindest. Moments tried: {4} of {5}.',
+  phrase('{0}, lost at moment {1}: those who are left make {2} atomic steps from here on, and ' +
+    '{3} if the moment is the kindest. Moments tried: {4} of {5}.',
   names[lost], ...[moment, most, least, tried, moments].map(grouped));
 
 const worstInWords = (names, { tries, losses, ...found }) => [
@@ -33,21 +42,50 @@ const worstInWords = (names, { tries, losses, ...found }) => [
   answerInWords(found),
 ].join(' ');
 
+const sameInWords = (others) => (others === 0
+  ? phrase('Each has the plain machine’s answer: the core replayed a schedule to it.')
+  : phrase('NOT EACH HAS the plain machine’s answer.'));
+
+// Of a program that is too large what was met of it.
+const partInWords = ({ states, ends, others }) => [
+  phrase('Not all schedules were met: it ended after {0} states, which is what a page holds. Try ' +
+    'fewer workers, or a smaller program.', grouped(states)),
+  phrase('Different ends met: {0}.', grouped(ends)),
+  ends === 0 ? '' : sameInWords(others),
+].join(' ').trim();
+
+const allInWords = ({ states, schedules, steps, ends, others, least, most }) => [
+  phrase('All schedules: {0}. States, each met once: {1}. Different atomic steps, each told by ' +
+    'the core: {2}.', great(schedules), grouped(states), grouped(steps)),
+  phrase('Different ends: {0}.', grouped(ends)), sameInWords(others),
+  phrase('The shortest schedule has {0} atomic steps, the slowest {1}.', grouped(least),
+    grouped(most)),
+].join(' ');
+
 export class AdversaryPanel {
   constructor(app, view) {
     Object.assign(this, { app, view, text: undefined, said: () => '' });
     onClick('adversary-random', () => this.random());
     onClick('adversary-worst', () => this.worst());
+    onClick('adversary-all', () => this.all());
+    onClick('adversary-slowest', () => this.showSlowest());
+    onClick('adversary-small', () =>
+      app.choose(SMALL, { name: () => phrase('a small program') }));
     byId('adversary-seed').addEventListener('keydown', ({ key }) => {
       if (key === 'Enter') this.random();
     });
   }
 
-  // What was found of another text is forgotten.
+  // What is searched or was found of another text is forgotten.
   show() {
     const { text } = this.app.job;
-    if (text !== this.text) Object.assign(this, { text, said: () => '' });
+    if (text !== this.text) {
+      this.far?.forget();
+      this.sayFar('');
+      Object.assign(this, { text, said: () => '', slowest: undefined });
+    }
     setText(byId('adversary-said'), this.said());
+    setHidden(byId('adversary-slowest'), this.slowest === undefined);
   }
 
   // `said` tells it in the language of then.
@@ -74,6 +112,7 @@ export class AdversaryPanel {
     const { job, answer, schedule: { workers } } = app;
     const asked = { text: job.text, job: sizesOf(job), answer, workers, ...wanted };
     this.far ??= app.far.another();
+    this.slowest = undefined;
     this.say(() => phrase('On the way. Any other click ends it here.'));
     const ask = (call, given) => this.far.ask(call, given, ({ isDone, ...told }) => {
       this.sayFar(isDone ? '' : farInWords(told));
@@ -118,5 +157,21 @@ export class AdversaryPanel {
         if (!found.isFull) this.adopt(workers, at, found.acts);
         this.say(() => worstInWords(namesOfBodies(bodies, workers), found));
       });
+  }
+  // From the first moment, of so many workers as the panel says.
+  all() {
+    const workers = Number(byId('adversary-workers').value);
+    const isLosing = byId('adversary-losing').checked;
+    this.search('all', { workers, isLosing },
+      ({ states }) => phrase('States met so far: {0}.', grouped(states)),
+      (found) => {
+        this.slowest = found.acts && { workers, acts: found.acts };
+        this.say(() => (found.isWhole ? allInWords(found) : partInWords(found)));
+      });
+  }
+
+  showSlowest() {
+    this.view.pause();
+    this.adopt(this.slowest.workers, 0, this.slowest.acts);
   }
 }

@@ -94,7 +94,8 @@ export class RandomSearch {
   cut(draft) {
     const before = this.acts.filter(isEvent).length;
     const events = eventsOf([...this.acts, ...draft]);
-    const { effects: rows } = sceneAfter(this.core, this.asked, events, before, readWhole);
+    const { effects: rows } = sceneAfter(this.core, this.asked, events, before,
+      { readRows: readWhole });
     const last = rows.findIndex(({ now }) => isOver(now));
     if (last < 0) return { taken: draft };
     let seen = -1;

@@ -32,9 +32,11 @@ function readKinds(memory, rows, count) {
 
 export const readWhole = (memory, rows, count) => readElements(memory, rows, 'EventRow', count);
 
-// The scene after these events, and what those from `from` on did, which is read so.
-export function sceneAfter(core, { text, job, workers }, events, from, readRows = readKinds) {
-  const wanted = { from, places: job.places, cells: 0, readRows };
+// The scene after these events, and what those from `from` on did, which is read so; with the words
+// of the board if it is wanted whole.
+export function sceneAfter(core, asked, events, from, { readRows = readKinds, isWhole } = {}) {
+  const { text, job, workers } = asked;
+  const wanted = { from, places: job.places, cells: 0, readRows, isWhole };
   const scene = core.scene(text, workers, events, wanted);
   if (scene.code !== CODE.DONE) throw new RangeError(`the core tells no scene: ${scene.code}`);
   return scene;

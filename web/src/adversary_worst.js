@@ -1,5 +1,5 @@
-// The worst moments: from the present on each worker but one is lost, one after the other, at the
-// moment after which those who are left make the most atomic steps in all, each in turn. A moment is
+// The worst moments: from the present on each worker but one is lost, one after the other, at that
+// moment with which those who are left make the most atomic steps in all, each in turn. A moment is
 // tried by a run to the end: all of them, or as many as time and tries allow.
 import { ACT, MOST_ACTS, actOf, bodyOf, kindOf } from './acts.js';
 import { eventsOf, isAnswered, isOver, sceneAfter } from './adversary_scene.js';

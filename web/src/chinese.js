@@ -165,6 +165,25 @@ export const CHINESE = {
     'the moment is the kindest. Moments tried: {4} of {5}.']:
     '{0} 在时刻 {1} 失去：其余的从这里起共走 {2} 个原子步骤，在最和善的时刻则走 {3} 个。试过的时刻：{5} 个中的 {4} 个。',
   'Fewer than two workers are going: nobody is to be lost.': '在工作的少于两个：没有谁可以失去。',
+  'All schedules': '所有调度',
+  '{0} worker 1 may be lost': '{0} 工作者 1 可能失去',
+  'Show the slowest': '显示最慢的',
+  'Take a small program': '取一个小程序',
+  'a small program': '一个小程序',
+  'States met so far: {0}.': '至今遇到的状态：{0}。',
+  ['Not all schedules were met: it ended after {0} states, which is what a page holds. Try ' +
+    'fewer workers, or a smaller program.']:
+    '没有遇到所有调度：到 {0} 个状态就结束了，一个页面只容得下这么多。请减少工作者，或换更小的程序。',
+  'Different ends met: {0}.': '遇到的不同终点：{0}。',
+  'Each has the plain machine’s answer: the core replayed a schedule to it.':
+    '每个都是普通机器的答案：核心重放了通向它的一个调度。',
+  'NOT EACH HAS the plain machine’s answer.': '并非每个都是普通机器的答案！',
+  ['All schedules: {0}. States, each met once: {1}. Different atomic steps, each told by the ' +
+    'core: {2}.']:
+    '所有调度：{0}。状态，每个只遇到一次：{1}。不同的原子步骤，每个都由核心给出：{2}。',
+  'Different ends: {0}.': '不同终点：{0}。',
+  'The shortest schedule has {0} atomic steps, the slowest {1}.':
+    '最短的调度有 {0} 个原子步骤，最慢的有 {1} 个。',
   'Take the schedule home: a plan for {0}': '把调度带走：供 {0} 使用的计划',
   'Save plan.csv': '保存 plan.csv',
   'The plan': '计划',

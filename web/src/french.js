@@ -187,6 +187,27 @@ export const FRENCH = {
     '{3} au moment le plus clément. Moments essayés : {4} sur {5}.',
   'Fewer than two workers are going: nobody is to be lost.':
     'Moins de deux travailleurs avancent : personne n’est à perdre.',
+  'All schedules': 'Tous les ordonnancements',
+  '{0} worker 1 may be lost': '{0} le travailleur 1 peut être perdu',
+  'Show the slowest': 'Montrer le plus lent',
+  'Take a small program': 'Prendre un petit programme',
+  'a small program': 'un petit programme',
+  'States met so far: {0}.': 'États rencontrés jusqu’ici : {0}.',
+  ['Not all schedules were met: it ended after {0} states, which is what a page holds. Try ' +
+    'fewer workers, or a smaller program.']:
+    'Tous n’ont pas été rencontrés : arrêt après {0} états, ce que contient une page. Essayez ' +
+    'avec moins de travailleurs, ou un programme plus petit.',
+  'Different ends met: {0}.': 'Fins différentes rencontrées : {0}.',
+  'Each has the plain machine’s answer: the core replayed a schedule to it.':
+    'Chacune a la réponse de la machine simple : le noyau a rejoué un ordonnancement qui y mène.',
+  'NOT EACH HAS the plain machine’s answer.': 'CERTAINES N’ONT PAS la réponse de la machine simple.',
+  ['All schedules: {0}. States, each met once: {1}. Different atomic steps, each told by the ' +
+    'core: {2}.']:
+    'Tous les ordonnancements : {0}. États, chacun rencontré une fois : {1}. Étapes atomiques ' +
+    'différentes, chacune dite par le noyau : {2}.',
+  'Different ends: {0}.': 'Fins différentes : {0}.',
+  'The shortest schedule has {0} atomic steps, the slowest {1}.':
+    'L’ordonnancement le plus court a {0} étapes atomiques, le plus lent {1}.',
   'Take the schedule home: a plan for {0}': 'Emporter l’ordonnancement : un plan pour {0}',
   'Save plan.csv': 'Enregistrer plan.csv',
   'The plan': 'Le plan',

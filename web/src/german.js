@@ -185,6 +185,28 @@ export const GERMAN = {
     '{3} im freundlichsten Moment. Versuchte Momente: {4} von {5}.',
   'Fewer than two workers are going: nobody is to be lost.':
     'Weniger als zwei Arbeiter sind am Werk: Niemand soll verloren gehen.',
+  'All schedules': 'Alle Abläufe',
+  '{0} worker 1 may be lost': '{0} Arbeiter 1 kann verloren gehen',
+  'Show the slowest': 'Den langsamsten zeigen',
+  'Take a small program': 'Ein kleines Programm nehmen',
+  'a small program': 'ein kleines Programm',
+  'States met so far: {0}.': 'Zustände bisher: {0}.',
+  ['Not all schedules were met: it ended after {0} states, which is what a page holds. Try ' +
+    'fewer workers, or a smaller program.']:
+    'Nicht alle Abläufe kamen vor: Nach {0} Zuständen war Schluss, mehr fasst eine Seite nicht. ' +
+    'Versuchen Sie es mit weniger Arbeitern oder einem kleineren Programm.',
+  'Different ends met: {0}.': 'Verschiedene Enden, die vorkamen: {0}.',
+  'Each has the plain machine’s answer: the core replayed a schedule to it.':
+    'Jedes hat die Antwort der einfachen Maschine: Der Kern hat einen Ablauf dorthin ' +
+    'nachgespielt.',
+  'NOT EACH HAS the plain machine’s answer.': 'NICHT JEDES HAT die Antwort der einfachen Maschine.',
+  ['All schedules: {0}. States, each met once: {1}. Different atomic steps, each told by the ' +
+    'core: {2}.']:
+    'Alle Abläufe: {0}. Zustände, jeder einmal besucht: {1}. Verschiedene atomare Schritte, ' +
+    'jeder vom Kern gesagt: {2}.',
+  'Different ends: {0}.': 'Verschiedene Enden: {0}.',
+  'The shortest schedule has {0} atomic steps, the slowest {1}.':
+    'Der kürzeste Ablauf hat {0} atomare Schritte, der langsamste {1}.',
   'Take the schedule home: a plan for {0}': 'Den Ablauf mitnehmen: ein Plan für {0}',
   'Save plan.csv': 'plan.csv speichern',
   'The plan': 'Der Plan',

@@ -185,6 +185,28 @@ export const SPANISH = {
     'el momento más benigno. Momentos probados: {4} de {5}.',
   'Fewer than two workers are going: nobody is to be lost.':
     'Avanzan menos de dos trabajadores: no hay a quién perder.',
+  'All schedules': 'Todas las planificaciones',
+  '{0} worker 1 may be lost': '{0} el trabajador 1 puede perderse',
+  'Show the slowest': 'Mostrar la más lenta',
+  'Take a small program': 'Tomar un programa pequeño',
+  'a small program': 'un programa pequeño',
+  'States met so far: {0}.': 'Estados hallados hasta ahora: {0}.',
+  ['Not all schedules were met: it ended after {0} states, which is what a page holds. Try ' +
+    'fewer workers, or a smaller program.']:
+    'No se recorrieron todas: terminó tras {0} estados, lo que cabe en una página. Pruebe con ' +
+    'menos trabajadores, o con un programa más pequeño.',
+  'Different ends met: {0}.': 'Finales distintos hallados: {0}.',
+  'Each has the plain machine’s answer: the core replayed a schedule to it.':
+    'Cada uno tiene la respuesta de la máquina simple: el núcleo repitió una planificación que ' +
+    'lleva a él.',
+  'NOT EACH HAS the plain machine’s answer.': 'NO TODOS TIENEN la respuesta de la máquina simple.',
+  ['All schedules: {0}. States, each met once: {1}. Different atomic steps, each told by the ' +
+    'core: {2}.']:
+    'Todas las planificaciones: {0}. Estados, cada uno hallado una vez: {1}. Pasos atómicos ' +
+    'distintos, cada uno dicho por el núcleo: {2}.',
+  'Different ends: {0}.': 'Finales distintos: {0}.',
+  'The shortest schedule has {0} atomic steps, the slowest {1}.':
+    'La planificación más corta tiene {0} pasos atómicos, la más lenta {1}.',
   'Take the schedule home: a plan for {0}': 'Llevarse la planificación: un plan para {0}',
   'Save plan.csv': 'Guardar plan.csv',
   'The plan': 'El plan',

@@ -3,8 +3,9 @@
 import { readFileSync } from 'node:fs';
 import { join } from 'node:path';
 import { ACT, actOf, kindOf, writeActs } from '../src/acts.js';
+import { WholeSearch } from '../src/adversary_all.js';
 import { RandomSearch } from '../src/adversary_random.js';
-import { eventsOf, isOver, sceneAfter } from '../src/adversary_scene.js';
+import { eventsOf, isOver, readWhole, sceneAfter } from '../src/adversary_scene.js';
 import { WorstSearch } from '../src/adversary_worst.js';
 import { CODE } from '../src/declared.js';
 import { Draw } from '../src/draw.js';
@@ -114,8 +115,92 @@ function testWorstOfSome(core) {
   is('nobody is lost where one is alone', alone.losses.length, 0);
 }
 
+// All schedules once more, in another way: the core is asked for each state and each act, with all
+// acts from the start on. A state is the core's own words and rows, with what each worker heard in
+// its script.
+function reckonedBy(core, asked, kinds) {
+  const known = new Map();
+  const sceneOf = (acts) => sceneAfter(core, asked, eventsOf(acts), Math.max(acts.length - 1, 0),
+    { readRows: readWhole, isWhole: true });
+  const heardAfter = (heard, [{ kind, before, body, now }]) => {
+    const one = kind === 0 || now.heard === 0 ? [] : [...heard[body], before];
+    return heard.with(body, one);
+  };
+  const reckon = (acts, heard, { board, bodies }) => {
+    const key = JSON.stringify([board, bodies, heard]);
+    if (!known.has(key)) {
+      const ways = bodies.flatMap((row, body) => (isOver(row) || row.doing === DOING.LOST ? []
+        : kinds(body).map((kind) => actOf(kind, body))));
+      const after = ways.map((act) => {
+        const scene = sceneOf([...acts, act]);
+        const told = reckon([...acts, act], heardAfter(heard, scene.effects), scene);
+        const cost = kindOf(act) === ACT.GO ? 1 : 0;
+        return { count: told.count, least: told.least + cost, most: told.most + cost };
+      });
+      known.set(key, ways.length === 0 ? { count: 1n, least: 0, most: 0 } : {
+        count: after.reduce((sum, { count }) => sum + count, 0n),
+        least: Math.min(...after.map(({ least }) => least)),
+        most: Math.max(...after.map(({ most }) => most)),
+      });
+    }
+    return known.get(key);
+  };
+  const told = reckon([], Array(asked.workers).fill([]), sceneOf([]));
+  return [known.size, told.count, told.least, told.most].join();
+}
+
+const foundIn = ({ states, schedules, least, most }) => [states, schedules, least, most].join();
+
+function testAll(core) {
+  const text = machineText(1, 1, 'set r0 7');
+  const asked = askedOf(core, text);
+  const found = foundBy(new WholeSearch(core, asked));
+  is('all schedules', foundIn(found), reckonedBy(core, asked, () => [ACT.GO]));
+  is('how many', [found.states, found.least, found.most].join(), '2123,35,66');
+  is('all have the answer', [found.isWhole, found.ends > 0, found.others].join(), 'true,true,0');
+  const losing = foundBy(new WholeSearch(core, { ...asked, isLosing: true }));
+  is('with a loss', foundIn(losing), reckonedBy(core, asked, (body) =>
+    (body === 1 ? [ACT.GO, ACT.LOSE] : [ACT.GO])));
+  is('they are more', losing.schedules > found.schedules && losing.others === 0, true);
+  const alone = foundBy(new WholeSearch(core, { ...asked, workers: 1, isLosing: true }));
+  is('one alone has one schedule', foundIn(alone), '34,1,33,33');
+  const wrong = { ...asked, answer: { ...asked.answer, cells: Uint32Array.of(9, 9) } };
+  const { ends, others } = foundBy(new WholeSearch(core, wrong));
+  is('another answer is found', [ends, others].join(), [found.ends, found.ends].join());
+}
+
+function testSlowest(core) {
+  const asked = askedOf(core, machineText(2, 2, 'pid r0', 'st r0 r0'));
+  const { acts, least, most, states, others } = foundBy(new WholeSearch(core, asked));
+  is('two processors', [states, least, most, others].join(), '86226,210,336,0');
+  const events = eventsOf(acts);
+  const { effects } = sceneAfter(core, asked, events, 0);
+  is('each act of the slowest is a step', [effects.length, effects.includes(0)].join(),
+    `${most},false`);
+  is('and it ends', endsWell(core, asked, acts), true);
+  const drawn = Array.from({ length: 60 }, (_, seed) =>
+    foundBy(new RandomSearch(core, { ...asked, seed, meanness: 'kind' })).steps);
+  is('random ones are no slower', drawn.every((steps) => steps >= least && steps <= most), true);
+}
+
+function testOtherEnds(core) {
+  const disputed = machineText(2, 2, 'pid r0', 'st r1 r0');
+  const asked = askedOf(core, disputed);
+  is('a program with a conflict', asked.answer.code, CODE.CONFLICT);
+  const found = foundBy(new WholeSearch(core, asked));
+  is('has it in all schedules', [found.isWhole, found.ends > 1, found.others].join(),
+    'true,true,0');
+  const large = askedOf(core, machineText(1024, 9, 'pid r0', 'st r0 r0').replace('lls 2', 'lls 1024'));
+  const part = foundBy(new WholeSearch(core, large));
+  is('what is too large is left', [part.isWhole, part.states > 1000, part.acts].join(),
+    'false,true,');
+}
+
 const core = await coreOf(pagePath);
 testRandom(core);
+testAll(core);
+testSlowest(core);
+testOtherEnds(core);
 testWorst(core);
 testWorstOfSome(core);
 end();

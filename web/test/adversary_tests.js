@@ -1,7 +1,7 @@
 // The adversary of the workers' view.
 import { writeAddress } from '../src/address.js';
 import { Schedule } from '../src/schedule.js';
-import { has, is, open, page, picture, text, valueOf } from './drive.js';
+import { count, has, is, isShown, open, page, text, valueOf } from './drive.js';
 
 const addressOf = (content) =>
   writeAddress({ text: content, view: 'workers', step: 0, schedule: new Schedule(2) }, []);
@@ -71,4 +71,37 @@ export async function testWorstMoments() {
   await has('then nobody goes', '#adversary-said', 'Fewer than two workers are going');
   await page.click('#undo-acts');
   is('it is undone at once', await text('#moment-said'), '0 of 0');
+}
+
+export async function testAllSchedules() {
+  await opened('#example=sum&view=workers&workers=4');
+  await page.click('#adversary-small');
+  await has('a small program', '#example option:checked', 'a small program');
+  await has('is there', '#answer', '2 cells');
+  is('by workers', await isShown('#adversary-all'), true);
+  await page.click('#adversary-all');
+  await page.until(`document.getElementById('adversary-said').textContent.startsWith('All')`, 60);
+  await has('how many there are', '#adversary-said', 'All schedules: 8.07 × 10¹³⁰. States, each ' +
+    'met once: 218,864. ');
+  await has('their ends', '#adversary-said', 'Different ends: 3. Each has the plain machine’s ' +
+    'answer: the core replayed a schedule to it. The shortest schedule has 293 atomic steps, the ' +
+    'slowest 470.');
+  await page.click('#adversary-slowest');
+  is('the slowest', await text('#moment-said'), '470 of 470');
+  is('of two workers', await count('#cards > li'), 2);
+  await has('its answer', '#outcome', 'Done: the same answer as the plain machine’s.');
+  await page.evaluate('document.getElementById("adversary").scrollIntoView()');
+  await page.sightPicture('all-schedules');
+  await page.click('#undo-acts');
+  is('it is undone at once', await count('#cards > li'), 4);
+  await page.choose('#adversary-workers', '3');
+  await page.click('#adversary-losing');
+  await page.click('#adversary-all');
+  await has('too many', '#adversary-far', 'States met so far: ');
+  await page.click('#all-1');
+  await has('are ended by a click', '#adversary-said', 'A click ended it.');
+  is('nothing is shown of them', await isShown('#adversary-slowest'), false);
+  await page.choose('#language', 'de');
+  await has('in another language', '#adversary-said', 'Ein Klick hat es beendet.');
+  await page.choose('#language', 'en');
 }
