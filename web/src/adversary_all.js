@@ -102,7 +102,7 @@ export class WholeSearch {
       bodies.every((row, worker) => (minds[worker] === LOST ? row.doing === DOING.LOST
         : isOver(row)));
     this.ends += 1;
-    if (!isSame || !isAnswered(core, asked, events)) this.others += 1;
+    if (!isSame || isAnswered(core, asked, events) === false) this.others += 1;
   }
 
   // All that comes after a state was met.

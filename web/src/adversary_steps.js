@@ -49,30 +49,33 @@ export class AtomicSteps {
   // what that then holds, and what the worker then knows.
   next(worker, mind, words, acts) {
     const { next, word } = this.minds[mind];
-    const told = next?.[words[word]];
-    if (told) return told;
-    this.learn(worker, mind, acts);
-    return this.next(worker, mind, words, acts);
+    return next?.[words[word]] ?? this.learn(worker, mind, words, acts);
   }
 
-  // Has the core tell some steps of a worker.
-  learn(worker, first, acts) {
+  // Has the core tell some steps of a worker, and tells the first.
+  learn(worker, first, words, acts) {
     const goes = Array(AHEAD).fill(actOf(ACT.GO, worker));
     const events = eventsOf([...acts, ...goes]);
     const { effects } = sceneAfter(this.core, this.asked, events, acts.length,
       { readRows: readWhole });
-    let number = first;
-    for (const { kind, word, before, after, now } of effects) {
-      if (kind === OP.OVER) return;
-      const mind = this.minds[number];
-      const values = this.values[word];
-      const held = values.of(before);
-      number = this.mindOf(now, now.heard === 0 ? [] : [...mind.heard, before]);
-      mind.word = word;
-      mind.next ??= [];
-      if (mind.next[held]) continue;
-      mind.next[held] = { word, value: values.of(after), mind: number };
+    const made = effects.filter(({ kind }) => kind !== OP.OVER);
+    made.reduce((number, row) => this.keep(number, row), first);
+    const { next, word } = this.minds[first];
+    return next[words[word]];
+  }
+
+  // Keeps what the step of a worker with this mind did, and tells the number of its next mind.
+  keep(number, { word, before, after, now }) {
+    const mind = this.minds[number];
+    const values = this.values[word];
+    const held = values.of(before);
+    const then = this.mindOf(now, now.heard === 0 ? [] : [...mind.heard, before]);
+    mind.word = word;
+    mind.next ??= [];
+    if (!mind.next[held]) {
+      mind.next[held] = { word, value: values.of(after), mind: then };
       this.count += 1;
     }
+    return then;
   }
 }

@@ -47,16 +47,18 @@ export class WorstSearch {
   // The steps that these make in turn until each is over; nothing where a schedule is full first.
   finish(acts, bodies) {
     const events = eventsOf(acts);
+    const most = MOST_ACTS - acts.length;
     for (;;) {
-      const all = joined(events, bodies, this.room);
+      const room = Math.min(this.room, most);
+      const all = joined(events, bodies, room);
       const { bodies: rows, effects } = sceneAfter(this.core, this.asked, all, countEvents(events));
       if (bodies.every((body) => isOver(rows[body]))) {
-        const last = effects.findLastIndex((kind) => kind !== OP.OVER);
-        this.room = last + SPARE;
-        return goesOf(effects, bodies);
+        const made = goesOf(effects, bodies);
+        this.room = made.length + SPARE;
+        return made;
       }
-      if (acts.length + this.room > MOST_ACTS) return undefined;
-      this.room *= 2;
+      if (room === most) return undefined;
+      this.room = 2 * room;
     }
   }
 
