@@ -105,3 +105,24 @@ export async function testAllSchedules() {
   await has('in another language', '#adversary-said', 'Ein Klick hat es beendet.');
   await page.choose('#language', 'en');
 }
+
+// On a phone, and by eyes and ears: the panel fits, and its controls have names.
+export async function testAdversaryFits() {
+  for (const tag of ['en', 'de', 'fr', 'es', 'zh-Hans']) {
+    await page.resize(360, 740);
+    await opened('#example=sum&view=workers&workers=2');
+    await page.choose('#language', tag);
+    const wide = await page.evaluate('document.documentElement.scrollWidth');
+    is(`the panel fits a phone: ${tag}`, wide <= 360 || wide, true);
+    await page.evaluate('document.getElementById("adversary").scrollIntoView()');
+    await page.sightPicture(`adversary-${tag}`);
+  }
+  await page.choose('#language', 'en');
+  await page.resize(1280, 900);
+  const named = await page.evaluate(`[...document.querySelectorAll(
+    '#adversary button, #adversary input, #adversary select')].every((one) =>
+    (one.labels?.[0] ?? one).textContent.trim() !== '')`);
+  is('each control is named', named, true);
+  is('what is found is said', await page.evaluate(
+    'document.getElementById("adversary-said").getAttribute("role")'), 'status');
+}
