@@ -122,9 +122,9 @@ export class AdversaryPanel {
     ask('beginSearch', [name, asked]);
   }
 
-  // Has these acts from act number `from` on, and shows their end.
-  adopt(workers, from, acts) {
-    this.app.schedule.change(workers, from, acts);
+  // Has these acts from act number `from` on, of which the core told this, and shows their end.
+  adopt(workers, from, { acts, told }) {
+    this.app.schedule.change(workers, from, acts, { told });
     this.view.changed();
   }
 
@@ -136,7 +136,7 @@ export class AdversaryPanel {
     this.search('random', { seed, meanness: choice.value },
       ({ acts }) => phrase('Acts so far: {0}.', grouped(acts)),
       (found) => {
-        this.adopt(workers, 0, found.acts);
+        this.adopt(workers, 0, found);
         this.say(() => randomInWords(grouped(seed), () => choice.textContent, found));
       });
   }
@@ -154,7 +154,7 @@ export class AdversaryPanel {
     this.search('worst', { acts: schedule.acts.slice(0, at), going },
       ({ tries }) => phrase('Schedules tried: {0}.', grouped(tries)),
       (found) => {
-        if (!found.isFull) this.adopt(workers, at, found.acts);
+        if (!found.isFull) this.adopt(workers, at, found);
         this.say(() => worstInWords(namesOfBodies(bodies, workers), found));
       });
   }
@@ -172,6 +172,6 @@ export class AdversaryPanel {
 
   showSlowest() {
     this.view.pause();
-    this.adopt(this.slowest.workers, 0, this.slowest.acts);
+    this.adopt(this.slowest.workers, 0, this.slowest);
   }
 }

@@ -1,7 +1,7 @@
 // A random schedule: who makes steps, sleeps, wakes, is lost and comes back, drawn by lot. The core
 // tells when a worker is over. One is always awake until then, so that the job ends.
 import { ACT, MOST_ACTS, actOf, bodyOf, isEvent, kindOf } from './acts.js';
-import { eventsOf, isAnswered, isOver, readWhole, sceneAfter } from './adversary_scene.js';
+import { eventsOf, isAnswered, isOver, readWhole, sceneAfter, toldOf } from './adversary_scene.js';
 import { Draw } from './draw.js';
 
 // How many steps a worker makes in a row at most, how often the lot falls on one in about as many
@@ -136,7 +136,8 @@ export class RandomSearch {
     const { core, asked, acts, isFull } = this;
     const count = (kind) => acts.filter((act) => kindOf(act) === kind).length;
     return {
-      acts, isFull, isSame: isAnswered(core, asked, eventsOf(acts)),
+      acts, told: toldOf(core, asked, acts, 0), isFull,
+      isSame: isAnswered(core, asked, eventsOf(acts)),
       steps: count(ACT.GO), losses: count(ACT.LOSE), returns: count(ACT.BACK),
       sleeps: count(ACT.SLEEP),
     };

@@ -2,8 +2,9 @@
 import { bodyOf, isEvent, kindOf } from './acts.js';
 import { areAlike } from './alike.js';
 import { CODE } from './declared.js';
-import { firstEvents, putEvent, roomForEvents } from './event_words.js';
+import { countEvents, firstEvents, putEvent, roomForEvents } from './event_words.js';
 import { DOING } from './kinds.js';
+import { spread } from './rounds.js';
 import { offsetsOf, readElements, wordsOf } from './structs.js';
 
 const ROW_WORDS = wordsOf('EventRow');
@@ -40,6 +41,13 @@ export function sceneAfter(core, asked, events, from, { readRows = readKinds, is
   const scene = core.scene(text, workers, events, wanted);
   if (scene.code !== CODE.DONE) throw new RangeError(`the core tells no scene: ${scene.code}`);
   return scene;
+}
+
+// What the acts from number `first` on did, as the page keeps it of a schedule.
+export function toldOf(core, { text, job, workers }, acts, first) {
+  const from = countEvents(eventsOf(acts.slice(0, first)));
+  const wanted = { from, places: job.places, cells: 0 };
+  return spread(acts.slice(first), core.scene(text, workers, eventsOf(acts), wanted).effects);
 }
 
 // Whether the board then has the plain machine's answer; nothing where that is not known.

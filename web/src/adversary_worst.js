@@ -2,7 +2,7 @@
 // moment with which those who are left make the most atomic steps in all, each in turn. A moment is
 // tried by a run to the end: all of them, or as many as time and tries allow.
 import { ACT, MOST_ACTS, actOf, bodyOf, kindOf } from './acts.js';
-import { eventsOf, isAnswered, isOver, sceneAfter } from './adversary_scene.js';
+import { eventsOf, isAnswered, isOver, sceneAfter, toldOf } from './adversary_scene.js';
 import { OP } from './declared.js';
 import { countEvents } from './event_words.js';
 import { joined } from './rounds.js';
@@ -133,8 +133,12 @@ export class WorstSearch {
 
   found() {
     const { core, asked, tries, losses, isFull } = this;
-    const acts = isFull ? [] : [...this.acts, ...this.tail].slice(asked.acts.length);
-    const isSame = isFull || isAnswered(core, asked, eventsOf([...asked.acts, ...acts]));
-    return { acts, tries, losses, isFull, isSame };
+    if (isFull) return { tries, losses, isFull };
+    const first = asked.acts.length;
+    const acts = [...this.acts, ...this.tail];
+    return {
+      acts: acts.slice(first), told: toldOf(core, asked, acts, first), tries, losses, isFull,
+      isSame: isAnswered(core, asked, eventsOf(acts)),
+    };
   }
 }

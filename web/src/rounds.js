@@ -1,5 +1,5 @@
-// Rounds: bodies that make an atomic step in turn.
-import { ACT, actOf } from './acts.js';
+// Rounds, in which bodies make an atomic step in turn; and what acts did.
+import { ACT, actOf, isEvent } from './acts.js';
 import { WIDTH, isStep } from './effects.js';
 import { countEvents, putEvent, roomForEvents } from './event_words.js';
 
@@ -21,4 +21,17 @@ export function madeOf(bodies, count, effects) {
     if (to < k) effects.copyWithin(to * WIDTH, k * WIDTH, (k + 1) * WIDTH);
   }
   return { acts, told: effects.subarray(0, acts.length * WIDTH) };
+}
+
+// The effects of acts, with zeros for those that are no events.
+export function spread(acts, effects) {
+  if (effects.length === acts.length * WIDTH) return effects;
+  const told = new Uint32Array(acts.length * WIDTH);
+  let from = 0;
+  acts.forEach((act, k) => {
+    if (!isEvent(act)) return;
+    told.set(effects.subarray(from, from + WIDTH), k * WIDTH);
+    from += WIDTH;
+  });
+  return told;
 }

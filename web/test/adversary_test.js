@@ -7,9 +7,11 @@ import { WholeSearch } from '../src/adversary_all.js';
 import { RandomSearch } from '../src/adversary_random.js';
 import { eventsOf, isOver, readWhole, sceneAfter } from '../src/adversary_scene.js';
 import { WorstSearch } from '../src/adversary_worst.js';
+import { Board } from '../src/board.js';
 import { CODE } from '../src/declared.js';
 import { Draw } from '../src/draw.js';
 import { DOING } from '../src/kinds.js';
+import { Schedule } from '../src/schedule.js';
 import { coreOf } from './page_parts.js';
 import { report } from './report.js';
 
@@ -40,6 +42,13 @@ function endsWell(core, asked, acts) {
   return bodies.every((row) => isOver(row) || row.doing === DOING.LOST) && bodies.some(isOver);
 }
 
+// What the page would have been told of the acts of a schedule from number `first` on.
+function filmOf(core, { text, job, workers }, acts, first) {
+  const schedule = new Schedule(workers, acts);
+  new Board({ core, job: { ...job, text }, schedule }).now();
+  return schedule.film.cut(first).join();
+}
+
 function testRandom(core) {
   const text = readFileSync(join(folder, 'maximum.pram'), 'utf8');
   const asked = askedOf(core, text, { workers: 3 });
@@ -55,6 +64,8 @@ function testRandom(core) {
     is(`${meanness}: losses`, found.some(({ losses }) => losses > 0), meanness !== 'kind');
     is(`${meanness}: sleeps`, found.some(({ sleeps }) => sleeps > 0), true);
   }
+  const { acts, told } = drawn(3, 'mean');
+  is('what was told of it', told.join() === filmOf(core, asked, acts, 0), true);
   const alone = drawn(5, 'cruel', { workers: 1 });
   is('one alone is lost', alone.losses > 0, true);
   is('and comes back each time', alone.returns, alone.losses);
@@ -108,9 +119,15 @@ function testWorstOfSome(core) {
   const drawn = Array.from({ length: 40 }, () =>
     stepsOfOthers(core, asked, draw.below(3), draw.below(900)));
   is('it is the worst', drawn.every((steps) => steps <= losses[0].most), true);
-  const later = { ...asked, acts: acts.slice(0, 100), going: [1, 0] };
+  const begun = Array.from({ length: 100 }, (_, k) => actOf(ACT.GO, k % 3));
+  const later = { ...asked, acts: begun, going: [1, 2, 0] };
   const second = foundBy(new WorstSearch(core, later));
-  is('from a moment on', second.losses.every(({ moment }) => moment >= 100), true);
+  is('from a moment on', second.losses.map(({ moment }) => moment >= 100).join(), 'true,true');
+  const whole = [...begun, ...second.acts];
+  is('what was told of it', second.told.join() === filmOf(core, asked, whole, 100), true);
+  const twins = foundBy(new WorstSearch(core, { ...asked, acts: [actOf(ACT.TWIN, 1)],
+    going: [0, 1, 2, 3] }));
+  is('a twin is lost, too', [twins.losses.length, twins.isSame].join(), '3,true');
   const alone = foundBy(new WorstSearch(core, { ...asked, going: [0] }));
   is('nobody is lost where one is alone', alone.losses.length, 0);
 }
