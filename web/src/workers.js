@@ -256,9 +256,9 @@ export class WorkersView {
     if (this.scene.code !== CODE.DONE) return;
     app.job.leaves = this.scene.leaves;
     this.showBodies();
+    this.adversary.show();
     this.showCells();
     this.showControls();
-    this.adversary.show();
     app.editor.mark(this.marks);
   }
 
