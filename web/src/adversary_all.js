@@ -10,6 +10,8 @@ export const MOST_STATES = 1000000;
 const MOST_BYTES = 2 ** 28;
 // Of each state besides its key.
 const BYTES = 160;
+// A key has so many values of a word apart.
+const MOST_VALUES = 65536;
 const LOST = -1;
 const BYTE = 256;
 const PIECE = 256;
@@ -61,6 +63,7 @@ export class WholeSearch {
       return { act, mind, word: 0, value: words[0] };
     }
     const next = this.steps.next(worker, mind, words, path);
+    if (next.value >= MOST_VALUES) this.isWhole = false;
     const undo = { act, mind, word: next.word, value: words[next.word] };
     words[next.word] = next.value;
     minds[worker] = next.mind;
@@ -134,6 +137,7 @@ export class WholeSearch {
     const act = acts[frame.act];
     frame.act += 1;
     const undo = this.make(act);
+    if (!this.isWhole) return;
     const key = this.keyNow();
     const number = numbers.get(key);
     if (number !== undefined) {

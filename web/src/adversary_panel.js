@@ -15,6 +15,8 @@ code
 A[i] := i
 `;
 
+const nothing = () => '';
+
 const sizesOf = ({ cells, procs, steps, places }) => ({ cells, procs, steps, places });
 
 const answerInWords = ({ isFull, isSame }) => {
@@ -64,7 +66,7 @@ const allInWords = ({ states, schedules, steps, ends, others, least, most }) => 
 
 export class AdversaryPanel {
   constructor(app, view) {
-    Object.assign(this, { app, view, text: undefined, said: () => '' });
+    Object.assign(this, { app, view, text: undefined, said: nothing, saidFar: nothing });
     onClick('adversary-random', () => this.random());
     onClick('adversary-worst', () => this.worst());
     onClick('adversary-all', () => this.all());
@@ -81,8 +83,8 @@ export class AdversaryPanel {
     const { text } = this.app.job;
     if (text !== this.text) {
       this.far?.forget();
-      this.sayFar('');
-      Object.assign(this, { text, said: () => '', slowest: undefined });
+      this.sayFar(nothing);
+      Object.assign(this, { text, said: nothing, slowest: undefined });
     }
     setText(byId('adversary-said'), this.said());
     setHidden(byId('adversary-slowest'), this.slowest === undefined);
@@ -94,15 +96,18 @@ export class AdversaryPanel {
     this.show();
   }
 
-  sayFar(words) {
-    setText(byId('adversary-far'), words);
+  // How far a search is, which no ear is to hear each time.
+  sayFar(said) {
+    this.saidFar = said;
+    setText(byId('adversary-far'), said());
   }
 
   stop() {
     if (!this.far || this.far.isFree) return;
     this.far.forget();
-    this.sayFar('');
-    this.say(() => phrase('A click ended it.'));
+    const { saidFar } = this;
+    this.sayFar(nothing);
+    this.say(() => `${phrase('A click ended it.')} ${saidFar()}`.trim());
   }
 
   // Has the other thread search; `hear` is told what was found, and `farInWords` how far it is.
@@ -113,9 +118,10 @@ export class AdversaryPanel {
     const asked = { text: job.text, job: sizesOf(job), answer, workers, ...wanted };
     this.far ??= app.far.another();
     this.slowest = undefined;
+    this.sayFar(nothing);
     this.say(() => phrase('On the way. Any other click ends it here.'));
     const ask = (call, given) => this.far.ask(call, given, ({ isDone, ...told }) => {
-      this.sayFar(isDone ? '' : farInWords(told));
+      this.sayFar(isDone ? nothing : () => farInWords(told));
       if (isDone) hear(told);
       else ask('goOnSearching', []);
     });
@@ -140,6 +146,7 @@ export class AdversaryPanel {
         this.say(() => randomInWords(grouped(seed), () => choice.textContent, found));
       });
   }
+
   // From the moment that is shown.
   worst() {
     const { app: { schedule }, view } = this;
@@ -158,6 +165,7 @@ export class AdversaryPanel {
         this.say(() => worstInWords(namesOfBodies(bodies, workers), found));
       });
   }
+
   // From the first moment, of so many workers as the panel says.
   all() {
     const workers = Number(byId('adversary-workers').value);

@@ -99,7 +99,7 @@ export async function testAllSchedules() {
   await page.click('#adversary-all');
   await has('too many', '#adversary-far', 'States met so far: ');
   await page.click('#all-1');
-  await has('are ended by a click', '#adversary-said', 'A click ended it.');
+  await has('are ended by a click', '#adversary-said', 'A click ended it. States met so far: ');
   is('nothing is shown of them', await isShown('#adversary-slowest'), false);
   await page.choose('#language', 'de');
   await has('in another language', '#adversary-said', 'Ein Klick hat es beendet.');
