@@ -156,7 +156,7 @@ export const CHINESE = {
     '原子步骤：{0}。失去：{1}。回来：{2}。睡眠：{3}。',
   'A click ended it.': '被点击终止。',
   'Acts so far: {0}.': '至今的动作：{0}。',
-  'lose each worker at its worst moment': '让每个工作者在最坏的时刻失去',
+  'worst moments to lose each worker': '最坏时刻：让每个工作者失去',
   'Worst moments': '最坏时刻',
   'from here on, each worker but one is lost; within 2,000 schedules and 10 seconds':
     '从这里起，除一个外每个工作者都会失去；最多试 2,000 个调度，10 秒',

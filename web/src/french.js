@@ -175,7 +175,7 @@ export const FRENCH = {
     'Étapes atomiques : {0}. Pertes : {1}. Retours : {2}. Sommeils : {3}.',
   'A click ended it.': 'Un clic l’a arrêté.',
   'Acts so far: {0}.': 'Actes jusqu’ici : {0}.',
-  'lose each worker at its worst moment': 'perdre chaque travailleur à son pire moment',
+  'worst moments to lose each worker': 'pires moments pour perdre chaque travailleur',
   'Worst moments': 'Pires moments',
   'from here on, each worker but one is lost; within 2,000 schedules and 10 seconds':
     'à partir d’ici, chaque travailleur sauf un est perdu ; en 2,000 ordonnancements et 10 ' +

@@ -173,7 +173,7 @@ export const GERMAN = {
     'Atomare Schritte: {0}. Verluste: {1}. Rückkehren: {2}. Schlafzeiten: {3}.',
   'A click ended it.': 'Ein Klick hat es beendet.',
   'Acts so far: {0}.': 'Ereignisse bisher: {0}.',
-  'lose each worker at its worst moment': 'jeden Arbeiter im schlimmsten Moment verlieren',
+  'worst moments to lose each worker': 'schlimmste Momente, jeden Arbeiter zu verlieren',
   'Worst moments': 'Schlimmste Momente',
   'from here on, each worker but one is lost; within 2,000 schedules and 10 seconds':
     'von hier an gehen alle Arbeiter bis auf einen verloren; in höchstens 2,000 Abläufen und 10 ' +

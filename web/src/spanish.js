@@ -173,7 +173,7 @@ export const SPANISH = {
     'Pasos atómicos: {0}. Pérdidas: {1}. Regresos: {2}. Sueños: {3}.',
   'A click ended it.': 'Un clic lo terminó.',
   'Acts so far: {0}.': 'Actos hasta ahora: {0}.',
-  'lose each worker at its worst moment': 'perder cada trabajador en su peor momento',
+  'worst moments to lose each worker': 'peores momentos para perder a cada trabajador',
   'Worst moments': 'Peores momentos',
   'from here on, each worker but one is lost; within 2,000 schedules and 10 seconds':
     'desde aquí se pierde cada trabajador menos uno; en 2,000 planificaciones y 10 segundos como ' +
