@@ -1,9 +1,10 @@
 // The board at the moment of the schedule, as the core tells it, with one call a moment. Workers
 // go on by rounds, in which each that is going makes a step in turn.
-import { ACT, MOST_ACTS, actOf, bodyOf, isEvent, kindOf } from './acts.js';
+import { ACT, MOST_ACTS, bodyOf, kindOf } from './acts.js';
 import { CODE } from './declared.js';
-import { WIDTH, findEffect, isStep } from './effects.js';
-import { countEvents, putEvent, roomForEvents } from './event_words.js';
+import { findEffect } from './effects.js';
+import { countEvents } from './event_words.js';
+import { joined, madeOf, spread } from './rounds.js';
 import { isGoing } from './worker_cards.js';
 
 // So many acts are told by one call; of new ones early in a schedule fewer, since what comes before
@@ -12,39 +13,6 @@ const MOST_STEPS = 60000;
 const FIRST_STEPS = 20000;
 const isSame = (some, others) => some.every((part, k) => part === others[k]);
 const NO_STEP = { count: 0, isFound: false };
-
-// The events, and after them a step of each of so many bodies, which take turns.
-function joined(events, bodies, count) {
-  const first = countEvents(events);
-  const all = roomForEvents(first + count);
-  all.set(events);
-  for (let k = 0; k < count; k += 1) putEvent(all, first + k, ACT.GO, bodies[k % bodies.length]);
-  return all;
-}
-
-// Of the first turns those in which a step was made, as acts, with the effects of those alone.
-function madeOf(bodies, count, effects) {
-  const acts = [];
-  for (let k = 0; k < count; k += 1) {
-    if (!isStep(effects, k)) continue;
-    const to = acts.push(actOf(ACT.GO, bodies[k % bodies.length])) - 1;
-    if (to < k) effects.copyWithin(to * WIDTH, k * WIDTH, (k + 1) * WIDTH);
-  }
-  return { acts, told: effects.subarray(0, acts.length * WIDTH) };
-}
-
-// The effects of acts, with zeros for those that are no events.
-function spread(acts, effects) {
-  if (effects.length === acts.length * WIDTH) return effects;
-  const told = new Uint32Array(acts.length * WIDTH);
-  let from = 0;
-  acts.forEach((act, k) => {
-    if (!isEvent(act)) return;
-    told.set(effects.subarray(from, from + WIDTH), k * WIDTH);
-    from += WIDTH;
-  });
-  return told;
-}
 
 export class Board {
   constructor(app) {

@@ -140,6 +140,52 @@ export const CHINESE = {
   'Later ones': '较晚的',
   'Atomic steps': '原子步骤',
   'Earlier ones': '较早的',
+  'An adversary': '对手',
+  ['Whatever it does, the answer is the plain machine’s: that is the theorem. What it finds ' +
+    'here is evidence.']:
+    '无论它做什么，答案都是普通机器的答案：这就是定理。它在这里找到的只是佐证。',
+  'Random schedule': '随机调度',
+  'seed {0}': '种子 {0}',
+  'how mean {0}': '有多坏 {0}',
+  'kind: some sleep for a while': '和善：有的睡一会儿',
+  'mean: some are lost, too': '坏：还有的会失去',
+  'cruel: they are lost again and again': '残忍：一再失去',
+  'The schedule is full before the job ends.': '任务还没有结束，调度就满了。',
+  'The answer is the plain machine’s.': '答案与普通机器的相同。',
+  'ANOTHER ANSWER THAN the plain machine’s.': '答案与普通机器的不同！',
+  'Seed {0}, {1}.': '种子 {0}，{1}。',
+  'Atomic steps: {0}. Losses: {1}. Returns: {2}. Sleeps: {3}.':
+    '原子步骤：{0}。失去：{1}。回来：{2}。睡眠：{3}。',
+  'A click ended it.': '被点击终止。',
+  'Acts so far: {0}.': '至今的动作：{0}。',
+  'worst moments to lose each worker': '最坏时刻：让每个工作者失去',
+  'Worst moments': '最坏时刻',
+  'from here on, each worker but one is lost; within 2,000 schedules and 10 seconds':
+    '从这里起，除一个外每个工作者都会失去；最多试 2,000 个调度，10 秒',
+  'Schedules tried: {0}.': '试过的调度：{0}。',
+  ['{0}, lost at moment {1}: those who are left make {2} atomic steps from here on, and {3} if ' +
+    'the moment is the kindest. Moments tried: {4} of {5}.']:
+    '{0} 在时刻 {1} 失去：其余的从这里起共走 {2} 个原子步骤，在最和善的时刻则走 {3} 个。试过的时刻：{5} 个中的 {4} 个。',
+  'Fewer than two workers are going: nobody is to be lost.': '在工作的少于两个：没有谁可以失去。',
+  'All schedules': '所有调度',
+  '{0} worker 1 may be lost': '{0} 工作者 1 可能失去',
+  'Show the slowest': '显示最慢的',
+  'Take a small program': '取一个小程序',
+  'a small program': '一个小程序',
+  'States met so far: {0}.': '至今遇到的状态：{0}。',
+  ['Not all schedules were met: it ended after {0} states, which is what a page holds. Try ' +
+    'fewer workers, or a smaller program.']:
+    '没有遇到所有调度：到 {0} 个状态就结束了，一个页面只容得下这么多。请减少工作者，或换更小的程序。',
+  'Different ends met: {0}.': '遇到的不同终点：{0}。',
+  'Each has the plain machine’s answer: the core replayed a schedule to it.':
+    '每个都是普通机器的答案：核心重放了通向它的一个调度。',
+  'NOT EACH HAS the plain machine’s answer.': '并非每个都是普通机器的答案！',
+  ['All schedules: {0}. States, each met once: {1}. Different atomic steps, each told by the ' +
+    'core: {2}.']:
+    '所有调度：{0}。状态，每个只遇到一次：{1}。不同的原子步骤，每个都由核心给出：{2}。',
+  'Different ends: {0}.': '不同终点：{0}。',
+  'The shortest schedule has {0} atomic steps, the slowest {1}.':
+    '最短的调度有 {0} 个原子步骤，最慢的有 {1} 个。',
   'Take the schedule home: a plan for {0}': '把调度带走：供 {0} 使用的计划',
   'Save plan.csv': '保存 plan.csv',
   'The plan': '计划',

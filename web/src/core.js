@@ -289,8 +289,13 @@ function readNodes(memory, words, numbers) {
   return phases;
 }
 
-// Scenes: the tree, the bodies, the two words of one place, the effects of the events from `from`
-// on, and the cells as a reader gets them, all or none: step and value, one pair after the other.
+// What each word of the board holds.
+const readBoard = (memory, words, count) => Array.from({ length: count }, (_, k) =>
+  wide(memory, words + k * WORD_WORDS + WORD.value));
+
+// Scenes: the tree, the bodies, the two words of one place or all of the board, the effects of the
+// events from `from` on, or what `readRows` reads of them, and the cells as a reader gets them, all
+// or none: step and value, one pair after the other.
 class Scenes {
   constructor(exports) {
     this.exports = exports;
@@ -330,7 +335,7 @@ class Scenes {
     return { ...this.read(desk.memory(), told, rooms, wanted), pairs };
   }
 
-  read(memory, told, { rows, words, bodies }, { places, place }) {
+  read(memory, told, { rows, words, bodies }, { places, place, isWhole, readRows = readEffects }) {
     this.known.index ??= indexOf(memory, words, told, places);
     const { nodes, stored } = this.known.index;
     const wordOf = (k) => readStruct(memory, words + k * WORD_WORDS, 'WordRow');
@@ -340,7 +345,8 @@ class Scenes {
       bodies: readElements(memory, bodies, 'BodyRow', told.bodies),
       stored: place === undefined ? []
         : [wordOf(stored[2 * place]), wordOf(stored[2 * place + 1])],
-      effects: readEffects(memory, rows, told.rows),
+      board: isWhole ? readBoard(memory, words, told.words) : [],
+      effects: readRows(memory, rows, told.rows),
     };
   }
 }

@@ -157,6 +157,60 @@ export const FRENCH = {
   'Later ones': 'Plus récentes',
   'Atomic steps': 'Étapes atomiques',
   'Earlier ones': 'Plus anciennes',
+  'An adversary': 'Un adversaire',
+  ['Whatever it does, the answer is the plain machine’s: that is the theorem. What it finds ' +
+    'here is evidence.']:
+    'Quoi qu’il fasse, la réponse est celle de la machine simple : c’est le théorème. Ce qu’il ' +
+    'trouve ici en est un indice.',
+  'Random schedule': 'Ordonnancement au hasard',
+  'seed {0}': 'graine {0}',
+  'how mean {0}': 'méchanceté {0}',
+  'kind: some sleep for a while': 'gentil : certains dorment un moment',
+  'mean: some are lost, too': 'méchant : certains sont aussi perdus',
+  'cruel: they are lost again and again': 'cruel : ils sont perdus encore et encore',
+  'The schedule is full before the job ends.':
+    'L’ordonnancement est plein avant la fin de la tâche.',
+  'The answer is the plain machine’s.': 'La réponse est celle de la machine simple.',
+  'ANOTHER ANSWER THAN the plain machine’s.':
+    'UNE AUTRE RÉPONSE QUE celle de la machine simple.',
+  'Seed {0}, {1}.': 'Graine {0}, {1}.',
+  'Atomic steps: {0}. Losses: {1}. Returns: {2}. Sleeps: {3}.':
+    'Étapes atomiques : {0}. Pertes : {1}. Retours : {2}. Sommeils : {3}.',
+  'A click ended it.': 'Un clic l’a arrêté.',
+  'Acts so far: {0}.': 'Actes jusqu’ici : {0}.',
+  'worst moments to lose each worker': 'pires moments pour perdre chaque travailleur',
+  'Worst moments': 'Pires moments',
+  'from here on, each worker but one is lost; within 2,000 schedules and 10 seconds':
+    'à partir d’ici, chaque travailleur sauf un est perdu ; en 2,000 ordonnancements et 10 ' +
+    'secondes au plus',
+  'Schedules tried: {0}.': 'Ordonnancements essayés : {0}.',
+  ['{0}, lost at moment {1}: those who are left make {2} atomic steps from here on, and {3} if ' +
+    'the moment is the kindest. Moments tried: {4} of {5}.']:
+    '{0}, perdu au moment {1} : ceux qui restent font {2} étapes atomiques à partir d’ici, et ' +
+    '{3} au moment le plus clément. Moments essayés : {4} sur {5}.',
+  'Fewer than two workers are going: nobody is to be lost.':
+    'Moins de deux travailleurs avancent : personne n’est à perdre.',
+  'All schedules': 'Tous les ordonnancements',
+  '{0} worker 1 may be lost': '{0} le travailleur 1 peut être perdu',
+  'Show the slowest': 'Montrer le plus lent',
+  'Take a small program': 'Prendre un petit programme',
+  'a small program': 'un petit programme',
+  'States met so far: {0}.': 'États rencontrés jusqu’ici : {0}.',
+  ['Not all schedules were met: it ended after {0} states, which is what a page holds. Try ' +
+    'fewer workers, or a smaller program.']:
+    'Tous n’ont pas été rencontrés : arrêt après {0} états, ce que contient une page. Essayez ' +
+    'avec moins de travailleurs, ou un programme plus petit.',
+  'Different ends met: {0}.': 'Fins différentes rencontrées : {0}.',
+  'Each has the plain machine’s answer: the core replayed a schedule to it.':
+    'Chacune a la réponse de la machine simple : le noyau a rejoué un ordonnancement qui y mène.',
+  'NOT EACH HAS the plain machine’s answer.': 'CERTAINES N’ONT PAS la réponse de la machine simple.',
+  ['All schedules: {0}. States, each met once: {1}. Different atomic steps, each told by the ' +
+    'core: {2}.']:
+    'Tous les ordonnancements : {0}. États, chacun rencontré une fois : {1}. Étapes atomiques ' +
+    'différentes, chacune dite par le noyau : {2}.',
+  'Different ends: {0}.': 'Fins différentes : {0}.',
+  'The shortest schedule has {0} atomic steps, the slowest {1}.':
+    'L’ordonnancement le plus court a {0} étapes atomiques, le plus lent {1}.',
   'Take the schedule home: a plan for {0}': 'Emporter l’ordonnancement : un plan pour {0}',
   'Save plan.csv': 'Enregistrer plan.csv',
   'The plan': 'Le plan',

@@ -157,6 +157,59 @@ export const GERMAN = {
   'Later ones': 'Spätere',
   'Atomic steps': 'Atomare Schritte',
   'Earlier ones': 'Frühere',
+  'An adversary': 'Ein Gegner',
+  ['Whatever it does, the answer is the plain machine’s: that is the theorem. What it finds ' +
+    'here is evidence.']:
+    'Was er auch tut, die Antwort ist die der einfachen Maschine: Das ist der Satz. Was er hier ' +
+    'findet, ist ein Beleg.',
+  'Random schedule': 'Zufälliger Ablauf',
+  'seed {0}': 'Startwert {0}',
+  'how mean {0}': 'wie gemein {0}',
+  'kind: some sleep for a while': 'freundlich: manche schlafen eine Weile',
+  'mean: some are lost, too': 'gemein: manche gehen auch verloren',
+  'cruel: they are lost again and again': 'grausam: sie gehen immer wieder verloren',
+  'The schedule is full before the job ends.': 'Der Ablauf ist voll, ehe der Auftrag endet.',
+  'The answer is the plain machine’s.': 'Die Antwort ist die der einfachen Maschine.',
+  'ANOTHER ANSWER THAN the plain machine’s.': 'EINE ANDERE ANTWORT ALS die der einfachen Maschine.',
+  'Seed {0}, {1}.': 'Startwert {0}, {1}.',
+  'Atomic steps: {0}. Losses: {1}. Returns: {2}. Sleeps: {3}.':
+    'Atomare Schritte: {0}. Verluste: {1}. Rückkehren: {2}. Schlafzeiten: {3}.',
+  'A click ended it.': 'Ein Klick hat es beendet.',
+  'Acts so far: {0}.': 'Ereignisse bisher: {0}.',
+  'worst moments to lose each worker': 'schlimmste Momente, jeden Arbeiter zu verlieren',
+  'Worst moments': 'Schlimmste Momente',
+  'from here on, each worker but one is lost; within 2,000 schedules and 10 seconds':
+    'von hier an gehen alle Arbeiter bis auf einen verloren; in höchstens 2,000 Abläufen und 10 ' +
+    'Sekunden',
+  'Schedules tried: {0}.': 'Versuchte Abläufe: {0}.',
+  ['{0}, lost at moment {1}: those who are left make {2} atomic steps from here on, and {3} if ' +
+    'the moment is the kindest. Moments tried: {4} of {5}.']:
+    '{0}, verloren im Moment {1}: Die Übrigen machen von hier an {2} atomare Schritte, und ' +
+    '{3} im freundlichsten Moment. Versuchte Momente: {4} von {5}.',
+  'Fewer than two workers are going: nobody is to be lost.':
+    'Weniger als zwei Arbeiter sind am Werk: Niemand soll verloren gehen.',
+  'All schedules': 'Alle Abläufe',
+  '{0} worker 1 may be lost': '{0} Arbeiter 1 kann verloren gehen',
+  'Show the slowest': 'Den langsamsten zeigen',
+  'Take a small program': 'Ein kleines Programm nehmen',
+  'a small program': 'ein kleines Programm',
+  'States met so far: {0}.': 'Zustände bisher: {0}.',
+  ['Not all schedules were met: it ended after {0} states, which is what a page holds. Try ' +
+    'fewer workers, or a smaller program.']:
+    'Nicht alle Abläufe kamen vor: Nach {0} Zuständen war Schluss, mehr fasst eine Seite nicht. ' +
+    'Versuchen Sie es mit weniger Arbeitern oder einem kleineren Programm.',
+  'Different ends met: {0}.': 'Verschiedene Enden, die vorkamen: {0}.',
+  'Each has the plain machine’s answer: the core replayed a schedule to it.':
+    'Jedes hat die Antwort der einfachen Maschine: Der Kern hat einen Ablauf dorthin ' +
+    'nachgespielt.',
+  'NOT EACH HAS the plain machine’s answer.': 'NICHT JEDES HAT die Antwort der einfachen Maschine.',
+  ['All schedules: {0}. States, each met once: {1}. Different atomic steps, each told by the ' +
+    'core: {2}.']:
+    'Alle Abläufe: {0}. Zustände, jeder einmal besucht: {1}. Verschiedene atomare Schritte, ' +
+    'jeder vom Kern gesagt: {2}.',
+  'Different ends: {0}.': 'Verschiedene Enden: {0}.',
+  'The shortest schedule has {0} atomic steps, the slowest {1}.':
+    'Der kürzeste Ablauf hat {0} atomare Schritte, der langsamste {1}.',
   'Take the schedule home: a plan for {0}': 'Den Ablauf mitnehmen: ein Plan für {0}',
   'Save plan.csv': 'plan.csv speichern',
   'The plan': 'Der Plan',

@@ -5,6 +5,17 @@ export function grouped(number) {
   return GROUPED.format(number);
 }
 
+const SUPERSCRIPTS = '⁰¹²³⁴⁵⁶⁷⁸⁹';
+const EXACT = 15;
+
+// A number of any size, rounded down where it has many digits: 3.14 × 10²⁰.
+export function great(number) {
+  const digits = String(number);
+  if (digits.length <= EXACT) return grouped(number);
+  const power = String(digits.length - 1).replace(/\d/g, (digit) => SUPERSCRIPTS[digit]);
+  return `${digits[0]}.${digits.slice(1, 3)} × 10${power}`;
+}
+
 // 0, 1, 2, 5 as "0-2, 5".
 export function ranges(numbers) {
   const parts = [];

@@ -1,21 +1,10 @@
 // What a board answers, beside the plain machine, in words.
+import { areAlike } from './alike.js';
 import { CODE } from './declared.js';
 import { endInWords } from './ends.js';
 import { grouped } from './numbers.js';
 import { nameOfPlace } from './places.js';
 import { english, phrase } from './words.js';
-
-const sameCells = (some, others) =>
-  some.length === others.length && some.every((value, cell) => value === others[cell]);
-
-const sameConflict = (some, other) =>
-  ['step', 'cell', 'first', 'second'].every((name) => some[name] === other[name]);
-
-function areAlike(outcome, answer) {
-  if (outcome.code !== answer.code) return false;
-  return outcome.code === CODE.DONE
-    ? sameCells(outcome.cells, answer.cells) : sameConflict(outcome, answer);
-}
 
 // Where nothing is compared, where the answer is the plain machine's, and where it is another one.
 const DONE = {

@@ -156,6 +156,60 @@ export const SPANISH = {
   'Later ones': 'Posteriores',
   'Atomic steps': 'Pasos atómicos',
   'Earlier ones': 'Anteriores',
+  'An adversary': 'Un adversario',
+  ['Whatever it does, the answer is the plain machine’s: that is the theorem. What it finds ' +
+    'here is evidence.']:
+    'Haga lo que haga, la respuesta es la de la máquina simple: ese es el teorema. Lo que halla ' +
+    'aquí es un indicio.',
+  'Random schedule': 'Planificación al azar',
+  'seed {0}': 'semilla {0}',
+  'how mean {0}': 'maldad {0}',
+  'kind: some sleep for a while': 'amable: algunos duermen un rato',
+  'mean: some are lost, too': 'malo: algunos también se pierden',
+  'cruel: they are lost again and again': 'cruel: se pierden una y otra vez',
+  'The schedule is full before the job ends.':
+    'La planificación está llena antes de que acabe la tarea.',
+  'The answer is the plain machine’s.': 'La respuesta es la de la máquina simple.',
+  'ANOTHER ANSWER THAN the plain machine’s.': 'OTRA RESPUESTA QUE la de la máquina simple.',
+  'Seed {0}, {1}.': 'Semilla {0}, {1}.',
+  'Atomic steps: {0}. Losses: {1}. Returns: {2}. Sleeps: {3}.':
+    'Pasos atómicos: {0}. Pérdidas: {1}. Regresos: {2}. Sueños: {3}.',
+  'A click ended it.': 'Un clic lo terminó.',
+  'Acts so far: {0}.': 'Actos hasta ahora: {0}.',
+  'worst moments to lose each worker': 'peores momentos para perder a cada trabajador',
+  'Worst moments': 'Peores momentos',
+  'from here on, each worker but one is lost; within 2,000 schedules and 10 seconds':
+    'desde aquí se pierde cada trabajador menos uno; en 2,000 planificaciones y 10 segundos como ' +
+    'máximo',
+  'Schedules tried: {0}.': 'Planificaciones probadas: {0}.',
+  ['{0}, lost at moment {1}: those who are left make {2} atomic steps from here on, and {3} if ' +
+    'the moment is the kindest. Moments tried: {4} of {5}.']:
+    '{0}, perdido en el momento {1}: los que quedan dan {2} pasos atómicos desde aquí, y {3} en ' +
+    'el momento más benigno. Momentos probados: {4} de {5}.',
+  'Fewer than two workers are going: nobody is to be lost.':
+    'Avanzan menos de dos trabajadores: no hay a quién perder.',
+  'All schedules': 'Todas las planificaciones',
+  '{0} worker 1 may be lost': '{0} el trabajador 1 puede perderse',
+  'Show the slowest': 'Mostrar la más lenta',
+  'Take a small program': 'Tomar un programa pequeño',
+  'a small program': 'un programa pequeño',
+  'States met so far: {0}.': 'Estados hallados hasta ahora: {0}.',
+  ['Not all schedules were met: it ended after {0} states, which is what a page holds. Try ' +
+    'fewer workers, or a smaller program.']:
+    'No se recorrieron todas: terminó tras {0} estados, lo que cabe en una página. Pruebe con ' +
+    'menos trabajadores, o con un programa más pequeño.',
+  'Different ends met: {0}.': 'Finales distintos hallados: {0}.',
+  'Each has the plain machine’s answer: the core replayed a schedule to it.':
+    'Cada uno tiene la respuesta de la máquina simple: el núcleo repitió una planificación que ' +
+    'lleva a él.',
+  'NOT EACH HAS the plain machine’s answer.': 'NO TODOS TIENEN la respuesta de la máquina simple.',
+  ['All schedules: {0}. States, each met once: {1}. Different atomic steps, each told by the ' +
+    'core: {2}.']:
+    'Todas las planificaciones: {0}. Estados, cada uno hallado una vez: {1}. Pasos atómicos ' +
+    'distintos, cada uno dicho por el núcleo: {2}.',
+  'Different ends: {0}.': 'Finales distintos: {0}.',
+  'The shortest schedule has {0} atomic steps, the slowest {1}.':
+    'La planificación más corta tiene {0} pasos atómicos, la más lenta {1}.',
   'Take the schedule home: a plan for {0}': 'Llevarse la planificación: un plan para {0}',
   'Save plan.csv': 'Guardar plan.csv',
   'The plan': 'El plan',

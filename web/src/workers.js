@@ -1,5 +1,6 @@
 // The job by workers: an adversary's schedule, one atomic step at a time.
 import { ACT, MOST_WORKERS, actOf } from './acts.js';
+import { AdversaryPanel } from './adversary_panel.js';
 import { Board } from './board.js';
 import { labelOf, openCells } from './cells.js';
 import { CODE, PASS } from './declared.js';
@@ -44,6 +45,7 @@ export class WorkersView {
     this.steps = new StepsList(show, moveTo);
     this.player = openPlayer(byId('play'), byId('speed'), (beats) => this.play(beats));
     openPlan(app);
+    this.adversary = new AdversaryPanel(app, this);
     this.listen();
   }
 
@@ -88,6 +90,7 @@ export class WorkersView {
   pause() {
     this.player.pause();
     this.errands.stop();
+    this.adversary.stop();
     this.mark = undefined;
   }
 
@@ -253,6 +256,7 @@ export class WorkersView {
     if (this.scene.code !== CODE.DONE) return;
     app.job.leaves = this.scene.leaves;
     this.showBodies();
+    this.adversary.show();
     this.showCells();
     this.showControls();
     app.mark(this.marks);

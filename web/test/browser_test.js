@@ -8,6 +8,7 @@ import { writeAddress } from '../src/address.js';
 import { Schedule } from '../src/schedule.js';
 import { clicks, count, drive, end, has, is, isShown, open, page, picture, saved, text,
   valueOf, write } from './drive.js';
+import * as adversary from './adversary_tests.js';
 import * as heat from './heat_tests.js';
 import * as languages from './language_tests.js';
 import * as layout from './layout_tests.js';
@@ -384,7 +385,8 @@ async function testWidths() {
 const OWN = [testLockstep, testLockstepKeys, testConflict, testGallery, testFaults, testHostile,
   testLongTexts, testWorkers, testPlan, testTwinsAndTime, testEnds, testWorkersKeys, testLink,
   testReading, testWidths];
-const MODULES = [works, typing, programs, layout, steps, lessons, links, heat, languages, speed];
+const MODULES = [works, typing, programs, layout, steps, lessons, links, heat, languages,
+  adversary, speed];
 const TESTS = [...OWN, ...MODULES.flatMap((module) => Object.values(module))];
 
 // With names after the folders only the tests of these names are made.

@@ -28,6 +28,9 @@ const modules = readdirSync(folder)
 // classes of the style, and faults of the page itself, which come with words of the browser's.
 const OTHERS = {
   'address.js': ['there is no text'],
+  'adversary_panel.js': ['pardo 1\nrule crew\nprocs i < 2\nshared A[2]\ncode\nA[i] := i\n',
+    'Enter'],
+  'adversary_scene.js': ['the core tells no scene: 0'],
   'core.js': ['the page is out of memory', 'Told', 'Judgement', 'Scene'],
   'drafts.js': ['kaolinsilk drafts', 'kaolinsilk deleted drafts'],
   'event_words.js': ['Event'],
