@@ -242,6 +242,8 @@ def fault_on(exercise, text, given):
         for place, (found, wanted) in enumerate(zip(answer[name], values)):
             if found != wanted:
                 return f"{name}[{place}] holds {found}, wanted {wanted}"
+    if not given.bars:
+        return ""
     costs, model = costs_of(program)
     for it, bar in given.bars.items():
         if costs[it] > bar:
@@ -259,5 +261,5 @@ def fault_of(exercise, text, inputs=None):
     for given in inputs or exercise.inputs:
         fault = fault_on(exercise, text, given)
         if fault:
-            return f"{given.line[:60]}: {fault}"
+            return f"{given.line[:120]}: {fault}"
     return ""
