@@ -137,11 +137,9 @@ def input_of(exercise, line):
             settings[name] = values_of(value, known[f"length {name}"])
     found = Input(line, settings, {it: known[f"bar {it}"] for it in exercise.bars}, {})
     found.wanted = {name: values_of(value, known[f"length {name}"]) for name, value in wanted.items()}
-    if "reference" in exercise.parts:
+    if not wanted and "reference" in exercise.parts:
         answer = answer_of("\n".join(header(exercise, found) + exercise.parts["reference"]))
-        for name in exercise.want:
-            if found.wanted.setdefault(name, answer[name]) != answer[name]:
-                raise Refused(f"the reference has another {name}: {answer[name]}")
+        found.wanted = {name: answer[name] for name in exercise.want}
     if set(found.wanted) != set(exercise.want):
         raise Refused("what is wanted is not said")
     return found
