@@ -7,7 +7,7 @@ from pathlib import Path
 TOP = Path(__file__).resolve().parent.parent
 PROGRAM = TOP / "out/pramx"
 WORD = 2**32
-SECONDS = 120
+SECONDS = 300
 PARTS = ["given", "start", "reference"]
 BARS = ["time", "operations", "steps"]
 MODELS = ["EREW", "CREW", "common", "priority"]
@@ -206,7 +206,11 @@ def program_for(exercise, text, given):
 
 
 def ran(command, text, *words):
-    return subprocess.run([PROGRAM, command, "-", *words], input=text, capture_output=True, text=True, timeout=SECONDS)
+    how = {"capture_output": True, "text": True, "timeout": SECONDS}
+    try:
+        return subprocess.run([PROGRAM, command, "-", *words], input=text, **how)
+    except subprocess.TimeoutExpired:
+        raise Refused(f"not ended after {SECONDS} seconds") from None
 
 
 def answer_of(text):
@@ -229,25 +233,30 @@ def costs_of(text):
     return {it: int(told[it]) for it in BARS}, MODELS.index(model)
 
 
-def fault_on(exercise, text, given):
-    """The first thing that is wrong with a program on an input, or nothing."""
-    try:
-        program = program_for(exercise, text, given)
-        answer = answer_of(program)
-    except Refused as fault:
-        return str(fault)
+def try_on(exercise, text, given):
+    """Refuses a program for the first thing that is wrong on an input."""
+    program = program_for(exercise, text, given)
+    answer = answer_of(program)
     for name, values in given.wanted.items():
         for place, (found, wanted) in enumerate(zip(answer[name], values)):
             if found != wanted:
-                return f"{name}[{place}] holds {found}, wanted {wanted}"
+                raise Refused(f"{name}[{place}] holds {found}, wanted {wanted}")
     if not given.bars:
-        return ""
+        return
     costs, model = costs_of(program)
     for it, bar in given.bars.items():
         if costs[it] > bar:
-            return f"{it} {costs[it]}, at most {bar}"
+            raise Refused(f"{it} {costs[it]}, at most {bar}")
     if exercise.model and model > MODELS.index(exercise.model):
-        return f"it needs {MODELS[model]}"
+        raise Refused(f"it needs {MODELS[model]}")
+
+
+def fault_on(exercise, text, given):
+    """The first thing that is wrong with a program on an input, or nothing."""
+    try:
+        try_on(exercise, text, given)
+    except Refused as fault:
+        return str(fault)
     return ""
 
 
