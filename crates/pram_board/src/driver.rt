@@ -10,7 +10,7 @@ use pram_job::{Instr, Place};
 use pram_words::Kind;
 use stop_plan::Gate;
 use walkx::turns::{Turned, mark, turn};
-use walkx::{Leaf, Memory, Op, Post, Stand, Steps, Stopped, Worker};
+use walkx::{Formed, Leaf, Memory, Op, Post, Stand, Steps, Stopped, Worker};
 
 /// Makes the atomic steps of a worker on a board, passing the gate before each, and counts them.
 #[derive(Drop)]
@@ -41,7 +41,7 @@ impl<'a, G: Gate> Driver<'a, G> {
     ghost use Rattle.walkx.specs.Inner.Posts.{IsLeafPost};
     ghost use Rattle.pram_words.specs.Phases.{kind_at};
     ghost use Rattle.walkx.specs.Memory.{FitsMemory};
-    ghost use Rattle.walkx.specs.Passing.{StandsAt};
+    ghost use Rattle.walkx.specs.Passing.{Spells, StandsAt};
     ghost use Rattle.walkx.specs.Turns.{beginning, turning};
     ghost use Rattle.walkx.specs.Walk.{end_of, has_rank};
     ghost use Rattle.pram_board.specs.Worked.{Worked, Works};
@@ -268,6 +268,22 @@ impl<'a, G: Gate> Driver<'a, G> {
             (in_block leaf.entry leaf.entry.rank memory.old) (driving self.new)
             (in_block leaf.entry len memory.new) }
     {
+        match leaf.kind() {
+            Kind::Compute => self.first_tasks(leaf, len, memory),
+            _ => self.other_tasks(leaf, len, memory),
+        }
+    }
+
+    // Those of the first pass.
+    #[inline(always)]
+    fn first_tasks(&mut self, leaf: Leaf<'_>, len: u32, memory: &mut Memory)
+        requires first { kind_at leaf.phase ≡ Kind.Compute }
+        requires at { AtTask leaf len (driving self.old) memory.old }
+        ensures same { self.new.seat.ghost_name ≡ self.old.seat.ghost_name }
+        ensures moved { Moved (task_at leaf.entry) (driving self.old)
+            (in_block leaf.entry leaf.entry.rank memory.old) (driving self.new)
+            (in_block leaf.entry len memory.new) }
+    {
         let mut leaf = leaf;
         loop {
             self.task(&mut leaf, len, memory);
@@ -278,28 +294,69 @@ impl<'a, G: Gate> Driver<'a, G> {
         }
     }
 
-    // The task of the leaf's processor, and those of the next ones where all are known to stand at
-    // one instruction. The leaf is then that of the last of them.
+    // Those of another pass. A loop in a function of its own, and by a driver of its own, has what it
+    // uses in registers.
+    #[inline(never)]
+    fn other_tasks(&mut self, leaf: Leaf<'_>, len: u32, memory: &mut Memory)
+        requires at { AtTask leaf len (driving self.old) memory.old }
+        ensures same { self.new.seat.ghost_name ≡ self.old.seat.ghost_name }
+        ensures moved { Moved (task_at leaf.entry) (driving self.old)
+            (in_block leaf.entry leaf.entry.rank memory.old) (driving self.new)
+            (in_block leaf.entry len memory.new) }
+    {
+        let mut driver = Driver {
+            board: self.board,
+            seat: self.seat,
+            gate: self.gate,
+            worker: self.worker,
+            made: self.made,
+            rest: self.rest,
+        };
+        driver.parts(leaf, len, memory);
+        self.made = driver.made;
+        self.rest = driver.rest;
+        driver.end();
+    }
+
+    // The tasks of a block of this length, from the leaf's processor on, one by one.
+    #[inline(always)]
+    fn parts(&mut self, leaf: Leaf<'_>, len: u32, memory: &mut Memory)
+        requires at { AtTask leaf len (driving self.old) memory.old }
+        ensures same { self.new.seat.ghost_name ≡ self.old.seat.ghost_name }
+        ensures moved { Moved (task_at leaf.entry) (driving self.old)
+            (in_block leaf.entry leaf.entry.rank memory.old) (driving self.new)
+            (in_block leaf.entry len memory.new) }
+    {
+        let mut leaf = leaf;
+        loop {
+            self.part(&leaf, memory);
+            if leaf.rank() + 1 == len {
+                return;
+            }
+            leaf = leaf.next();
+        }
+    }
+
+    // The first pass of the leaf's processor, and that of the next ones where all are known to stand
+    // at one instruction. The leaf is then that of the last of them.
     #[inline(always)]
     fn task(&mut self, leaf: &mut Leaf<'_>, len: u32, memory: &mut Memory)
+        requires first { kind_at leaf.old.phase ≡ Kind.Compute }
         requires at { AtTask leaf.old len (driving self.old) memory.old }
         ensures same { self.new.seat.ghost_name ≡ self.old.seat.ghost_name }
         ensures done { DoneTo leaf.old len (driving self.old) memory.old leaf.new
             (driving self.new) memory.new }
     {
-        if let Kind::Compute = leaf.kind() {
-            if let Some(stand) = memory.stand(leaf) {
-                return self.run_form(leaf, len, memory, stand);
-            }
+        match memory.stand(leaf) {
+            Some(stand) => self.run_form(leaf, len, memory, stand),
+            None => self.part(leaf, memory),
         }
-        self.part(leaf, memory);
     }
 
     // The first pass of those that stand at this instruction. Each form that has a row here has a
     // loop of its own, in which no other is looked at.
     #[inline(always)]
     fn run_form(&mut self, leaf: &mut Leaf<'_>, len: u32, memory: &mut Memory, stand: Stand<'_>)
-        requires first { kind_at leaf.old.phase ≡ Kind.Compute }
         requires at { AtTask leaf.old len (driving self.old) memory.old }
         requires stands { StandsAt leaf.old memory.old stand.counter stand.instr.now }
         ensures same { self.new.seat.ghost_name ≡ self.old.seat.ghost_name }
@@ -307,92 +364,104 @@ impl<'a, G: Gate> Driver<'a, G> {
             (driving self.new) memory.new }
     {
         match *stand.instr {
-            Instr::Set(r, k) => self.run_as(leaf, len, memory, stand, Instr::Set(r, k)),
-            Instr::Pid(r) => self.run_as(leaf, len, memory, stand, Instr::Pid(r)),
-            Instr::Jz(r, index) => self.run_as(leaf, len, memory, stand, Instr::Jz(r, index)),
-            Instr::Jmp(index) => self.run_as(leaf, len, memory, stand, Instr::Jmp(index)),
-            Instr::Add(r, a, b) => self.run_as(leaf, len, memory, stand, Instr::Add(r, a, b)),
-            Instr::Sub(r, a, b) => self.run_as(leaf, len, memory, stand, Instr::Sub(r, a, b)),
-            Instr::Mul(r, a, b) => self.run_as(leaf, len, memory, stand, Instr::Mul(r, a, b)),
-            Instr::Shl(r, a, b) => self.run_as(leaf, len, memory, stand, Instr::Shl(r, a, b)),
-            Instr::Shr(r, a, b) => self.run_as(leaf, len, memory, stand, Instr::Shr(r, a, b)),
-            Instr::Div(r, a, b) => self.run_as(leaf, len, memory, stand, Instr::Div(r, a, b)),
-            Instr::Rem(r, a, b) => self.run_as(leaf, len, memory, stand, Instr::Rem(r, a, b)),
-            Instr::And(r, a, b) => self.run_as(leaf, len, memory, stand, Instr::And(r, a, b)),
-            Instr::Or(r, a, b) => self.run_as(leaf, len, memory, stand, Instr::Or(r, a, b)),
-            Instr::Xor(r, a, b) => self.run_as(leaf, len, memory, stand, Instr::Xor(r, a, b)),
-            Instr::Lt(r, a, b) => self.run_as(leaf, len, memory, stand, Instr::Lt(r, a, b)),
-            Instr::Eq(r, a, b) => self.run_as(leaf, len, memory, stand, Instr::Eq(r, a, b)),
-            Instr::Ld(r, Place::Cell(a)) => self.run_as(
+            Instr::Set(r, k) => self.run(leaf, len, memory, &stand.by(|| Instr::Set(r, k))),
+            Instr::Pid(r) => self.run(leaf, len, memory, &stand.by(|| Instr::Pid(r))),
+            Instr::Jz(r, index) => self.run(leaf, len, memory, &stand.by(|| Instr::Jz(r, index))),
+            Instr::Jmp(index) => self.run(leaf, len, memory, &stand.by(|| Instr::Jmp(index))),
+            Instr::Add(r, a, b) => self.run(leaf, len, memory, &stand.by(|| Instr::Add(r, a, b))),
+            Instr::Sub(r, a, b) => self.run(leaf, len, memory, &stand.by(|| Instr::Sub(r, a, b))),
+            Instr::Mul(r, a, b) => self.run(leaf, len, memory, &stand.by(|| Instr::Mul(r, a, b))),
+            Instr::Shl(r, a, b) => self.run(leaf, len, memory, &stand.by(|| Instr::Shl(r, a, b))),
+            Instr::Shr(r, a, b) => self.run(leaf, len, memory, &stand.by(|| Instr::Shr(r, a, b))),
+            Instr::Div(r, a, b) => self.run(leaf, len, memory, &stand.by(|| Instr::Div(r, a, b))),
+            Instr::Rem(r, a, b) => self.run(leaf, len, memory, &stand.by(|| Instr::Rem(r, a, b))),
+            Instr::And(r, a, b) => self.run(leaf, len, memory, &stand.by(|| Instr::And(r, a, b))),
+            Instr::Or(r, a, b) => self.run(leaf, len, memory, &stand.by(|| Instr::Or(r, a, b))),
+            Instr::Xor(r, a, b) => self.run(leaf, len, memory, &stand.by(|| Instr::Xor(r, a, b))),
+            Instr::Lt(r, a, b) => self.run(leaf, len, memory, &stand.by(|| Instr::Lt(r, a, b))),
+            Instr::Eq(r, a, b) => self.run(leaf, len, memory, &stand.by(|| Instr::Eq(r, a, b))),
+            Instr::Ld(r, Place::Cell(a)) => self.run(
                 leaf,
                 len,
                 memory,
-                stand,
-                Instr::Ld(r, Place::Cell(a)),
+                &stand.by(|| Instr::Ld(r, Place::Cell(a))),
             ),
-            Instr::Ld(r, Place::Named(array, a)) => self.run_as(
+            Instr::Ld(r, Place::Named(array, a)) => self.run(
                 leaf,
                 len,
                 memory,
-                stand,
-                Instr::Ld(r, Place::Named(array, a)),
+                &stand.by(|| Instr::Ld(r, Place::Named(array, a))),
             ),
-            Instr::St(Place::Cell(a), b) => self.run_as(
+            Instr::St(Place::Cell(a), b) => self.run(
                 leaf,
                 len,
                 memory,
-                stand,
-                Instr::St(Place::Cell(a), b),
+                &stand.by(|| Instr::St(Place::Cell(a), b)),
             ),
-            Instr::St(Place::Named(array, a), b) => self.run_as(
+            Instr::St(Place::Named(array, a), b) => self.run(
                 leaf,
                 len,
                 memory,
-                stand,
-                Instr::St(Place::Named(array, a), b),
+                &stand.by(|| Instr::St(Place::Named(array, a), b)),
             ),
-            instr => self.run_as(leaf, len, memory, stand, instr),
+            instr => self.run(leaf, len, memory, &stand.by(|| instr)),
         }
     }
 
-    // The same by this instruction, which is the same one by a name that tells its form.
-    #[inline(always)]
-    fn run_as(
+    // The first pass of the leaf's processor, and of the next ones that stand at this instruction, by
+    // a driver of its own.
+    #[inline(never)]
+    fn run<F: Fn() -> Instr>(
         &mut self,
         leaf: &mut Leaf<'_>,
         len: u32,
         memory: &mut Memory,
-        stand: Stand<'_>,
-        instr: Instr,
+        by: &Formed<'_, F>,
     )
-        requires first { kind_at leaf.old.phase ≡ Kind.Compute }
         requires at { AtTask leaf.old len (driving self.old) memory.old }
-        requires stands { StandsAt leaf.old memory.old stand.counter instr }
-        requires same { instr ≡ stand.instr.now }
+        requires stands { StandsAt leaf.old memory.old by.now.stand.counter by.now.stand.instr.now }
+        requires form { Spells F.Fn by.now.form by.now.stand.instr.now }
         ensures same { self.new.seat.ghost_name ≡ self.old.seat.ghost_name }
         ensures done { DoneTo leaf.old len (driving self.old) memory.old leaf.new
             (driving self.new) memory.new }
     {
-        self.run(leaf, len, memory, stand.with(&instr))
+        let mut driver = Driver {
+            board: self.board,
+            seat: self.seat,
+            gate: self.gate,
+            worker: self.worker,
+            made: self.made,
+            rest: self.rest,
+        };
+        driver.run_on(leaf, len, memory, by);
+        self.made = driver.made;
+        self.rest = driver.rest;
+        driver.end();
     }
 
     // The first pass of the leaf's processor, and of the next ones that stand at this instruction.
     #[inline(always)]
-    fn run(&mut self, leaf: &mut Leaf<'_>, len: u32, memory: &mut Memory, stand: Stand<'_>)
-        requires first { kind_at leaf.old.phase ≡ Kind.Compute }
+    fn run_on<F: Fn() -> Instr>(
+        &mut self,
+        leaf: &mut Leaf<'_>,
+        len: u32,
+        memory: &mut Memory,
+        by: &Formed<'_, F>,
+    )
         requires at { AtTask leaf.old len (driving self.old) memory.old }
-        requires stands { StandsAt leaf.old memory.old stand.counter stand.instr.now }
+        requires stands { StandsAt leaf.old memory.old by.now.stand.counter by.now.stand.instr.now }
+        requires form { Spells F.Fn by.now.form by.now.stand.instr.now }
         ensures same { self.new.seat.ghost_name ≡ self.old.seat.ghost_name }
         ensures done { DoneTo leaf.old len (driving self.old) memory.old leaf.new
             (driving self.new) memory.new }
     {
         loop {
-            self.part_by(leaf, memory, stand);
+            self.part_by(leaf, memory, by);
             if leaf.rank() + 1 == len {
                 return;
             }
             let next = leaf.next();
-            if !memory.stands_at(&next, stand) {
+            if !memory.stands_at(&next, by.stand) {
                 return;
             }
             *leaf = next;
@@ -401,9 +470,9 @@ impl<'a, G: Gate> Driver<'a, G> {
 
     // The first pass of the leaf's processor, which is known to stand at this instruction.
     #[inline(always)]
-    fn part_by(&mut self, leaf: &Leaf, memory: &mut Memory, stand: Stand<'_>)
-        requires first { kind_at leaf.now.phase ≡ Kind.Compute }
-        requires stands { StandsAt leaf.now memory.old stand.counter stand.instr.now }
+    fn part_by<F: Fn() -> Instr>(&mut self, leaf: &Leaf, memory: &mut Memory, by: &Formed<'_, F>)
+        requires stands { StandsAt leaf.now memory.old by.now.stand.counter by.now.stand.instr.now }
+        requires form { Spells F.Fn by.now.form by.now.stand.instr.now }
         requires leaf { IsLeafPost leaf.now }
         requires fits { FitsMemory leaf.now.job memory.old }
         requires walks { IsWalking (task_at leaf.now) (driving self.old)
@@ -414,7 +483,7 @@ impl<'a, G: Gate> Driver<'a, G> {
             (in_block leaf.now leaf.now.rank memory.old) (driving self.new)
             (in_block leaf.now (suc leaf.now.rank) memory.new) }
     {
-        match memory.take_up_by(self, leaf, stand) {
+        match memory.take_up_by(self, leaf, by) {
             Ok(()) => self.seat.facts(),
             Err(_) => unreachable!(),
         }

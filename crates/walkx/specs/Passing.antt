@@ -1,6 +1,7 @@
 -- Processors of a block whose task asks nothing, by a post.
 use Rattle.std.specs.Prelude.{◌≡◌, ℕ, Bool, if◌then◌else◌, List, slice_set, Option, Some, None}
 use Rattle.std.specs.Prelude.{IfSome, Result, slice_get, suc}
+use Rattle.std.specs.Fn.{AnyResult, Shared, always_fn}
 use Rattle.pram_job.specs.declared.instr.Instr.{Instr}
 use Rattle.pram_words.specs.Words.{grain}
 use Rattle.pram_words.specs.Phases.{kind_at}
@@ -44,11 +45,17 @@ pub record TakesUp {D : Type 0} (stands : Standing D) (at : PostData) (old : D)
         stands from old (Some (does_wide at (memo_of memory (processor_of at)) late next)) →
         stands from new (goes next (learns_all result learned))
 
--- the processor is known before the step, and stands at this counter, at this instruction
+-- in the first pass the processor is known before the step, and stands at this counter, at this
+-- instruction
 pub record StandsAt (at : PostData) (memory : List Memo) (counter : ℕ) (instr : Instr) : Type 0 where
+  pub first : kind_at at.phase ≡ Kind.Compute
   pub before : suc (memo_of memory (processor_of at)).step ≡ step_of at
   pub there : (memo_of memory (processor_of at)).counter ≡ counter
   pub code : slice_get at.job.code counter ≡ Some instr
+
+-- a closure that may always be called, and then gives this instruction
+abbrev pub Spells : {F : Type 0} → Shared F (Unit {0}) Instr → F → Instr → Type 0
+Spells calls form instr = always_fn calls form × AnyResult calls form tt (λ given. given ≡ instr)
 
 -- the rank that comes next, from that of the post on, and what is then remembered
 abbrev pub passed : PostData → List Memo → ℕ × List Memo

@@ -29,7 +29,7 @@ mod worker;
 
 pub use laws::own_steps_are_bounded;
 pub use left::Stopped;
-pub use memo::{Memo, Memory, Stand};
+pub use memo::{Formed, Memo, Memory, Stand};
 pub use operation::{Activity, Ended, Op, ReadOp, Reading};
 pub use post::{Leaf, Post};
 pub use reader::Reader;

@@ -9,7 +9,7 @@ ghost use Rattle.pram_words.specs.Phases.{kind_at};
 ghost use Rattle.walkx.specs.Inner.Posts.{processor_of};
 ghost use Rattle.walkx.specs.Memory.{FitsMemo, at_start, blank, memo_of};
 ghost use Rattle.walkx.specs.Parts.{does_wide};
-ghost use Rattle.walkx.specs.Passing.{StandsAt, TakesUp};
+ghost use Rattle.walkx.specs.Passing.{Spells, StandsAt, TakesUp};
 ghost use Rattle.walkx.specs.WideParts.{IsShaped, learned};
 
 use crate::left::Stopped;
@@ -100,18 +100,21 @@ pub struct Stand<'a> {
     pub instr: &'a Instr,
 }
 
+/// The same, and a closure that gives the instruction by a name that tells its form.
+#[derive(Drop)]
+pub struct Formed<'a, F: Fn() -> Instr> {
+    pub stand: Stand<'a>,
+    pub form: F,
+}
+
 impl<'a> Stand<'a> {
-    /// The same instruction by a name that tells its form.
+    /// This stand with a closure that gives its instruction.
     #[inline(always)]
-    pub fn with(self, instr: &'a Instr) -> Self
-        requires { instr.now ≡ self.instr.now }
-        ensures counter { result.counter ≡ self.entry.counter }
-        ensures instr { result.instr.now ≡ self.entry.instr.now }
+    pub fn by<F: Fn() -> Instr>(self, form: F) -> Formed<'a, F>
+        ensures stand { result.stand ≡ self.entry }
+        ensures form { result.form ≡ form }
     {
-        Stand {
-            counter: self.counter,
-            instr,
-        }
+        Formed { stand: self, form }
     }
 }
 
@@ -197,9 +200,11 @@ impl Memory {
         settle(wide_task(steps, leaf, &mut memo))
     }
 
-    /// The instruction that the leaf's processor stands at, where it is known before the step.
+    /// The instruction that the leaf's processor stands at in the first pass, where it is known before
+    /// the step.
     #[inline(always)]
     pub fn stand<'a>(&self, leaf: &Leaf<'a>) -> Option<Stand<'a>>
+        requires { kind_at leaf.now.phase ≡ Kind.Compute }
         ensures { IfSome result (λ stand. StandsAt leaf.now self.now stand.counter
             stand.instr.now) }
     {
@@ -215,23 +220,25 @@ impl Memory {
     /// Whether the leaf's processor is known before the step, and stands at this instruction.
     #[inline(always)]
     pub fn stands_at(&self, leaf: &Leaf, stand: Stand<'_>) -> bool
-        requires { slice_get leaf.now.job.code stand.counter ≡ Some stand.instr.now }
+        requires first { kind_at leaf.now.phase ≡ Kind.Compute }
+        requires code { slice_get leaf.now.job.code stand.counter ≡ Some stand.instr.now }
         ensures { IsTrue result → StandsAt leaf.now self.now stand.entry.counter stand.entry.instr.now }
     {
         let memo = self.memo(leaf.processor());
         memo.is_before(leaf.step()) && memo.counter == stand.counter
     }
 
-    /// As `take_up`, in the first pass, for a processor that is known to stand at this instruction.
+    /// As `take_up`, for a processor that is known to stand at this instruction in the first pass. A
+    /// caller that names its form gets code for that form alone.
     #[inline(always)]
-    pub fn take_up_by<S: Steps>(
+    pub fn take_up_by<S: Steps, F: Fn() -> Instr>(
         &mut self,
         steps: &mut S,
         leaf: &Leaf,
-        stand: Stand<'_>,
+        by: &Formed<'_, F>,
     ) -> Result<(), Stopped>
-        requires first { kind_at leaf.now.phase ≡ Kind.Compute }
-        requires stands { StandsAt leaf.now self.old stand.counter stand.instr.now }
+        requires stands { StandsAt leaf.now self.old by.now.stand.counter by.now.stand.instr.now }
+        requires form { Spells F.Fn by.now.form by.now.stand.instr.now }
         requires memo { FitsMemo leaf.now.job (memo_of self.old (processor_of leaf.now)) }
         requires next { IsNextPart (S.stands leaf.now) steps.old
             (does_wide leaf.now (memo_of self.old (processor_of leaf.now))) }
@@ -242,12 +249,12 @@ impl Memory {
         match &mut self.memos {
             Some(memos) => {
                 if i < memos.len() {
-                    return settle(own_by(steps, leaf, &mut memos[i], stand.instr));
+                    let instr = (by.form)();
+                    return settle(own_by(steps, leaf, &mut memos[i], &instr));
                 }
             }
             None => {}
         }
-        let mut memo = Memo::at_start();
-        settle(own_by(steps, leaf, &mut memo, stand.instr))
+        self.take_up(steps, leaf)
     }
 }

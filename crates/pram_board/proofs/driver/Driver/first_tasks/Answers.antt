@@ -1,8 +1,9 @@
 use Rattle.std.proofs.Common.{◌≡◌, ◌<◌, suc, ℕ, refl, ap, subst, ◌∙◌, arith}
+use Rattle.pram_words.specs.Phases.{kind_at}
 use Rattle.walkx.specs.Inner.Posts.{PostData}
 use Rattle.pram_board.specs.Inner.Plays.{Moved, driving, in_block, task_at}
 use Rattle.pram_board.proofs.Tasks.{leaf_after, not_moved, same_after, task_after, went_on}
-use Rattle.pram_board.proofs.driver.Driver.tasks.Goals as goal
+use Rattle.pram_board.proofs.driver.Driver.first_tasks.Goals as goal
 
 pub loop-leaf-init : goal.loop-leaf-init
 loop-leaf-init g c = record {
@@ -61,3 +62,7 @@ loop-leaf-preserved g c =
           c.loop-leaf.memory i.at i.moved (driving c.task.new.self) c.task.new.memory
           c.task.ensures.done;
     })
+
+pub task-requires-clause-first : goal.task-requires-clause-first
+task-requires-clause-first g c =
+    ap (λ (a : PostData). kind_at a.phase) c.loop-leaf.invariant.same ∙ c.requires.first

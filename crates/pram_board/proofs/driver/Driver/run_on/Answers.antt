@@ -2,7 +2,7 @@ use Rattle.std.proofs.Common.{rules, ◌≡◌, ◌<◌, suc, refl, ap, ◌∙�
 use Rattle.walkx.specs.Inner.Posts.{PostData}
 use Rattle.pram_board.specs.Inner.Plays.{driving, task_at}
 use Rattle.pram_board.proofs.Tasks.{at_next, done_to, is_within, leaf_at, not_moved, same_next}
-use Rattle.pram_board.proofs.driver.Driver.run.Goals as goal
+use Rattle.pram_board.proofs.driver.Driver.run_on.Goals as goal
 
 pub loop-len-init : goal.loop-len-init
 loop-len-init g c = record {

@@ -1,0 +1,66 @@
+use Rattle.std.proofs.Common.{◌≡◌, ◌<◌, suc, ℕ, refl, ap, subst, ◌∙◌, arith}
+use Rattle.walkx.specs.Inner.Posts.{PostData}
+use Rattle.pram_board.specs.Inner.Plays.{Moved, driving, in_block, task_at}
+use Rattle.pram_board.proofs.Tasks.{at_next, done_to, is_within, leaf_at, not_moved, same_next}
+use Rattle.pram_board.proofs.driver.Driver.parts.Goals as goal
+
+pub loop-leaf-init : goal.loop-leaf-init
+loop-leaf-init g c = record {
+  seat = refl;
+  same = refl;
+  later = omega arith;
+  at = c.requires.at;
+  moved = not_moved _ _ _ c.requires.at.walks;
+}
+
+pub returns-then-rank-len-clause-moved : goal.returns-then-rank-len-clause-moved
+returns-then-rank-len-clause-moved g c =
+    let i = c.loop-leaf.invariant in
+    let done = done_to c.args.leaf c.loop-leaf.leaf i.same i.later c.args.len
+    (driving c.args.self.now) c.args.memory.now (driving c.loop-leaf.self) c.loop-leaf.memory i.at
+    i.moved (driving c.part.new.self) c.part.new.memory c.part.ensures.moved c.part.ensures.fits in
+    let last : suc c.loop-leaf.leaf.rank ≡ c.args.len =
+    omega (arith, c.rank.ensures, c.if-rank-len.true) in
+    subst (λ (rank : ℕ). Moved (task_at c.args.leaf) (driving c.args.self.now)
+    (in_block c.args.leaf c.args.leaf.rank c.args.memory.now) (driving c.part.new.self)
+    (in_block c.args.leaf rank c.part.new.memory)) last done.moved
+
+pub next-leaf-requires-clause-leaf : goal.next-leaf-requires-clause-leaf
+next-leaf-requires-clause-leaf g c =
+    let i = c.loop-leaf.invariant in
+    let within = is_within _ _ _ _ i.at in
+    let more : suc c.loop-leaf.leaf.rank < c.args.len =
+    omega (arith, within, c.rank.ensures, c.if-rank-len.false) in
+    leaf_at c.loop-leaf.leaf c.args.len (suc c.loop-leaf.leaf.rank) i.at.leaf i.at.ranks more
+
+pub loop-leaf-smaller : goal.loop-leaf-smaller
+loop-leaf-smaller g c =
+    let i = c.loop-leaf.invariant in
+    let within = is_within _ _ _ _ i.at in
+    let next = ap (λ (a : PostData). a.rank) c.next-leaf.ensures in
+    omega (arith, within, next)
+
+pub loop-leaf-preserved : goal.loop-leaf-preserved
+loop-leaf-preserved g c =
+    let i = c.loop-leaf.invariant in
+    let within = is_within _ _ _ _ i.at in
+    let more : suc c.loop-leaf.leaf.rank < c.args.len =
+    omega (arith, within, c.rank.ensures, c.if-rank-len.false) in
+    let p = driving c.args.self.now in
+    let q = driving c.loop-leaf.self in
+    let z = driving c.part.new.self in
+    let memory = c.args.memory.now in
+    let mid = c.loop-leaf.memory in
+    let now = c.part.new.memory in
+    let on = c.part.ensures in
+    let done = done_to c.args.leaf c.loop-leaf.leaf i.same i.later c.args.len p memory q mid i.at i.moved
+    z now on.moved on.fits in
+    rw c.next-leaf.ensures (record {
+      seat = on.same ∙ i.seat;
+      same = same_next c.args.leaf c.loop-leaf.leaf i.same i.later c.args.len p memory q mid i.at i.moved
+          z now on.moved on.fits;
+      later = omega (arith, i.later);
+      at = at_next c.args.leaf c.loop-leaf.leaf i.same i.later c.args.len p memory q mid i.at i.moved z now
+          on.moved on.fits more;
+      moved = done.moved;
+    })
