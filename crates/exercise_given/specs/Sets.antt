@@ -4,7 +4,6 @@ use Rattle.std.specs.Prelude.{nat_lt, List, [], ◌∷◌, ◌++◌, take, drop,
 use Rattle.std.specs.Prelude.{if◌then◌else◌, Option, Some, None}
 use Rattle.std.specs.Char.{is_ascii_digit}
 use Rattle.std.specs.List.{flat_map, list_all}
-use Rattle.std.specs.Option.{option_map_or}
 use Rattle.std.specs.Str.{bytes_eq}
 use Rattle.std.specs.Str.Parse.{digits_value}
 use Rattle.text_lines.specs.Lines.{Line, Word, is_filled, lines_of}
@@ -38,7 +37,7 @@ both (Some seed) (Some below) = Some (seed, below)
 abbrev pub seed_and_bound : List ℕ → Option (ℕ × ℕ)
 seed_and_bound text =
     let colon = first_place (λ byte. byte == 58) text in
-    both (number_of (take colon text)) (number_of (drop (colon + 1) text))
+    both (number_of (take colon text)) (number_of (drop 1 (drop colon text)))
 
 -- those of a text any:SEED:BELOW
 abbrev pub any_in : List ℕ → Option (ℕ × ℕ)
@@ -49,12 +48,19 @@ any_in text = if bytes_eq (take 4 text) (codes "any:") then seed_and_bound (drop
 abbrev pub equals_at : List ℕ → ℕ
 equals_at word = first_place (λ byte. byte == 61) word
 
+-- what stands before the first `=` of a word, and after it
+abbrev pub before_equals : List ℕ → List ℕ
+before_equals word = take (equals_at word) word
+
+abbrev pub after_equals : List ℕ → List ℕ
+after_equals word = drop 1 (drop (equals_at word) word)
+
 -- what a name is set to by the first word NAME=TEXT before `->`
 abbrev pub set_to : Line → Word → Option (List ℕ)
 set_to [] name = None
 set_to (word ∷ words) name =
     if is_arrow word then None
-    else (if bytes_eq (take (equals_at word) word) name then Some (drop (equals_at word + 1) word)
+    else (if bytes_eq (before_equals word) name then Some (after_equals word)
     else set_to words name)
 
 -- how many places an array has
@@ -62,10 +68,15 @@ pub record SizeData : Type 0 where
   pub name : Word
   pub places : ℕ
 
+abbrev pub size_named : List SizeData → Word → Option SizeData
+size_named sizes name = find (λ size. bytes_eq size.name name) sizes
+
 -- where it is not known, one
 abbrev pub places_of : List SizeData → Word → ℕ
-places_of sizes name =
-    option_map_or (λ size. size.places) (find (λ size. bytes_eq size.name name) sizes) 1
+places_of sizes name = elim (size_named sizes name) [
+  | None ↦ 1
+  | Some size ↦ size.places
+]
 
 -- what stands for the values: as many thrown ones as places, or what the text says
 abbrev pub values_text : ℕ → List ℕ → List ℕ
@@ -85,7 +96,7 @@ before_comment line = take (first_place (λ byte. byte == 59) line) line
 abbrev pub with_values : List ℕ → ℕ → Option (List ℕ) → List ℕ
 with_values line places None = line
 with_values line places (Some text) =
-    take (equals_at (before_comment line)) (before_comment line) ++ codes "= " ++ values_text places text
+    before_equals (before_comment line) ++ codes "= " ++ values_text places text
 
 -- A line that declares a constant or an array has what its name is set to in the place of its own
 -- values. All other lines stay.

@@ -1,10 +1,11 @@
 //! The header of an exercise as the words of an input set it.
-ghost use Rattle.std.specs.Prelude.{◌≡◌, ◌++◌, ◌∷◌, ◌==◌, [], take, drop, IfOk, OnOk};
+ghost use Rattle.std.specs.Prelude.{◌≡◌, ◌++◌, ◌∷◌, ◌==◌, [], IfOk, OnOk};
 ghost use Rattle.std.specs.List.{position};
 ghost use Rattle.std.specs.Option.{option_map};
 ghost use Rattle.text_lines.specs.Lines.{words_of};
-ghost use Rattle.exercise_given.specs.Sets.{before_comment, equals_at, is_settable, line_as_set};
-ghost use Rattle.exercise_given.specs.Sets.{places_of, set_to, text_as_set, with_values};
+ghost use Rattle.exercise_given.specs.Sets.{after_equals, before_comment, before_equals};
+ghost use Rattle.exercise_given.specs.Sets.{is_settable, line_as_set, places_of, set_to};
+ghost use Rattle.exercise_given.specs.Sets.{size_named, text_as_set, with_values};
 
 use crate::key::line_key;
 use crate::thrown::{after_first, push_values};
@@ -81,7 +82,7 @@ fn push_with(
     text: Option<&[u8]>,
 ) -> Result<(), AllocError>
     ensures { OnOk result (set.new.items ≡ set.old.items
-        ++ with_values line.now places (option_map (λ text. text.now) text)) }
+        ++ with_values line.now places (option_map (λ text. text.now) text.entry)) }
 {
     match text {
         None => set.extend_from_slice(line),
@@ -118,12 +119,13 @@ fn equals(word: &[u8]) -> Option<usize>
     word.iter().position(|&byte| byte == b'=')
 }
 
-// What stands before the first `=`, and from that on.
+// What stands before the first `=` and after it.
 fn at_equals(word: &[u8]) -> (&[u8], &[u8])
-    ensures before { result.0.now ≡ take (equals_at word.now) word.now }
-    ensures from { result.1.now ≡ drop (equals_at word.now) word.now }
+    ensures before { result.0.now ≡ before_equals word.now }
+    ensures after { result.1.now ≡ after_equals word.now }
 {
-    word.split_at(equals(word).unwrap_or(word.len()))
+    let (front, rest) = word.split_at(equals(word).unwrap_or(word.len()));
+    (front, after_first(rest))
 }
 
 // What a name is set to.
@@ -137,18 +139,24 @@ fn set_to<'a>(words: &'a [u8], name: &[u8]) -> Option<&'a [u8]>
         }
         let (front, back) = at_equals(word);
         if front == name {
-            return Some(after_first(back));
+            return Some(back);
         }
         left = rest;
     }
     None
 }
 
+fn size_named<'a>(sizes: &'a [Size], name: &[u8]) -> Option<&'a Size>
+    ensures { option_map (λ size. size.now) result ≡ size_named sizes.now name.now }
+{
+    sizes.iter().find(|size| size.name.as_slice() == name)
+}
+
 // How many places a name has.
 fn places_of(sizes: &[Size], name: &[u8]) -> u64
     ensures { result ≡ places_of sizes.now name.now }
 {
-    match sizes.iter().find(|size| size.name.as_slice() == name) {
+    match size_named(sizes, name) {
         None => 1,
         Some(size) => size.places,
     }

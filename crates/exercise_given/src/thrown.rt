@@ -1,5 +1,5 @@
 //! Values that are thrown.
-ghost use Rattle.std.specs.Prelude.{◌≡◌, ◌++◌, ◌==◌, ◌<◌, ◌^◌, codes, take, drop, OnOk};
+ghost use Rattle.std.specs.Prelude.{◌≡◌, ◌++◌, ◌==◌, ◌*◌, ◌/◌, ◌^◌, codes, decimal, drop, OnOk};
 ghost use Rattle.std.specs.Char.{is_ascii_digit};
 ghost use Rattle.std.specs.List.{list_all, position};
 ghost use Rattle.exercise_given.specs.Sets.{any_in, next_seed, number_of, seed_and_bound};
@@ -7,7 +7,7 @@ ghost use Rattle.exercise_given.specs.Sets.{thrown_text, values_text};
 
 use itoa::Buffer;
 use std::alloc::AllocError;
-use text_lines::value_of;
+use text_lines::{is_word, value_of};
 
 fn next_seed(seed: u32) -> u32
     ensures { result ≡ next_seed seed }
@@ -30,13 +30,21 @@ fn push_thrown(
 ) -> Result<(), AllocError>
     ensures { OnOk result (text.new.items ≡ text.old.items ++ thrown_text places seed below) }
 {
-    let mut buffer = Buffer::new();
-    for _ in 0..places {
+    for fresh in 0..places {
         seed = next_seed(seed);
-        text.extend_from_slice(buffer.format(value_from(seed, below)).as_bytes())?;
-        text.extend_from_slice(b", ")?;
+        push_value(text, value_from(seed, below))?;
     }
     Ok(())
+}
+
+// Adds a value, with what parts it from the next one.
+fn push_value(text: &mut Vec<u8>, value: u32) -> Result<(), AllocError>
+    ensures { OnOk result (text.new.items
+        ≡ text.old.items ++ decimal value ++ codes ", ") }
+{
+    let mut buffer = Buffer::new();
+    text.extend_from_slice(buffer.format(value).as_bytes())?;
+    text.extend_from_slice(b", ")
 }
 
 fn are_digits(text: &[u8]) -> bool
@@ -93,7 +101,7 @@ fn any_in(text: &[u8]) -> Option<(u32, u32)>
         return None;
     }
     let (word, rest) = text.split_at(4);
-    if word == b"any:" {
+    if is_word(word, "any:") {
         seed_and_bound(rest)
     } else {
         None
