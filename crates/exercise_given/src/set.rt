@@ -54,12 +54,7 @@ pub fn set_text(
 }
 
 // Adds a line as it is set.
-fn push_line(
-    set: &mut Vec<u8>,
-    sizes: &[Size],
-    words: &[u8],
-    line: &[u8],
-) -> Result<(), AllocError>
+fn push_line(set: &mut Vec<u8>, sizes: &[Size], words: &[u8], line: &[u8]) -> Result<(), AllocError>
     ensures { OnOk result (set.new.items
         ≡ set.old.items ++ line_as_set sizes.now (words_of words.now) line.now) }
 {

@@ -22,12 +22,7 @@ fn value_from(seed: u32, below: u32) -> u32
 }
 
 // Adds so many values, each with what parts it from the next one.
-fn push_thrown(
-    text: &mut Vec<u8>,
-    places: u64,
-    mut seed: u32,
-    below: u32,
-) -> Result<(), AllocError>
+fn push_thrown(text: &mut Vec<u8>, places: u64, mut seed: u32, below: u32) -> Result<(), AllocError>
     ensures { OnOk result (text.new.items ≡ text.old.items ++ thrown_text places seed below) }
 {
     for fresh in 0..places {
@@ -109,11 +104,7 @@ fn any_in(text: &[u8]) -> Option<(u32, u32)>
 }
 
 /// Adds what stands for the values of so many places.
-pub(crate) fn push_values(
-    set: &mut Vec<u8>,
-    places: u64,
-    text: &[u8],
-) -> Result<(), AllocError>
+pub(crate) fn push_values(set: &mut Vec<u8>, places: u64, text: &[u8]) -> Result<(), AllocError>
     ensures { OnOk result (set.new.items ≡ set.old.items ++ values_text places text.now) }
 {
     match any_in(text) {

@@ -61,6 +61,10 @@ fn refusal(line: u64, kind: ExerciseKind) -> ExerciseFault
     ensures line { kind ≢ ExerciseKind.Memory → result.line ≡ line }
     ensures memory { kind ≡ ExerciseKind.Memory → result.line ≡ 0 }
 {
-    let line = if kind == ExerciseKind::Memory { 0 } else { line };
+    let line = if kind == ExerciseKind::Memory {
+        0
+    } else {
+        line
+    };
     ExerciseFault { line, kind }
 }

@@ -64,7 +64,11 @@ pub(crate) fn bar_in(text: &[u8]) -> Option<&[u8]>
     ensures { option_map (λ bar. bar.now) result ≡ bar_in text.now }
 {
     let (word, rest) = split_word(text);
-    if is_word(word, "<=") { Some(rest) } else { None }
+    if is_word(word, "<=") {
+        Some(rest)
+    } else {
+        None
+    }
 }
 
 /// The number that follows `<=`.
