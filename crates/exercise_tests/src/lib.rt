@@ -1,0 +1,9 @@
+//! Tests of exercises: texts that are none, headers that are set, and submissions with a header.
+#![tactic(auto)]
+
+#[cfg(test)]
+mod given;
+#[cfg(test)]
+mod headers;
+#[cfg(test)]
+mod texts;

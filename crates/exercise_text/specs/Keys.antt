@@ -1,0 +1,84 @@
+-- The words with which the lines of an exercise begin.
+use Rattle.std.specs.Prelude.{ℕ, Bool, true, false, not, codes, if◌then◌else◌}
+use Rattle.std.specs.Prelude.{Option, Some, None}
+use Rattle.std.specs.Str.{bytes_eq}
+use Rattle.text_lines.specs.Lines.{Word}
+use Rattle.exercise_text.specs.declared.key.Key.{Key}
+use Rattle.exercise_text.specs.declared.key.Key.TheVariants.{Note, Title, Task, Model, Want, Time}
+use Rattle.exercise_text.specs.declared.key.Key.TheVariants.{Operations, Steps, Lines, Given}
+use Rattle.exercise_text.specs.declared.key.Key.TheVariants.{Start, Reference, Input, Hidden}
+
+abbrev pub said_key : Word → Option Key
+said_key word =
+    if bytes_eq word (codes "title") then Some Title
+    else (if bytes_eq word (codes "task") then Some Task
+    else (if bytes_eq word (codes "model") then Some Model
+    else (if bytes_eq word (codes "want") then Some Want else None)))
+
+abbrev pub bar_key : Word → Option Key
+bar_key word =
+    if bytes_eq word (codes "time") then Some Time
+    else (if bytes_eq word (codes "operations") then Some Operations
+    else (if bytes_eq word (codes "steps") then Some Steps
+    else (if bytes_eq word (codes "lines") then Some Lines else None)))
+
+abbrev pub part_key : Word → Option Key
+part_key word =
+    if bytes_eq word (codes "given") then Some Given
+    else (if bytes_eq word (codes "start") then Some Start
+    else (if bytes_eq word (codes "reference") then Some Reference
+    else (if bytes_eq word (codes "input") then Some Input
+    else (if bytes_eq word (codes "hidden") then Some Hidden else None))))
+
+abbrev pub or_else : Option Key → Option Key → Option Key
+or_else None other = other
+or_else (Some key) other = Some key
+
+-- the key that a word names
+abbrev pub key_named : Word → Option Key
+key_named word = or_else (said_key word) (or_else (bar_key word) (part_key word))
+
+-- the place of a key among the keys, by which they differ
+abbrev pub place_of : Key → ℕ
+place_of Note = 0
+place_of Title = 1
+place_of Task = 2
+place_of Model = 3
+place_of Want = 4
+place_of Time = 5
+place_of Operations = 6
+place_of Steps = 7
+place_of Lines = 8
+place_of Given = 9
+place_of Start = 10
+place_of Reference = 11
+place_of Input = 12
+place_of Hidden = 13
+
+-- lines of a program follow
+abbrev pub is_part : Key → Bool
+is_part Given = true
+is_part Start = true
+is_part Reference = true
+is_part _ = false
+
+-- settings of a run
+abbrev pub is_input : Key → Bool
+is_input Input = true
+is_input Hidden = true
+is_input _ = false
+
+-- an expression that bounds what a run costs
+abbrev pub is_bar : Key → Bool
+is_bar Time = true
+is_bar Operations = true
+is_bar Steps = true
+is_bar _ = false
+
+-- it stands once at most
+abbrev pub is_once : Key → Bool
+is_once Note = false
+is_once Task = false
+is_once Input = false
+is_once Hidden = false
+is_once _ = true
