@@ -1,0 +1,104 @@
+//! The header of an exercise as an input sets it, and what it says.
+ghost use Rattle.std.specs.Prelude.{◌≡◌, Ok, IfOk, codes, map, slice_index};
+ghost use Rattle.text_lines.specs.Lines.{words_of};
+ghost use Rattle.exercise_given.specs.Sets.{text_as_set};
+ghost use Rattle.exercise_header.specs.Headers.{header_as_set, header_of, header_text, size_of};
+ghost use Rattle.exercise_header.specs.Headers.{value_by};
+ghost use Rattle.exercise_header.specs.Values.{start_of};
+
+use crate::values::{array_named, value_at};
+use exercise_given::{Size, set_text};
+use pardo_text::{Array, PardoFault, PardoKind, Program, read_program};
+use std::alloc::{AllocError, Global};
+
+const MEMORY: PardoFault = PardoFault {
+    line: 0,
+    kind: PardoKind::Memory,
+};
+
+fn no_memory(_error: AllocError) -> PardoFault {
+    MEMORY
+}
+
+// A header, with one scalar more that starts with the value of an expression, as a program.
+fn header_text(alloc: Global, header: &[u8], value: &[u8]) -> Result<Vec<u8>, AllocError>
+    ensures { IfOk result (λ text. text.items ≡ header_text header.now value.now) }
+{
+    let mut text = Vec::from_slice(alloc, header)?;
+    text.extend_from_slice(b"shared _ = ")?;
+    text.extend_from_slice(value)?;
+    text.extend_from_slice(b"\ncode\n_ := 0\n")?;
+    Ok(text)
+}
+
+/// The program of a header with one scalar more, `_`, that starts with the value of an expression.
+pub fn read_header(
+    alloc: Global,
+    header: &[u8],
+    value: &[u8],
+) -> Result<Program, PardoFault>
+    ensures { IfOk result (λ program. header_of header.now value.now ≡ Ok program) }
+{
+    match header_text(alloc, header, value) {
+        Ok(text) => read_program(alloc, text.as_slice()),
+        Err(error) => Err(no_memory(error)),
+    }
+}
+
+/// The value of an expression over the constants of a header.
+pub fn value_by(alloc: Global, header: &[u8], value: &[u8]) -> Result<u32, PardoFault>
+    ensures { IfOk result (λ found. value_by header.now value.now ≡ Ok found) }
+{
+    let program = read_header(alloc, header, value)?;
+    Ok(scalar_start(program.arrays()))
+}
+
+// What the scalar `_` starts with.
+fn scalar_start(arrays: &[Array]) -> u32
+    ensures { result ≡ slice_index (start_of arrays.now (codes "_")) 0 }
+{
+    match array_named(arrays, b"_") {
+        None => 0,
+        Some(array) => value_at(array.start(), 0),
+    }
+}
+
+// How many places each array has.
+fn sizes_of(alloc: Global, arrays: &[Array]) -> Result<Vec<Size>, AllocError>
+    ensures { IfOk result (λ sizes. sizes.items ≡ map size_of arrays.now) }
+{
+    let mut sizes = Vec::with_capacity(alloc, arrays.len())?;
+    for array in arrays {
+        let name = Vec::from_slice(alloc, array.name())?;
+        let places = array.start().len() as u64;
+        sizes.push(Size { name, places })?;
+    }
+    Ok(sizes)
+}
+
+// The header as the words of an input set it, of arrays of these sizes.
+fn set_with(
+    alloc: Global,
+    arrays: &[Array],
+    words: &[u8],
+    given: &[u8],
+) -> Result<Vec<u8>, AllocError>
+    ensures { IfOk result (λ set. set.items
+        ≡ text_as_set (map size_of arrays.now) (words_of words.now) given.now) }
+{
+    let sizes = sizes_of(alloc, arrays)?;
+    set_text(alloc, sizes.as_slice(), words, given)
+}
+
+/// The header as the words of an input set it.
+pub fn header_as_set(
+    alloc: Global,
+    given: &[u8],
+    words: &[u8],
+) -> Result<Vec<u8>, PardoFault>
+    ensures { IfOk result (λ set. header_as_set given.now (words_of words.now) ≡ Ok set.items) }
+{
+    let first = set_text(alloc, &[], words, given).map_err(no_memory)?;
+    let program = read_header(alloc, first.as_slice(), b"0")?;
+    set_with(alloc, program.arrays(), words, given).map_err(no_memory)
+}

@@ -1,0 +1,7 @@
+use Rattle.std.proofs.Common.{All, take}
+use Rattle.exercise_judge.specs.Trials.{Meets}
+use Rattle.exercise_judge.proofs.judge.judge.Given as goal
+
+-- the trials so far are met
+abbrev pub invariant-loop-at : goal.invariant-loop-at
+invariant-loop-at l = All (λ trial. Meets trial l.submission) (take l.at l.trials)
