@@ -32,11 +32,7 @@ fn header_text(alloc: Global, header: &[u8], value: &[u8]) -> Result<Vec<u8>, Al
 }
 
 /// The program of a header with one scalar more, `_`, that starts with the value of an expression.
-pub fn read_header(
-    alloc: Global,
-    header: &[u8],
-    value: &[u8],
-) -> Result<Program, PardoFault>
+pub fn read_header(alloc: Global, header: &[u8], value: &[u8]) -> Result<Program, PardoFault>
     ensures { IfOk result (λ program. header_of header.now value.now ≡ Ok program) }
 {
     match header_text(alloc, header, value) {
@@ -91,11 +87,7 @@ fn set_with(
 }
 
 /// The header as the words of an input set it.
-pub fn header_as_set(
-    alloc: Global,
-    given: &[u8],
-    words: &[u8],
-) -> Result<Vec<u8>, PardoFault>
+pub fn header_as_set(alloc: Global, given: &[u8], words: &[u8]) -> Result<Vec<u8>, PardoFault>
     ensures { IfOk result (λ set. header_as_set given.now (words_of words.now) ≡ Ok set.items) }
 {
     let first = set_text(alloc, &[], words, given).map_err(no_memory)?;
