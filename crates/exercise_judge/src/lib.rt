@@ -2,7 +2,7 @@
 #![tactic(auto)]
 
 mod check;
-mod judge;
+mod judging;
 mod place;
 mod reference;
 mod trial;
@@ -11,7 +11,7 @@ mod verdict;
 
 pub use exercise_header::Wanted;
 pub use exercise_text::{Entry, Exercise, ExerciseFault, ExerciseKind, Key, read_exercise};
-pub use judge::{judge, judge_trial};
+pub use judging::{judge, judge_trial};
 pub use trial::Trial;
 pub use trials::{trial_of, trials_of};
 pub use verdict::{Bar, Unfit, UnfitKind, Verdict, Wrong};

@@ -1,6 +1,6 @@
 use Rattle.std.proofs.Common.{All, take}
 use Rattle.exercise_judge.specs.Trials.{Meets}
-use Rattle.exercise_judge.proofs.judge.judge.Given as goal
+use Rattle.exercise_judge.proofs.judging.judge.Given as goal
 
 -- the trials so far are met
 abbrev pub invariant-loop-at : goal.invariant-loop-at
