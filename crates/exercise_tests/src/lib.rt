@@ -4,4 +4,6 @@
 #[cfg(test)]
 mod given;
 #[cfg(test)]
+mod headers;
+#[cfg(test)]
 mod texts;
