@@ -29,12 +29,7 @@ pub(crate) fn check_values(
     Ok(())
 }
 
-fn check_name(
-    alloc: Global,
-    arrays: &[Array],
-    cells: &[u32],
-    want: &Wanted,
-) -> Result<(), Wrong>
+fn check_name(alloc: Global, arrays: &[Array], cells: &[u32], want: &Wanted) -> Result<(), Wrong>
     ensures { OnOk result (held_by arrays.now (slice_index cells.now) want.now.name
         ≡ want.now.values) }
 {

@@ -1,5 +1,5 @@
 //! A submission is judged.
-ghost use Rattle.std.specs.Prelude.{◌≡◌, All, IfOk, IfSome, IsTrue, OnOk};
+ghost use Rattle.std.specs.Prelude.{◌≡◌, All, IfOk, IfSome, OnOk};
 ghost use Rattle.pram_job.specs.Job.{JobData};
 ghost use Rattle.pram_cost.specs.Costs.{IsCost};
 ghost use Rattle.pram_cost.specs.Models.{AcceptsSteps, strength};
@@ -9,9 +9,9 @@ ghost use Rattle.pardo_costs.specs.Runs.{IsRun};
 ghost use Rattle.exercise_given.specs.Submissions.{judged_text};
 ghost use Rattle.exercise_judge.specs.Trials.{IsWithin, Meets};
 
+use crate::check::check_values;
 use crate::place::place_text;
 use crate::trial::Trial;
-use crate::check::check_values;
 use crate::verdict::{Bar, Verdict, Wrong, wrong_of};
 use exercise_given::{code_lines, judged_text, missing_line};
 use pardo_costs::{Costs, Run, run_program, total_operations, total_time};
@@ -24,12 +24,11 @@ use std::alloc::{AllocError, Global};
 pub fn judge(alloc: Global, trials: &[Trial], submission: &[u8]) -> Verdict
     ensures { result ≡ Verdict.Passed → All (λ trial. Meets trial submission.now) trials.now }
 {
-    for (at, trial) in trials.iter().enumerate() {
+    let mut input: usize = 0;
+    for trial in trials {
+        input = input.saturating_add(1);
         if let Err(wrong) = judge_trial(alloc, trial, submission) {
-            return Verdict::Failed {
-                input: at.saturating_add(1),
-                wrong,
-            };
+            return Verdict::Failed { input, wrong };
         }
     }
     Verdict::Passed
@@ -55,12 +54,7 @@ fn check_run(alloc: Global, trial: &Trial, run: &Run, submission: &[u8]) -> Resu
     ensures { OnOk result (Meets trial.now submission.now) }
 {
     let cells = cells_of(alloc, run)?;
-    check_values(
-        alloc,
-        run.program.arrays(),
-        cells,
-        trial.wanted.as_slice(),
-    )?;
+    check_values(alloc, run.program.arrays(), cells, trial.wanted.as_slice())?;
     check_costs(trial, &run.costs)?;
     check_bar(Bar::Steps, wide(trial.steps), u64::from(run.job.steps()))?;
     check_bar(Bar::Lines, trial.lines, code_lines(submission))?;
@@ -131,22 +125,21 @@ fn strength(model: Pram) -> u8
     }
 }
 
-// Whether the model accepts all steps of a run, by what it costs.
-fn allows(allowed: Pram, cost: &Cost) -> bool
-    ensures { (job : JobData) → IsCost job cost.now → IsTrue result →
-        AcceptsSteps allowed job cost.now.steps }
-{
-    strength(cost.needs()) <= strength(allowed)
-}
-
+// Whether the model accepts all steps of a run.
 fn check_model(alloc: Global, model: Option<Pram>, run: &Run) -> Result<(), Wrong>
     ensures { OnOk result ((job : JobData) → IsCost job run.now.costs.cost →
         IfSome model (λ allowed. AcceptsSteps allowed job run.now.costs.cost.steps)) }
 {
-    match model {
-        Some(allowed) if !allows(allowed, &run.costs.cost) => Err(beyond(alloc, run, allowed)?),
-        _ => Ok(()),
+    let Some(allowed) = model else {
+        return Ok(());
+    };
+    let needs = run.costs.cost.needs();
+    let needed = strength(needs);
+    let given = strength(allowed);
+    if needed <= given {
+        return Ok(());
     }
+    Err(beyond(alloc, run, needs, allowed)?)
 }
 
 fn meeting_for(cost: &Cost, needs: Pram) -> Option<Meeting> {
@@ -158,8 +151,7 @@ fn meeting_for(cost: &Cost, needs: Pram) -> Option<Meeting> {
     }
 }
 
-fn beyond(alloc: Global, run: &Run, allowed: Pram) -> Result<Wrong, AllocError> {
-    let needs = run.costs.cost.needs();
+fn beyond(alloc: Global, run: &Run, needs: Pram, allowed: Pram) -> Result<Wrong, AllocError> {
     let Some(meeting) = meeting_for(&run.costs.cost, needs) else {
         return Ok(Wrong::Memory);
     };

@@ -118,9 +118,7 @@ fn wanted_of(
     let names = part_in(exercise, Key::Want);
     match answer_in(input.text()) {
         None => wanted_by_reference(alloc, header, part_in(exercise, Key::Reference), names),
-        Some(words) => {
-            wanted_by_words(alloc, header, words, names).map_err(answer_fault)
-        }
+        Some(words) => { wanted_by_words(alloc, header, words, names).map_err(answer_fault) }
     }
 }
 

@@ -38,7 +38,11 @@ pub enum Wrong {
         wanted: u32,
     },
     /// It takes more than is allowed.
-    Bar { bar: Bar, took: u64, most: u64 },
+    Bar {
+        bar: Bar,
+        took: u64,
+        most: u64,
+    },
     /// It needs a stronger model than is allowed: two processors meet so at a place first.
     Model {
         needs: Pram,
