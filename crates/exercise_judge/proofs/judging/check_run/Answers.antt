@@ -17,7 +17,7 @@ returns c =
     let steps : IsWithin trial.steps run.job.steps = search rules in
     let lines : IsWithin trial.lines (code_lines c.args.submission.now) = search rules in
     let told : OnOk c.check_model.result ((job : JobData) → IsCost job run.costs.cost →
-        IfSome trial.model (λ allowed. AcceptsSteps allowed job run.costs.cost.steps)) =
+    IfSome trial.model (λ allowed. AcceptsSteps allowed job run.costs.cost.steps)) =
     search rules in
     on_ok _ _ c.check_model.result
     (met trial c.args.submission.now run cells c.requires c.in_ok-cells.ensures values

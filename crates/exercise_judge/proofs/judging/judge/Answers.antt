@@ -7,7 +7,7 @@ use Rattle.exercise_judge.proofs.judging.judge.Goals as goal
 pub loop-trial-preserved : goal.loop-trial-preserved
 loop-trial-preserved c =
     All-more (λ (t : TrialData). Meets t c.args.submission.now) c.args.trials.now
-    c.loop-trial.trial-index _ (omega (arith, c.loop-trial-test.true)) c.loop-trial.invariant
+    c.loop-trial.trial-index c.trial-item.result (omega (arith, c.loop-trial-test.true)) c.loop-trial.invariant
     (search rules)
 
 pub returns : goal.returns
