@@ -10,14 +10,6 @@ fn told(bytes: &[u8]) -> &str {
     from_utf8(bytes).unwrap_or("?")
 }
 
-/// The number of trials of a text, or what is wrong with it.
-pub fn exercise_said(alloc: Global, text: &str) -> Result<String, Fail> {
-    Ok(match trials_in(alloc, text)? {
-        Ok(trials) => format!(in alloc; "{} trials", trials.len())?,
-        Err(said) => said,
-    })
-}
-
 fn trials_in(alloc: Global, text: &str) -> Result<Result<Vec<Trial>, String>, Fail> {
     let exercise = match read_exercise(alloc, text.as_bytes()) {
         Ok(exercise) => exercise,
@@ -55,7 +47,9 @@ fn wrong_said(alloc: Global, wrong: &Wrong) -> Result<String, AllocError> {
             first,
             second,
         } => format!(in alloc;
-            "conflict line={line} place={} processors={first},{second}", told(place.as_slice())),
+            "conflict line={line} place={} processors={first},{second}",
+            told(place.as_slice())
+        ),
         Wrong::Value {
             place,
             held,
@@ -71,7 +65,8 @@ fn wrong_said(alloc: Global, wrong: &Wrong) -> Result<String, AllocError> {
             second,
         } => format!(in alloc;
             "{needs:?} for {allowed:?} line={line} place={} processors={first},{second}",
-            told(place.as_slice())),
+            told(place.as_slice())
+        ),
         Wrong::Memory => format!(in alloc; "memory"),
     }
 }

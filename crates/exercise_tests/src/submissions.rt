@@ -1,7 +1,6 @@
 //! Submissions, and what is said of them.
 use crate::said::submission_said;
 use std::rt::HostRuntime;
-
 use std::test::Fail;
 
 const SUMS: &str = "exercise 1
