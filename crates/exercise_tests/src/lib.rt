@@ -6,4 +6,8 @@ mod given;
 #[cfg(test)]
 mod headers;
 #[cfg(test)]
+mod said;
+#[cfg(test)]
+mod submissions;
+#[cfg(test)]
 mod texts;

@@ -1,0 +1,52 @@
+-- A run that passes each test meets the trial.
+use Rattle.std.proofs.Common.{◌≡◌, ◌∙◌, ℕ, List, Result, Ok, Err, subst, sym, ap}
+use Rattle.std.specs.Prelude.{IfSome, OnOk, slice_index}
+use Rattle.pram_job.specs.Job.{JobData}
+use Rattle.pram_step.specs.declared.answer.RunAnswer.TheVariants.{Final}
+use Rattle.pram_step.specs.Runs.{IsAnswer}
+use Rattle.pram_cost.specs.Costs.{IsCost}
+use Rattle.pram_cost.specs.Models.{AcceptsSteps}
+use Rattle.pram_cost.specs.declared.pram.Pram.{Pram}
+use Rattle.pardo_costs.specs.declared.line_costs.LineCost.{LineCost}
+use Rattle.pardo_costs.specs.declared.run.Run.{Run}
+use Rattle.pardo_costs.specs.Costs.{operations_in, time_in}
+use Rattle.pardo_costs.specs.Runs.{IsRun}
+use Rattle.exercise_given.specs.Submissions.{code_lines, judged_text}
+use Rattle.exercise_judge.specs.Trials.{AreHeld, IsWithin, Meets, TrialData}
+use Rattle.exercise_judge.proofs.Costs.{all_steps}
+
+pub on_ok : {X E : Type 0} (P Q : Type 0) (r : Result X E) → (P → Q) → OnOk r P → OnOk r Q
+on_ok P Q (Ok x) f p = f p
+on_ok P Q (Err e) f p = p
+
+module _ (trial : TrialData) (submission : List ℕ) (run : Run) (cells : List ℕ)
+    (is : IsRun (judged_text trial.header submission) run)
+    (answer : run.ended.answer ≡ Final cells) where
+  ends : IsAnswer run.job (Final cells)
+  ends = subst (IsAnswer run.job) answer is.1.ended.answers
+
+  steps_are : run.costs.cost.steps ≡ run.job.steps
+  steps_are = all_steps run.job run.costs.cost cells is.1.cost ends
+
+  pub met : AreHeld trial.wanted run.program (slice_index cells) →
+      IsWithin trial.time (time_in run.costs.lines.items) →
+      IsWithin trial.operations (operations_in run.costs.lines.items) →
+      IsWithin trial.steps run.job.steps → IsWithin trial.lines (code_lines submission) →
+      ((job : JobData) → IsCost job run.costs.cost →
+      IfSome trial.model (λ allowed. AcceptsSteps allowed job run.costs.cost.steps)) →
+      Meets trial submission
+  met values time operations steps lines model = record {
+    program = run.program;
+    job = run.job;
+    line_of = slice_index run.numbers.items;
+    cells = cells;
+    ends = record { reads = is.0; compiled = is.1.compiled; ends = ends };
+    values = values;
+    time = subst (λ (l : List LineCost). IsWithin trial.time (time_in l)) is.1.lines time;
+    operations = subst (λ (l : List LineCost). IsWithin trial.operations (operations_in l))
+        is.1.lines operations;
+    steps = steps;
+    lines = lines;
+    model = subst (λ (n : ℕ). IfSome trial.model (λ (allowed : Pram).
+        AcceptsSteps allowed run.job n)) steps_are (model run.job is.1.cost);
+  }

@@ -1,0 +1,7 @@
+use Rattle.std.proofs.Common.{All, take}
+use Rattle.exercise_judge.specs.Trials.{Meets}
+use Rattle.exercise_judge.proofs.judging.judge.Given as goal
+
+-- the trials so far are met
+abbrev pub invariant-loop-trial : goal.invariant-loop-trial
+invariant-loop-trial l = All (λ trial. Meets trial l.submission) (take l.trial-index l.trials)

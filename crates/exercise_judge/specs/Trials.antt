@@ -1,0 +1,136 @@
+-- What a submission has to do under one input, and that it does.
+use Rattle.std.specs.Prelude.{◌≡◌, ◌≤◌, ℕ, ◌++◌, List, [], ◌∷◌, All, IfSome, MatchBool, MatchOption, map}
+use Rattle.std.specs.Prelude.{codes, slice_index, unwrap_or, Option, Some, None, Ok}
+use Rattle.std.specs.Option.{option_and_then}
+use Rattle.text_lines.specs.Lines.{Line, Word, words_of}
+use Rattle.pram_job.specs.Job.{JobData}
+use Rattle.pram_step.specs.declared.answer.RunAnswer.TheVariants.{Final}
+use Rattle.pram_step.specs.Runs.{IsAnswer}
+use Rattle.pram_cost.specs.Models.{AcceptsSteps}
+use Rattle.pram_cost.specs.Beyond.{model_named}
+use Rattle.pram_cost.specs.declared.pram.Pram.{Pram}
+use Rattle.pardo_program.specs.Program.{ProgramData}
+use Rattle.pardo_text.specs.Reading.{program_of}
+use Rattle.pardo_job.specs.Compiled.{IsCompiled}
+use Rattle.pardo_costs.specs.Costs.{line_costs, operations_in, time_in}
+use Rattle.exercise_text.specs.declared.key.Key.{Key}
+use Rattle.exercise_text.specs.declared.key.Key.TheVariants as key
+use Rattle.exercise_text.specs.Entries.{EntryData, answer_of, bar_in, number_in, text_of}
+use Rattle.exercise_text.specs.Keys.{is_input}
+use Rattle.text_lines.specs.Words.{one_of}
+use Rattle.exercise_given.specs.Submissions.{code_lines, judged_text}
+use Rattle.exercise_header.specs.Headers.{header_as_set, header_of, value_by}
+use Rattle.exercise_header.specs.Values.{WantedData, held_by, start_of, wanted_by}
+
+-- The header as the input sets it, what is wanted at the end, the bars, and the weakest model that
+-- is allowed.
+pub record TrialData : Type 0 where
+  pub header : List ℕ
+  pub wanted : List WantedData
+  pub time : Option ℕ
+  pub operations : Option ℕ
+  pub steps : Option ℕ
+  pub lines : Option ℕ
+  pub model : Option Pram
+
+-- ---- a program and its job
+
+-- The text spells the program, and its job ends without a conflict, with these cells.
+pub record EndsWith (text : List ℕ) (program : ProgramData) (job : JobData) (line_of : ℕ → ℕ)
+    (cells : List ℕ) : Type 0 where
+  pub reads : program_of text ≡ Ok program
+  pub compiled : IsCompiled program job line_of
+  pub ends : IsAnswer job (Final cells)
+
+-- ---- a trial is met
+
+-- it takes no more than a bar, if there is one, allows
+abbrev pub IsWithin : Option ℕ → ℕ → Type 0
+IsWithin most took = IfSome most (λ allowed. took ≤ allowed)
+
+-- the names hold what is wanted
+abbrev pub AreHeld : List WantedData → ProgramData → (ℕ → ℕ) → Type 0
+AreHeld wanted program cells =
+    All (λ want. held_by program.arrays cells want.name ≡ want.values) wanted
+
+-- The submission with the header of the trial is a program that ends with the wanted values,
+-- within the bars, under the model.
+pub record Meets (trial : TrialData) (submission : List ℕ) : Type 0 where
+  pub program : ProgramData
+  pub job : JobData
+  pub line_of : ℕ → ℕ
+  pub cells : List ℕ
+  pub ends : EndsWith (judged_text trial.header submission) program job line_of cells
+  pub values : AreHeld trial.wanted program (slice_index cells)
+  pub time : IsWithin trial.time (time_in (line_costs program job))
+  pub operations : IsWithin trial.operations (operations_in (line_costs program job))
+  pub steps : IsWithin trial.steps job.steps
+  pub lines : IsWithin trial.lines (code_lines submission)
+  pub model : IfSome trial.model (λ model. AcceptsSteps model job job.steps)
+
+-- ---- the trials of an exercise
+
+-- the bar of this key has this value
+abbrev pub IsBar : List EntryData → List ℕ → Key → Option ℕ → Type 0
+IsBar exercise header key most = MatchOption (option_and_then bar_in (text_of key exercise))
+    (most ≡ None) (λ bar. (value : ℕ) × (value_by header bar ≡ Ok value) × (most ≡ Some value))
+
+-- the names of an exercise
+abbrev pub part_in : Key → List EntryData → List ℕ
+part_in key exercise = unwrap_or (text_of key exercise) []
+
+abbrev pub names_in : List EntryData → Line
+names_in exercise = words_of (part_in key.Want exercise)
+
+-- what the input says is wanted: what the names start with, as its words behind `->` set them
+abbrev pub AreSaid : List ℕ → Line → Line → List WantedData → Type 0
+AreSaid header words names wanted = (set : List ℕ) × (program : ProgramData)
+    × (header_as_set header words ≡ Ok set) × (header_of set (codes "0") ≡ Ok program)
+    × (wanted ≡ map (wanted_by (start_of program.arrays)) names)
+
+-- what the names hold at the end of the program that a text spells
+pub record AreEnds (text : List ℕ) (names : Line) (wanted : List WantedData) : Type 0 where
+  pub program : ProgramData
+  pub job : JobData
+  pub line_of : ℕ → ℕ
+  pub cells : List ℕ
+  pub ends : EndsWith text program job line_of cells
+  pub are : wanted ≡ map (wanted_by (held_by program.arrays (slice_index cells))) names
+
+-- what an input says is wanted, or what the reference ends with
+abbrev pub AreWanted : List EntryData → EntryData → List ℕ → List WantedData → Type 0
+AreWanted exercise input header wanted = MatchOption (answer_of (words_of input.text))
+    (AreEnds (header ++ part_in key.Reference exercise) (names_in exercise) wanted)
+    (λ words. AreSaid header words (names_in exercise) wanted)
+
+abbrev pub model_of : List EntryData → Option Pram
+model_of exercise = option_and_then model_named
+    (option_and_then (λ text. one_of (words_of text)) (text_of key.Model exercise))
+
+-- the trial of an input of an exercise
+pub record IsTrial (exercise : List EntryData) (input : EntryData) (trial : TrialData)
+    : Type 0 where
+  pub header : header_as_set (part_in key.Given exercise) (words_of input.text)
+      ≡ Ok trial.header
+  pub wanted : AreWanted exercise input trial.header trial.wanted
+  pub time : IsBar exercise trial.header key.Time trial.time
+  pub operations : IsBar exercise trial.header key.Operations trial.operations
+  pub steps : IsBar exercise trial.header key.Steps trial.steps
+  pub lines : trial.lines ≡ option_and_then number_in (text_of key.Lines exercise)
+  pub model : trial.model ≡ model_of exercise
+
+-- an entry that is an input adds its trial, and another one nothing
+abbrev pub AddsTrial : List EntryData → EntryData → List TrialData → List TrialData → Type 0
+AddsTrial exercise entry before after = MatchBool (is_input entry.key)
+    ((trial : TrialData) × IsTrial exercise entry trial × (after ≡ before ++ trial ∷ []))
+    (after ≡ before)
+
+-- the trials that these entries of an exercise add to others, in their order
+abbrev pub AddTrials : List EntryData → List EntryData → List TrialData → List TrialData → Type 0
+AddTrials exercise [] before after = after ≡ before
+AddTrials exercise (entry ∷ entries) before after = (next : List TrialData)
+    × AddsTrial exercise entry before next × AddTrials exercise entries next after
+
+-- the trials of the inputs of an exercise, in their order
+abbrev pub AreTrials : List EntryData → List TrialData → Type 0
+AreTrials exercise trials = AddTrials exercise exercise [] trials

@@ -1,0 +1,17 @@
+//! Submissions to an exercise, judged.
+#![tactic(auto)]
+
+mod check;
+mod judging;
+mod place;
+mod reference;
+mod trial;
+mod trials;
+mod verdict;
+
+pub use exercise_header::Wanted;
+pub use exercise_text::{Entry, Exercise, ExerciseFault, ExerciseKind, Key, read_exercise};
+pub use judging::{judge, judge_trial};
+pub use trial::Trial;
+pub use trials::{trial_of, trials_of};
+pub use verdict::{Bar, Unfit, UnfitKind, Verdict, Wrong};

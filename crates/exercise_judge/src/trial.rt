@@ -1,0 +1,33 @@
+//! What a submission has to do under one input.
+use exercise_header::Wanted;
+use pram_cost::Pram;
+use std::marker::Model;
+
+/// The header as the input sets it, what is wanted at the end, the bars, and the weakest model that
+/// is allowed.
+#[derive(Drop)]
+pub struct Trial {
+    pub header: Vec<u8>,
+    pub wanted: Vec<Wanted>,
+    pub time: Option<u32>,
+    pub operations: Option<u32>,
+    pub steps: Option<u32>,
+    pub lines: Option<u64>,
+    pub model: Option<Pram>,
+}
+
+impl Model for Trial {
+    ghost use Rattle.exercise_judge.specs.Trials.{TrialData};
+
+    ghost Value = { TrialData };
+
+    ghost view = { λ t. record {
+      header = t.header.items;
+      wanted = t.wanted.items;
+      time = t.time;
+      operations = t.operations;
+      steps = t.steps;
+      lines = t.lines;
+      model = t.model;
+    } };
+}

@@ -1,0 +1,180 @@
+//! The trials of an exercise.
+ghost use Rattle.std.specs.Prelude.{◌≡◌, IfOk, Ok, OnOk};
+ghost use Rattle.text_lines.specs.Lines.{words_of};
+ghost use Rattle.pram_cost.specs.Beyond.{model_named};
+ghost use Rattle.exercise_text.specs.declared.key.Key.TheVariants.{Given as GivenKey};
+ghost use Rattle.exercise_header.specs.Headers.{header_as_set};
+ghost use Rattle.exercise_judge.specs.Trials.{AddsTrial, AreSaid, AreTrials, AreWanted, IsBar};
+ghost use Rattle.exercise_judge.specs.Trials.{IsTrial, model_of, part_in};
+
+use crate::reference::wanted_by_reference;
+use crate::trial::Trial;
+use crate::verdict::{Unfit, UnfitKind};
+use exercise_header::{Wanted, header_as_set, read_header, value_by, wanted_at_start};
+use exercise_text::{Entry, Exercise, Key, answer_in};
+use pardo_text::{PardoFault, PardoKind};
+use pram_cost::Pram;
+use std::alloc::Global;
+use text_lines::{is_word, one_word};
+
+/// The trials of the inputs of an exercise, in their order. Its reference is run once for each that
+/// does not say what is wanted.
+pub fn trials_of(alloc: Global, exercise: &Exercise) -> Result<Vec<Trial>, Unfit>
+    ensures { IfOk result (λ trials. AreTrials exercise.now trials.items) }
+{
+    let mut trials = Vec::new(alloc);
+    for entry in exercise.entries() {
+        if let Err(kind) = push_trial(alloc, exercise, entry, &mut trials) {
+            let line = entry.number();
+            return Err(Unfit { line, kind });
+        }
+    }
+    Ok(trials)
+}
+
+// Adds the trial of an entry, if it is an input.
+fn push_trial(
+    alloc: Global,
+    exercise: &Exercise,
+    entry: &Entry,
+    trials: &mut Vec<Trial>,
+) -> Result<(), UnfitKind>
+    ensures { OnOk result (AddsTrial exercise.now entry.now trials.old.items trials.new.items) }
+{
+    if entry.key().is_input() {
+        trials.push(trial_of(alloc, exercise, entry)?)?;
+    }
+    Ok(())
+}
+
+/// The trial of an input.
+pub fn trial_of(alloc: Global, exercise: &Exercise, input: &Entry) -> Result<Trial, UnfitKind>
+    ensures { IfOk result (IsTrial exercise.now input.now) }
+{
+    let header = given_header(alloc, exercise, input)?;
+    let wanted = wanted_of(alloc, exercise, input, header.as_slice())?;
+    let time = bar_of(alloc, exercise, header.as_slice(), Key::Time)?;
+    let operations = bar_of(alloc, exercise, header.as_slice(), Key::Operations)?;
+    let steps = bar_of(alloc, exercise, header.as_slice(), Key::Steps)?;
+    Ok(Trial {
+        header,
+        wanted,
+        time,
+        operations,
+        steps,
+        lines: exercise.most_lines(),
+        model: model_of(exercise),
+    })
+}
+
+// The header as the input sets it.
+fn given_header(alloc: Global, exercise: &Exercise, input: &Entry) -> Result<Vec<u8>, UnfitKind>
+    ensures { IfOk result (λ header. header_as_set (part_in GivenKey exercise.now)
+        (words_of input.now.text) ≡ Ok header.items) }
+{
+    header_as_set(alloc, part_in(exercise, Key::Given), input.text()).map_err(given_fault)
+}
+
+fn given_fault(fault: PardoFault) -> UnfitKind {
+    if fault.kind == PardoKind::Memory {
+        UnfitKind::Memory
+    } else {
+        UnfitKind::Given(fault)
+    }
+}
+
+fn answer_fault(fault: PardoFault) -> UnfitKind {
+    if fault.kind == PardoKind::Memory {
+        UnfitKind::Memory
+    } else {
+        UnfitKind::Answer(fault)
+    }
+}
+
+fn bar_fault(fault: PardoFault) -> UnfitKind {
+    if fault.kind == PardoKind::Memory {
+        UnfitKind::Memory
+    } else {
+        UnfitKind::Bar(fault)
+    }
+}
+
+// What a part of an exercise says, and nothing where it has none.
+fn part_in(exercise: &Exercise, key: Key) -> &[u8]
+    ensures { result.now ≡ part_in key exercise.now }
+{
+    exercise.text(key).unwrap_or(b"")
+}
+
+fn wanted_of(
+    alloc: Global,
+    exercise: &Exercise,
+    input: &Entry,
+    header: &[u8],
+) -> Result<Vec<Wanted>, UnfitKind>
+    ensures { IfOk result (λ wanted.
+        AreWanted exercise.now input.now header.now wanted.items) }
+{
+    let names = part_in(exercise, Key::Want);
+    match answer_in(input.text()) {
+        None => wanted_by_reference(alloc, header, part_in(exercise, Key::Reference), names),
+        Some(words) => { wanted_by_words(alloc, header, words, names).map_err(answer_fault) }
+    }
+}
+
+fn wanted_by_words(
+    alloc: Global,
+    header: &[u8],
+    words: &[u8],
+    names: &[u8],
+) -> Result<Vec<Wanted>, PardoFault>
+    ensures { IfOk result (λ wanted. AreSaid header.now (words_of words.now)
+        (words_of names.now) wanted.items) }
+{
+    let set = header_as_set(alloc, header, words)?;
+    let program = read_header(alloc, set.as_slice(), b"0")?;
+    match wanted_at_start(alloc, names, program.arrays()) {
+        Ok(wanted) => Ok(wanted),
+        Err(_) => Err(PardoFault {
+            line: 0,
+            kind: PardoKind::Memory,
+        }),
+    }
+}
+
+fn bar_of(
+    alloc: Global,
+    exercise: &Exercise,
+    header: &[u8],
+    key: Key,
+) -> Result<Option<u32>, UnfitKind>
+    ensures { IfOk result (IsBar exercise.now header.now key) }
+{
+    let Some(bar) = exercise.bar(key) else {
+        return Ok(None);
+    };
+    Ok(Some(value_by(alloc, header, bar).map_err(bar_fault)?))
+}
+
+// The weakest model that is allowed, if the exercise names one.
+fn model_of(exercise: &Exercise) -> Option<Pram>
+    ensures { result ≡ model_of exercise.now }
+{
+    model_named(one_word(exercise.text(Key::Model)?)?)
+}
+
+fn model_named(word: &[u8]) -> Option<Pram>
+    ensures { result ≡ model_named word.now }
+{
+    if is_word(word, "EREW") || is_word(word, "erew") {
+        Some(Pram::Erew)
+    } else if is_word(word, "CREW") || is_word(word, "crew") {
+        Some(Pram::Crew)
+    } else if is_word(word, "common") {
+        Some(Pram::CommonCrcw)
+    } else if is_word(word, "priority") {
+        Some(Pram::PriorityCrcw)
+    } else {
+        None
+    }
+}

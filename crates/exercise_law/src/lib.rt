@@ -1,0 +1,4 @@
+//! What a submission that passes does, by its meaning.
+#![tactic(auto)]
+
+pub mod laws;

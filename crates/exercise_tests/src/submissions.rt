@@ -1,0 +1,66 @@
+//! Submissions, and what is said of them.
+use crate::said::submission_said;
+use std::rt::HostRuntime;
+use std::test::Fail;
+
+const SUMS: &str = "exercise 1
+title prefix sums
+task A[i] becomes A[0] + .. + A[i], modulo 2^32.
+model EREW
+time <= 6 * lg(n) + 4
+operations <= 9 * n * lg(n)
+steps <= 60 * lg(n) + 100
+lines <= 8
+want A
+given
+  pardo 1
+  rule crew
+  const n = 16
+  procs i < n
+  shared A[n] = 3, 1, 4, 1, 5, ...
+start
+  code
+  A[i] := A[i]
+reference
+  code
+  if i = 0
+    for k = 1 to n - 1
+      A[k] := A[k] + A[k - 1]
+    end
+  end
+input n=4 A=5,3,9,1
+input n=2 A=7,9 -> A=7,16
+hidden n=64 A=any:7:100
+hidden n=8 A=1,...
+";
+
+const GOOD: &str = "pardo 1~rule common~const n = 16~procs i<n~shared A[n] = 3, ...~private x~code~\
+for k = 0 to lg(n) - 1~if i >= 1 << k~x := A[i - (1 << k)]~end~if i >= 1 << k~A[i] := A[i] + x~end~end";
+
+// the rows: what stands in the place of what, and what is said then
+const ROWS: &str = "\
+for => for => passed
+const n = 16 => const n = 99 => passed
+rule common => ; => 1 missing   rule crew
+A[i] + x => A[i] + x + 1 => 1 A[1] holds 9, wanted 8
+A[i] + x => A[i] + x + k => 1 A[2] holds 18, wanted 17
+code => const m = 3~code => passed
+x := A[i - (1 << k)] => x := A[0] => 1 A[2] holds 19, wanted 17
+A[i] := A[i] + x => A[0] := x => 1 conflict line=13 place=A[0] processors=1,2
+code => code~while 1~A[i] := A[i]~end => 1 Job(JobFault { line: 8, kind: Endless })
+x := => x = => 1 Text(PardoFault { line: 10, kind: BadLine })";
+
+#[test]
+fn submissions_are_judged(rt: HostRuntime) -> Result<(), Fail> {
+    let alloc = rt.alloc();
+    for row in ROWS.lines() {
+        let (old, rest) = row.split_once(" => ").expect(&rt, row);
+        let (new, wanted) = rest.split_once(" => ").expect(&rt, row);
+        let text = GOOD.replace(alloc, old, new)?;
+        let text = text.replace(alloc, "~", "\n")?;
+        let found = submission_said(alloc, SUMS, text.as_str())?;
+        let is_said = found.as_str() == wanted;
+        assert!(rt; is_said, "{row} but {found}");
+    }
+    Ok(())
+}

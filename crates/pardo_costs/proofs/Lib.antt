@@ -1,0 +1,2 @@
+pub mod CostsMade
+pub mod Lined

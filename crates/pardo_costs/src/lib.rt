@@ -1,0 +1,8 @@
+//! The run of a program, and what it costs.
+#![tactic(auto)]
+
+mod line_costs;
+mod run;
+
+pub use line_costs::{Costs, LineCost, total_operations, total_time};
+pub use run::{Run, run_program};
