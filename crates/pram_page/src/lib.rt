@@ -3,6 +3,7 @@
 #![tactic(auto)]
 
 mod boards;
+mod exercises;
 mod plain;
 mod programs;
 mod runs;

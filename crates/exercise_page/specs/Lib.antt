@@ -1,0 +1,5 @@
+pub mod Put
+pub mod Entries
+pub mod Given
+pub mod Findings
+pub mod Verdicts
