@@ -1,4 +1,4 @@
-// assemble.js CORE.wasm EXAMPLES OUT.html: puts the page into one file. Debian's esbuild makes one
+// assemble.js CORE.wasm EXAMPLES EXERCISES OUT.html: puts the page into one file. Debian's esbuild makes one
 // script of the modules of src/.
 import { execFileSync } from 'node:child_process';
 import { createHash } from 'node:crypto';
@@ -54,6 +54,18 @@ function examplesOf(folder) {
     }));
 }
 
+// The exercises in the order of their table.
+function exercisesOf(folder) {
+  const rows = readFileSync(join(folder, 'README.md'), 'utf8').matchAll(/^\|\d+\|`(\w+)`\|/gm);
+  const names = [...rows].map(([, name]) => name);
+  const files = readdirSync(folder).filter((name) => name.endsWith('.exercise'));
+  if (files.sort().join() !== names.map((name) => `${name}.exercise`).sort().join()) {
+    throw new Error(`the table of ${folder}/README.md has other exercises than the folder`);
+  }
+  return names.map((name) =>
+    ({ name, text: readFileSync(join(folder, `${name}.exercise`), 'utf8') }));
+}
+
 // Sections of the documents, by their headings.
 const SECTIONS = {
   'PARDO.md': ['Reference', 'Slips'],
@@ -88,13 +100,14 @@ const policyOf = (style, script) =>
   `script-src ${hash(script)} 'wasm-unsafe-eval'; worker-src blob:; base-uri 'none'; ` +
   "form-action 'none'";
 
-const [core, examples, out] = process.argv.slice(2);
+const [core, examples, exercises, out] = process.argv.slice(2);
 const style = `\n${read('style.css')}`;
 const [script, thread] = bundlesOf('main', 'far_core');
 const parts = {
   POLICY: policyOf(style, script),
   STYLE: style,
   EXAMPLES: packed(JSON.stringify(examplesOf(examples))),
+  EXERCISES: packed(JSON.stringify(exercisesOf(exercises))),
   DOCUMENTS: packed(documentsOf(join(source, '..', '..', 'docs'))),
   WORDS: packed(JSON.stringify(textsOfLanguages())),
   FAR: packed(thread),

@@ -10,6 +10,7 @@ import {
 const crates = join(dirname(fileURLToPath(import.meta.url)), '..', '..', 'crates');
 const read = (file) => readFileSync(join(crates, file), 'utf8');
 const ofPage = (name) => read(`page_core/src/${name}.rt`);
+const ofExercises = (name) => read(`exercise_page/src/${name}.rt`);
 
 const byName = (constants) =>
   Object.fromEntries(constants.map(({ name, value }) => [name, value]));
@@ -24,7 +25,13 @@ function byNumber(numbers, words) {
 
 // ---- codes
 
+// Those of exercises come after the others; some are in both.
 const constants = constantsIn(ofPage('codes'));
+for (const constant of constantsIn(ofExercises('codes'))) {
+  const same = constants.find(({ name }) => name === constant.name);
+  if (!same) constants.push(constant);
+  else if (same.value !== constant.value) throw new Error(`${same.name} has two values`);
+}
 const isLimit = ({ name }) => name.endsWith('_MOST');
 
 // What is at most, how calls end, and what cells are for.
@@ -56,6 +63,12 @@ export const OP = numbersIn(ofPage('rows'), 'step_of_effect');
 export const END = numbersIn(ofPage('fates'), 'tell_end', 'kind');
 export const EVENT = variantsIn(ofPage('board'), 'happen');
 
+export const KEY = numbersIn(ofExercises('entries'), 'number_of_key');
+export const EXERCISE_FAULT = faultsIn(ofExercises('entries'), 'number_of_exercise_kind');
+export const WRONG = numbersIn(ofExercises('verdict'), 'tell_wrong', 'kind');
+export const UNFIT = numbersIn(ofExercises('verdict'), 'tell_unfit', 'kind');
+export const BAR = numbersIn(ofExercises('verdict'), 'number_of_bar');
+
 // ---- words
 
 export const RULES = byNumber(RULE, wordsIn(read('job_text/src/print.rt'), 'Rule'));
@@ -78,11 +91,12 @@ export const INSTRUCTIONS = [...read('pram_job/src/instr.rt')
 const filesOf = (folder) =>
   readdirSync(join(crates, folder)).sort().map((name) => read(join(folder, name)));
 
-export const calls = ['programs', 'plain', 'runs', 'boards']
+export const calls = ['programs', 'plain', 'runs', 'boards', 'exercises']
   .flatMap((name) => callsIn(read(`pram_page/src/${name}.rt`)));
 
 export const layouts = layoutsOf(
-  [...filesOf('page_core/src'), read('pram_step/src/last.rt')].flatMap(structsIn));
+  [...filesOf('page_core/src'), ...filesOf('exercise_page/src'), read('pram_step/src/last.rt')]
+    .flatMap(structsIn));
 
 const camelCase = (name) => name.replaceAll(/_([a-z])/g, (_, letter) => letter.toUpperCase());
 

@@ -17,35 +17,42 @@ async function unpackText(packed) {
 
 const exampleOf = ({ text }, examples) => examples.find((candidate) => candidate.text === text);
 
-// What an address says besides the text, or nothing where the acts would be too long.
+// The exercise of one's own that is shown.
+const exerciseOf = ({ lesson }) => lesson?.text;
+
+// What an address says besides texts, or nothing where the acts would be too long.
 function writeMoment({ view, step, schedule, lesson }, most) {
   const { workers, acts, at } = schedule;
   const parts = [`view=${view}`, `step=${step}`, `workers=${workers}`];
   const written = writeActs(acts, most);
   if (written === undefined) return undefined;
   if (acts.length > 0) parts.push(`acts=${written}`, `at=${at}`);
-  if (lesson) parts.push(`${lesson.kind}=${lesson.name}`);
+  if (lesson && lesson.text === undefined) parts.push(`${lesson.kind}=${lesson.name}`);
   return parts.join('&');
 }
 
 // The part after `#`, or nothing where it would be too long for a link.
 export async function writeAddress(shown, examples) {
   const example = exampleOf(shown, examples);
-  if (!example && shown.text.length > 20 * MOST_ADDRESS) return undefined;
+  const length = (example ? 0 : shown.text.length) + (exerciseOf(shown)?.length ?? 0);
+  if (length > 20 * MOST_ADDRESS) return undefined;
   const moment = writeMoment(shown, MOST_ADDRESS);
   if (moment === undefined) return undefined;
   const text = example ? `example=${example.name}` : `text=${await packText(shown.text)}`;
-  const address = `${text}&${moment}`;
+  const own = exerciseOf(shown);
+  const exercise = own === undefined ? '' : `&own=${await packText(own)}`;
+  const address = `${text}&${moment}${exercise}`;
   return address.length > MOST_ADDRESS ? undefined : address;
 }
 
 // What is shown, at once and of any length, for the page itself: the text stands beside the rest,
-// and of an example its name.
+// and of an example its name; and an exercise of one's own.
 export function writeShown(shown, examples) {
   const example = exampleOf(shown, examples);
   const moment = writeMoment(shown);
-  return example ? { address: `example=${example.name}&${moment}` }
-    : { address: moment, text: shown.text };
+  const own = exerciseOf(shown);
+  return example ? { address: `example=${example.name}&${moment}`, own }
+    : { address: moment, text: shown.text, own };
 }
 
 function readNumber(fields, name, least, most, otherwise) {
@@ -60,8 +67,12 @@ function readNumber(fields, name, least, most, otherwise) {
 
 const LESSONS = ['exercise', 'puzzle', 'tour'];
 
-// The lesson whose panel is open, by its kind and its name.
-function readLesson(fields) {
+const lessonWith = (own) => ({ kind: 'exercise', text: own });
+
+// The lesson whose panel is open, by its kind and its name; an exercise of one's own by its text.
+async function readLesson(fields) {
+  const own = fields.get('own');
+  if (own !== null) return lessonWith(await unpackText(own));
   const kind = LESSONS.find((one) => fields.has(one));
   return kind && { kind, name: fields.get(kind) };
 }
@@ -88,15 +99,16 @@ export async function readAddress(address, examples) {
     text,
     view: fields.get('view') === 'workers' ? 'workers' : 'lockstep',
     step: readNumber(fields, 'step', 0, 4294967295, 0),
-    lesson: readLesson(fields),
+    lesson: await readLesson(fields),
     schedule: workers === undefined ? undefined : new Schedule(workers, acts, at),
   };
 }
 
 // What writeShown wrote. Throws at anything else.
-export async function readShown({ address, text }, examples) {
+export async function readShown({ address, text, own }, examples) {
   const shown = await readAddress(address, examples);
   const found = shown.text ?? text;
   if (typeof found !== 'string') throw new TypeError('there is no text');
-  return { ...shown, text: found };
+  const lesson = typeof own === 'string' ? lessonWith(own) : shown.lesson;
+  return { ...shown, text: found, lesson };
 }

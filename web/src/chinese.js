@@ -280,6 +280,50 @@ export const CHINESE = {
   ['N[i] is the element after i in a list, and of its last one that itself. R[i] becomes how ' +
     'many come after i. N may change.']:
     'N[i] 是链表中 i 之后的元素，对最后一个元素则是它自己。R[i] 变为 i 之后元素的个数。N 可以改变。',
+  'sums in segments': '分段求和',
+  ['Where F[i] is 1 a segment begins, and at A[0], too; else F[i] is 0. A[i] becomes the sum ' +
+    'of its segment\'s values up to A[i], modulo 2^32. F may change.']:
+    'F[i] 为 1 处开始一段，A[0] 处也是；否则 F[i] 为 0。A[i] 变为其所在段中直到 A[i] 的值之和，模 2^32。F 可以改变。',
+  compaction: '压缩',
+  ['The values of A that are not 0 go to the front of B, in their order; count becomes how ' +
+    'many they are. The other places of B stay 0. n is a power of two.']:
+    'A 中非 0 的值按原来的次序放到 B 的前面；count 变为它们的个数。B 的其余位置保持 0。n 是 2 的幂。',
+  'prefix sums by few': '少数处理器求前缀和',
+  ['A[i] becomes A[0] + .. + A[i], modulo 2^32, of n values by p processors; n is a multiple ' +
+    'of p. Each processor makes about as many additions as it has values.']:
+    'A[i] 变为 A[0] + .. + A[i]，模 2^32，n 个值由 p 个处理器完成；n 是 p 的倍数。每个处理器作的加法大约与它的值一样多。',
+  'maximum in constant time': '常数时间求最大值',
+  'greatest becomes the greatest of all A[i]. There is a processor for each pair of values.':
+    'greatest 变为所有 A[i] 中最大的。每一对值有一个处理器。',
+  'merge of two rows': '归并两列',
+  ['A and B are sorted, each from its least value to its greatest. C becomes all their ' +
+    'values, sorted. n is a power of two.']:
+    'A 和 B 都已从小到大排好序。C 变为它们全部的值，排好序。n 是 2 的幂。',
+  sort: '排序',
+  'A becomes sorted, from its least value to its greatest. n is a power of two.':
+    'A 变为从小到大排好序。n 是 2 的幂。',
+  'matrix product': '矩阵乘积',
+  ['C becomes the product of A and B: C[r, c] is A[r, 0] * B[0, c] + .. + A[r, n - 1] * B[n - ' +
+    '1, c], modulo 2^32. There is a processor for each place of C.']:
+    'C 变为 A 与 B 的乘积：C[r, c] 是 A[r, 0] * B[0, c] + .. + A[r, n - 1] * B[n - 1, c]，模 2^32。C ' +
+    '的每个位置有一个处理器。',
+  'depths in a tree': '树中的深度',
+  ['A tour goes around a tree of n nodes: each edge is an arc down and one up. next[a] is the ' +
+    'arc after a, and of the last one that itself; down[a] is 1 if a leads down, else 0; ' +
+    'head[a] is the node that it leads to. depth[v] becomes how many edges v lies below the ' +
+    'root, where the tour begins and ends. next may change.']:
+    '一条回路绕行一棵有 n 个结点的树：每条边是一段向下的弧和一段向上的弧。next[a] 是 a 之后的弧，最后一段的是它自己；a 向下时 down[a] 为 1，否则为 ' +
+    '0；head[a] 是它通向的结点。depth[v] 变为 v 在根之下的边数，回路从根开始，到根结束。next 可以改变。',
+  'ways in a graph': '图中的路',
+  ['A[a, b] is 1 if an edge leads from node a to node b, else 0. W[a, b] becomes 1 if a way ' +
+    'does, of one edge, more or none, and else 0. There is a processor for each three nodes. A ' +
+    'may change.']:
+    '若有边从结点 a 通到结点 b，则 A[a, b] 为 1，否则为 0。若有路从 a 通到 b（一条边、多条边或没有边），则 W[a, b] 变为 1，否则为 ' +
+    '0。每三个结点有一个处理器。A 可以改变。',
+  'connected components': '连通分量',
+  ['Edge i joins the nodes U[i] and V[i], which may be the same. C[v] becomes the least node ' +
+    'that v is joined to, by one edge, more or none. m is at least n.']:
+    '边 i 连接结点 U[i] 和 V[i]，它们可以相同。C[v] 变为与 v 相连的最小结点，经由一条边、多条边或没有边。m 至少是 n。',
   '“{0}” needs two registers, as in “{1}”, or in pram 3 of an array A “{2}”.':
     '“{0}”需要两个寄存器，如“{1}”；在 pram 3 中对数组 A 可写“{2}”。',
   '“{0}” needs no operand, as in “{1}”.': '“{0}”不需要操作数，如“{1}”。',
@@ -345,54 +389,71 @@ export const CHINESE = {
   'rename this program': '重命名此程序',
   'delete this program': '删除此程序',
   'there is no such lesson': '没有这一课',
-  '{0} step with n = {1}': 'n = {1} 时 {0} 步',
-  '{0} steps with n = {1}': 'n = {1} 时 {0} 步',
-  '{0} with n = {1}': 'n = {1} 时 {0}',
-  ['{0} Under {1}, in a number of steps that does not grow with n. Judge tries your lines on ' +
-    'inputs that you do not see, with n = {2} and {3}.']:
-    '{0}在 {1} 模型下，步数不随 n 增长。“评判”会用您看不到的输入来试您的各行，n = {2} 和 {3}。',
-  ['all is right, but not in a number of steps that does not grow with n: it took {0}, and ' +
-    'takes {1} here, where at most {2} are allowed.']:
-    '结果都对，但步数随 n 增长：用了 {0}，这里用了 {1} 步，而最多允许 {2} 步。',
-  '{0} step with each n': '每个 n 都是 {0} 步',
-  '{0} steps with each n': '每个 n 都是 {0} 步',
-  ['{0} Under {1}, in steps that grow no faster than a line in log n. Judge tries your lines ' +
-    'on inputs that you do not see, with n = {2} and {3}.']:
-    '{0}在 {1} 模型下，步数的增长不快于 log n 的一条直线。“评判”会用您看不到的输入来试您的各行，n = {2} 和 {3}。',
-  ['all is right, but not in steps that grow no faster than a line in log n: it took {0}, and ' +
-    'takes {1} here, where at most {2} are allowed.']:
-    '结果都对，但步数的增长快于 log n 的一条直线：用了 {0}，这里用了 {1} 步，而最多允许 {2} 步。',
-  'all is right, but in {0} step; at most {1} are allowed.': '结果都对，但用了 {0} 步；最多允许 {1} 步。',
-  'all is right, but in {0} steps; at most {1} are allowed.': '结果都对，但用了 {0} 步；最多允许 {1} 步。',
-  'the page is out of memory.': '页面内存不足。',
   'line {0}: {1}': '第 {0} 行：{1}',
-  'processors {0} and {1} write {2} in line {3}, step {4}, against the rule {5}.':
-    '处理器 {0} 和 {1} 在第 {3} 行、第 {4} 步都写 {2}，违反规则 {5}。',
-  ['processors {0} and {1} write different values to {2} in line {3}, step {4}, against the ' +
-    'rule {5}.']:
-    '处理器 {0} 和 {1} 在第 {3} 行、第 {4} 步把不同的值写入 {2}，违反规则 {5}。',
   'Processor {0} is gone since line {1}, where its array has no such place.':
     '处理器 {0} 从第 {1} 行起已退出，那里它的数组没有这个位置。',
   '{0} holds {1}, wanted {2}.': '{0} 是 {1}，应为 {2}。',
   '{0} holds {1}, wanted {2}; no line wrote it.': '{0} 是 {1}，应为 {2}；没有哪一行写过它。',
   '{0} holds {1}, wanted {2}; line {3} wrote it last.': '{0} 是 {1}，应为 {2}；最后写它的是第 {3} 行。',
-  'it needs {5}: processors {0} and {1} read {2} in line {3}, step {4}.':
-    '它需要 {5}：处理器 {0} 和 {1} 在第 {3} 行、第 {4} 步都读 {2}。',
-  'it needs {5}: processors {0} and {1} write {2} in line {3}, step {4}.':
-    '它需要 {5}：处理器 {0} 和 {1} 在第 {3} 行、第 {4} 步都写 {2}。',
-  'it needs {5}: processors {0} and {1} write different values to {2} in line {3}, step {4}.':
-    '它需要 {5}：处理器 {0} 和 {1} 在第 {3} 行、第 {4} 步把不同的值写入 {2}。',
   'Not yet: the line “{0}” is missing. “Begin anew” brings it back.': '还不对：缺少行“{0}”。“重新开始”可以把它找回来。',
-  'Not yet, on input {0} of {1} (n = {2}): {3}': '还不对，在第 {0} 个输入上（共 {1} 个，n = {2}）：{3}',
   'Not yet, {0}': '还不对，{0}',
-  'Right on all {0} inputs, under {1}: {2}.': '{0} 个输入全部正确，在 {1} 模型下：{2}。',
-  'Tour {0}': '导览 {0}',
+  input: '输入',
+  '{0} wanted': '要求的 {0}',
+  'Time at most {0}.': '时间至多 {0}。',
+  'Operations at most {0}.': '操作至多 {0}。',
+  'Steps of the machine at most {0}.': '机器的步数至多 {0}。',
+  'Lines of code at most {0}.': '代码行数至多 {0}。',
+  'it has a character that no text here may have': '其中有此处任何文本都不得有的字符',
+  'the first line has to be “exercise 1”': '第一行必须是“exercise 1”',
+  'no line of an exercise begins with this word': '习题中没有以这个词开头的行',
+  'something is wrong behind the first word': '第一个词之后有错',
+  'it may stand once, and stands a second time': '它只能出现一次，这里是第二次',
+  'the text ends without “{0}”': '文本到结尾都没有“{0}”',
+  'this input does not say what is wanted, and there is no reference': '这个输入没有说要求什么，也没有参考程序',
+  'it is too long': '它太长',
+  'the text is no exercise: {0}': '这个文本不是习题：{0}',
+  'Under {0}.': '在 {0} 下。',
+  'Judge tries your lines on {0} inputs, of which {1} are not shown.':
+    '“评判”用 {0} 个输入试您的代码行，其中 {1} 个不显示。',
+  '{0} cannot be opened: {1}.': '无法打开 {0}：{1}。',
+  'processors {0} and {1} write {2} in line {3}, against the rule {4}.':
+    '处理器 {0} 和 {1} 在第 {3} 行写 {2}，违反规则 {4}。',
+  'processors {0} and {1} write different values to {2} in line {3}, against the rule {4}.':
+    '处理器 {0} 和 {1} 在第 {3} 行向 {2} 写不同的值，违反规则 {4}。',
+  'it needs {4}: processors {0} and {1} read {2} in line {3}.':
+    '它需要 {4}：处理器 {0} 和 {1} 在第 {3} 行读 {2}。',
+  'it needs {4}: processors {0} and {1} write {2} in line {3}.':
+    '它需要 {4}：处理器 {0} 和 {1} 在第 {3} 行写 {2}。',
+  'it needs {4}: processors {0} and {1} write different values to {2} in line {3}.':
+    '它需要 {4}：处理器 {0} 和 {1} 在第 {3} 行向 {2} 写不同的值。',
+  'all is right, but its time is {0}; at most {1} is allowed here.': '结果都对，但时间是 {0}；这里至多允许 {1}。',
+  'all is right, but it makes {0} operations; at most {1} are allowed here.':
+    '结果都对，但作了 {0} 次操作；这里至多允许 {1} 次。',
+  'all is right, but the machine makes {0} steps; at most {1} are allowed here.':
+    '结果都对，但机器走了 {0} 步；这里至多允许 {1} 步。',
+  'all is right, but in {0} lines of code; at most {1} are allowed.':
+    '结果都对，但用了 {0} 行代码；至多允许 {1} 行。',
+  'Not yet, on input {0} of {1}: {2}': '还没有，在第 {0} 个输入（共 {1} 个）上：{2}',
+  'Not yet, on input {0} of {1} ({2}): {3}': '还没有，在第 {0} 个输入（共 {1} 个，{2}）上：{3}',
+  'the input in its line {0} sets a bad header: {1}': '其第 {0} 行的输入给出错误的头部：{1}',
+  'the input in its line {0} says badly what is wanted: {1}': '其第 {0} 行的输入对要求的值写得不对：{1}',
+  'a bar has no value with the input in its line {0}: {1}': '对其第 {0} 行的输入，有一个界限没有值：{1}',
+  'its reference fails with the input in its line {0}: {1}': '其参考程序在第 {0} 行的输入上失败：{1}',
+  'its reference ends in a conflict with the input in its line {0}': '其参考程序在第 {0} 行的输入上以冲突告终',
+  'the input in its line {0} sets “{1}”, which its header does not declare':
+    '其第 {0} 行的输入设了“{1}”，而头部没有声明它',
+  'This exercise cannot be judged by: {0}': '无法按这道习题评判：{0}',
+  'Right on all {0} inputs.': '在全部 {0} 个输入上都正确。',
+  'Right on all {0} inputs, under {1}.': '在全部 {0} 个输入上都正确，在 {1} 下。',
+  'Not yet: the text is too long.': '还没有：文本太长。',
+  'your own': '您自己的',
+  'Exercise: {0}': '习题：{0}',
+  '{0}, this input': '{0}，这个输入',
+  'Your own exercise: {0}': '您自己的习题：{0}',
   'Tour {0} of {1}: {2}': '导览 {0}/{1}：{2}',
   'Exercise {0}': '练习 {0}',
   'Exercise {0} of {1}: {2}': '练习 {0}/{1}：{2}',
-  'Find a schedule {0}': '找一个调度 {0}',
   'Find a schedule {0} of {1}: {2}': '找一个调度 {0}/{1}：{2}',
-  'Exercise {0}, this input': '练习 {0}，这个输入',
   'A tour: losing a worker': '导览：失去一个工作者',
   Exercises: '练习',
   'Find a schedule': '找一个调度',

@@ -139,22 +139,33 @@ function readPairs(memory, rows, count) {
 // Room that most programs have enough of.
 const ROOM = { bytes: 65536, rows: 4096 };
 
-// A call that fills bytes and rows: it is made again where there was too little room.
-function tellProgram(exports, text, element, call, { bytes: most, rows: count } = ROOM) {
+// Codes with which bytes are told.
+const WITH_BYTES = [CODE.DONE, CODE.FAILED];
+
+// A call on texts that fills bytes, and rows of this element where it has such: it is made again
+// where there was too little room. `struct` is what it tells besides.
+function tellFilled(exports, texts, { struct, element }, call, most = ROOM) {
   const told = atDesk(exports, (desk) => {
-    const input = putText(desk, text);
-    const [bytes, rows] = [desk.room(most), desk.room(count * sizeOf(element))];
-    const found = tell(desk, 'ProgramTold', (at) => call(input, [bytes, BigInt(most)],
+    const inputs = texts.flatMap((text) => putText(desk, text));
+    const bytes = desk.room(most.bytes);
+    const count = element ? most.rows : 0;
+    const rows = desk.room(element ? count * sizeOf(element) : 0);
+    const found = tell(desk, struct, (at) => call(inputs, [bytes, BigInt(most.bytes)],
       [rows, BigInt(count)], at));
-    const isTold = found.code === CODE.DONE;
+    const isTold = WITH_BYTES.includes(found.code);
     return {
       ...found,
       text: isTold ? readText(desk, bytes, found.bytes) : '',
-      list: isTold ? readElements(desk.memory(), wordAt(rows), element, found.rows) : [],
+      list: isTold && element
+        ? readElements(desk.memory(), wordAt(rows), element, found.rows) : [],
     };
   });
-  return told.code === CODE.NO_ROOM ? tellProgram(exports, text, element, call, told) : told;
+  return told.code === CODE.NO_ROOM
+    ? tellFilled(exports, texts, { struct, element }, call, told) : told;
 }
+
+const tellProgram = (exports, text, element, call) =>
+  tellFilled(exports, [text], { struct: 'ProgramTold', element }, call);
 
 // Programs of `pardo`, of which the core tells the job as a text of the machine.
 function programCalls(exports) {
@@ -180,6 +191,26 @@ function programCalls(exports) {
         names: names.text,
       };
     },
+  };
+}
+
+// Exercises, which are texts of their own.
+function exerciseCalls(exports) {
+  return {
+    // The entries, with their texts one after the other; or why the text is no exercise.
+    entries: (text) => tellFilled(exports, [text],
+      { struct: 'ExerciseTold', element: 'EntryRow' }, (inputs, bytes, rows, told) =>
+        exports.pram_page_exercise(...inputs, ...bytes, ...rows, told)),
+
+    // A submission with the header as the input in this line of the exercise sets it.
+    given: (exercise, submission, line) => tellFilled(exports, [exercise, submission],
+      { struct: 'ExerciseTold' }, (inputs, bytes, rows, told) =>
+        exports.pram_page_given(...inputs, BigInt(line), ...bytes, told)),
+
+    // Whether a submission meets all inputs of an exercise, or the first thing that is wrong.
+    verdict: (exercise, submission) => tellFilled(exports, [exercise, submission],
+      { struct: 'VerdictTold' }, (inputs, bytes, rows, told) =>
+        exports.pram_page_verdict(...inputs, ...bytes, told)),
   };
 }
 
@@ -369,7 +400,7 @@ export async function openCore(bytes) {
   const { instance } = await WebAssembly.instantiate(bytes, {});
   const { exports } = instance;
   return {
-    ...programCalls(exports), ...plainCalls(exports), ...runCalls(exports),
-    ...boardCalls(exports),
+    ...programCalls(exports), ...exerciseCalls(exports), ...plainCalls(exports),
+    ...runCalls(exports), ...boardCalls(exports),
   };
 }

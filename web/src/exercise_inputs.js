@@ -1,73 +1,52 @@
-// The inputs of exercises: of each size some with the value that matters at the first place, at the
-// last one, everywhere and nowhere.
-export const GREATEST = 2 ** 32 - 1;
+// The inputs of an exercise that are shown, as a table: what each sets, and what is wanted then.
+import { CODE } from './declared.js';
+import { make } from './dom.js';
+import { shortened } from './numbers.js';
+import { Source } from './source.js';
+import { phrase } from './words.js';
 
-export const indices = (n) => Array.from({ length: n }, (_, i) => i);
+const MOST_ROWS = 20;
+const MOST_LETTERS = 60;
 
-// Numbers that look like thrown ones, the same ones each time.
-function thrown(n, seed, most) {
-  let state = seed;
-  return indices(n).map(() => {
-    state = (state * 1103515245 + 12345) % 2 ** 31;
-    return (state >> 8) % (most + 1);
-  });
+const shownOf = ({ inputs }) => inputs.filter(({ isHidden }) => !isHidden).slice(0, MOST_ROWS);
+
+const valuesOf = (text) => shortened(text.replaceAll(',', ', '), MOST_LETTERS);
+
+const namesIn = (inputs, part) =>
+  [...new Set(inputs.flatMap((input) => input[part].map(([name]) => name)))];
+
+const cellsOf = (names, pairs) =>
+  names.map((name) => make('td', {}, valuesOf(new Map(pairs).get(name) ?? '')));
+
+// Shows the table in this place, which has none where there is no exercise.
+export function showInputs(place, exercise) {
+  const inputs = exercise ? shownOf(exercise) : [];
+  place.hidden = inputs.length === 0;
+  const [given, wanted] = [namesIn(inputs, 'given'), namesIn(inputs, 'wanted')];
+  const heads = [phrase('input'), ...given, ...wanted.map((name) => phrase('{0} wanted', name))];
+  const rows = inputs.map((input, k) => make('tr', {},
+    make('th', { scope: 'row' }, `${k + 1}`), ...cellsOf(given, input.given),
+    ...cellsOf(wanted, input.wanted)));
+  place.replaceChildren(make('table', {},
+    make('thead', {}, make('tr', {}, ...heads.map((head) => make('th', { scope: 'col' }, head)))),
+    make('tbody', {}, ...rows)));
 }
 
-const FEW = 6;
-const WIDE = 2 ** 23 - 1;
-
-// Great ones, too: sums of them go round.
-const thrownWide = (n, seed) => thrown(n, seed, WIDE).map((value) => value * 511);
-
-// One begins with an input of the first size.
-const FIRST = 16;
-
-// All have powers of two, since a line in the logarithm is drawn through what they take.
-export const POWERS = [FIRST, 2, 4, 8, 32, 64, 128, 1024];
-export const SIZES = [FIRST, 2, 3, 4, 5, 8, 12, 31, 32, 64, 100, 128, 1024];
-
-const MANY = 1024;
-
-// `value` stands in this place alone.
-const placed = (others, value, place) => others.map((other, i) => (i === place ? value : other));
-
-function withValue(n, value) {
-  const others = thrown(n, n, FEW - 1);
-  const places = n === FIRST ? indices(n) : [0, n - 1];
-  return [...places.map((place) => placed(others, value, place)), others];
+// What names hold at the end of a trial.
+function heldIn({ made, answer }, names) {
+  if (made.code !== CODE.DONE) return [];
+  const { arrays } = new Source([], made);
+  return arrays.filter(({ name }) => names.includes(name)).map(({ name, base, len }) =>
+    [name, answer.cells.slice(base, base + len).join()]);
 }
 
-function valuesOf(n, value) {
-  if (n === MANY) return [placed(thrown(n, n, FEW), value, n - 1), thrownWide(n, n)];
-  const all = indices(n);
-  return [thrown(n, n === FIRST ? 1 : n + 1, 99), thrownWide(n, n), ...withValue(n, value),
-    all.map(() => value), all.map(() => 0), all, [...all].reverse()];
+// Has what is wanted of those inputs that do not say it, by the reference; tells whether there are
+// such. `ask` calls the core, and promises what it tells.
+export async function learnWanted(ask, core, exercise) {
+  const unknown = shownOf(exercise).filter(({ wanted }) => wanted.length === 0);
+  for (const input of unknown) {
+    const { text } = core.given(exercise.text, exercise.given + exercise.reference, input.line);
+    input.wanted = heldIn(await ask('trial', [text]), exercise.wanted);
+  }
+  return unknown.length > 0;
 }
-
-// For each of these sizes, with a value that matters.
-export const valuesWith = (value, sizes) => sizes.flatMap((n) => valuesOf(n, value));
-
-// A list in this order: of each element the next one, of the last one itself.
-function listOf(order) {
-  const next = [];
-  order.forEach((element, k) => { next[element] = order[k + 1] ?? element; });
-  return next;
-}
-
-function mixed(n, seed) {
-  const weights = thrown(n, seed, WIDE);
-  return indices(n).sort((i, j) => weights[i] - weights[j]);
-}
-
-const moved = (order, element) => [...order.filter((one) => one !== element), element];
-
-// Lists whose end is the last element, the first one, and others.
-function listsOf(n) {
-  if (n === MANY) return [listOf(mixed(n, n))];
-  const all = indices(n);
-  const ends = n === FIRST ? all : [0, n - 1];
-  return [all, [...all].reverse(), mixed(n, n),
-    ...ends.map((end) => moved(mixed(n, n + end), end))].map(listOf);
-}
-
-export const listsWith = (sizes) => sizes.flatMap(listsOf);

@@ -1,148 +1,135 @@
-// Exercises: each asks for lines of code that do a task for n processors on inputs that one does
-// not see, in steps that grow no faster than they must, under a model.
-import { MODEL } from './declared.js';
-import { GREATEST, POWERS, SIZES, indices, listsWith, valuesWith } from './exercise_inputs.js';
-import { CONSTANT, LOGARITHMIC } from './growth.js';
-import { english } from './words.js';
+// Exercises: each is a file that asks for lines of code, and says by which bars and on which inputs
+// they are judged. The core reads them.
+import { CODE, EXERCISE_FAULT, KEY, MODEL, MODELS } from './declared.js';
+import { grouped } from './numbers.js';
+import { english, phrase } from './words.js';
 
-const { EREW, CREW, COMMON_CRCW: COMMON } = MODEL;
+const MODELS_BY_WORD = {
+  erew: MODEL.EREW, crew: MODEL.CREW, common: MODEL.COMMON_CRCW, priority: MODEL.PRIORITY_CRCW,
+};
 
-const sumOf = (values) => values.reduce((sum, value) => (sum + value) % 2 ** 32, 0);
+// What bounds a solution, as it is told with the task.
+const BARS = {
+  [KEY.TIME]: english('Time at most {0}.'),
+  [KEY.OPERATIONS]: english('Operations at most {0}.'),
+  [KEY.STEPS]: english('Steps of the machine at most {0}.'),
+  [KEY.LINES]: english('Lines of code at most {0}.'),
+};
 
-function ranksOf(next) {
-  return next.map((_, element) => {
-    let [at, rank] = [element, 0];
-    while (next[at] !== at) [at, rank] = [next[at], rank + 1];
-    return rank;
+const withoutComment = (text) => text.split(';', 1)[0].trim();
+
+// The entries one after the other: what each says, its line and its text.
+function entriesOf({ list, text }) {
+  let at = 0;
+  return list.map(({ key, line, bytes }) => {
+    at += bytes;
+    return { key, line, text: text.slice(at - bytes, at) };
   });
 }
 
-const ALONE = (name) => ['if i = 0', `   ${name} := A[0]`, 'end'];
+// The lines of a part without what the first one is indented by.
+function linesOf(part) {
+  const [indent] = /^[ \t]*/.exec(part);
+  return part.split('\n').map((line) =>
+    (line.startsWith(indent) ? line.slice(indent.length) : line.trimStart())).join('\n');
+}
 
-const intoOf = ({ shared }) => shared.at(-1).split('[', 1)[0];
+// The words NAME=TEXT of an input as pairs.
+const pairsOf = (words) => words.trim().split(/\s+/).filter((word) => word.includes('='))
+  .map((word) => [word.slice(0, word.indexOf('=')), word.slice(word.indexOf('=') + 1)]);
 
-const ANY = valuesWith(7, SIZES);
-const OF_POWERS = valuesWith(7, POWERS);
+function inputOf({ key, line, text }) {
+  const [given, wanted = ''] = ` ${withoutComment(text)} `.split(' -> ');
+  return { line, isHidden: key === KEY.HIDDEN, given: pairsOf(given), wanted: pairsOf(wanted) };
+}
 
-// Of `shared` the first array has the input, and the last one is to hold what `want` tells. `begin`
-// are the lines that one begins with.
-export const EXERCISES = [
-  {
-    name: 'own_numbers',
-    title: english('own numbers'),
-    task: english('A[i] becomes i.'),
-    growth: CONSTANT, model: EREW, shared: ['A[n]'], inputs: ANY, begin: ['A[i] := A[i]'],
-    want: (a) => indices(a.length),
-  },
-  {
-    name: 'double',
-    title: english('double'),
-    task: english('B[i] becomes twice A[i], modulo 2^32.'),
-    growth: CONSTANT, model: EREW, shared: ['A[n]', 'B[n]'], inputs: ANY,
-    begin: ['B[i] := A[i]'],
-    want: (a) => a.map((value) => (2 * value) % 2 ** 32),
-  },
-  {
-    name: 'reverse',
-    title: english('reverse'),
-    task: english('B becomes A in reverse: B[0] is A[n - 1].'),
-    growth: CONSTANT, model: EREW, shared: ['A[n]', 'B[n]'], inputs: ANY,
-    begin: ['B[i] := A[i]'],
-    want: (a) => [...a].reverse(),
-  },
-  {
-    name: 'neighbours',
-    title: english('neighbours'),
-    task: english(
-      'B[i] becomes A[i] + A[i + 1], and B[n - 1] becomes A[n - 1] + A[0], modulo 2^32.'),
-    growth: CONSTANT, model: EREW, shared: ['A[n]', 'B[n]'], inputs: ANY,
-    begin: ['B[i] := A[i]'],
-    want: (a) => a.map((value, i) => sumOf([value, a[(i + 1) % a.length]])),
-  },
-  {
-    name: 'broadcast',
-    title: english('broadcast'),
-    task: english('Each A[i] becomes A[0]. No two may read it in one step: copies make copies.'),
-    growth: LOGARITHMIC, model: EREW, shared: ['A[n]'], inputs: ANY, begin: ['A[i] := A[i]'],
-    want: (a) => a.map(() => a[0]),
-  },
-  {
-    name: 'seven',
-    title: english('is a seven among them'),
-    task: english('found becomes 1 if some A[i] is 7, and else stays 0.'),
-    growth: CONSTANT, model: COMMON, shared: ['A[n]', 'found'], inputs: ANY,
-    begin: ['found := 0'],
-    want: (a) => [a.includes(7) ? 1 : 0],
-  },
-  {
-    name: 'sum',
-    title: english('sum'),
-    task: english(
-      'total becomes the sum of all A[i], modulo 2^32. n is a power of two. A may change.'),
-    growth: LOGARITHMIC, model: EREW, shared: ['A[n]', 'total'], inputs: OF_POWERS,
-    begin: ALONE('total'),
-    want: (a) => [sumOf(a)],
-  },
-  {
-    name: 'maximum',
-    title: english('maximum'),
-    task: english('greatest becomes the greatest of all A[i]. n is a power of two. A may change.'),
-    growth: LOGARITHMIC, model: EREW, shared: ['A[n]', 'greatest'],
-    inputs: valuesWith(GREATEST, POWERS), begin: ALONE('greatest'),
-    want: (a) => [Math.max(...a)],
-  },
-  {
-    name: 'prefix',
-    title: english('prefix sums'),
-    task: english('A[i] becomes A[0] + .. + A[i], modulo 2^32. n is a power of two.'),
-    growth: LOGARITHMIC, model: EREW, shared: ['A[n]'], inputs: OF_POWERS,
-    begin: ['A[i] := A[i]'],
-    want: (a) => a.map((_, i) => sumOf(a.slice(0, i + 1))),
-  },
-  {
-    name: 'ranking',
-    title: english('ranks in a list'),
-    task: english(
-      'N[i] is the element after i in a list, and of its last one that itself. R[i] becomes how ' +
-      'many come after i. N may change.'),
-    growth: LOGARITHMIC, model: CREW, shared: ['N[n]', 'R[n]'], inputs: listsWith(SIZES),
-    begin: ['R[i] := N[i]'],
-    want: ranksOf,
-  },
-].map((exercise, k) => ({ ...exercise, number: k + 1, into: intoOf(exercise) }));
+function exerciseOf(entries) {
+  const textsOf = (key) => entries.filter((entry) => entry.key === key).map(({ text }) => text);
+  const [model = ''] = textsOf(KEY.MODEL);
+  const bars = Object.keys(BARS).flatMap((key) => textsOf(Number(key))
+    .map((text) => ({ key, most: withoutComment(text).replace(/^<=\s*/, '') })));
+  return {
+    title: textsOf(KEY.TITLE)[0].trim(),
+    task: textsOf(KEY.TASK).map((text) => text.trim()).join(' '),
+    model: MODELS_BY_WORD[withoutComment(model).toLowerCase()],
+    bars,
+    wanted: withoutComment(textsOf(KEY.WANT)[0]).split(/\s+/),
+    given: linesOf(textsOf(KEY.GIVEN)[0]),
+    start: linesOf(textsOf(KEY.START)[0]),
+    reference: textsOf(KEY.REFERENCE)[0] ?? '',
+    inputs: entries.filter(({ key }) => [KEY.INPUT, KEY.HIDDEN].includes(key)).map(inputOf),
+  };
+}
 
-// How many processors there are, with one input or another.
-export const sizesOf = ({ inputs }) =>
-  [...new Set(inputs.map(({ length }) => length))].sort((one, other) => one - other);
+const FAULTS = {
+  [EXERCISE_FAULT.NOT_ASCII]: english('it has a character that no text here may have'),
+  [EXERCISE_FAULT.BAD_HEADER]: english('the first line has to be “exercise 1”'),
+  [EXERCISE_FAULT.UNKNOWN_KEY]: english('no line of an exercise begins with this word'),
+  [EXERCISE_FAULT.BAD_LINE]: english('something is wrong behind the first word'),
+  [EXERCISE_FAULT.DUPLICATE]: english('it may stand once, and stands a second time'),
+  [EXERCISE_FAULT.MISSING]: english('the text ends without “{0}”'),
+  [EXERCISE_FAULT.NO_ANSWER]:
+    english('this input does not say what is wanted, and there is no reference'),
+};
+
+const wordOf = (number) =>
+  Object.keys(KEY).find((name) => KEY[name] === number).toLowerCase();
+
+function faultInWords({ code, fault, line, lacks }) {
+  if (code !== CODE.NO_EXERCISE) return phrase('it is too long');
+  return phrase('line {0}: {1}', grouped(line), phrase(FAULTS[fault], wordOf(lacks)));
+}
+
+// Whether a text is meant as an exercise.
+export const isExercise = (text) => /^\s*exercise\b/.test(text);
+
+// A number of 32 bits for a text, in eight digits.
+function hashOf(text) {
+  let hash = 0x811c9dc5;
+  for (let at = 0; at < text.length; at += 1) {
+    hash = Math.imul(hash ^ text.charCodeAt(at), 0x01000193) >>> 0;
+  }
+  return hash.toString(16).padStart(8, '0');
+}
+
+// The exercise that a text spells, of the page by its name and its number, and one's own by a hash.
+// Throws a RangeError that says why it is none.
+export function readExercise(core, text, { name = hashOf(text), number = name } = {}) {
+  const told = core.entries(text);
+  if (told.code !== CODE.DONE) {
+    throw new RangeError(phrase('the text is no exercise: {0}', faultInWords(told)));
+  }
+  return { ...exerciseOf(entriesOf(told)), text, name, number };
+}
+
+// Whether it came with the page.
+export const isOfPage = ({ name, number }) => name !== number;
 
 const headOf = ({ number, title }) => `; Exercise ${number}: ${title}`;
 
-export const ruleOf = ({ model }) => (model === COMMON ? 'common' : 'crew');
-
-// The lines of an exercise before `code`, with this input.
-export function headerOf({ model, shared: [given, ...others] }, input) {
-  return ['pardo 1', `rule ${ruleOf({ model })}`, `const n = ${input.length}`,
-    'procs i < n', `shared ${given} = ${input.join(', ')}`,
-    ...others.map((name) => `shared ${name}`)];
-}
-
-const wordsIn = (line) => line.split(';', 1)[0].split(/\W+/).filter((word) => word !== '');
-
-// What a line before `code` is about: its first word, and the name that it declares.
-export function keyOf(line) {
-  const [first, name] = wordsIn(line);
-  return ['const', 'procs', 'shared'].includes(first) ? `${first} ${name}` : first;
-}
-
-const isProgram = (text) => text.split('\n').map(keyOf).find(Boolean) === 'pardo';
+const isProgram = (text) => /^(?:[ \t]*(?:;.*)?\n)*[ \t]*pardo\b/.test(text);
 
 // Whether a text is what someone made of the exercise.
 export const isOf = (exercise, text) =>
   text.startsWith(`${headOf(exercise)}\n`) && isProgram(text);
 
 // What a learner begins with.
-export function startOf(exercise) {
-  const { inputs: [input], begin } = exercise;
-  return [headOf(exercise), ...headerOf(exercise, input), '; your own variables', 'code',
-    '; your lines', ...begin, ''].join('\n');
+export const startOf = (exercise) => `${headOf(exercise)}\n${exercise.given}${exercise.start}`;
+
+// What is to be done, in words.
+export function taskInWords({ task, model, bars, inputs }) {
+  const hidden = inputs.filter(({ isHidden }) => isHidden).length;
+  return [
+    phrase(task), model === undefined ? '' : phrase('Under {0}.', MODELS[model]),
+    ...bars.map(({ key, most }) => phrase(BARS[key], most)),
+    phrase('Judge tries your lines on {0} inputs, of which {1} are not shown.', inputs.length,
+      hidden),
+  ].filter(Boolean).join(' ');
+}
+
+// The constants that an input sets, as `n = 5, m = 5`.
+export function sizesInWords({ given }, { given: header }) {
+  const isConstant = (name) => new RegExp(`^\\s*const ${name}\\b`, 'm').test(header);
+  return given.filter(([name]) => isConstant(name)).map(([name, text]) => `${name} = ${text}`)
+    .join(', ');
 }

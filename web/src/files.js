@@ -1,5 +1,6 @@
 // A text of one's own from a file, which is chosen or dropped on the page.
 import { byId, onClick, setText } from './dom.js';
+import { isExercise } from './exercises.js';
 import { withLines } from './text_lines.js';
 import { phrase } from './words.js';
 
@@ -26,10 +27,26 @@ function draftOf({ drafts, examples }, text) {
   return isKnown ? undefined : drafts.numberOf(text) ?? drafts.keep(text);
 }
 
+// An exercise begins; another text is a program. Tells why it does not.
+function begin(app, text) {
+  if (!isExercise(text)) {
+    app.choose(text, { draft: draftOf(app, text) });
+    return undefined;
+  }
+  try {
+    app.lessons.beginOwn(text);
+    return undefined;
+  } catch (why) {
+    if (!(why instanceof RangeError)) throw why;
+    return why.message;
+  }
+}
+
 async function show(app, file) {
   const { text, why } = await textOf(file);
-  setText(byId('file-said'), why ?? phrase('{0} is open.', file.name));
-  if (!why) app.choose(text, { draft: draftOf(app, text) });
+  const trouble = why ?? begin(app, text);
+  setText(byId('file-said'), trouble === why ? why ?? phrase('{0} is open.', file.name)
+    : phrase('{0} cannot be opened: {1}.', file.name, trouble));
 }
 
 const hasFile = ({ dataTransfer }) => dataTransfer?.types.includes('Files');

@@ -317,6 +317,59 @@ export const FRENCH = {
     'many come after i. N may change.']:
     'N[i] est l’élément après i dans une liste, et pour le dernier lui-même. R[i] devient le ' +
     'nombre de ceux qui viennent après i. N peut changer.',
+  'sums in segments': 'sommes par segments',
+  ['Where F[i] is 1 a segment begins, and at A[0], too; else F[i] is 0. A[i] becomes the sum ' +
+    'of its segment\'s values up to A[i], modulo 2^32. F may change.']:
+    'Là où F[i] est 1 commence un segment, et aussi en A[0] ; sinon F[i] est 0. A[i] devient ' +
+    'la somme des valeurs de son segment jusqu’à A[i], modulo 2^32. F peut changer.',
+  compaction: 'compactage',
+  ['The values of A that are not 0 go to the front of B, in their order; count becomes how ' +
+    'many they are. The other places of B stay 0. n is a power of two.']:
+    'Les valeurs de A qui ne sont pas 0 vont au début de B, dans leur ordre ; count devient ' +
+    'leur nombre. Les autres places de B restent 0. n est une puissance de deux.',
+  'prefix sums by few': 'sommes préfixes à quelques-uns',
+  ['A[i] becomes A[0] + .. + A[i], modulo 2^32, of n values by p processors; n is a multiple ' +
+    'of p. Each processor makes about as many additions as it has values.']:
+    'A[i] devient A[0] + .. + A[i], modulo 2^32, pour n valeurs par p processeurs ; n est un ' +
+    'multiple de p. Chaque processeur fait à peu près autant d’additions qu’il a de valeurs.',
+  'maximum in constant time': 'maximum en temps constant',
+  'greatest becomes the greatest of all A[i]. There is a processor for each pair of values.':
+    'greatest devient le plus grand de tous les A[i]. Il y a un processeur pour chaque paire ' +
+    'de valeurs.',
+  'merge of two rows': 'fusion de deux suites',
+  ['A and B are sorted, each from its least value to its greatest. C becomes all their ' +
+    'values, sorted. n is a power of two.']:
+    'A et B sont triés, chacun de sa plus petite valeur à la plus grande. C devient toutes ' +
+    'leurs valeurs, triées. n est une puissance de deux.',
+  sort: 'tri',
+  'A becomes sorted, from its least value to its greatest. n is a power of two.':
+    'A devient trié, de sa plus petite valeur à la plus grande. n est une puissance de deux.',
+  'matrix product': 'produit de matrices',
+  ['C becomes the product of A and B: C[r, c] is A[r, 0] * B[0, c] + .. + A[r, n - 1] * B[n - ' +
+    '1, c], modulo 2^32. There is a processor for each place of C.']:
+    'C devient le produit de A et B : C[r, c] est A[r, 0] * B[0, c] + .. + A[r, n - 1] * B[n - ' +
+    '1, c], modulo 2^32. Il y a un processeur pour chaque place de C.',
+  'depths in a tree': 'profondeurs dans un arbre',
+  ['A tour goes around a tree of n nodes: each edge is an arc down and one up. next[a] is the ' +
+    'arc after a, and of the last one that itself; down[a] is 1 if a leads down, else 0; ' +
+    'head[a] is the node that it leads to. depth[v] becomes how many edges v lies below the ' +
+    'root, where the tour begins and ends. next may change.']:
+    'Un tour fait le tour d’un arbre de n nœuds : chaque arête est un arc qui descend et un ' +
+    'qui monte. next[a] est l’arc après a, et pour le dernier lui-même ; down[a] est 1 si a ' +
+    'descend, sinon 0 ; head[a] est le nœud où il mène. depth[v] devient le nombre d’arêtes ' +
+    'entre v et la racine, où le tour commence et finit. next peut changer.',
+  'ways in a graph': 'chemins dans un graphe',
+  ['A[a, b] is 1 if an edge leads from node a to node b, else 0. W[a, b] becomes 1 if a way ' +
+    'does, of one edge, more or none, and else 0. There is a processor for each three nodes. A ' +
+    'may change.']:
+    'A[a, b] est 1 si une arête mène du nœud a au nœud b, sinon 0. W[a, b] devient 1 si un ' +
+    'chemin le fait, d’une arête, de plusieurs ou d’aucune, et sinon 0. Il y a un processeur ' +
+    'pour chaque triplet de nœuds. A peut changer.',
+  'connected components': 'composantes connexes',
+  ['Edge i joins the nodes U[i] and V[i], which may be the same. C[v] becomes the least node ' +
+    'that v is joined to, by one edge, more or none. m is at least n.']:
+    'L’arête i relie les nœuds U[i] et V[i], qui peuvent être le même. C[v] devient le plus ' +
+    'petit nœud auquel v est relié, par une arête, plusieurs ou aucune. m est au moins n.',
   '“{0}” needs two registers, as in “{1}”, or in pram 3 of an array A “{2}”.':
     '« {0} » demande deux registres, comme dans « {1} », ou en pram 3 avec un tableau A « {2} ».',
   '“{0}” needs no operand, as in “{1}”.': '« {0} » ne demande aucun opérande, comme dans « {1} ».',
@@ -392,39 +445,7 @@ export const FRENCH = {
   'rename this program': 'renommer ce programme',
   'delete this program': 'supprimer ce programme',
   'there is no such lesson': 'il n’y a pas de telle leçon',
-  '{0} step with n = {1}': '{0} étape avec n = {1}',
-  '{0} steps with n = {1}': '{0} étapes avec n = {1}',
-  '{0} with n = {1}': '{0} avec n = {1}',
-  ['{0} Under {1}, in a number of steps that does not grow with n. Judge tries your lines on ' +
-    'inputs that you do not see, with n = {2} and {3}.']:
-    '{0} Sous {1}, en un nombre d’étapes qui ne croît pas avec n. « Juger » essaie vos lignes ' +
-    'sur des entrées que vous ne voyez pas, avec n = {2} et {3}.',
-  ['all is right, but not in a number of steps that does not grow with n: it took {0}, and ' +
-    'takes {1} here, where at most {2} are allowed.']:
-    'tout est juste, mais pas en un nombre d’étapes qui ne croît pas avec n : il a fallu {0}, ' +
-    'et il en faut ici {1}, où {2} au plus sont permises.',
-  '{0} step with each n': '{0} étape avec chaque n',
-  '{0} steps with each n': '{0} étapes avec chaque n',
-  ['{0} Under {1}, in steps that grow no faster than a line in log n. Judge tries your lines ' +
-    'on inputs that you do not see, with n = {2} and {3}.']:
-    '{0} Sous {1}, en un nombre d’étapes qui ne croît pas plus vite qu’une droite en log n. « ' +
-    'Juger » essaie vos lignes sur des entrées que vous ne voyez pas, avec n = {2} et {3}.',
-  ['all is right, but not in steps that grow no faster than a line in log n: it took {0}, and ' +
-    'takes {1} here, where at most {2} are allowed.']:
-    'tout est juste, mais pas en un nombre d’étapes qui ne croît pas plus vite qu’une droite ' +
-    'en log n : il a fallu {0}, et il en faut ici {1}, où {2} au plus sont permises.',
-  'all is right, but in {0} step; at most {1} are allowed.':
-    'tout est juste, mais en {0} étape ; {1} au plus sont permises.',
-  'all is right, but in {0} steps; at most {1} are allowed.':
-    'tout est juste, mais en {0} étapes ; {1} au plus sont permises.',
-  'the page is out of memory.': 'la page manque de mémoire.',
   'line {0}: {1}': 'ligne {0} : {1}',
-  'processors {0} and {1} write {2} in line {3}, step {4}, against the rule {5}.':
-    'les processeurs {0} et {1} écrivent {2} à la ligne {3}, étape {4}, contre la règle {5}.',
-  ['processors {0} and {1} write different values to {2} in line {3}, step {4}, against the ' +
-    'rule {5}.']:
-    'les processeurs {0} et {1} écrivent des valeurs différentes dans {2} à la ligne {3}, ' +
-    'étape {4}, contre la règle {5}.',
   'Processor {0} is gone since line {1}, where its array has no such place.':
     'Le processeur {0} est parti depuis la ligne {1}, où son tableau n’a pas cette place.',
   '{0} holds {1}, wanted {2}.': '{0} contient {1}, voulu {2}.',
@@ -432,26 +453,78 @@ export const FRENCH = {
     '{0} contient {1}, voulu {2} ; aucune ligne ne l’a écrit.',
   '{0} holds {1}, wanted {2}; line {3} wrote it last.':
     '{0} contient {1}, voulu {2} ; la ligne {3} l’a écrit en dernier.',
-  'it needs {5}: processors {0} and {1} read {2} in line {3}, step {4}.':
-    'il faut {5} : les processeurs {0} et {1} lisent {2} à la ligne {3}, étape {4}.',
-  'it needs {5}: processors {0} and {1} write {2} in line {3}, step {4}.':
-    'il faut {5} : les processeurs {0} et {1} écrivent {2} à la ligne {3}, étape {4}.',
-  'it needs {5}: processors {0} and {1} write different values to {2} in line {3}, step {4}.':
-    'il faut {5} : les processeurs {0} et {1} écrivent des valeurs différentes dans {2} à la ' +
-    'ligne {3}, étape {4}.',
   'Not yet: the line “{0}” is missing. “Begin anew” brings it back.':
     'Pas encore : la ligne « {0} » manque. « Recommencer » la remet.',
-  'Not yet, on input {0} of {1} (n = {2}): {3}':
-    'Pas encore, sur l’entrée {0} de {1} (n = {2}) : {3}',
   'Not yet, {0}': 'Pas encore, {0}',
-  'Right on all {0} inputs, under {1}: {2}.': 'Juste sur les {0} entrées, sous {1} : {2}.',
-  'Tour {0}': 'Visite {0}',
+  input: 'entrée',
+  '{0} wanted': '{0} voulu',
+  'Time at most {0}.': 'Temps au plus {0}.',
+  'Operations at most {0}.': 'Opérations au plus {0}.',
+  'Steps of the machine at most {0}.': 'Étapes de la machine au plus {0}.',
+  'Lines of code at most {0}.': 'Lignes de code au plus {0}.',
+  'it has a character that no text here may have':
+    'elle a un caractère qu’aucun texte ne peut avoir ici',
+  'the first line has to be “exercise 1”': 'la première ligne doit être « exercise 1 »',
+  'no line of an exercise begins with this word':
+    'aucune ligne d’un exercice ne commence par ce mot',
+  'something is wrong behind the first word': 'quelque chose ne va pas après le premier mot',
+  'it may stand once, and stands a second time':
+    'cela ne peut figurer qu’une fois, et figure une deuxième fois',
+  'the text ends without “{0}”': 'le texte finit sans « {0} »',
+  'this input does not say what is wanted, and there is no reference':
+    'cette entrée ne dit pas ce qui est voulu, et il n’y a pas de référence',
+  'it is too long': 'il est trop long',
+  'the text is no exercise: {0}': 'le texte n’est pas un exercice : {0}',
+  'Under {0}.': 'Sous {0}.',
+  'Judge tries your lines on {0} inputs, of which {1} are not shown.':
+    '« Juger » essaie vos lignes sur {0} entrées, dont {1} ne sont pas montrées.',
+  '{0} cannot be opened: {1}.': '{0} ne peut pas être ouvert : {1}.',
+  'processors {0} and {1} write {2} in line {3}, against the rule {4}.':
+    'les processeurs {0} et {1} écrivent {2} à la ligne {3}, contre la règle {4}.',
+  'processors {0} and {1} write different values to {2} in line {3}, against the rule {4}.':
+    'les processeurs {0} et {1} écrivent des valeurs différentes dans {2} à la ligne {3}, ' +
+    'contre la règle {4}.',
+  'it needs {4}: processors {0} and {1} read {2} in line {3}.':
+    'il faut {4} : les processeurs {0} et {1} lisent {2} à la ligne {3}.',
+  'it needs {4}: processors {0} and {1} write {2} in line {3}.':
+    'il faut {4} : les processeurs {0} et {1} écrivent {2} à la ligne {3}.',
+  'it needs {4}: processors {0} and {1} write different values to {2} in line {3}.':
+    'il faut {4} : les processeurs {0} et {1} écrivent des valeurs différentes dans {2} à la ' +
+    'ligne {3}.',
+  'all is right, but its time is {0}; at most {1} is allowed here.':
+    'tout est juste, mais le temps est {0} ; au plus {1} est permis ici.',
+  'all is right, but it makes {0} operations; at most {1} are allowed here.':
+    'tout est juste, mais il fait {0} opérations ; au plus {1} sont permises ici.',
+  'all is right, but the machine makes {0} steps; at most {1} are allowed here.':
+    'tout est juste, mais la machine fait {0} étapes ; au plus {1} sont permises ici.',
+  'all is right, but in {0} lines of code; at most {1} are allowed.':
+    'tout est juste, mais en {0} lignes de code ; au plus {1} sont permises.',
+  'Not yet, on input {0} of {1}: {2}': 'Pas encore, sur l’entrée {0} de {1} : {2}',
+  'Not yet, on input {0} of {1} ({2}): {3}': 'Pas encore, sur l’entrée {0} de {1} ({2}) : {3}',
+  'the input in its line {0} sets a bad header: {1}':
+    'l’entrée de sa ligne {0} donne un mauvais en-tête : {1}',
+  'the input in its line {0} says badly what is wanted: {1}':
+    'l’entrée de sa ligne {0} dit mal ce qui est voulu : {1}',
+  'a bar has no value with the input in its line {0}: {1}':
+    'une borne n’a pas de valeur avec l’entrée de sa ligne {0} : {1}',
+  'its reference fails with the input in its line {0}: {1}':
+    'sa référence échoue sur l’entrée de sa ligne {0} : {1}',
+  'its reference ends in a conflict with the input in its line {0}':
+    'sa référence finit par un conflit sur l’entrée de sa ligne {0}',
+  'the input in its line {0} sets “{1}”, which its header does not declare':
+    'l’entrée de sa ligne {0} donne « {1} », que son en-tête ne déclare pas',
+  'This exercise cannot be judged by: {0}': 'On ne peut pas juger d’après cet exercice : {0}',
+  'Right on all {0} inputs.': 'Juste sur les {0} entrées.',
+  'Right on all {0} inputs, under {1}.': 'Juste sur les {0} entrées, sous {1}.',
+  'Not yet: the text is too long.': 'Pas encore : le texte est trop long.',
+  'your own': 'le vôtre',
+  'Exercise: {0}': 'Exercice : {0}',
+  '{0}, this input': '{0}, cette entrée',
+  'Your own exercise: {0}': 'Votre propre exercice : {0}',
   'Tour {0} of {1}: {2}': 'Visite {0} de {1} : {2}',
   'Exercise {0}': 'Exercice {0}',
   'Exercise {0} of {1}: {2}': 'Exercice {0} de {1} : {2}',
-  'Find a schedule {0}': 'Trouver un ordonnancement {0}',
   'Find a schedule {0} of {1}: {2}': 'Trouver un ordonnancement {0} de {1} : {2}',
-  'Exercise {0}, this input': 'Exercice {0}, cette entrée',
   'A tour: losing a worker': 'Une visite : perdre un travailleur',
   Exercises: 'Exercices',
   'Find a schedule': 'Trouver un ordonnancement',

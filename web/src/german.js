@@ -314,6 +314,60 @@ export const GERMAN = {
     'many come after i. N may change.']:
     'N[i] ist das Element nach i in einer Liste, und beim letzten dieses selbst. R[i] wird die ' +
     'Anzahl derer, die nach i kommen. N darf sich ändern.',
+  'sums in segments': 'Summen in Abschnitten',
+  ['Where F[i] is 1 a segment begins, and at A[0], too; else F[i] is 0. A[i] becomes the sum ' +
+    'of its segment\'s values up to A[i], modulo 2^32. F may change.']:
+    'Wo F[i] 1 ist, beginnt ein Abschnitt, und auch bei A[0]; sonst ist F[i] 0. A[i] wird die ' +
+    'Summe der Werte seines Abschnitts bis A[i], modulo 2^32. F darf sich ändern.',
+  compaction: 'Verdichten',
+  ['The values of A that are not 0 go to the front of B, in their order; count becomes how ' +
+    'many they are. The other places of B stay 0. n is a power of two.']:
+    'Die Werte von A, die nicht 0 sind, kommen in ihrer Reihenfolge an den Anfang von B; count ' +
+    'wird ihre Anzahl. Die anderen Stellen von B bleiben 0. n ist eine Zweierpotenz.',
+  'prefix sums by few': 'Präfixsummen durch wenige',
+  ['A[i] becomes A[0] + .. + A[i], modulo 2^32, of n values by p processors; n is a multiple ' +
+    'of p. Each processor makes about as many additions as it has values.']:
+    'A[i] wird A[0] + .. + A[i], modulo 2^32, bei n Werten durch p Prozessoren; n ist ein ' +
+    'Vielfaches von p. Jeder Prozessor macht etwa so viele Additionen, wie er Werte hat.',
+  'maximum in constant time': 'Maximum in konstanter Zeit',
+  'greatest becomes the greatest of all A[i]. There is a processor for each pair of values.':
+    'greatest wird das größte aller A[i]. Für jedes Paar von Werten gibt es einen Prozessor.',
+  'merge of two rows': 'zwei Reihen mischen',
+  ['A and B are sorted, each from its least value to its greatest. C becomes all their ' +
+    'values, sorted. n is a power of two.']:
+    'A und B sind sortiert, je vom kleinsten Wert zum größten. C wird all ihre Werte, ' +
+    'sortiert. n ist eine Zweierpotenz.',
+  sort: 'sortieren',
+  'A becomes sorted, from its least value to its greatest. n is a power of two.':
+    'A wird sortiert, vom kleinsten Wert zum größten. n ist eine Zweierpotenz.',
+  'matrix product': 'Matrixprodukt',
+  ['C becomes the product of A and B: C[r, c] is A[r, 0] * B[0, c] + .. + A[r, n - 1] * B[n - ' +
+    '1, c], modulo 2^32. There is a processor for each place of C.']:
+    'C wird das Produkt von A und B: C[r, c] ist A[r, 0] * B[0, c] + .. + A[r, n - 1] * B[n - ' +
+    '1, c], modulo 2^32. Für jede Stelle von C gibt es einen Prozessor.',
+  'depths in a tree': 'Tiefen in einem Baum',
+  ['A tour goes around a tree of n nodes: each edge is an arc down and one up. next[a] is the ' +
+    'arc after a, and of the last one that itself; down[a] is 1 if a leads down, else 0; ' +
+    'head[a] is the node that it leads to. depth[v] becomes how many edges v lies below the ' +
+    'root, where the tour begins and ends. next may change.']:
+    'Ein Rundweg führt um einen Baum mit n Knoten: Jede Kante ist ein Bogen hinab und einer ' +
+    'hinauf. next[a] ist der Bogen nach a, und beim letzten dieser selbst; down[a] ist 1, wenn ' +
+    'a hinabführt, sonst 0; head[a] ist der Knoten, zu dem er führt. depth[v] wird die Anzahl ' +
+    'der Kanten, die v unter der Wurzel liegt, wo der Rundweg beginnt und endet. next darf ' +
+    'sich ändern.',
+  'ways in a graph': 'Wege in einem Graphen',
+  ['A[a, b] is 1 if an edge leads from node a to node b, else 0. W[a, b] becomes 1 if a way ' +
+    'does, of one edge, more or none, and else 0. There is a processor for each three nodes. A ' +
+    'may change.']:
+    'A[a, b] ist 1, wenn eine Kante von Knoten a zu Knoten b führt, sonst 0. W[a, b] wird 1, ' +
+    'wenn ein Weg das tut, mit einer Kante, mehreren oder keiner, und sonst 0. Für je drei ' +
+    'Knoten gibt es einen Prozessor. A darf sich ändern.',
+  'connected components': 'Zusammenhangskomponenten',
+  ['Edge i joins the nodes U[i] and V[i], which may be the same. C[v] becomes the least node ' +
+    'that v is joined to, by one edge, more or none. m is at least n.']:
+    'Kante i verbindet die Knoten U[i] und V[i], die gleich sein dürfen. C[v] wird der ' +
+    'kleinste Knoten, mit dem v verbunden ist, durch eine Kante, mehrere oder keine. m ist ' +
+    'mindestens n.',
   '“{0}” needs two registers, as in “{1}”, or in pram 3 of an array A “{2}”.':
     '„{0}“ braucht zwei Register, wie in „{1}“, oder in pram 3 mit einem Feld A „{2}“.',
   '“{0}” needs no operand, as in “{1}”.': '„{0}“ braucht keinen Operanden, wie in „{1}“.',
@@ -387,39 +441,7 @@ export const GERMAN = {
   'rename this program': 'dieses Programm umbenennen',
   'delete this program': 'dieses Programm löschen',
   'there is no such lesson': 'eine solche Lektion gibt es nicht',
-  '{0} step with n = {1}': '{0} Schritt mit n = {1}',
-  '{0} steps with n = {1}': '{0} Schritte mit n = {1}',
-  '{0} with n = {1}': '{0} mit n = {1}',
-  ['{0} Under {1}, in a number of steps that does not grow with n. Judge tries your lines on ' +
-    'inputs that you do not see, with n = {2} and {3}.']:
-    '{0} Unter {1}, in einer Zahl von Schritten, die nicht mit n wächst. „Prüfen“ probiert ' +
-    'Ihre Zeilen an Eingaben, die Sie nicht sehen, mit n = {2} und {3}.',
-  ['all is right, but not in a number of steps that does not grow with n: it took {0}, and ' +
-    'takes {1} here, where at most {2} are allowed.']:
-    'alles stimmt, aber nicht in einer Zahl von Schritten, die nicht mit n wächst: Es brauchte ' +
-    '{0}, und hier braucht es {1}, wo höchstens {2} erlaubt sind.',
-  '{0} step with each n': '{0} Schritt mit jedem n',
-  '{0} steps with each n': '{0} Schritte mit jedem n',
-  ['{0} Under {1}, in steps that grow no faster than a line in log n. Judge tries your lines ' +
-    'on inputs that you do not see, with n = {2} and {3}.']:
-    '{0} Unter {1}, in Schritten, die nicht schneller wachsen als eine Gerade in log n. ' +
-    '„Prüfen“ probiert Ihre Zeilen an Eingaben, die Sie nicht sehen, mit n = {2} und {3}.',
-  ['all is right, but not in steps that grow no faster than a line in log n: it took {0}, and ' +
-    'takes {1} here, where at most {2} are allowed.']:
-    'alles stimmt, aber nicht in Schritten, die nicht schneller wachsen als eine Gerade in log ' +
-    'n: Es brauchte {0}, und hier braucht es {1}, wo höchstens {2} erlaubt sind.',
-  'all is right, but in {0} step; at most {1} are allowed.':
-    'alles stimmt, aber in {0} Schritt; höchstens {1} sind erlaubt.',
-  'all is right, but in {0} steps; at most {1} are allowed.':
-    'alles stimmt, aber in {0} Schritten; höchstens {1} sind erlaubt.',
-  'the page is out of memory.': 'der Seite fehlt Speicher.',
   'line {0}: {1}': 'Zeile {0}: {1}',
-  'processors {0} and {1} write {2} in line {3}, step {4}, against the rule {5}.':
-    'die Prozessoren {0} und {1} schreiben {2} in Zeile {3}, Schritt {4}, gegen die Regel {5}.',
-  ['processors {0} and {1} write different values to {2} in line {3}, step {4}, against the ' +
-    'rule {5}.']:
-    'die Prozessoren {0} und {1} schreiben verschiedene Werte nach {2} in Zeile {3}, Schritt ' +
-    '{4}, gegen die Regel {5}.',
   'Processor {0} is gone since line {1}, where its array has no such place.':
     'Prozessor {0} ist seit Zeile {1} ausgefallen, wo sein Feld diese Stelle nicht hat.',
   '{0} holds {1}, wanted {2}.': '{0} hat {1}, verlangt war {2}.',
@@ -427,26 +449,77 @@ export const GERMAN = {
     '{0} hat {1}, verlangt war {2}; keine Zeile hat es geschrieben.',
   '{0} holds {1}, wanted {2}; line {3} wrote it last.':
     '{0} hat {1}, verlangt war {2}; zuletzt hat es Zeile {3} geschrieben.',
-  'it needs {5}: processors {0} and {1} read {2} in line {3}, step {4}.':
-    'es braucht {5}: Die Prozessoren {0} und {1} lesen {2} in Zeile {3}, Schritt {4}.',
-  'it needs {5}: processors {0} and {1} write {2} in line {3}, step {4}.':
-    'es braucht {5}: Die Prozessoren {0} und {1} schreiben {2} in Zeile {3}, Schritt {4}.',
-  'it needs {5}: processors {0} and {1} write different values to {2} in line {3}, step {4}.':
-    'es braucht {5}: Die Prozessoren {0} und {1} schreiben verschiedene Werte nach {2} in ' +
-    'Zeile {3}, Schritt {4}.',
   'Not yet: the line “{0}” is missing. “Begin anew” brings it back.':
     'Noch nicht: Die Zeile „{0}“ fehlt. „Neu beginnen“ bringt sie zurück.',
-  'Not yet, on input {0} of {1} (n = {2}): {3}':
-    'Noch nicht, bei Eingabe {0} von {1} (n = {2}): {3}',
   'Not yet, {0}': 'Noch nicht, {0}',
-  'Right on all {0} inputs, under {1}: {2}.': 'Richtig bei allen {0} Eingaben, unter {1}: {2}.',
-  'Tour {0}': 'Rundgang {0}',
+  input: 'Eingabe',
+  '{0} wanted': '{0} verlangt',
+  'Time at most {0}.': 'Zeit höchstens {0}.',
+  'Operations at most {0}.': 'Operationen höchstens {0}.',
+  'Steps of the machine at most {0}.': 'Schritte der Maschine höchstens {0}.',
+  'Lines of code at most {0}.': 'Codezeilen höchstens {0}.',
+  'it has a character that no text here may have':
+    'sie hat ein Zeichen, das hier kein Text haben darf',
+  'the first line has to be “exercise 1”': 'die erste Zeile muss „exercise 1“ sein',
+  'no line of an exercise begins with this word':
+    'mit diesem Wort beginnt keine Zeile einer Aufgabe',
+  'something is wrong behind the first word': 'hinter dem ersten Wort stimmt etwas nicht',
+  'it may stand once, and stands a second time': 'das darf einmal stehen und steht ein zweites Mal',
+  'the text ends without “{0}”': 'der Text endet ohne „{0}“',
+  'this input does not say what is wanted, and there is no reference':
+    'diese Eingabe sagt nicht, was verlangt ist, und es gibt keine Musterlösung',
+  'it is too long': 'er ist zu lang',
+  'the text is no exercise: {0}': 'der Text ist keine Aufgabe: {0}',
+  'Under {0}.': 'Unter {0}.',
+  'Judge tries your lines on {0} inputs, of which {1} are not shown.':
+    '„Prüfen“ probiert Ihre Zeilen an {0} Eingaben, von denen {1} nicht gezeigt sind.',
+  '{0} cannot be opened: {1}.': '{0} lässt sich nicht öffnen: {1}.',
+  'processors {0} and {1} write {2} in line {3}, against the rule {4}.':
+    'die Prozessoren {0} und {1} schreiben {2} in Zeile {3}, gegen die Regel {4}.',
+  'processors {0} and {1} write different values to {2} in line {3}, against the rule {4}.':
+    'die Prozessoren {0} und {1} schreiben verschiedene Werte nach {2} in Zeile {3}, gegen die ' +
+    'Regel {4}.',
+  'it needs {4}: processors {0} and {1} read {2} in line {3}.':
+    'es braucht {4}: Die Prozessoren {0} und {1} lesen {2} in Zeile {3}.',
+  'it needs {4}: processors {0} and {1} write {2} in line {3}.':
+    'es braucht {4}: Die Prozessoren {0} und {1} schreiben {2} in Zeile {3}.',
+  'it needs {4}: processors {0} and {1} write different values to {2} in line {3}.':
+    'es braucht {4}: Die Prozessoren {0} und {1} schreiben verschiedene Werte nach {2} in ' +
+    'Zeile {3}.',
+  'all is right, but its time is {0}; at most {1} is allowed here.':
+    'alles stimmt, aber die Zeit ist {0}; höchstens {1} ist hier erlaubt.',
+  'all is right, but it makes {0} operations; at most {1} are allowed here.':
+    'alles stimmt, aber es macht {0} Operationen; höchstens {1} sind hier erlaubt.',
+  'all is right, but the machine makes {0} steps; at most {1} are allowed here.':
+    'alles stimmt, aber die Maschine macht {0} Schritte; höchstens {1} sind hier erlaubt.',
+  'all is right, but in {0} lines of code; at most {1} are allowed.':
+    'alles stimmt, aber in {0} Codezeilen; höchstens {1} sind erlaubt.',
+  'Not yet, on input {0} of {1}: {2}': 'Noch nicht, bei Eingabe {0} von {1}: {2}',
+  'Not yet, on input {0} of {1} ({2}): {3}': 'Noch nicht, bei Eingabe {0} von {1} ({2}): {3}',
+  'the input in its line {0} sets a bad header: {1}':
+    'die Eingabe in ihrer Zeile {0} setzt einen falschen Kopf: {1}',
+  'the input in its line {0} says badly what is wanted: {1}':
+    'die Eingabe in ihrer Zeile {0} sagt falsch, was verlangt ist: {1}',
+  'a bar has no value with the input in its line {0}: {1}':
+    'eine Schranke hat mit der Eingabe in ihrer Zeile {0} keinen Wert: {1}',
+  'its reference fails with the input in its line {0}: {1}':
+    'ihre Musterlösung scheitert an der Eingabe in ihrer Zeile {0}: {1}',
+  'its reference ends in a conflict with the input in its line {0}':
+    'ihre Musterlösung endet mit der Eingabe in ihrer Zeile {0} in einem Konflikt',
+  'the input in its line {0} sets “{1}”, which its header does not declare':
+    'die Eingabe in ihrer Zeile {0} setzt „{1}“, was ihr Kopf nicht deklariert',
+  'This exercise cannot be judged by: {0}': 'Nach dieser Aufgabe lässt sich nicht prüfen: {0}',
+  'Right on all {0} inputs.': 'Richtig bei allen {0} Eingaben.',
+  'Right on all {0} inputs, under {1}.': 'Richtig bei allen {0} Eingaben, unter {1}.',
+  'Not yet: the text is too long.': 'Noch nicht: Der Text ist zu lang.',
+  'your own': 'eigene',
+  'Exercise: {0}': 'Aufgabe: {0}',
+  '{0}, this input': '{0}, diese Eingabe',
+  'Your own exercise: {0}': 'Eigene Aufgabe: {0}',
   'Tour {0} of {1}: {2}': 'Rundgang {0} von {1}: {2}',
   'Exercise {0}': 'Aufgabe {0}',
   'Exercise {0} of {1}: {2}': 'Aufgabe {0} von {1}: {2}',
-  'Find a schedule {0}': 'Einen Ablauf finden {0}',
   'Find a schedule {0} of {1}: {2}': 'Einen Ablauf finden {0} von {1}: {2}',
-  'Exercise {0}, this input': 'Aufgabe {0}, diese Eingabe',
   'A tour: losing a worker': 'Ein Rundgang: ein Arbeiter geht verloren',
   Exercises: 'Aufgaben',
   'Find a schedule': 'Einen Ablauf finden',

@@ -1,7 +1,6 @@
-// Judges exercises: the core runs the learner's lines on hidden inputs, and says what they cost.
-import { CODE, JOB_FAULT, MODELS } from './declared.js';
-import { headerOf, keyOf, ruleOf } from './exercises.js';
-import { excessInWords, keepSteps } from './growth.js';
+// Judges exercises: the core says by its proved judge whether a text meets one, and what is wrong.
+import { BAR, CODE, JOB_FAULT, MODELS, PROGRAM_SENTENCES, UNFIT, WRONG } from './declared.js';
+import { sizesInWords } from './exercises.js';
 import { grouped } from './numbers.js';
 import { wordsOfProgramFault } from './program_faults.js';
 import { Source } from './source.js';
@@ -11,39 +10,16 @@ import { english, phrase } from './words.js';
 // Of so many steps at most it is looked up which line wrote a place last.
 const MOST_LOOKED = 2000;
 
-// The text with the exercise's own lines before `code`, each where it stands, for this input; or
-// the first of them that is missing.
-export function withInput(text, exercise, input) {
-  const lines = text.split('\n');
-  const code = lines.findIndex((line) => keyOf(line) === 'code');
-  const end = code < 0 ? lines.length : code + 1;
-  const head = lines.slice(0, end);
-  const own = new Map([...headerOf(exercise, input), 'code'].map((line) => [keyOf(line), line]));
-  const there = new Set(head.map(keyOf));
-  for (const [key, line] of own) if (!there.has(key)) return { missing: line.split(' =', 1)[0] };
-  const given = head.map((line) => own.get(keyOf(line)) ?? line);
-  return { given: [...given, ...lines.slice(end)].join('\n') };
-}
+const faultInWords = (fault, line, text) =>
+  phrase('line {0}: {1}', grouped(line), wordsOfProgramFault(fault, lineOf(text, line)));
 
-// Two processors that meet at a place: who, where, in which line, in which step.
-const partsOf = ({ lines }, source, { step, cell, first, second }) =>
-  [first, second, source.nameOfCell(cell), grouped(lines.get(step)), grouped(step)];
+// ---- a value
 
-function faultInWords({ code, fault, line }, text) {
-  if (code !== CODE.NO_JOB) return phrase('the page is out of memory.');
-  return phrase('line {0}: {1}', grouped(line), wordsOfProgramFault(fault, lineOf(text, line)));
-}
-
-const CONFLICTS = {
-  crew: english('processors {0} and {1} write {2} in line {3}, step {4}, against the rule {5}.'),
-  common: english('processors {0} and {1} write different values to {2} in line {3}, step {4}, ' +
-    'against the rule {5}.'),
-};
-
-function conflictOf(exercise, trial, source) {
-  if (trial.answer.code !== CODE.CONFLICT) return '';
-  const rule = ruleOf(exercise);
-  return phrase(CONFLICTS[rule], ...partsOf(trial, source, trial.answer), rule);
+// The cell of a place, as `A[3]` or `A[1,2]`.
+function cellOf({ arrays }, place) {
+  const [, name, row, column] = /^(\w+)(?:\[(\d+)(?:,(\d+))?\])?$/.exec(place) ?? [];
+  const { base, width } = arrays.find((array) => array.name === name) ?? {};
+  return base + (column === undefined ? Number(row ?? 0) : row * width + Number(column));
 }
 
 function goneInWords({ fates: { lost: { processor, step } }, lines }) {
@@ -60,77 +36,117 @@ function heldInWords(parts, { isKnown, line }) {
 }
 
 // The first place that is wrong, and which line wrote it last.
-async function valueOf(ask, exercise, input, trial, source) {
-  const { answer: { cells, step } } = trial;
-  const { base } = source.arrays.find(({ name }) => name === exercise.into);
-  const wanted = exercise.want(input);
-  const k = wanted.findIndex((value, at) => cells[base + at] !== value);
-  if (k < 0) return '';
-  const isKnown = step <= MOST_LOOKED;
-  const line = isKnown ? await ask('lastWrite', [trial, base + k]) : undefined;
-  const parts = [source.nameOfCell(base + k), grouped(cells[base + k]), grouped(wanted[k])];
+async function valueInWords(ask, { text: place, held, wanted }, given) {
+  const parts = [place, grouped(held), grouped(wanted)];
+  const trial = await ask('trial', [given]);
+  if (trial.made.code !== CODE.DONE) return heldInWords(parts, {});
+  const cell = cellOf(new Source([], trial.made), place);
+  const isKnown = trial.answer.step <= MOST_LOOKED;
+  const line = isKnown ? await ask('lastWrite', [trial, cell]) : undefined;
   return `${heldInWords(parts, { isKnown, line })} ${goneInWords(trial)}`.trim();
 }
 
-// By the model that it rules out, what two processors do with one place.
-const MEETINGS = [
-  english('it needs {5}: processors {0} and {1} read {2} in line {3}, step {4}.'),
-  english('it needs {5}: processors {0} and {1} write {2} in line {3}, step {4}.'),
-  english('it needs {5}: processors {0} and {1} write different values to {2} in line {3}, step ' +
-    '{4}.'),
-];
+// ---- what else is wrong
 
-function modelOf({ model }, trial, source) {
-  const { needs, meetings } = trial.cost;
-  const met = meetings.findIndex(({ step }, k) => k >= model && step > 0);
-  return needs <= model ? ''
-    : phrase(MEETINGS[met], ...partsOf(trial, source, meetings[met]), MODELS[needs]);
+const CONFLICTS = {
+  crew: english('processors {0} and {1} write {2} in line {3}, against the rule {4}.'),
+  common: english('processors {0} and {1} write different values to {2} in line {3}, against ' +
+    'the rule {4}.'),
+};
+
+// Two processors that meet at a place: who, where, in which line.
+const partsOf = ({ first, second, text, line }) => [first, second, text, grouped(line)];
+
+function conflictInWords(told, given) {
+  const [, rule] = /^\s*rule\s+(\w+)/m.exec(given);
+  return phrase(CONFLICTS[rule], ...partsOf(told), rule);
 }
 
-// `taken` has the steps of the inputs before, by their size.
-async function troubleOf(ask, exercise, input, trial, taken) {
-  const source = new Source([], trial.made);
-  return conflictOf(exercise, trial, source) ||
-    await valueOf(ask, exercise, input, trial, source) ||
-    modelOf(exercise, trial, source) ||
-    excessInWords(exercise.growth, input.length, trial.answer.step, taken);
+// By the model that is needed, what two processors do with one place.
+const MEETINGS = [
+  '',
+  english('it needs {4}: processors {0} and {1} read {2} in line {3}.'),
+  english('it needs {4}: processors {0} and {1} write {2} in line {3}.'),
+  english('it needs {4}: processors {0} and {1} write different values to {2} in line {3}.'),
+];
+
+const EXCESS = {
+  [BAR.TIME]: english('all is right, but its time is {0}; at most {1} is allowed here.'),
+  [BAR.OPERATIONS]:
+    english('all is right, but it makes {0} operations; at most {1} are allowed here.'),
+  [BAR.STEPS]:
+    english('all is right, but the machine makes {0} steps; at most {1} are allowed here.'),
+  [BAR.LINES]: english('all is right, but in {0} lines of code; at most {1} are allowed.'),
+};
+
+// What is wrong on an input, in words.
+function wrongInWords(ask, told, given) {
+  switch (told.kind) {
+    case WRONG.PROGRAM: return faultInWords(told.fault, told.line, given);
+    case WRONG.CONFLICT: return conflictInWords(told, given);
+    case WRONG.VALUE: return valueInWords(ask, told, given);
+    case WRONG.BAR: return phrase(EXCESS[told.bar], grouped(told.took), grouped(told.most));
+    default: return phrase(MEETINGS[told.needs], ...partsOf(told), MODELS[told.needs]);
+  }
 }
 
 const notYet = (said, given) => ({ isRight: false, said, given });
 
-// Tries one input, and keeps how many steps it took; or tells why it is not right.
-async function tryInput(ask, exercise, text, k, taken) {
-  const input = exercise.inputs[k];
-  const { given, missing } = withInput(text, exercise, input);
-  if (missing) {
+// Where a text is no program, that does not hang on the input.
+const hangsOnInput = ({ kind, fault }) =>
+  kind !== WRONG.PROGRAM || fault === JOB_FAULT.ENDLESS;
+
+// The core has lines of the header as the exercise has them, which may be indented, and ends the
+// last line, too.
+const plain = (given) => given.slice(0, -1).replace(/^[^]*?^[ \t]*code\b/m, (header) =>
+  header.replace(/^[ \t]+/gm, ''));
+
+async function failedInWords(ask, exercise, text, told) {
+  if (told.kind === WRONG.MISSING) {
     return notYet(phrase('Not yet: the line “{0}” is missing. “Begin anew” brings it back.',
-      missing));
+      told.text.split(' =', 1)[0].trim()));
   }
-  const onInput = (said) => notYet(phrase('Not yet, on input {0} of {1} (n = {2}): {3}',
-    k + 1, exercise.inputs.length, grouped(input.length), said), given);
-  const trial = await ask('trial', [given]);
-  const { made } = trial;
-  if (made.code !== CODE.DONE) {
-    const said = faultInWords(made, given);
-    // This one hangs on the input.
-    return made.fault === JOB_FAULT.ENDLESS ? onInput(said)
-      : notYet(phrase('Not yet, {0}', said), given);
-  }
-  const trouble = await troubleOf(ask, exercise, input, trial, taken);
-  if (!trouble) keepSteps(taken, input.length, trial.answer.step);
-  return trouble ? onInput(trouble) : undefined;
+  const input = exercise.inputs[told.input - 1];
+  const given = plain((await ask('given', [exercise.text, text, input.line])).text);
+  const said = await wrongInWords(ask, told, given);
+  if (!hangsOnInput(told)) return notYet(phrase('Not yet, {0}', said), given);
+  const number = [told.input, exercise.inputs.length];
+  const sizes = sizesInWords(input, exercise);
+  return notYet(sizes === '' ? phrase('Not yet, on input {0} of {1}: {2}', ...number, said)
+    : phrase('Not yet, on input {0} of {1} ({2}): {3}', ...number, sizes, said), given);
 }
 
-// Tells whether all inputs come out right, in words, and the text with the first that does not.
-// `ask` calls the core, and promises what it tells.
+// ---- an exercise that cannot be judged by
+
+const UNFITS = {
+  [UNFIT.GIVEN]: english('the input in its line {0} sets a bad header: {1}'),
+  [UNFIT.ANSWER]: english('the input in its line {0} says badly what is wanted: {1}'),
+  [UNFIT.BAR]: english('a bar has no value with the input in its line {0}: {1}'),
+  [UNFIT.REFERENCE]: english('its reference fails with the input in its line {0}: {1}'),
+  [UNFIT.CONFLICT]: english('its reference ends in a conflict with the input in its line {0}'),
+};
+
+function unfitInWords({ kind, line, fault, within }) {
+  const why = fault === 0 ? ''
+    : phrase('line {0}: {1}', grouped(within), phrase(PROGRAM_SENTENCES[fault]));
+  return phrase('This exercise cannot be judged by: {0}',
+    phrase(UNFITS[kind], grouped(line), why));
+}
+
+function passedInWords({ inputs, model }) {
+  return model === undefined ? phrase('Right on all {0} inputs.', inputs.length)
+    : phrase('Right on all {0} inputs, under {1}.', inputs.length, MODELS[model]);
+}
+
+// Tells whether a text meets an exercise, in words, and the text with the first input that it does
+// not meet. `ask` calls the core, and promises what it tells.
 export async function judgeExercise(ask, exercise, text) {
-  const { inputs, model, growth } = exercise;
-  const taken = new Map();
-  for (let k = 0; k < inputs.length; k += 1) {
-    const told = await tryInput(ask, exercise, text, k, taken);
-    if (told) return told;
+  const told = await ask('verdict', [exercise.text, text]);
+  switch (told.code) {
+    case CODE.PASSED: return { isRight: true, said: passedInWords(exercise) };
+    case CODE.FAILED: return failedInWords(ask, exercise, text, told);
+    case CODE.UNFIT: return notYet(unfitInWords(told));
+    case CODE.TEXT_TOO_LONG: return notYet(phrase('Not yet: the text is too long.'));
+    default: return notYet(phrase('The page is out of memory.'));
   }
-  const said = phrase('Right on all {0} inputs, under {1}: {2}.', inputs.length, MODELS[model],
-    growth.tell(taken));
-  return { isRight: true, said };
 }

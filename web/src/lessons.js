@@ -1,65 +1,58 @@
 // A tour, exercises and puzzles: a menu, and a panel over the page.
 import { readAddress } from './address.js';
-import { MODELS } from './declared.js';
 import { byId, make, onClick, setDisabled, setHidden, setText } from './dom.js';
-import { EXERCISES, isOf, sizesOf, startOf } from './exercises.js';
+import { learnWanted, showInputs } from './exercise_inputs.js';
+import { isOf, isOfPage, readExercise, startOf, taskInWords } from './exercises.js';
 import { judgeExercise } from './judge.js';
-import { grouped } from './numbers.js';
 import { PUZZLES, judgePuzzle } from './puzzles.js';
-import { keepSolved, listenToSolved, solved } from './solved.js';
+import { keepSolved, listenToSolved, renameSolved, solved } from './solved.js';
 import { save } from './styled_svg.js';
 import { TOUR } from './tour.js';
 import { english, phrase } from './words.js';
 
 const PAUSE = 50;
 
-// What is called how, and how its panel is headed.
-const KINDS = {
-  tour: { list: TOUR, name: english('Tour {0}'), head: english('Tour {0} of {1}: {2}') },
-  exercise: {
-    list: EXERCISES, name: english('Exercise {0}'), head: english('Exercise {0} of {1}: {2}'),
-  },
-  puzzle: {
-    list: PUZZLES, name: english('Find a schedule {0}'),
-    head: english('Find a schedule {0} of {1}: {2}'),
-  },
+// How the panel of each kind is headed.
+const HEADS = {
+  tour: english('Tour {0} of {1}: {2}'),
+  exercise: english('Exercise {0} of {1}: {2}'),
+  puzzle: english('Find a schedule {0} of {1}: {2}'),
 };
 
+// Whether it is an exercise of one's own.
+const isOwn = (lesson) => lesson.inputs !== undefined && !isOfPage(lesson);
+
 const group = (label, options) => make('optgroup', { label }, ...options);
-
-function optionsOf(kind) {
-  const right = solved();
-  return KINDS[kind].list.map(({ number, title }) => {
-    const value = `${kind} ${number}`;
-    const mark = Object.hasOwn(right, value) ? '✓ ' : '';
-    return make('option', { value }, `${mark}${number}: ${phrase(title)}`);
-  });
-}
-
-// The exercises that were solved, one after the other, as one file.
-function handIn() {
-  const right = solved();
-  const texts = KINDS.exercise.list.flatMap(({ number, title }) => {
-    const text = right[`exercise ${number}`];
-    return text === undefined ? [] : [`; ${number}: ${phrase(title)}\n${text}`];
-  });
-  save('exercises.txt', 'text/plain', texts.join('\n'));
-}
 
 // A lesson of a list by its name, or else by its number.
 const nameIn = (list, stop) => list[stop].name ?? `${stop + 1}`;
 
-const areHandedIn = () => Object.keys(solved()).some((name) => name.startsWith('exercise '));
+// By which name it is kept that a lesson was solved.
+const keyOf = (kind, list, stop) => `${kind} ${nameIn(list, stop)}`;
 
-function taskInWords({ task, growth, model, ...exercise }) {
-  const sizes = sizesOf(exercise).map(grouped);
-  const others = sizes.slice(0, -1).join(', ');
-  return phrase(growth.task, phrase(task), MODELS[model], others, sizes.at(-1));
+function optionsOf(kind, list) {
+  const right = solved();
+  return list.map((lesson, stop) => {
+    const mark = Object.hasOwn(right, keyOf(kind, list, stop)) ? '✓ ' : '';
+    const number = isOwn(lesson) ? phrase('your own') : stop + 1;
+    return make('option', { value: `${kind} ${stop + 1}` },
+      `${mark}${number}: ${phrase(lesson.title)}`);
+  });
 }
 
+// What an exercise is called.
+const nameOfExercise = (exercise) => (isOwn(exercise)
+  ? phrase('Exercise: {0}', exercise.title) : phrase('Exercise {0}', exercise.number));
+
+const areHandedIn = () => Object.keys(solved()).some((name) => name.startsWith('exercise '));
+
 class Lessons {
-  constructor(app) {
+  constructor(app, exercises) {
     Object.assign(this, { app, kind: '', stop: 0, far: app.far.another() });
+    this.lists = { tour: TOUR, exercise: exercises, puzzle: PUZZLES };
+    // They were kept by their numbers once.
+    renameSolved(new Map(exercises.map(({ name, number }) =>
+      [`exercise ${number}`, `exercise ${name}`])));
     const menu = byId('lesson');
     this.first = menu.firstElementChild;
     this.fillMenu();
@@ -70,10 +63,10 @@ class Lessons {
     onClick('judge', () => this.judge());
     onClick('lesson-try', () =>
       app.choose(this.given, {
-        name: this.nameOf(english('Exercise {0}, this input')), lesson: this.lesson,
+        name: this.nameOf(english('{0}, this input')), lesson: this.lesson,
       }));
     onClick('lesson-close', () => this.close());
-    onClick('hand-in', handIn);
+    onClick('hand-in', () => this.handIn());
     listenToSolved(() => this.fillMenu());
   }
 
@@ -82,8 +75,8 @@ class Lessons {
     const { value } = menu;
     menu.replaceChildren(this.first,
       make('option', { value: 'tour 1' }, phrase('A tour: losing a worker')),
-      group(english('Exercises'), optionsOf('exercise')),
-      group(english('Find a schedule'), optionsOf('puzzle')));
+      group(english('Exercises'), optionsOf('exercise', this.lists.exercise)),
+      group(english('Find a schedule'), optionsOf('puzzle', this.lists.puzzle)));
     menu.value = value;
   }
 
@@ -97,28 +90,65 @@ class Lessons {
   }
 
   get list() {
-    return KINDS[this.kind].list;
+    return this.lists[this.kind];
   }
 
-  // The name of the lesson that is shown now, in the language that is spoken then.
+  // The exercises that were solved, one after the other, as one file: those of the page, and then
+  // one's own.
+  handIn() {
+    const { lists: { exercise: list } } = this;
+    const right = solved();
+    const named = list.filter(isOfPage).map(({ name, number, title }) =>
+      [`exercise ${name}`, `; ${number}: ${phrase(title)}\n`]);
+    const heads = new Map(named);
+    const others = Object.keys(right).filter((key) => key.startsWith('exercise ') &&
+      !heads.has(key));
+    const keys = [...heads.keys(), ...others].filter((key) => Object.hasOwn(right, key));
+    save('exercises.txt', 'text/plain',
+      keys.map((key) => `${heads.get(key) ?? ''}${right[key]}`).join('\n'));
+  }
+
+  // The name of the exercise that is shown now, in the language that is spoken then.
   nameOf(text) {
-    const number = this.stop + 1;
-    return () => phrase(text, number);
+    const exercise = this.list[this.stop];
+    return () => phrase(text, nameOfExercise(exercise));
   }
 
-  // Which one is shown, as an address has it; none where the panel is closed.
+  // Which one is shown, as an address has it; none where the panel is closed. An exercise of one's
+  // own is there by its text.
   get shown() {
     if (this.kind === '' || byId('lesson-panel').hidden) return undefined;
-    return { kind: this.kind, name: nameIn(this.list, this.stop) };
+    const { kind, list, stop } = this;
+    const lesson = list[stop];
+    return { kind, name: nameIn(list, stop), text: isOwn(lesson) ? lesson.text : undefined };
+  }
+
+  // An exercise of one's own is one of the list from now on: at which place. Throws a RangeError
+  // that says why the text is none.
+  stopOf(text) {
+    const { app, lists: { exercise: list } } = this;
+    const found = list.findIndex((exercise) => exercise.text === text);
+    if (found >= 0) return found;
+    list.push(readExercise(app.core, text));
+    this.fillMenu();
+    return list.length - 1;
+  }
+
+  // Begins an exercise of one's own.
+  beginOwn(text) {
+    this.stop = this.stopOf(text);
+    this.kind = 'exercise';
+    this.begin();
   }
 
   // What an address shows: with the lesson that it names, and with what that begins with where the
   // address has no text.
   async complete(shown) {
     if (!shown?.lesson) return shown;
-    const { kind, name } = shown.lesson;
-    const { list } = KINDS[kind];
-    const stop = list.findIndex((_, k) => [nameIn(list, k), `${k + 1}`].includes(name));
+    const { kind, name, text: own } = shown.lesson;
+    const list = this.lists[kind];
+    const stop = own === undefined
+      ? list.findIndex((_, k) => [nameIn(list, k), `${k + 1}`].includes(name)) : this.stopOf(own);
     if (stop < 0) throw new RangeError(phrase('there is no such lesson'));
     const lesson = { kind, stop };
     if (shown.text !== undefined) return { ...shown, lesson };
@@ -126,7 +156,7 @@ class Lessons {
       return { ...await readAddress(list[stop].address, this.app.examples), lesson };
     }
     const text = this.begunOf(list[stop])?.text ?? startOf(list[stop]);
-    return { ...shown, text, lesson, name: () => phrase(KINDS.exercise.name, stop + 1) };
+    return { ...shown, text, lesson, name: () => nameOfExercise(list[stop]) };
   }
 
   // Opens the panel of a lesson whose text is shown already.
@@ -194,21 +224,38 @@ class Lessons {
     else this.visit(lesson.address);
   }
 
+  get head() {
+    const { kind, list, stop } = this;
+    const title = phrase(list[stop].title);
+    if (isOwn(list[stop])) return phrase('Your own exercise: {0}', title);
+    const count = kind === 'exercise' ? list.filter(isOfPage).length : list.length;
+    return phrase(HEADS[kind], stop + 1, count, title);
+  }
+
   showPanel() {
     const lesson = this.list[this.stop];
     byId('lesson').value = this.kind === 'tour' ? 'tour 1' : `${this.kind} ${this.stop + 1}`;
-    setText(byId('lesson-title'),
-      phrase(KINDS[this.kind].head, this.stop + 1, this.list.length, phrase(lesson.title)));
+    setText(byId('lesson-title'), this.head);
     setText(byId('lesson-text'),
       this.kind === 'exercise' ? taskInWords(lesson) : phrase(lesson.task));
+    showInputs(byId('lesson-inputs'), this.kind === 'exercise' ? lesson : undefined);
     byId('lesson-panel').hidden = false;
     this.stopJudging();
+    if (this.kind === 'exercise') this.learnWanted(lesson);
     setHidden(byId('judge'), this.kind === 'tour');
     setHidden(byId('hand-in'), this.kind !== 'exercise' || !areHandedIn());
     setDisabled(byId('lesson-back'), this.stop === 0);
     setDisabled(byId('lesson-on'), this.stop === this.list.length - 1);
     this.say({ isRight: false, said: '' });
     this.app.saved();
+  }
+
+  // What is wanted stands in the table once the reference was run.
+  async learnWanted(exercise) {
+    const isLearned = await learnWanted((...call) => this.ask(...call), this.app.core, exercise);
+    if (isLearned && exercise === this.list?.[this.stop]) {
+      showInputs(byId('lesson-inputs'), exercise);
+    }
   }
 
   // The own program that an exercise was begun with, the newest one.
@@ -226,7 +273,7 @@ class Lessons {
       return;
     }
     const begun = isAnew ? undefined : this.begunOf(exercise);
-    const name = this.nameOf(KINDS.exercise.name);
+    const name = this.nameOf('{0}');
     const more = { draft: begun?.number, name, lesson: this.lesson };
     app.choose(begun?.text ?? startOf(exercise), more);
   }
@@ -262,7 +309,7 @@ class Lessons {
   tell(judged, text) {
     this.say(judged);
     if (!judged.isRight) return;
-    keepSolved(`${this.kind} ${this.stop + 1}`, text);
+    keepSolved(keyOf(this.kind, this.list, this.stop), text);
     this.fillMenu();
     setHidden(byId('hand-in'), this.kind !== 'exercise');
   }
@@ -289,6 +336,8 @@ class Lessons {
   }
 }
 
-export function openLessons(app) {
-  return new Lessons(app);
+// The exercises that came with the page are read by the core.
+export function openLessons(app, exercises) {
+  return new Lessons(app, exercises.map(({ name, text }, k) =>
+    readExercise(app.core, text, { name, number: k + 1 })));
 }

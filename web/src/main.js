@@ -43,7 +43,7 @@ const MOST_PACKED = 16777216;
 // and the view. The views read it, and change the schedule and the step. While one writes a text that
 // has a fault the job is that of the last one that had none, `runText`.
 class Playground {
-  constructor(core, far, examples, frame) {
+  constructor(core, far, { examples, exercises }, frame) {
     Object.assign(this, { core, far, examples, frame, view: 'lockstep', written: -Infinity, isStale: false });
     this.firstShown = new Promise((done) => { this.onShown = done; });
     this.works = new Works(makeWork('', new Schedule(WORKERS)));
@@ -72,7 +72,7 @@ class Playground {
     });
     this.heat = new Heat(this, frame.part && frame.isHot);
     this.tabs = openTabs((view) => this.turnTo(view));
-    this.lessons = openLessons(this);
+    this.lessons = openLessons(this, exercises);
     this.link = new Link(this, examples, (shown, more) => this.showAddress(shown, more));
     this.listen();
   }
@@ -447,12 +447,13 @@ async function start() {
   let app;
   const bytes = await unpacked('core');
   const examples = JSON.parse(await readPacked('examples'));
+  const exercises = JSON.parse(await readPacked('exercises'));
   const script = await readPacked('far');
   const frame = readFrame();
   if (frame.part) document.documentElement.setAttribute('data-embed', frame.part);
   await openLanguage(async () => JSON.parse(await readPacked('words')), () => app?.redraw());
   const core = await openCore(bytes);
-  app = new Playground(core, new Far(script, bytes), examples, frame);
+  app = new Playground(core, new Far(script, bytes), { examples, exercises }, frame);
   openReference(() => readPacked('documents'));
   await app.link.open();
   await app.firstShown;

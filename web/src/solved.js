@@ -9,13 +9,23 @@ export function solved() {
   }
 }
 
-// Where the browser keeps nothing a mark is lost.
-export function keepSolved(name, text) {
+// Where the browser keeps nothing marks are lost.
+function keep(right) {
   try {
-    localStorage.setItem(KEY, JSON.stringify({ ...solved(), [name]: text }));
+    localStorage.setItem(KEY, JSON.stringify(right));
   } catch {
     // What was said beside the button says that it was right.
   }
+}
+
+export const keepSolved = (name, text) => keep({ ...solved(), [name]: text });
+
+// What was kept by other names, which are told by these.
+export function renameSolved(names) {
+  const right = solved();
+  if (!Object.keys(right).some((name) => names.has(name))) return;
+  keep(Object.fromEntries(Object.entries(right).map(([name, text]) =>
+    [names.get(name) ?? name, text])));
 }
 
 // `onChange` hears that another page solved one.

@@ -312,6 +312,59 @@ export const SPANISH = {
     'many come after i. N may change.']:
     'N[i] es el elemento que sigue a i en una lista, y para el último él mismo. R[i] pasa a ' +
     'ser cuántos vienen después de i. N puede cambiar.',
+  'sums in segments': 'sumas por segmentos',
+  ['Where F[i] is 1 a segment begins, and at A[0], too; else F[i] is 0. A[i] becomes the sum ' +
+    'of its segment\'s values up to A[i], modulo 2^32. F may change.']:
+    'Donde F[i] es 1 empieza un segmento, y también en A[0]; si no, F[i] es 0. A[i] pasa a ser ' +
+    'la suma de los valores de su segmento hasta A[i], módulo 2^32. F puede cambiar.',
+  compaction: 'compactación',
+  ['The values of A that are not 0 go to the front of B, in their order; count becomes how ' +
+    'many they are. The other places of B stay 0. n is a power of two.']:
+    'Los valores de A que no son 0 van al principio de B, en su orden; count pasa a ser ' +
+    'cuántos son. Los demás lugares de B quedan en 0. n es una potencia de dos.',
+  'prefix sums by few': 'sumas de prefijos entre pocos',
+  ['A[i] becomes A[0] + .. + A[i], modulo 2^32, of n values by p processors; n is a multiple ' +
+    'of p. Each processor makes about as many additions as it has values.']:
+    'A[i] pasa a ser A[0] + .. + A[i], módulo 2^32, de n valores con p procesadores; n es un ' +
+    'múltiplo de p. Cada procesador hace más o menos tantas sumas como valores tiene.',
+  'maximum in constant time': 'máximo en tiempo constante',
+  'greatest becomes the greatest of all A[i]. There is a processor for each pair of values.':
+    'greatest pasa a ser el mayor de todos los A[i]. Hay un procesador para cada par de ' +
+    'valores.',
+  'merge of two rows': 'mezcla de dos filas',
+  ['A and B are sorted, each from its least value to its greatest. C becomes all their ' +
+    'values, sorted. n is a power of two.']:
+    'A y B están ordenados, cada uno de su menor valor al mayor. C pasa a ser todos sus ' +
+    'valores, ordenados. n es una potencia de dos.',
+  sort: 'ordenar',
+  'A becomes sorted, from its least value to its greatest. n is a power of two.':
+    'A queda ordenado, de su menor valor al mayor. n es una potencia de dos.',
+  'matrix product': 'producto de matrices',
+  ['C becomes the product of A and B: C[r, c] is A[r, 0] * B[0, c] + .. + A[r, n - 1] * B[n - ' +
+    '1, c], modulo 2^32. There is a processor for each place of C.']:
+    'C pasa a ser el producto de A y B: C[r, c] es A[r, 0] * B[0, c] + .. + A[r, n - 1] * B[n ' +
+    '- 1, c], módulo 2^32. Hay un procesador para cada lugar de C.',
+  'depths in a tree': 'profundidades en un árbol',
+  ['A tour goes around a tree of n nodes: each edge is an arc down and one up. next[a] is the ' +
+    'arc after a, and of the last one that itself; down[a] is 1 if a leads down, else 0; ' +
+    'head[a] is the node that it leads to. depth[v] becomes how many edges v lies below the ' +
+    'root, where the tour begins and ends. next may change.']:
+    'Un recorrido rodea un árbol de n nodos: cada arista es un arco que baja y otro que sube. ' +
+    'next[a] es el arco que sigue a a, y el del último es él mismo; down[a] es 1 si a baja, si ' +
+    'no 0; head[a] es el nodo al que lleva. depth[v] pasa a ser cuántas aristas está v por ' +
+    'debajo de la raíz, donde el recorrido empieza y acaba. next puede cambiar.',
+  'ways in a graph': 'caminos en un grafo',
+  ['A[a, b] is 1 if an edge leads from node a to node b, else 0. W[a, b] becomes 1 if a way ' +
+    'does, of one edge, more or none, and else 0. There is a processor for each three nodes. A ' +
+    'may change.']:
+    'A[a, b] es 1 si una arista lleva del nodo a al nodo b, si no 0. W[a, b] pasa a ser 1 si ' +
+    'lo hace un camino, de una arista, varias o ninguna, y si no 0. Hay un procesador para ' +
+    'cada tres nodos. A puede cambiar.',
+  'connected components': 'componentes conexas',
+  ['Edge i joins the nodes U[i] and V[i], which may be the same. C[v] becomes the least node ' +
+    'that v is joined to, by one edge, more or none. m is at least n.']:
+    'La arista i une los nodos U[i] y V[i], que pueden ser el mismo. C[v] pasa a ser el menor ' +
+    'nodo con el que v está unido, por una arista, varias o ninguna. m es al menos n.',
   '“{0}” needs two registers, as in “{1}”, or in pram 3 of an array A “{2}”.':
     '«{0}» necesita dos registros, como en «{1}», o en pram 3 con un arreglo A «{2}».',
   '“{0}” needs no operand, as in “{1}”.': '«{0}» no necesita ningún operando, como en «{1}».',
@@ -384,39 +437,7 @@ export const SPANISH = {
   'rename this program': 'renombrar este programa',
   'delete this program': 'borrar este programa',
   'there is no such lesson': 'no hay tal lección',
-  '{0} step with n = {1}': '{0} paso con n = {1}',
-  '{0} steps with n = {1}': '{0} pasos con n = {1}',
-  '{0} with n = {1}': '{0} con n = {1}',
-  ['{0} Under {1}, in a number of steps that does not grow with n. Judge tries your lines on ' +
-    'inputs that you do not see, with n = {2} and {3}.']:
-    '{0} Bajo {1}, en un número de pasos que no crece con n. «Evaluar» prueba sus líneas con ' +
-    'entradas que usted no ve, con n = {2} y {3}.',
-  ['all is right, but not in a number of steps that does not grow with n: it took {0}, and ' +
-    'takes {1} here, where at most {2} are allowed.']:
-    'todo está bien, pero no en un número de pasos que no crece con n: tomó {0}, y aquí toma ' +
-    '{1}, donde se permiten como máximo {2}.',
-  '{0} step with each n': '{0} paso con cada n',
-  '{0} steps with each n': '{0} pasos con cada n',
-  ['{0} Under {1}, in steps that grow no faster than a line in log n. Judge tries your lines ' +
-    'on inputs that you do not see, with n = {2} and {3}.']:
-    '{0} Bajo {1}, en pasos que no crecen más rápido que una recta en log n. «Evaluar» prueba ' +
-    'sus líneas con entradas que usted no ve, con n = {2} y {3}.',
-  ['all is right, but not in steps that grow no faster than a line in log n: it took {0}, and ' +
-    'takes {1} here, where at most {2} are allowed.']:
-    'todo está bien, pero no en pasos que no crecen más rápido que una recta en log n: tomó ' +
-    '{0}, y aquí toma {1}, donde se permiten como máximo {2}.',
-  'all is right, but in {0} step; at most {1} are allowed.':
-    'todo está bien, pero en {0} paso; se permiten como máximo {1}.',
-  'all is right, but in {0} steps; at most {1} are allowed.':
-    'todo está bien, pero en {0} pasos; se permiten como máximo {1}.',
-  'the page is out of memory.': 'a la página le falta memoria.',
   'line {0}: {1}': 'línea {0}: {1}',
-  'processors {0} and {1} write {2} in line {3}, step {4}, against the rule {5}.':
-    'los procesadores {0} y {1} escriben {2} en la línea {3}, paso {4}, contra la regla {5}.',
-  ['processors {0} and {1} write different values to {2} in line {3}, step {4}, against the ' +
-    'rule {5}.']:
-    'los procesadores {0} y {1} escriben valores distintos en {2} en la línea {3}, paso {4}, ' +
-    'contra la regla {5}.',
   'Processor {0} is gone since line {1}, where its array has no such place.':
     'El procesador {0} está fuera desde la línea {1}, donde su arreglo no tiene tal lugar.',
   '{0} holds {1}, wanted {2}.': '{0} contiene {1}, se quería {2}.',
@@ -424,26 +445,77 @@ export const SPANISH = {
     '{0} contiene {1}, se quería {2}; ninguna línea lo escribió.',
   '{0} holds {1}, wanted {2}; line {3} wrote it last.':
     '{0} contiene {1}, se quería {2}; la línea {3} lo escribió por último.',
-  'it needs {5}: processors {0} and {1} read {2} in line {3}, step {4}.':
-    'necesita {5}: los procesadores {0} y {1} leen {2} en la línea {3}, paso {4}.',
-  'it needs {5}: processors {0} and {1} write {2} in line {3}, step {4}.':
-    'necesita {5}: los procesadores {0} y {1} escriben {2} en la línea {3}, paso {4}.',
-  'it needs {5}: processors {0} and {1} write different values to {2} in line {3}, step {4}.':
-    'necesita {5}: los procesadores {0} y {1} escriben valores distintos en {2} en la línea ' +
-    '{3}, paso {4}.',
   'Not yet: the line “{0}” is missing. “Begin anew” brings it back.':
     'Todavía no: falta la línea «{0}». «Empezar de nuevo» la devuelve.',
-  'Not yet, on input {0} of {1} (n = {2}): {3}':
-    'Todavía no, con la entrada {0} de {1} (n = {2}): {3}',
   'Not yet, {0}': 'Todavía no, {0}',
-  'Right on all {0} inputs, under {1}: {2}.': 'Correcto con las {0} entradas, bajo {1}: {2}.',
-  'Tour {0}': 'Recorrido {0}',
+  input: 'entrada',
+  '{0} wanted': '{0} pedido',
+  'Time at most {0}.': 'Tiempo como máximo {0}.',
+  'Operations at most {0}.': 'Operaciones como máximo {0}.',
+  'Steps of the machine at most {0}.': 'Pasos de la máquina como máximo {0}.',
+  'Lines of code at most {0}.': 'Líneas de código como máximo {0}.',
+  'it has a character that no text here may have':
+    'tiene un carácter que aquí ningún texto puede tener',
+  'the first line has to be “exercise 1”': 'la primera línea tiene que ser «exercise 1»',
+  'no line of an exercise begins with this word':
+    'ninguna línea de un ejercicio empieza por esta palabra',
+  'something is wrong behind the first word': 'algo está mal detrás de la primera palabra',
+  'it may stand once, and stands a second time': 'puede estar una vez, y está por segunda vez',
+  'the text ends without “{0}”': 'el texto acaba sin «{0}»',
+  'this input does not say what is wanted, and there is no reference':
+    'esta entrada no dice qué se pide, y no hay referencia',
+  'it is too long': 'es demasiado largo',
+  'the text is no exercise: {0}': 'el texto no es un ejercicio: {0}',
+  'Under {0}.': 'Bajo {0}.',
+  'Judge tries your lines on {0} inputs, of which {1} are not shown.':
+    '«Evaluar» prueba sus líneas con {0} entradas, de las que {1} no se muestran.',
+  '{0} cannot be opened: {1}.': '{0} no se puede abrir: {1}.',
+  'processors {0} and {1} write {2} in line {3}, against the rule {4}.':
+    'los procesadores {0} y {1} escriben {2} en la línea {3}, contra la regla {4}.',
+  'processors {0} and {1} write different values to {2} in line {3}, against the rule {4}.':
+    'los procesadores {0} y {1} escriben valores distintos en {2} en la línea {3}, contra la ' +
+    'regla {4}.',
+  'it needs {4}: processors {0} and {1} read {2} in line {3}.':
+    'necesita {4}: los procesadores {0} y {1} leen {2} en la línea {3}.',
+  'it needs {4}: processors {0} and {1} write {2} in line {3}.':
+    'necesita {4}: los procesadores {0} y {1} escriben {2} en la línea {3}.',
+  'it needs {4}: processors {0} and {1} write different values to {2} in line {3}.':
+    'necesita {4}: los procesadores {0} y {1} escriben valores distintos en {2} en la línea ' +
+    '{3}.',
+  'all is right, but its time is {0}; at most {1} is allowed here.':
+    'todo está bien, pero el tiempo es {0}; aquí se permite como máximo {1}.',
+  'all is right, but it makes {0} operations; at most {1} are allowed here.':
+    'todo está bien, pero hace {0} operaciones; aquí se permiten como máximo {1}.',
+  'all is right, but the machine makes {0} steps; at most {1} are allowed here.':
+    'todo está bien, pero la máquina da {0} pasos; aquí se permiten como máximo {1}.',
+  'all is right, but in {0} lines of code; at most {1} are allowed.':
+    'todo está bien, pero en {0} líneas de código; se permiten como máximo {1}.',
+  'Not yet, on input {0} of {1}: {2}': 'Todavía no, con la entrada {0} de {1}: {2}',
+  'Not yet, on input {0} of {1} ({2}): {3}': 'Todavía no, con la entrada {0} de {1} ({2}): {3}',
+  'the input in its line {0} sets a bad header: {1}':
+    'la entrada de su línea {0} da una cabecera mala: {1}',
+  'the input in its line {0} says badly what is wanted: {1}':
+    'la entrada de su línea {0} dice mal lo que se pide: {1}',
+  'a bar has no value with the input in its line {0}: {1}':
+    'una cota no tiene valor con la entrada de su línea {0}: {1}',
+  'its reference fails with the input in its line {0}: {1}':
+    'su referencia falla con la entrada de su línea {0}: {1}',
+  'its reference ends in a conflict with the input in its line {0}':
+    'su referencia acaba en un conflicto con la entrada de su línea {0}',
+  'the input in its line {0} sets “{1}”, which its header does not declare':
+    'la entrada de su línea {0} da «{1}», que su cabecera no declara',
+  'This exercise cannot be judged by: {0}': 'No se puede evaluar según este ejercicio: {0}',
+  'Right on all {0} inputs.': 'Correcto con las {0} entradas.',
+  'Right on all {0} inputs, under {1}.': 'Correcto con las {0} entradas, bajo {1}.',
+  'Not yet: the text is too long.': 'Todavía no: el texto es demasiado largo.',
+  'your own': 'suyo',
+  'Exercise: {0}': 'Ejercicio: {0}',
+  '{0}, this input': '{0}, esta entrada',
+  'Your own exercise: {0}': 'Ejercicio propio: {0}',
   'Tour {0} of {1}: {2}': 'Recorrido {0} de {1}: {2}',
   'Exercise {0}': 'Ejercicio {0}',
   'Exercise {0} of {1}: {2}': 'Ejercicio {0} de {1}: {2}',
-  'Find a schedule {0}': 'Hallar una planificación {0}',
   'Find a schedule {0} of {1}: {2}': 'Hallar una planificación {0} de {1}: {2}',
-  'Exercise {0}, this input': 'Ejercicio {0}, esta entrada',
   'A tour: losing a worker': 'Un recorrido: perder un trabajador',
   Exercises: 'Ejercicios',
   'Find a schedule': 'Hallar una planificación',

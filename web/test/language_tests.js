@@ -56,7 +56,7 @@ export async function testLanguageOfWork() {
   await page.click('#judge');
   await has('a verdict', '#lesson-said', 'Pas encore, sur l’entrée 1 de');
   await choose('es');
-  await has('the lesson', '#lesson-title', 'Ejercicio 2 de 10: duplicar');
+  await has('the lesson', '#lesson-title', 'Ejercicio 2 de 20: duplicar');
   await has('the verdict', '#lesson-said', 'Todavía no, con la entrada 1 de');
   await has('the program of the menu', '#example option:checked', 'Ejercicio 2');
   is('the program itself', (await valueOf('#text')).split('\n', 1)[0], '; Exercise 2: double');

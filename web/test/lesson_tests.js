@@ -3,7 +3,7 @@ import { writeAddress } from '../src/address.js';
 import { Schedule } from '../src/schedule.js';
 import { count, focused, has, is, isShown, open, page, picture, saved, text, valueOf, write }
   from './drive.js';
-import { NO_SCHEDULES, SCHEDULES, SOLUTIONS, WRONG } from './solutions.js';
+import { NAMES, NO_SCHEDULES, SCHEDULES, answerOf, answersOf, exerciseText } from './solutions.js';
 
 const LEAVING = 'pram 1\ncells 2\nprocs 2\nsteps 3\ncode\n' +
   'pid r0\nadd r1 r0 r0\nst r1 r0\nhalt\n';
@@ -66,62 +66,86 @@ export async function testPlot() {
   is('nothing comes after the end', await text('#plot-said'), '');
 }
 
-// The text in the editor, with these lines in place of those from `code` on.
-async function withLines(code) {
-  const [declared, lines] = code.includes('===\n') ? code.split('===\n') : ['', code];
-  return `${(await valueOf('#text')).split('\ncode\n', 1)[0]}\n${declared}code\n${lines}\n`;
-}
+// An answer to the exercise whose text is in the editor, as one who began there has it.
+const begunWith = async (answer) => `${(await valueOf('#text')).split('\n', 1)[0]}\n${answer}`;
 
 async function judged(what, wanted) {
   await page.click('#judge');
+  await page.until('!document.getElementById("lesson-said").textContent.startsWith("It is being")',
+    60);
   await has(what, '#lesson-said', wanted);
 }
 
 async function begin(number) {
   await page.choose('#lesson', `exercise ${number}`);
-  await has(`exercise ${number}`, '#lesson-title', `Exercise ${number} of 10`);
+  await has(`exercise ${number}`, '#lesson-title', `Exercise ${number} of ${NAMES.length}`);
 }
+
+const beginNamed = (name) => begin(NAMES.indexOf(name) + 1);
 
 export async function testExercises() {
   await open();
   is('a program that stays', await valueOf('#example'), 'prefix.pardo');
-  for (const [k, solution] of SOLUTIONS.entries()) {
+  for (const [k, name] of NAMES.entries()) {
     await begin(k + 1);
-    await judged(`its beginning is no solution: ${k + 1}`, 'Not yet, on input ');
-    await write(await withLines(solution));
-    await judged(`a solution of exercise ${k + 1}`, 'Right on all ');
+    await judged(`its beginning is no solution: ${name}`, 'Not yet, ');
+    await write(await begunWith(answersOf(name, 'right')[0]));
+    await judged(`a solution of ${name}`, 'Right on all ');
     is('it is shown as right', await count('#lesson-said.right'), 1);
   }
   await picture('exercise');
-  is('all stay marked', await count('#lesson [label] option[value^=exercise]'), SOLUTIONS.length);
+  is('all stay marked', await count('#lesson [label] option[value^=exercise]'), NAMES.length);
   is('as solved', (await text('#lesson option[value="exercise 2"]')).startsWith('✓ 2: '), true);
   const file = await saved('#hand-in', 'exercises.txt');
-  is('and are handed in as one file', SOLUTIONS.every((lines) => file.includes(lines)), true);
+  is('and are handed in as one file',
+    NAMES.every((name) => file.includes(answersOf(name, 'right')[0])), true);
   await page.choose('#lesson', 'exercise 1');
-  is('what was begun goes on', (await valueOf('#text')).endsWith(`${SOLUTIONS[0]}\n`), true);
+  const [first] = answersOf(NAMES[0], 'right');
+  is('what was begun goes on', (await valueOf('#text')).endsWith(first), true);
   await page.click('#lesson-anew');
-  is('or begins anew', (await valueOf('#text')).includes(SOLUTIONS[0]), false);
+  is('or begins anew', (await valueOf('#text')).endsWith(first), false);
 }
 
 export async function testWrongSolutions() {
   await open();
-  for (const [k, lines, wanted] of WRONG) {
-    await begin(k + 1);
+  for (const name of NAMES) {
+    await beginNamed(name);
     await page.click('#lesson-anew');
-    await write(await withLines(lines));
-    await judged(`wrong in exercise ${k + 1}`, `Not yet${wanted}`);
+    await write(await begunWith(answersOf(name, 'wrong')[0]));
+    await judged(`wrong in ${name}`, 'Not yet, ');
+    await write(await begunWith(answersOf(name, 'slow')[0]));
+    await judged(`slow in ${name}`, 'all is right, but ');
   }
+  await beginNamed('seven');
+  await write(answerOf('seven', 'wrong-endless'));
+  await judged('an endless one', 'still here after 1,048,576 steps');
   await page.click('#lesson-try');
   await has('the input that is wrong', '#fault', 'still here after 1,048,576 steps');
   await has('has its name', '#example option:checked', 'Exercise 6, this input');
-  await begin(4);
-  await write(await withLines(WRONG[2][1]));
-  await judged('where n is no power of two', '(n = 3): B[0] holds ');
+  await beginNamed('neighbours');
+  await write(await begunWith(answerOf('neighbours', 'wrong-power')));
+  await judged('where n is no power of two', '(n = 5): B[');
   await page.click('#lesson-try');
-  await has('the input that is wrong', '#answer', '3 processors');
+  await has('the input that is wrong', '#answer', '5 processors');
   await begin(2);
   await write('pram 1\n');
   await judged('no program', 'Not yet: the line “pardo 1” is missing.');
+}
+
+// The task, the bars and the inputs that are shown, with what is wanted.
+export async function testExercisePanel() {
+  await open('#exercise=maximum');
+  await has('the task', '#lesson-text', 'greatest becomes the greatest of all A[i]. n is a power ' +
+    'of two. A may change. Under EREW. Time at most 4 * lg(n) + 4. Operations at most 4 * n + 8.');
+  await has('how it is judged', '#lesson-text', 'Judge tries your lines on ');
+  await has('an input', '#lesson-inputs', '5, 3, 9, 1');
+  await has('what is wanted', '#lesson-inputs', 'greatest wanted');
+  is('by the reference', await page.evaluate(`[...document.querySelectorAll('#lesson-inputs tr')]
+    .map((row) => [...row.children].map((cell) => cell.textContent).join('|')).join(' ')`),
+    'input|n|A|greatest wanted 1|4|5, 3, 9, 1|9 2|2|7, 9|9');
+  is('hidden ones are not there', (await text('#lesson-inputs')).includes('1024'), false);
+  await page.choose('#lesson', 'tour 1');
+  is('the tour has none', await isShown('#lesson-inputs'), false);
 }
 
 // An exercise that someone sent is judged as it stands, beside one's own.
@@ -130,8 +154,9 @@ export async function testSentExercises() {
   await page.evaluate('localStorage.clear()');
   await open();
   await begin(1);
-  const [start, sent] = [await valueOf('#text'), await withLines(SOLUTIONS[0])];
-  await write(await withLines('A[i] := 7'));
+  const [start, sent] = [await valueOf('#text'), await begunWith(answersOf(NAMES[0], 'right')[0])];
+  const mine = start.replace(/code\n[^]*/, 'code\nA[i] := 7\n');
+  await write(mine);
   const shown = { text: sent, view: 'workers', step: 0, schedule: new Schedule(2) };
   await open(`#${await writeAddress(shown, [])}`);
   await begin(1);
@@ -141,7 +166,101 @@ export async function testSentExercises() {
   is('until it is begun anew', await valueOf('#text'), start);
   await begin(2);
   await begin(1);
-  is('one’s own is there', (await valueOf('#text')).endsWith('code\nA[i] := 7\n'), true);
+  is('one’s own is there', await valueOf('#text'), mine);
+  await page.evaluate('localStorage.clear()');
+}
+
+// What an older page kept as solved, by the number.
+export async function testOldMarks() {
+  await open();
+  await page.evaluate(`localStorage.setItem('kaolinsilk solved',
+    JSON.stringify({ 'exercise 7': 'total', 'puzzle 1': 'sum' }))`);
+  await open();
+  is('an exercise', (await text('#lesson option[value="exercise 7"]')), '✓ 7: sum');
+  is('a puzzle', (await text('#lesson option[value="puzzle 1"]')).startsWith('✓ 1: '), true);
+  is('by its name', await page.evaluate("localStorage.getItem('kaolinsilk solved')"),
+    JSON.stringify({ 'exercise sum': 'total', 'puzzle 1': 'sum' }));
+  await page.evaluate('localStorage.clear()');
+}
+
+// ---- an exercise of one's own
+
+const OWN = exerciseText('sum').replace('title sum', 'title our sum').replace('hidden n=1024 ', '; ');
+const OWN_TITLE = 'Your own exercise: our sum';
+
+// A file of this name with this text, as a list of files.
+const fileOf = (name, content) => `(() => {
+  const files = new DataTransfer();
+  files.items.add(new File([${JSON.stringify(content)}], '${name}'));
+  return files;
+})()`;
+
+const chooseFile = (name, content) => page.evaluate(`(() => {
+  const choice = document.getElementById('file');
+  choice.files = ${fileOf(name, content)}.files;
+  choice.dispatchEvent(new Event('change'));
+})()`);
+
+const dropFile = (name, content) => page.evaluate(`document.getElementById('text').dispatchEvent(
+  new DragEvent('drop', { dataTransfer: ${fileOf(name, content)}, bubbles: true,
+    cancelable: true }))`);
+
+export async function testOwnExercise() {
+  await open();
+  await page.evaluate('localStorage.clear()');
+  await open();
+  await chooseFile('ours.exercise', OWN);
+  await has('a file', '#file-said', 'ours.exercise is open.');
+  is('has its title', await text('#lesson-title'), OWN_TITLE);
+  await has('its task', '#lesson-text', 'total becomes the sum of all A[i]');
+  await has('its inputs', '#lesson-inputs', 'total wanted');
+  const start = await valueOf('#text');
+  is('its start', /^; Exercise [0-9a-f]{8}: our sum\npardo 1\nrule crew\nconst n = 16\n/.test(start),
+    true);
+  is('it is in the menu', await text('#lesson option:checked'), 'your own: our sum');
+  await judged('as it begins', 'Not yet, on input 1 of 11 (n = 4): total holds 5, wanted 18; line ');
+  await picture('own-exercise');
+  await page.click('#lesson-try');
+  await has('the input', '#answer', '4 processors');
+  await has('has its name', '#example option:checked', 'Exercise: our sum, this input');
+  await page.choose('#lesson', 'exercise 21');
+  const mine = `${start.split('\n', 1)[0]}\n${answersOf('sum', 'right')[0]}`;
+  await write(mine);
+  await judged('solved', 'Right on all 11 inputs, under EREW.');
+  is('is marked', await text('#lesson option[value="exercise 21"]'), '✓ your own: our sum');
+  is('and is handed in', (await saved('#hand-in', 'exercises.txt')).includes(mine), true);
+  await page.until('location.hash.includes("own=")', 5);
+  await page.until('false', 0.6);
+  const hash = await page.evaluate('location.hash');
+  await page.refresh();
+  await page.until('document.documentElement?.hasAttribute("data-ready")');
+  await has('loaded anew', '#lesson-title', OWN_TITLE);
+  is('with its text', await valueOf('#text'), mine);
+  await open();
+  is('elsewhere it is not', await isShown('#lesson-title'), false);
+  await open(hash);
+  await has('a link has it', '#lesson-title', OWN_TITLE);
+  is('with the text', await valueOf('#text'), mine);
+  is('and the mark', await text('#lesson option[value="exercise 21"]'), '✓ your own: our sum');
+  await judged('and it is judged', 'Right on all 11 inputs');
+  await page.evaluate('localStorage.clear()');
+}
+
+export async function testDroppedExercise() {
+  await open();
+  await dropFile('ours.exercise', OWN);
+  await has('a dropped file', '#lesson-title', OWN_TITLE);
+  await dropFile('same.exercise', exerciseText('sort'));
+  await has('one of the page', '#lesson-title', 'Exercise 16 of 20: sort');
+  await dropFile('bad.exercise', OWN.replace('want total', 'want'));
+  await has('a bad one', '#file-said', 'bad.exercise cannot be opened: the text is no exercise: ' +
+    'line 7: something is wrong behind the first word.');
+  await has('changes nothing', '#lesson-title', 'Exercise 16 of 20: sort');
+  await dropFile('unfit.exercise', OWN.replace('n=4 A=5,3,9,1', 'n=0'));
+  await judged('one that cannot be judged by', 'This exercise cannot be judged by: the input in ' +
+    'its line 29 sets a bad header: ');
+  await open('#own=abc');
+  await has('a bad link', '#link-said', 'The address can');
   await page.evaluate('localStorage.clear()');
 }
 
@@ -161,7 +280,7 @@ export async function testOldExercises() {
   await has('and runs', '#answer', 'done after 3 steps');
   await judged('as no exercise', 'Not yet: the line “pardo 1” is missing.');
   await page.click('#lesson-anew');
-  await judged('it begins anew', 'B[0] holds 54, wanted 108; line 11 wrote it last.');
+  await judged('it begins anew', 'B[0] holds 3, wanted 6; line 11 wrote it last.');
   await page.evaluate('localStorage.clear()');
 }
 
@@ -173,9 +292,9 @@ export async function testExercisesKeepDrafts() {
   await write(`; mine too\n${LEAVING}`);
   const programs = '#example optgroup:first-child option:not([value=rename], [value=delete])';
   const own = await count(programs);
-  for (let k = 1; k <= 10; k += 1) await page.choose('#lesson', `exercise ${k}`);
+  for (const k of NAMES.keys()) await page.choose('#lesson', `exercise ${k + 1}`);
   is('looking keeps nothing', await count(programs), own + 1);
-  await has('an exercise has its name', '#example option:checked', 'Exercise 10');
+  await has('an exercise has its name', '#example option:checked', 'Exercise 20');
   is('one’s own is there', await page.evaluate(`[...document.querySelectorAll('#example option')]
     .some((one) => one.textContent === 'your own: mine too')`), true);
 }

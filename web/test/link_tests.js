@@ -35,11 +35,11 @@ export async function testAddressOfLesson() {
   await open();
   await page.evaluate('localStorage.clear()');
   await open('#exercise=sum');
-  await has('an exercise', PANEL, 'Exercise 7 of 10: sum');
+  await has('an exercise', PANEL, 'Exercise 7 of 20: sum');
   is('begins', (await valueOf('#text')).includes('; your lines'), true);
   await has('by its name', '#example option:checked', 'Exercise 7');
   await open('#exercise=2');
-  await has('or by its number', PANEL, 'Exercise 2 of 10: double');
+  await has('or by its number', PANEL, 'Exercise 2 of 20: double');
   await page.evaluate('document.getElementById("text").focus()');
   await page.insert('; mine\n');
   await page.until('location.hash.includes("text=")');

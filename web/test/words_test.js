@@ -34,7 +34,6 @@ const OTHERS = {
   'core.js': ['the page is out of memory', 'Told', 'Judgement', 'Scene'],
   'drafts.js': ['kaolinsilk drafts', 'kaolinsilk deleted drafts'],
   'event_words.js': ['Event'],
-  'exercises.js': ['; your own variables', '; your lines'],
   'far.js': ['the thread of the core: 0'],
   'files.js': ['Files'],
   'gallery.js': ['; my program\npardo 1\nrule common\nconst n = 4\nprocs i < n\nshared A[n]\n' +
@@ -60,10 +59,22 @@ const OTHERS = {
   'workers.js': ['current next', 'said bad'],
 };
 
+const exercises = new URL('../../exercises/', import.meta.url);
+
+// The titles and the tasks of the exercises.
+const textsOfExercises = () => readdirSync(exercises).filter((name) => name.endsWith('.exercise'))
+  .flatMap((name) => {
+    const text = readFileSync(new URL(name, exercises), 'utf8');
+    const textsOf = (word) => [...text.matchAll(new RegExp(`^${word} (.*)$`, 'gm'))]
+      .map(([, said]) => said.trim()).join(' ');
+    return [textsOf('title'), textsOf('task')];
+  });
+
 function allTexts() {
   const asked = modules.flatMap((name) => textsOfModule(read(name)).asked);
   const sentences = [SENTENCES, PROGRAM_SENTENCES].flatMap((one) => Object.values(one));
-  return new Set([...textsOfPage(read('page.html'), SPOKEN), ...asked, ...sentences]);
+  return new Set([...textsOfPage(read('page.html'), SPOKEN), ...asked, ...sentences,
+    ...textsOfExercises()]);
 }
 
 const partsIn = (text) => [...new Set(text.match(/\{\d+\}/g))].sort().join();
