@@ -69,6 +69,14 @@ export const WRONG = numbersIn(ofExercises('verdict'), 'tell_wrong', 'kind');
 export const UNFIT = numbersIn(ofExercises('verdict'), 'tell_unfit', 'kind');
 export const BAR = numbersIn(ofExercises('verdict'), 'number_of_bar');
 
+// What is told of programs has the same numbers in calls about exercises.
+for (const [source, name] of [['program', 'number_of_text_kind'], ['program', 'number_of_job_kind'],
+  ['cost', 'number_of_model']]) {
+  const [one, other] = [ofPage(source), ofExercises('verdict')].map((text) =>
+    JSON.stringify(numbersIn(text, name)));
+  if (one !== other) throw new Error(`${name} tells other numbers of exercises`);
+}
+
 // ---- words
 
 export const RULES = byNumber(RULE, wordsIn(read('job_text/src/print.rt'), 'Rule'));

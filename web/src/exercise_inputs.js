@@ -6,6 +6,7 @@ import { Source } from './source.js';
 import { phrase } from './words.js';
 
 const MOST_ROWS = 20;
+const MOST_NAMES = 12;
 const MOST_LETTERS = 60;
 
 const shownOf = ({ inputs }) => inputs.filter(({ isHidden }) => !isHidden).slice(0, MOST_ROWS);
@@ -13,7 +14,7 @@ const shownOf = ({ inputs }) => inputs.filter(({ isHidden }) => !isHidden).slice
 const valuesOf = (text) => shortened(text.replaceAll(',', ', '), MOST_LETTERS);
 
 const namesIn = (inputs, part) =>
-  [...new Set(inputs.flatMap((input) => input[part].map(([name]) => name)))];
+  [...new Set(inputs.flatMap((input) => input[part].map(([name]) => name)))].slice(0, MOST_NAMES);
 
 const cellsOf = (names, pairs) =>
   names.map((name) => make('td', {}, valuesOf(new Map(pairs).get(name) ?? '')));
@@ -23,7 +24,8 @@ export function showInputs(place, exercise) {
   const inputs = exercise ? shownOf(exercise) : [];
   place.hidden = inputs.length === 0;
   const [given, wanted] = [namesIn(inputs, 'given'), namesIn(inputs, 'wanted')];
-  const heads = [phrase('input'), ...given, ...wanted.map((name) => phrase('{0} wanted', name))];
+  const heads = [phrase('input'), ...given,
+    ...wanted.map((name) => phrase('{0} wanted', name))].map((head) => shortened(head, MOST_LETTERS));
   const rows = inputs.map((input, k) => make('tr', {},
     make('th', { scope: 'row' }, `${k + 1}`), ...cellsOf(given, input.given),
     ...cellsOf(wanted, input.wanted)));

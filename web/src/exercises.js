@@ -1,8 +1,12 @@
 // Exercises: each is a file that asks for lines of code, and says by which bars and on which inputs
 // they are judged. The core reads them.
 import { CODE, EXERCISE_FAULT, KEY, MODEL, MODELS } from './declared.js';
-import { grouped } from './numbers.js';
+import { grouped, shortened } from './numbers.js';
 import { english, phrase } from './words.js';
+
+// An exercise of one's own may have so many characters, and so many of it are shown.
+const MOST = 1000000;
+const MOST_SHOWN = { title: 100, task: 2000, bar: 100 };
 
 const MODELS_BY_WORD = {
   erew: MODEL.EREW, crew: MODEL.CREW, common: MODEL.COMMON_CRCW, priority: MODEL.PRIORITY_CRCW,
@@ -49,8 +53,8 @@ function exerciseOf(entries) {
   const bars = Object.keys(BARS).flatMap((key) => textsOf(Number(key))
     .map((text) => ({ key, most: withoutComment(text).replace(/^<=\s*/, '') })));
   return {
-    title: textsOf(KEY.TITLE)[0].trim(),
-    task: textsOf(KEY.TASK).map((text) => text.trim()).join(' '),
+    title: shortened(textsOf(KEY.TITLE)[0].trim(), MOST_SHOWN.title),
+    task: shortened(textsOf(KEY.TASK).map((text) => text.trim()).join(' '), MOST_SHOWN.task),
     model: MODELS_BY_WORD[withoutComment(model).toLowerCase()],
     bars,
     wanted: withoutComment(textsOf(KEY.WANT)[0]).split(/\s+/),
@@ -95,7 +99,7 @@ function hashOf(text) {
 // The exercise that a text spells, of the page by its name and its number, and one's own by a hash.
 // Throws a RangeError that says why it is none.
 export function readExercise(core, text, { name = hashOf(text), number = name } = {}) {
-  const told = core.entries(text);
+  const told = text.length > MOST ? { code: CODE.TEXT_TOO_LONG } : core.entries(text);
   if (told.code !== CODE.DONE) {
     throw new RangeError(phrase('the text is no exercise: {0}', faultInWords(told)));
   }
@@ -116,12 +120,12 @@ export const isOf = (exercise, text) =>
 // What a learner begins with.
 export const startOf = (exercise) => `${headOf(exercise)}\n${exercise.given}${exercise.start}`;
 
-// What is to be done, in words.
-export function taskInWords({ task, model, bars, inputs }) {
+// What is to be done, in words: those of one's own exercise stand as they are.
+export function taskInWords({ name, number, task, model, bars, inputs }) {
   const hidden = inputs.filter(({ isHidden }) => isHidden).length;
   return [
-    phrase(task), model === undefined ? '' : phrase('Under {0}.', MODELS[model]),
-    ...bars.map(({ key, most }) => phrase(BARS[key], most)),
+    isOfPage({ name, number }) ? phrase(task) : task, model === undefined ? '' : phrase('Under {0}.', MODELS[model]),
+    ...bars.map(({ key, most }) => phrase(BARS[key], shortened(most, MOST_SHOWN.bar))),
     phrase('Judge tries your lines on {0} inputs, of which {1} are not shown.', inputs.length,
       hidden),
   ].filter(Boolean).join(' ');

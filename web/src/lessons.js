@@ -22,6 +22,9 @@ const HEADS = {
 // Whether it is an exercise of one's own.
 const isOwn = (lesson) => lesson.inputs !== undefined && !isOfPage(lesson);
 
+// The title of a lesson in the language that is spoken; that of one’s own exercise as it stands.
+const titleIn = (lesson) => (isOwn(lesson) ? lesson.title : phrase(lesson.title));
+
 const group = (label, options) => make('optgroup', { label }, ...options);
 
 // A lesson of a list by its name, or else by its number.
@@ -36,7 +39,7 @@ function optionsOf(kind, list) {
     const mark = Object.hasOwn(right, keyOf(kind, list, stop)) ? '✓ ' : '';
     const number = isOwn(lesson) ? phrase('your own') : stop + 1;
     return make('option', { value: `${kind} ${stop + 1}` },
-      `${mark}${number}: ${phrase(lesson.title)}`);
+      `${mark}${number}: ${titleIn(lesson)}`);
   });
 }
 
@@ -226,7 +229,7 @@ class Lessons {
 
   get head() {
     const { kind, list, stop } = this;
-    const title = phrase(list[stop].title);
+    const title = titleIn(list[stop]);
     if (isOwn(list[stop])) return phrase('Your own exercise: {0}', title);
     const count = kind === 'exercise' ? list.filter(isOfPage).length : list.length;
     return phrase(HEADS[kind], stop + 1, count, title);

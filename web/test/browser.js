@@ -180,6 +180,6 @@ export async function withPage(work) {
   } finally {
     chromium.kill();
     await ended;
-    rmSync(folder, { recursive: true, force: true });
+    rmSync(folder, { recursive: true, force: true, maxRetries: 5 });
   }
 }

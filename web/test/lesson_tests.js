@@ -257,6 +257,7 @@ export async function testDroppedExercise() {
     'line 7: something is wrong behind the first word.');
   await has('changes nothing', '#lesson-title', 'Exercise 16 of 20: sort');
   await dropFile('unfit.exercise', OWN.replace('n=4 A=5,3,9,1', 'n=0'));
+  await has('another one', '#lesson-title', OWN_TITLE);
   await judged('one that cannot be judged by', 'This exercise cannot be judged by: the input in ' +
     'its line 29 sets a bad header: ');
   await open('#own=abc');
