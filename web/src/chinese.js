@@ -397,6 +397,7 @@ export const CHINESE = {
   '{0} holds {1}, wanted {2}; line {3} wrote it last.': '{0} 是 {1}，应为 {2}；最后写它的是第 {3} 行。',
   'Not yet: the line “{0}” is missing. “Begin anew” brings it back.': '还不对：缺少行“{0}”。“重新开始”可以把它找回来。',
   'Not yet, {0}': '还不对，{0}',
+  'Inputs that are shown': '显示的输入',
   input: '输入',
   '{0} wanted': '要求的 {0}',
   'Time at most {0}.': '时间至多 {0}。',

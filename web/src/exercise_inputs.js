@@ -11,6 +11,9 @@ const MOST_LETTERS = 60;
 
 const shownOf = ({ inputs }) => inputs.filter(({ isHidden }) => !isHidden).slice(0, MOST_ROWS);
 
+// The number of an input among all of them, as a verdict has it.
+const numberOf = (exercise, input) => String(exercise.inputs.indexOf(input) + 1);
+
 const valuesOf = (text) => shortened(text.replaceAll(',', ', '), MOST_LETTERS);
 
 const namesIn = (inputs, part) =>
@@ -26,10 +29,11 @@ export function showInputs(place, exercise) {
   const [given, wanted] = [namesIn(inputs, 'given'), namesIn(inputs, 'wanted')];
   const heads = [phrase('input'), ...given,
     ...wanted.map((name) => phrase('{0} wanted', name))].map((head) => shortened(head, MOST_LETTERS));
-  const rows = inputs.map((input, k) => make('tr', {},
-    make('th', { scope: 'row' }, `${k + 1}`), ...cellsOf(given, input.given),
+  const rows = inputs.map((input) => make('tr', {},
+    make('th', { scope: 'row' }, numberOf(exercise, input)), ...cellsOf(given, input.given),
     ...cellsOf(wanted, input.wanted)));
   place.replaceChildren(make('table', {},
+    make('caption', { class: 'unseen' }, phrase('Inputs that are shown')),
     make('thead', {}, make('tr', {}, ...heads.map((head) => make('th', { scope: 'col' }, head)))),
     make('tbody', {}, ...rows)));
 }

@@ -456,6 +456,7 @@ export const FRENCH = {
   'Not yet: the line “{0}” is missing. “Begin anew” brings it back.':
     'Pas encore : la ligne « {0} » manque. « Recommencer » la remet.',
   'Not yet, {0}': 'Pas encore, {0}',
+  'Inputs that are shown': 'Entrées montrées',
   input: 'entrée',
   '{0} wanted': '{0} voulu',
   'Time at most {0}.': 'Temps au plus {0}.',

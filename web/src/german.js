@@ -452,6 +452,7 @@ export const GERMAN = {
   'Not yet: the line “{0}” is missing. “Begin anew” brings it back.':
     'Noch nicht: Die Zeile „{0}“ fehlt. „Neu beginnen“ bringt sie zurück.',
   'Not yet, {0}': 'Noch nicht, {0}',
+  'Inputs that are shown': 'Eingaben, die gezeigt sind',
   input: 'Eingabe',
   '{0} wanted': '{0} verlangt',
   'Time at most {0}.': 'Zeit höchstens {0}.',

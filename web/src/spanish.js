@@ -448,6 +448,7 @@ export const SPANISH = {
   'Not yet: the line “{0}” is missing. “Begin anew” brings it back.':
     'Todavía no: falta la línea «{0}». «Empezar de nuevo» la devuelve.',
   'Not yet, {0}': 'Todavía no, {0}',
+  'Inputs that are shown': 'Entradas que se muestran',
   input: 'entrada',
   '{0} wanted': '{0} pedido',
   'Time at most {0}.': 'Tiempo como máximo {0}.',
