@@ -98,8 +98,10 @@ const hangsOnInput = ({ kind, fault }) =>
 
 // The core has lines of the header as the exercise has them, which may be indented, and ends the
 // last line, too.
-const plain = (given) => given.slice(0, -1).replace(/^[^]*?^[ \t]*code\b/m, (header) =>
-  header.replace(/^[ \t]+/gm, ''));
+function plain(given) {
+  const code = Math.max(given.search(/^[ \t]*code\b/m), 0);
+  return given.slice(0, code).replace(/^[ \t]+/gm, '') + given.slice(code, -1);
+}
 
 async function failedInWords(ask, exercise, text, told) {
   if (told.kind === WRONG.MISSING) {
