@@ -29,7 +29,7 @@ import { Source } from '../src/source.js';
 import { numberOfStanding, standingOf } from '../src/standing.js';
 import { trialCalls } from '../src/trials.js';
 import { testExercises } from './exercise_rows.js';
-import { coreOf } from './page_parts.js';
+import { coreOf, exercisesOf } from './page_parts.js';
 import { report } from './report.js';
 
 const MOST = 4294967295;
@@ -646,7 +646,7 @@ testSizes(core);
 testFates(core);
 testKinds(core);
 testSpeed(core);
-await testExercises(core, is);
+await testExercises(core, exercisesOf(pagePath), is);
 const replayed = pramx ? ['prefix', 'broadcast', 'leader_priority'] : [];
 for (const name of replayed) testReplay(core, name, tmpdir());
 end();

@@ -18,6 +18,16 @@ export function askerOf(core) {
 const exerciseOf = (core, name) =>
   readExercise(core, exerciseText(name), { name, number: NAMES.indexOf(name) + 1 });
 
+// The names of the page's first ten, by which links call them.
+const FIRST = ['own_numbers', 'double', 'reverse', 'neighbours', 'broadcast', 'seven', 'sum',
+  'maximum', 'prefix', 'ranking'];
+
+function testPacked(packed, is) {
+  is('exercises in the page', packed.map(({ name }) => name).join(), NAMES.join());
+  is('as they stand', packed.every(({ name, text }) => text === exerciseText(name)), true);
+  is('links go on', NAMES.slice(0, FIRST.length).join(), FIRST.join());
+}
+
 // ---- the rows of the crates' own tests
 
 const tests = (name) =>
@@ -214,7 +224,8 @@ async function testOwn(core, is, sums) {
     'the text is no exercise: line 2: no line of an exercise begins with this word');
 }
 
-export async function testExercises(core, is) {
+export async function testExercises(core, packed, is) {
+  testPacked(packed, is);
   testReading(core, is);
   const sums = testVerdicts(core, is);
   await testAnswers(core, is);

@@ -11,6 +11,8 @@ function unpacked(path, id) {
 
 export const coreBytesOf = (path) => unpacked(path, 'core');
 
+export const exercisesOf = (path) => JSON.parse(unpacked(path, 'exercises').toString());
+
 export const coreOf = (path) => openCore(coreBytesOf(path));
 
 // The script of the page, and that of its thread.
