@@ -320,17 +320,17 @@ export const FRENCH = {
   'sums in segments': 'sommes par segments',
   ['Where F[i] is 1 a segment begins, and at A[0], too; else F[i] is 0. A[i] becomes the sum ' +
     'of its segment\'s values up to A[i], modulo 2^32. F may change.']:
-    'Là où F[i] est 1 commence un segment, et aussi en A[0] ; sinon F[i] est 0. A[i] devient ' +
+    'Là où F[i] est 1 commence un segment, et aussi en A[0] ; sinon F[i] est 0. A[i] devient ' +
     'la somme des valeurs de son segment jusqu’à A[i], modulo 2^32. F peut changer.',
   compaction: 'compactage',
   ['The values of A that are not 0 go to the front of B, in their order; count becomes how ' +
     'many they are. The other places of B stay 0. n is a power of two.']:
-    'Les valeurs de A qui ne sont pas 0 vont au début de B, dans leur ordre ; count devient ' +
+    'Les valeurs de A qui ne sont pas 0 vont au début de B, dans leur ordre ; count devient ' +
     'leur nombre. Les autres places de B restent 0. n est une puissance de deux.',
   'prefix sums by few': 'sommes préfixes à quelques-uns',
   ['A[i] becomes A[0] + .. + A[i], modulo 2^32, of n values by p processors; n is a multiple ' +
     'of p. Each processor makes about as many additions as it has values.']:
-    'A[i] devient A[0] + .. + A[i], modulo 2^32, pour n valeurs par p processeurs ; n est un ' +
+    'A[i] devient A[0] + .. + A[i], modulo 2^32, pour n valeurs par p processeurs ; n est un ' +
     'multiple de p. Chaque processeur fait à peu près autant d’additions qu’il a de valeurs.',
   'maximum in constant time': 'maximum en temps constant',
   'greatest becomes the greatest of all A[i]. There is a processor for each pair of values.':
@@ -347,16 +347,16 @@ export const FRENCH = {
   'matrix product': 'produit de matrices',
   ['C becomes the product of A and B: C[r, c] is A[r, 0] * B[0, c] + .. + A[r, n - 1] * B[n - ' +
     '1, c], modulo 2^32. There is a processor for each place of C.']:
-    'C devient le produit de A et B : C[r, c] est A[r, 0] * B[0, c] + .. + A[r, n - 1] * B[n - ' +
+    'C devient le produit de A et B : C[r, c] est A[r, 0] * B[0, c] + .. + A[r, n - 1] * B[n - ' +
     '1, c], modulo 2^32. Il y a un processeur pour chaque place de C.',
   'depths in a tree': 'profondeurs dans un arbre',
   ['A tour goes around a tree of n nodes: each edge is an arc down and one up. next[a] is the ' +
     'arc after a, and of the last one that itself; down[a] is 1 if a leads down, else 0; ' +
     'head[a] is the node that it leads to. depth[v] becomes how many edges v lies below the ' +
     'root, where the tour begins and ends. next may change.']:
-    'Un tour fait le tour d’un arbre de n nœuds : chaque arête est un arc qui descend et un ' +
-    'qui monte. next[a] est l’arc après a, et pour le dernier lui-même ; down[a] est 1 si a ' +
-    'descend, sinon 0 ; head[a] est le nœud où il mène. depth[v] devient le nombre d’arêtes ' +
+    'Un tour fait le tour d’un arbre de n nœuds : chaque arête est un arc qui descend et un ' +
+    'qui monte. next[a] est l’arc après a, et pour le dernier lui-même ; down[a] est 1 si a ' +
+    'descend, sinon 0 ; head[a] est le nœud où il mène. depth[v] devient le nombre d’arêtes ' +
     'entre v et la racine, où le tour commence et finit. next peut changer.',
   'ways in a graph': 'chemins dans un graphe',
   ['A[a, b] is 1 if an edge leads from node a to node b, else 0. W[a, b] becomes 1 if a way ' +
@@ -465,63 +465,63 @@ export const FRENCH = {
   'Lines of code at most {0}.': 'Lignes de code au plus {0}.',
   'it has a character that no text here may have':
     'elle a un caractère qu’aucun texte ne peut avoir ici',
-  'the first line has to be “exercise 1”': 'la première ligne doit être « exercise 1 »',
+  'the first line has to be “exercise 1”': 'la première ligne doit être « exercise 1 »',
   'no line of an exercise begins with this word':
     'aucune ligne d’un exercice ne commence par ce mot',
   'something is wrong behind the first word': 'quelque chose ne va pas après le premier mot',
   'it may stand once, and stands a second time':
     'cela ne peut figurer qu’une fois, et figure une deuxième fois',
-  'the text ends without “{0}”': 'le texte finit sans « {0} »',
+  'the text ends without “{0}”': 'le texte finit sans « {0} »',
   'this input does not say what is wanted, and there is no reference':
     'cette entrée ne dit pas ce qui est voulu, et il n’y a pas de référence',
   'it is too long': 'il est trop long',
-  'the text is no exercise: {0}': 'le texte n’est pas un exercice : {0}',
+  'the text is no exercise: {0}': 'le texte n’est pas un exercice : {0}',
   'Under {0}.': 'Sous {0}.',
   'Judge tries your lines on {0} inputs, of which {1} are not shown.':
-    '« Juger » essaie vos lignes sur {0} entrées, dont {1} ne sont pas montrées.',
-  '{0} cannot be opened: {1}.': '{0} ne peut pas être ouvert : {1}.',
+    '« Juger » essaie vos lignes sur {0} entrées, dont {1} ne sont pas montrées.',
+  '{0} cannot be opened: {1}.': '{0} ne peut pas être ouvert : {1}.',
   'processors {0} and {1} write {2} in line {3}, against the rule {4}.':
     'les processeurs {0} et {1} écrivent {2} à la ligne {3}, contre la règle {4}.',
   'processors {0} and {1} write different values to {2} in line {3}, against the rule {4}.':
     'les processeurs {0} et {1} écrivent des valeurs différentes dans {2} à la ligne {3}, ' +
     'contre la règle {4}.',
   'it needs {4}: processors {0} and {1} read {2} in line {3}.':
-    'il faut {4} : les processeurs {0} et {1} lisent {2} à la ligne {3}.',
+    'il faut {4} : les processeurs {0} et {1} lisent {2} à la ligne {3}.',
   'it needs {4}: processors {0} and {1} write {2} in line {3}.':
-    'il faut {4} : les processeurs {0} et {1} écrivent {2} à la ligne {3}.',
+    'il faut {4} : les processeurs {0} et {1} écrivent {2} à la ligne {3}.',
   'it needs {4}: processors {0} and {1} write different values to {2} in line {3}.':
-    'il faut {4} : les processeurs {0} et {1} écrivent des valeurs différentes dans {2} à la ' +
+    'il faut {4} : les processeurs {0} et {1} écrivent des valeurs différentes dans {2} à la ' +
     'ligne {3}.',
   'all is right, but its time is {0}; at most {1} is allowed here.':
-    'tout est juste, mais le temps est {0} ; au plus {1} est permis ici.',
+    'tout est juste, mais le temps est {0} ; au plus {1} est permis ici.',
   'all is right, but it makes {0} operations; at most {1} are allowed here.':
-    'tout est juste, mais il fait {0} opérations ; au plus {1} sont permises ici.',
+    'tout est juste, mais il fait {0} opérations ; au plus {1} sont permises ici.',
   'all is right, but the machine makes {0} steps; at most {1} are allowed here.':
-    'tout est juste, mais la machine fait {0} étapes ; au plus {1} sont permises ici.',
+    'tout est juste, mais la machine fait {0} étapes ; au plus {1} sont permises ici.',
   'all is right, but in {0} lines of code; at most {1} are allowed.':
-    'tout est juste, mais en {0} lignes de code ; au plus {1} sont permises.',
-  'Not yet, on input {0} of {1}: {2}': 'Pas encore, sur l’entrée {0} de {1} : {2}',
-  'Not yet, on input {0} of {1} ({2}): {3}': 'Pas encore, sur l’entrée {0} de {1} ({2}) : {3}',
+    'tout est juste, mais en {0} lignes de code ; au plus {1} sont permises.',
+  'Not yet, on input {0} of {1}: {2}': 'Pas encore, sur l’entrée {0} de {1} : {2}',
+  'Not yet, on input {0} of {1} ({2}): {3}': 'Pas encore, sur l’entrée {0} de {1} ({2}) : {3}',
   'the input in its line {0} sets a bad header: {1}':
-    'l’entrée de sa ligne {0} donne un mauvais en-tête : {1}',
+    'l’entrée de sa ligne {0} donne un mauvais en-tête : {1}',
   'the input in its line {0} says badly what is wanted: {1}':
-    'l’entrée de sa ligne {0} dit mal ce qui est voulu : {1}',
+    'l’entrée de sa ligne {0} dit mal ce qui est voulu : {1}',
   'a bar has no value with the input in its line {0}: {1}':
-    'une borne n’a pas de valeur avec l’entrée de sa ligne {0} : {1}',
+    'une borne n’a pas de valeur avec l’entrée de sa ligne {0} : {1}',
   'its reference fails with the input in its line {0}: {1}':
-    'sa référence échoue sur l’entrée de sa ligne {0} : {1}',
+    'sa référence échoue sur l’entrée de sa ligne {0} : {1}',
   'its reference ends in a conflict with the input in its line {0}':
     'sa référence finit par un conflit sur l’entrée de sa ligne {0}',
   'the input in its line {0} sets “{1}”, which its header does not declare':
-    'l’entrée de sa ligne {0} donne « {1} », que son en-tête ne déclare pas',
-  'This exercise cannot be judged by: {0}': 'On ne peut pas juger d’après cet exercice : {0}',
+    'l’entrée de sa ligne {0} donne « {1} », que son en-tête ne déclare pas',
+  'This exercise cannot be judged by: {0}': 'On ne peut pas juger d’après cet exercice : {0}',
   'Right on all {0} inputs.': 'Juste sur les {0} entrées.',
   'Right on all {0} inputs, under {1}.': 'Juste sur les {0} entrées, sous {1}.',
-  'Not yet: the text is too long.': 'Pas encore : le texte est trop long.',
+  'Not yet: the text is too long.': 'Pas encore : le texte est trop long.',
   'your own': 'le vôtre',
-  'Exercise: {0}': 'Exercice : {0}',
+  'Exercise: {0}': 'Exercice : {0}',
   '{0}, this input': '{0}, cette entrée',
-  'Your own exercise: {0}': 'Votre propre exercice : {0}',
+  'Your own exercise: {0}': 'Votre propre exercice : {0}',
   'Tour {0} of {1}: {2}': 'Visite {0} de {1} : {2}',
   'Exercise {0}': 'Exercice {0}',
   'Exercise {0} of {1}: {2}': 'Exercice {0} de {1} : {2}',
