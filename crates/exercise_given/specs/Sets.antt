@@ -1,9 +1,9 @@
 -- The header of an exercise as the words of an input set it.
-use Rattle.std.specs.Prelude.{ℕ, zero, suc, ◌+◌, ◌*◌, ◌/◌, ◌%◌, ◌^◌, ◌==◌, Bool, true, false, ◌||◌, ◌&&◌}
+use Rattle.std.specs.Prelude.{ℕ, zero, suc, ◌+◌, ◌*◌, ◌/◌, ◌%◌, ◌^◌, ◌==◌, Bool, false, not, ◌||◌, ◌&&◌}
 use Rattle.std.specs.Prelude.{nat_lt, List, [], ◌∷◌, ◌++◌, take, drop, codes, decimal, find}
 use Rattle.std.specs.Prelude.{if◌then◌else◌, Option, Some, None}
 use Rattle.std.specs.Char.{is_ascii_digit}
-use Rattle.std.specs.List.{flat_map, list_all}
+use Rattle.std.specs.List.{flat_map, list_all, list_any}
 use Rattle.std.specs.Str.{bytes_eq}
 use Rattle.std.specs.Str.Parse.{digits_value}
 use Rattle.text_lines.specs.Lines.{Line, Word, is_filled, lines_of}
@@ -111,3 +111,25 @@ line_as_set sizes words line = elim (line_key line) [
 unfoldable pub text_as_set : List SizeData → Line → List ℕ → List ℕ
 text_as_set sizes words text =
     flat_map (λ line. line_as_set sizes words line ++ 10 ∷ []) (lines_of text)
+
+-- ---- words that set nothing
+
+-- the line declares what a word NAME=TEXT sets
+abbrev pub is_settable_by : Word → List ℕ → Bool
+is_settable_by word line = elim (line_key line) [
+  | None ↦ false
+  | Some key ↦ is_settable key.0 && bytes_eq (before_equals word) key.1
+]
+
+-- none of the lines does
+abbrev pub sets_none : List (List ℕ) → Word → Bool
+sets_none lines word = not (list_any (is_settable_by word) lines)
+
+-- the words of an input before the first `->`, and those behind it
+abbrev pub settings_in : Line → Line
+settings_in [] = []
+settings_in (word ∷ words) = if is_arrow word then words else word ∷ settings_in words
+
+-- the first of them that sets no name that the header declares
+abbrev pub unknown_word : List ℕ → Line → Option Word
+unknown_word text words = find (sets_none (lines_of text)) (settings_in words)

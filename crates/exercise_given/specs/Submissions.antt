@@ -1,9 +1,9 @@
 -- A submission with the header of the exercise.
-use Rattle.std.specs.Prelude.{ℕ, Bool, true, false, not, ◌&&◌, ◌||◌, List, [], ◌∷◌, ◌++◌, codes}
+use Rattle.std.specs.Prelude.{ℕ, Bool, false, not, ◌||◌, List, [], ◌∷◌, ◌++◌, codes}
 use Rattle.std.specs.Prelude.{find, unwrap_or, count_by, if◌then◌else◌, Option, Some, None}
 use Rattle.std.specs.List.{flat_map, list_any}
 use Rattle.std.specs.Str.{bytes_eq}
-use Rattle.text_lines.specs.Lines.{Line, Word, is_filled, lines_of, words_of}
+use Rattle.text_lines.specs.Lines.{Word, is_filled, lines_of, words_of}
 use Rattle.text_lines.specs.Words.{one_of}
 use Rattle.exercise_given.specs.Keys.{declares, has_line_key, line_key}
 

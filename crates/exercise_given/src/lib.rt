@@ -6,5 +6,5 @@ mod set;
 mod submission;
 mod thrown;
 
-pub use set::{Size, set_text};
+pub use set::{Size, set_text, unknown_word};
 pub use submission::{code_lines, judged_text, missing_line};

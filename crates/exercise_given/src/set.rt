@@ -1,11 +1,12 @@
 //! The header of an exercise as the words of an input set it.
-ghost use Rattle.std.specs.Prelude.{◌≡◌, ◌++◌, ◌∷◌, ◌==◌, [], IfOk, OnOk};
-ghost use Rattle.std.specs.List.{position};
+ghost use Rattle.std.specs.Prelude.{◌≡◌, ◌++◌, ◌∷◌, ◌==◌, [], find, IfOk, OnOk};
+ghost use Rattle.std.specs.List.{list_any, position};
 ghost use Rattle.std.specs.Option.{option_map};
-ghost use Rattle.text_lines.specs.Lines.{words_of};
+ghost use Rattle.text_lines.specs.Lines.{lines_of, words_of};
 ghost use Rattle.exercise_given.specs.Sets.{after_equals, before_comment, before_equals};
-ghost use Rattle.exercise_given.specs.Sets.{is_settable, line_as_set, places_of, set_to};
-ghost use Rattle.exercise_given.specs.Sets.{size_named, text_as_set, with_values};
+ghost use Rattle.exercise_given.specs.Sets.{is_settable, is_settable_by, line_as_set, places_of};
+ghost use Rattle.exercise_given.specs.Sets.{set_to, sets_none, size_named, text_as_set};
+ghost use Rattle.exercise_given.specs.Sets.{unknown_word, with_values};
 
 use crate::key::line_key;
 use crate::thrown::{after_first, push_values};
@@ -154,5 +155,68 @@ fn places_of(sizes: &[Size], name: &[u8]) -> u64
     match size_named(sizes, name) {
         None => 1,
         Some(size) => size.places,
+    }
+}
+
+/// The first word of an input, also behind the first `->`, that sets no name that a header declares.
+///
+/// For each word the lines of the header are gone through.
+pub fn unknown_word<'a>(header: &[u8], words: &'a [u8]) -> Option<&'a [u8]>
+    ensures { option_map (λ word. word.now) result
+        ≡ unknown_word header.now (words_of words.now) }
+{
+    let mut left = words;
+    while let Some((word, rest)) = next_word(left) {
+        if is_arrow(word) {
+            return unknown_among(header, rest);
+        }
+        if sets_none(header, word) {
+            return Some(word);
+        }
+        left = rest;
+    }
+    None
+}
+
+// The first of the words that sets no name that the header declares.
+fn unknown_among<'a>(header: &[u8], words: &'a [u8]) -> Option<&'a [u8]>
+    ensures { option_map (λ word. word.now) result
+        ≡ find (sets_none (lines_of header.now)) (words_of words.now) }
+{
+    let mut left = words;
+    while let Some((word, rest)) = next_word(left) {
+        if sets_none(header, word) {
+            return Some(word);
+        }
+        left = rest;
+    }
+    None
+}
+
+fn sets_none(header: &[u8], word: &[u8]) -> bool
+    ensures { result ≡ sets_none (lines_of header.now) word.now }
+{
+    !is_set_in(header, word)
+}
+
+// Whether a line of the header declares what a word sets.
+fn is_set_in(header: &[u8], word: &[u8]) -> bool
+    ensures { result ≡ list_any (is_settable_by word.now) (lines_of header.now) }
+{
+    let mut lines = TextLines::new(header);
+    while let Some(line) = lines.take_line() {
+        if is_settable_by(word, line) {
+            return true;
+        }
+    }
+    false
+}
+
+fn is_settable_by(word: &[u8], line: &[u8]) -> bool
+    ensures { result ≡ is_settable_by word.now line.now }
+{
+    match line_key(line) {
+        None => false,
+        Some((first, name)) => is_settable(first) && at_equals(word).0 == name,
     }
 }

@@ -1,5 +1,5 @@
 use Rattle.std.proofs.Common.{◌≡◌, ◌∙◌, ◌++◌, ◌+◌, ◌-◌, ◌*◌, ◌/◌, ◌^◌, ℕ, suc, List, ap, sym}
-use Rattle.std.proofs.Common.{append_assoc, codes, decimal, arith, refl}
+use Rattle.std.proofs.Common.{append_assoc, codes, decimal, arith}
 use Rattle.exercise_given.specs.Sets.{next_seed, thrown_text}
 use Rattle.exercise_given.proofs.thrown.push_thrown.Goals as goal
 
