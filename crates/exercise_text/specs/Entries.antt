@@ -1,16 +1,17 @@
 -- The entries of an exercise, and what stands in them.
-use Rattle.std.specs.Prelude.{ℕ, ◌==◌, ◌^◌, ◌-◌, min, Bool, true, false, not, ◌||◌, List, [], ◌∷◌}
-use Rattle.std.specs.Prelude.{length, take, drop, codes, find, is_some, unwrap_or, if◌then◌else◌}
+use Rattle.std.specs.Prelude.{ℕ, ◌==◌, ◌^◌, ◌-◌, min, Bool, not, List, [], ◌∷◌}
+use Rattle.std.specs.Prelude.{length, take, drop, codes, find, unwrap_or, if◌then◌else◌}
 use Rattle.std.specs.Prelude.{Option, Some, None}
 use Rattle.std.specs.Char.{is_ascii_digit}
 use Rattle.std.specs.List.{list_all, position}
 use Rattle.std.specs.Option.{option_and_then, option_map}
 use Rattle.std.specs.Str.{bytes_eq}
 use Rattle.std.specs.Str.Parse.{digits_value}
-use Rattle.text_lines.specs.Lines.{Word, is_blank, is_filled, words_of}
+use Rattle.text_lines.specs.Lines.{Word, is_blank, words_of}
 use Rattle.text_lines.specs.Words.{one_of}
+use Rattle.pram_cost.specs.declared.pram.Pram.{Pram}
+use Rattle.pram_cost.specs.Beyond.{model_named}
 use Rattle.exercise_text.specs.declared.key.Key.{Key}
-use Rattle.exercise_text.specs.declared.key.Key.TheVariants as key
 use Rattle.exercise_text.specs.Keys.{place_of}
 
 -- What a line says, the number of the line, and what follows its first word; of a part its lines,
@@ -39,14 +40,9 @@ rest_of line = trimmed (drop (first_place is_blank line) line)
 
 -- ---- what entries say
 
-abbrev pub is_model : Word → Bool
-is_model word = bytes_eq word (codes "EREW") || bytes_eq word (codes "erew")
-    || bytes_eq word (codes "CREW") || bytes_eq word (codes "crew")
-    || bytes_eq word (codes "common") || bytes_eq word (codes "priority")
-
--- the one word of a text names a model
-abbrev pub names_model : List ℕ → Bool
-names_model text = elim (one_of (words_of text)) [ None ↦ false | Some word ↦ is_model word ]
+-- the model that the one word of a text names
+abbrev pub model_in : List ℕ → Option Pram
+model_in text = option_and_then model_named (one_of (words_of text))
 
 -- what follows `<=`
 abbrev pub bar_in : List ℕ → Option (List ℕ)

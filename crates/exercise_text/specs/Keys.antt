@@ -1,5 +1,5 @@
 -- The words with which the lines of an exercise begin.
-use Rattle.std.specs.Prelude.{ℕ, Bool, true, false, not, codes, if◌then◌else◌}
+use Rattle.std.specs.Prelude.{ℕ, Bool, true, false, codes, if◌then◌else◌}
 use Rattle.std.specs.Prelude.{Option, Some, None}
 use Rattle.std.specs.Str.{bytes_eq}
 use Rattle.text_lines.specs.Lines.{Word}

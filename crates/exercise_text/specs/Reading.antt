@@ -4,8 +4,7 @@ use Rattle.std.specs.Prelude.{◌++◌, codes, find, is_some, is_none, if◌then
 use Rattle.std.specs.Prelude.{Option, Some, None, Result, Ok, Err}
 use Rattle.std.specs.List.{list_all, list_any}
 use Rattle.std.specs.Str.{bytes_eq}
-use Rattle.text_lines.specs.Lines.{is_allowed, is_blank, is_filled, lines_of, words_of, Word}
-use Rattle.text_lines.specs.Reads.{◌>>=◌}
+use Rattle.text_lines.specs.Lines.{is_allowed, is_blank, is_filled, lines_of, words_of}
 use Rattle.text_lines.specs.Words.{two_of}
 use Rattle.exercise_text.specs.declared.fault.ExerciseFault.{ExerciseFault}
 use Rattle.exercise_text.specs.declared.fault.ExerciseKind.{ExerciseKind}
@@ -15,7 +14,7 @@ use Rattle.exercise_text.specs.declared.fault.ExerciseKind.TheVariants.{Duplicat
 use Rattle.exercise_text.specs.declared.fault.ExerciseKind.TheVariants.{NoAnswer, Memory}
 use Rattle.exercise_text.specs.declared.key.Key.{Key}
 use Rattle.exercise_text.specs.declared.key.Key.TheVariants as key
-use Rattle.exercise_text.specs.Entries.{EntryData, answer_of, bar_in, entry_of, has_key, names_model}
+use Rattle.exercise_text.specs.Entries.{EntryData, answer_of, bar_in, entry_of, has_key, model_in}
 use Rattle.exercise_text.specs.Entries.{number_in, rest_of, word_of}
 use Rattle.exercise_text.specs.Keys.{is_input, is_once, is_part, key_named}
 
@@ -23,7 +22,7 @@ use Rattle.exercise_text.specs.Keys.{is_input, is_once, is_part, key_named}
 
 -- What stands behind the first word is what that asks for.
 abbrev pub is_lawful : Key → List ℕ → Bool
-is_lawful key.Model text = names_model text
+is_lawful key.Model text = is_some (model_in text)
 is_lawful key.Time text = is_some (bar_in text)
 is_lawful key.Operations text = is_some (bar_in text)
 is_lawful key.Steps text = is_some (bar_in text)

@@ -11,7 +11,7 @@ use crate::entry::Entry;
 use crate::exercise::Exercise;
 use crate::fault::ExerciseKind;
 use crate::key::Key;
-use crate::words::{bar_in, names_model, number_in, split_word};
+use crate::words::{bar_in, model_in, number_in, split_word};
 use std::alloc::{AllocError, Global};
 use std::marker::Model;
 use std::mem;
@@ -125,7 +125,7 @@ fn says_enough(key: Key, text: &[u8]) -> bool
     ensures { result ≡ is_lawful key text.now }
 {
     match key {
-        Key::Model => names_model(text),
+        Key::Model => model_in(text).is_some(),
         Key::Time | Key::Operations | Key::Steps => bar_in(text).is_some(),
         Key::Lines => number_in(text).is_some(),
         Key::Want => has_words(text),

@@ -1,15 +1,16 @@
 //! Exercises.
 ghost use Rattle.std.specs.Prelude.{◌≡◌, ◌≢◌, IfErr, find};
 ghost use Rattle.std.specs.Option.{option_and_then, option_map};
-ghost use Rattle.exercise_text.specs.Entries.{bar_in, entry_of, number_in, text_of};
+ghost use Rattle.exercise_text.specs.Entries.{bar_in, entry_of, model_in, number_in, text_of};
 ghost use Rattle.exercise_text.specs.Reading.{finished, is_unanswered, lacks};
 ghost use Rattle.exercise_text.specs.Reading.{needed};
-ghost use Rattle.exercise_text.specs.declared.key.Key.TheVariants.{Lines};
+ghost use Rattle.exercise_text.specs.declared.key.Key.TheVariants.{Lines, Model as ModelKey};
 
 use crate::entry::Entry;
 use crate::fault::{ExerciseFault, ExerciseKind};
 use crate::key::Key;
-use crate::words::{bar_in, number_in};
+use crate::words::{bar_in, model_in, number_in};
+use pram_cost::Pram;
 use std::marker::Model;
 
 /// The entries of an exercise, in their order.
@@ -69,6 +70,13 @@ impl Exercise {
         ensures { result ≡ option_and_then number_in (text_of Lines self.now) }
     {
         number_in(self.text(Key::Lines)?)
+    }
+
+    /// The weakest model that is allowed, if the exercise names one.
+    pub fn model(&self) -> Option<Pram>
+        ensures { result ≡ option_and_then model_in (text_of ModelKey self.now) }
+    {
+        model_in(self.text(Key::Model)?)
     }
 
     fn lacks(&self, key: Key) -> bool

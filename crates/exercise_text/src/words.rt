@@ -4,9 +4,12 @@ ghost use Rattle.std.specs.List.{list_all, position};
 ghost use Rattle.std.specs.Option.{option_map};
 ghost use Rattle.text_lines.specs.Lines.{is_blank, words_of};
 ghost use Rattle.std.specs.Char.{is_ascii_digit};
-ghost use Rattle.exercise_text.specs.Entries.{answer_of, bar_in, digits_in, is_arrow, is_model};
-ghost use Rattle.exercise_text.specs.Entries.{names_model, number_in, rest_of, trimmed, word_of};
+ghost use Rattle.pram_cost.specs.Beyond.{model_named};
+ghost use Rattle.exercise_text.specs.Entries.{answer_of, bar_in, digits_in, is_arrow, model_in};
+ghost use Rattle.exercise_text.specs.Entries.{number_in, rest_of, trimmed, word_of};
 
+use pram_cost::Pram;
+use std::str::from_utf8;
 use text_lines::{is_blank, is_word, next_word, one_word, value_of};
 
 /// The first word of a line, which ends before the first blank, and what follows it after blanks.
@@ -38,25 +41,20 @@ fn trimmed(line: &[u8]) -> &[u8]
     line.split_at(word_start(line).unwrap_or(line.len())).1
 }
 
-/// Whether the one word of a text names a model.
-pub(crate) fn names_model(text: &[u8]) -> bool
-    ensures { result ≡ names_model text.now }
+/// The model that the one word of a text names.
+pub(crate) fn model_in(text: &[u8]) -> Option<Pram>
+    ensures { result ≡ model_in text.now }
 {
-    match one_word(text) {
-        None => false,
-        Some(word) => is_model(word),
-    }
+    model_named(one_word(text)?)
 }
 
-fn is_model(word: &[u8]) -> bool
-    ensures { result ≡ is_model word.now }
+fn model_named(word: &[u8]) -> Option<Pram>
+    ensures { result ≡ model_named word.now }
 {
-    is_word(word, "EREW")
-        || is_word(word, "erew")
-        || is_word(word, "CREW")
-        || is_word(word, "crew")
-        || is_word(word, "common")
-        || is_word(word, "priority")
+    match from_utf8(word) {
+        Ok(word) => Pram::named(word),
+        Err(_) => None,
+    }
 }
 
 /// What follows `<=`.
