@@ -1,14 +1,12 @@
--- What the cost of a run that ends says of its steps and of models.
-use Rattle.std.proofs.Common.{◌≡◌, ℕ, ◌≤◌, List, Option, Some, None, arith}
+-- What the cost of a run that ends says of its steps.
+use Rattle.std.proofs.Common.{◌≡◌, ℕ, List, Option, Some, None}
 use Rattle.pram_job.specs.Job.{JobData}
 use Rattle.pram_step.specs.declared.answer.Fault.{Fault}
 use Rattle.pram_step.specs.declared.answer.RunAnswer.TheVariants.{Final}
 use Rattle.pram_step.specs.Runs.{IsAnswer, IsReached}
 use Rattle.pram_step.proofs.LawAnswer.{conflict_ends}
 use Rattle.pram_cost.specs.declared.cost.Cost.{Cost}
-use Rattle.pram_cost.specs.declared.pram.Pram.{Pram}
 use Rattle.pram_cost.specs.Costs.{IsCost, IsLength}
-use Rattle.pram_cost.specs.Models.{AcceptsSteps, strength}
 
 length_is : (job : JobData) (n : ℕ) (conflict : Option Fault) → IsLength job n conflict →
     IsReached job job.steps → n ≡ job.steps
@@ -21,9 +19,3 @@ pub all_steps : (job : JobData) (cost : Cost) (cells : List ℕ) → IsCost job 
     IsAnswer job (Final cells) → cost.steps ≡ job.steps
 all_steps job cost cells is ends =
     length_is job cost.steps cost.conflict is.length_is ends.1.reached
-
--- what a model accepts a stronger one accepts
-pub accepts_more : (weak strong : Pram) (job : JobData) (n : ℕ) → strength weak ≤ strength strong →
-    AcceptsSteps weak job n → AcceptsSteps strong job n
-accepts_more weak strong job n le accepts = λ t lt sharing cell i j meet.
-    omega (arith, accepts t lt sharing cell i j meet, le)

@@ -1,2 +1,6 @@
 pub mod Costs
+pub mod Judged
 pub mod Meeting
+pub mod OneJob
+pub mod Refused
+pub mod Unmet

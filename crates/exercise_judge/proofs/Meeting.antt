@@ -1,25 +1,20 @@
 -- A run that passes each test meets the trial.
-use Rattle.std.proofs.Common.{◌≡◌, ◌∙◌, ℕ, List, Result, Ok, Err, subst, sym, ap}
-use Rattle.std.specs.Prelude.{IfSome, OnOk, slice_index}
-use Rattle.pram_job.specs.Job.{JobData}
+use Rattle.std.proofs.Common.{◌≡◌, ℕ, List, None, subst}
+use Rattle.std.specs.Prelude.{IfSome, slice_index}
 use Rattle.pram_step.specs.declared.answer.RunAnswer.TheVariants.{Final}
 use Rattle.pram_step.specs.Runs.{IsAnswer}
-use Rattle.pram_cost.specs.Costs.{IsCost}
 use Rattle.pram_cost.specs.Models.{AcceptsSteps}
 use Rattle.pram_cost.specs.declared.pram.Pram.{Pram}
 use Rattle.pardo_costs.specs.declared.line_costs.LineCost.{LineCost}
 use Rattle.pardo_costs.specs.declared.run.Run.{Run}
 use Rattle.pardo_costs.specs.Costs.{operations_in, time_in}
 use Rattle.pardo_costs.specs.Runs.{IsRun}
-use Rattle.exercise_given.specs.Submissions.{code_lines, judged_text}
+use Rattle.exercise_given.specs.Submissions.{code_lines, judged_text, missing_line}
 use Rattle.exercise_judge.specs.Trials.{AreHeld, IsWithin, Meets, TrialData}
 use Rattle.exercise_judge.proofs.Costs.{all_steps}
 
-pub on_ok : {X E : Type 0} (P Q : Type 0) (r : Result X E) → (P → Q) → OnOk r P → OnOk r Q
-on_ok P Q (Ok x) f p = f p
-on_ok P Q (Err e) f p = p
-
 module _ (trial : TrialData) (submission : List ℕ) (run : Run) (cells : List ℕ)
+    (given : missing_line trial.header submission ≡ None)
     (is : IsRun (judged_text trial.header submission) run)
     (answer : run.ended.answer ≡ Final cells) where
   ends : IsAnswer run.job (Final cells)
@@ -32,10 +27,10 @@ module _ (trial : TrialData) (submission : List ℕ) (run : Run) (cells : List �
       IsWithin trial.time (time_in run.costs.lines.items) →
       IsWithin trial.operations (operations_in run.costs.lines.items) →
       IsWithin trial.steps run.job.steps → IsWithin trial.lines (code_lines submission) →
-      ((job : JobData) → IsCost job run.costs.cost →
-      IfSome trial.model (λ allowed. AcceptsSteps allowed job run.costs.cost.steps)) →
+      IfSome trial.model (λ allowed. AcceptsSteps allowed run.job run.costs.cost.steps) →
       Meets trial submission
   met values time operations steps lines model = record {
+    given = given;
     program = run.program;
     job = run.job;
     line_of = slice_index run.numbers.items;
@@ -48,5 +43,5 @@ module _ (trial : TrialData) (submission : List ℕ) (run : Run) (cells : List �
     steps = steps;
     lines = lines;
     model = subst (λ (n : ℕ). IfSome trial.model (λ (allowed : Pram).
-        AcceptsSteps allowed run.job n)) steps_are (model run.job is.1.cost);
+        AcceptsSteps allowed run.job n)) steps_are model;
   }

@@ -1,13 +1,12 @@
 -- What a submission has to do under one input, and that it does.
-use Rattle.std.specs.Prelude.{◌≡◌, ◌≤◌, ℕ, ◌++◌, List, [], ◌∷◌, All, IfSome, MatchBool, MatchOption, map}
+use Rattle.std.specs.Prelude.{◌≡◌, ◌≢◌, ◌≤◌, ℕ, ◌++◌, List, [], ◌∷◌, All, IfSome, MatchBool, MatchOption, map}
 use Rattle.std.specs.Prelude.{codes, slice_index, unwrap_or, Option, Some, None, Ok}
 use Rattle.std.specs.Option.{option_and_then}
-use Rattle.text_lines.specs.Lines.{Line, Word, words_of}
+use Rattle.text_lines.specs.Lines.{Line, words_of}
 use Rattle.pram_job.specs.Job.{JobData}
 use Rattle.pram_step.specs.declared.answer.RunAnswer.TheVariants.{Final}
 use Rattle.pram_step.specs.Runs.{IsAnswer}
 use Rattle.pram_cost.specs.Models.{AcceptsSteps}
-use Rattle.pram_cost.specs.Beyond.{model_named}
 use Rattle.pram_cost.specs.declared.pram.Pram.{Pram}
 use Rattle.pardo_program.specs.Program.{ProgramData}
 use Rattle.pardo_text.specs.Reading.{program_of}
@@ -15,10 +14,10 @@ use Rattle.pardo_job.specs.Compiled.{IsCompiled}
 use Rattle.pardo_costs.specs.Costs.{line_costs, operations_in, time_in}
 use Rattle.exercise_text.specs.declared.key.Key.{Key}
 use Rattle.exercise_text.specs.declared.key.Key.TheVariants as key
-use Rattle.exercise_text.specs.Entries.{EntryData, answer_of, bar_in, number_in, text_of}
+use Rattle.exercise_text.specs.Entries.{EntryData, answer_of, bar_in, model_in, number_in, text_of}
 use Rattle.exercise_text.specs.Keys.{is_input}
-use Rattle.text_lines.specs.Words.{one_of}
-use Rattle.exercise_given.specs.Submissions.{code_lines, judged_text}
+use Rattle.exercise_given.specs.Submissions.{code_lines, judged_text, missing_line}
+use Rattle.exercise_given.specs.Sets.{unknown_word}
 use Rattle.exercise_header.specs.Headers.{header_as_set, header_of, value_by}
 use Rattle.exercise_header.specs.Values.{WantedData, held_by, start_of, wanted_by}
 
@@ -53,9 +52,10 @@ abbrev pub AreHeld : List WantedData → ProgramData → (ℕ → ℕ) → Type 
 AreHeld wanted program cells =
     All (λ want. held_by program.arrays cells want.name ≡ want.values) wanted
 
--- The submission with the header of the trial is a program that ends with the wanted values,
--- within the bars, under the model.
+-- The submission has all given lines. With the header of the trial it is a program that ends with
+-- the wanted values, within the bars, under the model.
 pub record Meets (trial : TrialData) (submission : List ℕ) : Type 0 where
+  pub given : missing_line trial.header submission ≡ None
   pub program : ProgramData
   pub job : JobData
   pub line_of : ℕ → ℕ
@@ -103,16 +103,21 @@ AreWanted exercise input header wanted = MatchOption (answer_of (words_of input.
     (AreEnds (header ++ part_in key.Reference exercise) (names_in exercise) wanted)
     (λ words. AreSaid header words (names_in exercise) wanted)
 
-abbrev pub model_of : List EntryData → Option Pram
-model_of exercise = option_and_then model_named
-    (option_and_then (λ text. one_of (words_of text)) (text_of key.Model exercise))
+-- each wanted name has values
+abbrev pub AreKnown : List WantedData → Type 0
+AreKnown wanted = All (λ want. want.values ≢ []) wanted
 
--- the trial of an input of an exercise
+abbrev pub model_of : List EntryData → Option Pram
+model_of exercise = option_and_then model_in (text_of key.Model exercise)
+
+-- The trial of an input of an exercise. Each word of the input sets a name that the header declares.
 pub record IsTrial (exercise : List EntryData) (input : EntryData) (trial : TrialData)
     : Type 0 where
+  pub words : unknown_word (part_in key.Given exercise) (words_of input.text) ≡ None
   pub header : header_as_set (part_in key.Given exercise) (words_of input.text)
       ≡ Ok trial.header
   pub wanted : AreWanted exercise input trial.header trial.wanted
+  pub known : AreKnown trial.wanted
   pub time : IsBar exercise trial.header key.Time trial.time
   pub operations : IsBar exercise trial.header key.Operations trial.operations
   pub steps : IsBar exercise trial.header key.Steps trial.steps

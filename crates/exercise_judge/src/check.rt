@@ -1,6 +1,7 @@
 //! Whether names hold what is wanted.
-ghost use Rattle.std.specs.Prelude.{◌≡◌, OnOk, All, slice_index};
+ghost use Rattle.std.specs.Prelude.{◌≡◌, All, slice_index};
 ghost use Rattle.exercise_header.specs.Values.{held_by};
+ghost use Rattle.exercise_judge.specs.Verdicts.{Judges};
 
 use crate::place::place_text;
 use crate::verdict::Wrong;
@@ -20,7 +21,7 @@ pub(crate) fn check_values(
     cells: &[u32],
     wanted: &[Wanted],
 ) -> Result<(), Wrong>
-    ensures { OnOk result (All (λ want.
+    ensures { Judges result (All (λ want.
         held_by arrays.now (slice_index cells.now) want.name ≡ want.values) wanted.now) }
 {
     for want in wanted {
@@ -30,7 +31,7 @@ pub(crate) fn check_values(
 }
 
 fn check_name(alloc: Global, arrays: &[Array], cells: &[u32], want: &Wanted) -> Result<(), Wrong>
-    ensures { OnOk result (held_by arrays.now (slice_index cells.now) want.now.name
+    ensures { Judges result (held_by arrays.now (slice_index cells.now) want.now.name
         ≡ want.now.values) }
 {
     let held = held_by(alloc, arrays, cells, want.name.as_slice())?;
@@ -47,10 +48,24 @@ fn other_value(
     held: &[u32],
 ) -> Result<Wrong, AllocError> {
     let at = first_other(held, want.values.as_slice());
-    let base = array_named(arrays, want.name.as_slice()).map_or(0, |array| array.base());
     Ok(Wrong::Value {
-        place: place_text(alloc, arrays, base.saturating_add(at))?,
+        place: place_of(alloc, arrays, want.name.as_slice(), at)?,
         held: value_at(held, at),
         wanted: value_at(want.values.as_slice(), at),
     })
+}
+
+// The place of a name; where the program has none, the name.
+fn place_of(
+    alloc: Global,
+    arrays: &[Array],
+    name: &[u8],
+    at: usize,
+) -> Result<Vec<u8>, AllocError> {
+    match array_named(arrays, name) {
+        Some(array) if at < array.start().len() => {
+            place_text(alloc, arrays, array.base().saturating_add(at))
+        }
+        _ => Vec::from_slice(alloc, name),
+    }
 }

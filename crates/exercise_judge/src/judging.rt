@@ -1,13 +1,14 @@
 //! A submission is judged.
-ghost use Rattle.std.specs.Prelude.{◌≡◌, All, IfOk, IfSome, OnOk};
+ghost use Rattle.std.specs.Prelude.{◌≡◌, ◌≢◌, ℕ, List, IfErr, IfOk, IfSome, None};
 ghost use Rattle.pram_job.specs.Job.{JobData};
 ghost use Rattle.pram_cost.specs.Costs.{IsCost};
-ghost use Rattle.pram_cost.specs.Models.{AcceptsSteps, strength};
+ghost use Rattle.pram_cost.specs.Models.{AcceptsSteps};
 ghost use Rattle.pram_step.specs.declared.answer.RunAnswer.TheVariants.{Final};
 ghost use Rattle.pardo_costs.specs.Costs.{operations_in, time_in};
 ghost use Rattle.pardo_costs.specs.Runs.{IsRun};
-ghost use Rattle.exercise_given.specs.Submissions.{judged_text};
+ghost use Rattle.exercise_given.specs.Submissions.{judged_text, missing_line};
 ghost use Rattle.exercise_judge.specs.Trials.{IsWithin, Meets};
+ghost use Rattle.exercise_judge.specs.Verdicts.{IsCertain, IsVerdict, Judges};
 
 use crate::check::check_values;
 use crate::place::place_text;
@@ -15,18 +16,18 @@ use crate::trial::Trial;
 use crate::verdict::{Bar, Verdict, Wrong, wrong_of};
 use exercise_given::{code_lines, judged_text, missing_line};
 use pardo_costs::{Costs, Run, run_program, total_operations, total_time};
-use pram_cost::{Cost, Meeting, Pram};
+use pram_cost::{Beyond, Pram};
 use pram_step::{Fault, RunAnswer};
 use std::alloc::{AllocError, Global};
 
 /// Judges a submission by the trials of an exercise, in their order, until one is not met. Its text
 /// is run once at most for each.
 pub fn judge(alloc: Global, trials: &[Trial], submission: &[u8]) -> Verdict
-    ensures { result ≡ Verdict.Passed → All (λ trial. Meets trial submission.now) trials.now }
+    ensures { IsVerdict trials.now submission.now result }
 {
     let mut input: usize = 0;
     for trial in trials {
-        input = input.saturating_add(1);
+        input += 1;
         if let Err(wrong) = judge_trial(alloc, trial, submission) {
             return Verdict::Failed { input, wrong };
         }
@@ -36,7 +37,7 @@ pub fn judge(alloc: Global, trials: &[Trial], submission: &[u8]) -> Verdict
 
 /// Judges a submission by one trial: nothing, where it is met, or the first thing that is wrong.
 pub fn judge_trial(alloc: Global, trial: &Trial, submission: &[u8]) -> Result<(), Wrong>
-    ensures { OnOk result (Meets trial.now submission.now) }
+    ensures { Judges result (Meets trial.now submission.now) }
 {
     if let Some(line) = missing_line(trial.header.as_slice(), submission) {
         return Err(Wrong::Missing(Vec::from_slice(alloc, line)?));
@@ -50,8 +51,9 @@ pub fn judge_trial(alloc: Global, trial: &Trial, submission: &[u8]) -> Result<()
 
 // Whether a run of the submission meets the trial.
 fn check_run(alloc: Global, trial: &Trial, run: &Run, submission: &[u8]) -> Result<(), Wrong>
-    requires { IsRun (judged_text trial.now.header submission.now) run.now }
-    ensures { OnOk result (Meets trial.now submission.now) }
+    requires given { missing_line trial.now.header submission.now ≡ None }
+    requires run { IsRun (judged_text trial.now.header submission.now) run.now }
+    ensures { Judges result (Meets trial.now submission.now) }
 {
     let cells = cells_of(alloc, run)?;
     check_values(alloc, run.program.arrays(), cells, trial.wanted.as_slice())?;
@@ -63,7 +65,9 @@ fn check_run(alloc: Global, trial: &Trial, run: &Run, submission: &[u8]) -> Resu
 
 // What the cells hold at the end of a run that has no conflict.
 fn cells_of(alloc: Global, run: &Run) -> Result<&[u32], Wrong>
-    ensures { IfOk result (λ cells. run.now.ended.answer ≡ Final cells.now) }
+    ensures ok { IfOk result (λ cells. run.now.ended.answer ≡ Final cells.now) }
+    ensures err { IfErr result (λ wrong. IsCertain wrong →
+        (cells : List ℕ) → run.now.ended.answer ≢ Final cells) }
 {
     match &run.ended.answer {
         RunAnswer::Final(cells) => Ok(cells.as_slice()),
@@ -92,7 +96,7 @@ fn wide(most: Option<u32>) -> Option<u64>
 }
 
 fn check_bar(bar: Bar, most: Option<u64>, took: u64) -> Result<(), Wrong>
-    ensures { OnOk result (IsWithin most took) }
+    ensures { Judges result (IsWithin most took) }
 {
     match most {
         Some(most) if took > most => Err(Wrong::Bar { bar, took, most }),
@@ -102,7 +106,7 @@ fn check_bar(bar: Bar, most: Option<u64>, took: u64) -> Result<(), Wrong>
 
 // Whether the time and the operations are within their bars.
 fn check_costs(trial: &Trial, costs: &Costs) -> Result<(), Wrong>
-    ensures { OnOk result (IsWithin trial.now.time (time_in costs.now.lines.items)
+    ensures { Judges result (IsWithin trial.now.time (time_in costs.now.lines.items)
         × IsWithin trial.now.operations (operations_in costs.now.lines.items)) }
 {
     let lines = costs.lines.as_slice();
@@ -114,51 +118,32 @@ fn check_costs(trial: &Trial, costs: &Costs) -> Result<(), Wrong>
     )
 }
 
-fn strength(model: Pram) -> u8
-    ensures { result ≡ strength model }
-{
-    match model {
-        Pram::Erew => 0,
-        Pram::Crew => 1,
-        Pram::CommonCrcw => 2,
-        Pram::PriorityCrcw => 3,
-    }
-}
-
 // Whether the model accepts all steps of a run.
 fn check_model(alloc: Global, model: Option<Pram>, run: &Run) -> Result<(), Wrong>
-    ensures { OnOk result ((job : JobData) → IsCost job run.now.costs.cost →
-        IfSome model (λ allowed. AcceptsSteps allowed job run.now.costs.cost.steps)) }
+    ensures { (job : JobData) → IsCost job run.now.costs.cost → Judges result
+        (IfSome model (λ allowed. AcceptsSteps allowed job run.now.costs.cost.steps)) }
 {
     let Some(allowed) = model else {
         return Ok(());
     };
-    let needs = run.costs.cost.needs();
-    let needed = strength(needs);
-    let given = strength(allowed);
-    if needed <= given {
-        return Ok(());
-    }
-    Err(beyond(alloc, run, needs, allowed)?)
-}
-
-fn meeting_for(cost: &Cost, needs: Pram) -> Option<Meeting> {
-    match needs {
-        Pram::Erew => None,
-        Pram::Crew => cost.meetings.same_read,
-        Pram::CommonCrcw => cost.meetings.same_write,
-        Pram::PriorityCrcw => cost.meetings.other_value,
+    match run.costs.cost.beyond(allowed) {
+        None => Ok(()),
+        Some(beyond) => Err(model_needed(alloc, run, allowed, beyond)?),
     }
 }
 
-fn beyond(alloc: Global, run: &Run, needs: Pram, allowed: Pram) -> Result<Wrong, AllocError> {
-    let Some(meeting) = meeting_for(&run.costs.cost, needs) else {
-        return Ok(Wrong::Memory);
-    };
+fn model_needed(
+    alloc: Global,
+    run: &Run,
+    allowed: Pram,
+    beyond: Beyond,
+) -> Result<Wrong, AllocError> {
+    let meeting = beyond.meeting;
     let numbers = run.numbers.as_slice();
     Ok(Wrong::Model {
-        needs,
+        needs: run.costs.cost.needs(),
         allowed,
+        sharing: beyond.sharing,
         line: numbers.get(meeting.counter as usize).copied().unwrap_or(0),
         place: place_text(alloc, run.program.arrays(), meeting.cell as usize)?,
         first: meeting.first,

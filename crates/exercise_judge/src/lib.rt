@@ -3,6 +3,7 @@
 
 mod check;
 mod judging;
+mod known;
 mod place;
 mod reference;
 mod trial;

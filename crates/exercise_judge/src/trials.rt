@@ -1,21 +1,19 @@
 //! The trials of an exercise.
 ghost use Rattle.std.specs.Prelude.{◌≡◌, IfOk, Ok, OnOk};
 ghost use Rattle.text_lines.specs.Lines.{words_of};
-ghost use Rattle.pram_cost.specs.Beyond.{model_named};
 ghost use Rattle.exercise_text.specs.declared.key.Key.TheVariants.{Given as GivenKey};
 ghost use Rattle.exercise_header.specs.Headers.{header_as_set};
 ghost use Rattle.exercise_judge.specs.Trials.{AddsTrial, AreSaid, AreTrials, AreWanted, IsBar};
-ghost use Rattle.exercise_judge.specs.Trials.{IsTrial, model_of, part_in};
+ghost use Rattle.exercise_judge.specs.Trials.{IsTrial, part_in};
 
+use crate::known::{check_known, check_words};
 use crate::reference::wanted_by_reference;
 use crate::trial::Trial;
 use crate::verdict::{Unfit, UnfitKind};
 use exercise_header::{Wanted, header_as_set, read_header, value_by, wanted_at_start};
 use exercise_text::{Entry, Exercise, Key, answer_in};
 use pardo_text::{PardoFault, PardoKind};
-use pram_cost::Pram;
 use std::alloc::Global;
-use text_lines::{is_word, one_word};
 
 /// The trials of the inputs of an exercise, in their order. Its reference is run once for each that
 /// does not say what is wanted.
@@ -47,12 +45,15 @@ fn push_trial(
     Ok(())
 }
 
-/// The trial of an input.
+/// The trial of an input. Behind `->` a wanted name may be left out: it is then wanted to hold what
+/// it starts with.
 pub fn trial_of(alloc: Global, exercise: &Exercise, input: &Entry) -> Result<Trial, UnfitKind>
     ensures { IfOk result (IsTrial exercise.now input.now) }
 {
+    check_words(alloc, part_in(exercise, Key::Given), input.text())?;
     let header = given_header(alloc, exercise, input)?;
     let wanted = wanted_of(alloc, exercise, input, header.as_slice())?;
+    check_known(alloc, wanted.as_slice())?;
     let time = bar_of(alloc, exercise, header.as_slice(), Key::Time)?;
     let operations = bar_of(alloc, exercise, header.as_slice(), Key::Operations)?;
     let steps = bar_of(alloc, exercise, header.as_slice(), Key::Steps)?;
@@ -63,7 +64,7 @@ pub fn trial_of(alloc: Global, exercise: &Exercise, input: &Entry) -> Result<Tri
         operations,
         steps,
         lines: exercise.most_lines(),
-        model: model_of(exercise),
+        model: exercise.model(),
     })
 }
 
@@ -154,27 +155,4 @@ fn bar_of(
         return Ok(None);
     };
     Ok(Some(value_by(alloc, header, bar).map_err(bar_fault)?))
-}
-
-// The weakest model that is allowed, if the exercise names one.
-fn model_of(exercise: &Exercise) -> Option<Pram>
-    ensures { result ≡ model_of exercise.now }
-{
-    model_named(one_word(exercise.text(Key::Model)?)?)
-}
-
-fn model_named(word: &[u8]) -> Option<Pram>
-    ensures { result ≡ model_named word.now }
-{
-    if is_word(word, "EREW") || is_word(word, "erew") {
-        Some(Pram::Erew)
-    } else if is_word(word, "CREW") || is_word(word, "crew") {
-        Some(Pram::Crew)
-    } else if is_word(word, "common") {
-        Some(Pram::CommonCrcw)
-    } else if is_word(word, "priority") {
-        Some(Pram::PriorityCrcw)
-    } else {
-        None
-    }
 }

@@ -1,9 +1,11 @@
 //! What is said of a submission, and of an exercise that cannot be judged by.
 ghost use Rattle.std.specs.Prelude.{◌≡◌, ⊤};
+ghost use Rattle.exercise_judge.specs.Verdicts.{IsCertain};
+ghost use Rattle.exercise_judge.specs.declared.verdict.Wrong.TheVariants.{Memory, Program};
 
 use pardo_job::{JobFault, JobKind, Refusal};
 use pardo_text::{PardoFault, PardoKind};
-use pram_cost::Pram;
+use pram_cost::{Pram, Sharing};
 use std::alloc::{AllocError, AllocFailed};
 
 /// What bounds a submission.
@@ -47,6 +49,7 @@ pub enum Wrong {
     Model {
         needs: Pram,
         allowed: Pram,
+        sharing: Sharing,
         line: u64,
         place: Vec<u8>,
         first: u32,
@@ -85,12 +88,15 @@ pub enum UnfitKind {
     Reference(Refusal),
     /// The reference ends in a conflict.
     Conflict,
+    /// A word of the input sets no name that the header declares, or no array or scalar has this
+    /// wanted name.
+    Unknown(Vec<u8>),
     /// Out of memory.
     Memory,
 }
 
 impl From<AllocError> for Wrong {
-    ghost from_gives = { λ _ wrong. ⊤ };
+    ghost from_gives = { λ _ wrong. wrong ≡ Memory };
 
     fn from(_error: AllocError) -> Wrong {
         Wrong::Memory
@@ -98,7 +104,7 @@ impl From<AllocError> for Wrong {
 }
 
 impl<T: Drop> From<AllocFailed<T>> for Wrong {
-    ghost from_gives = { λ _ wrong. ⊤ };
+    ghost from_gives = { λ _ wrong. wrong ≡ Memory };
 
     fn from(_failed: AllocFailed<T>) -> Wrong {
         Wrong::Memory
@@ -122,7 +128,9 @@ impl<T: Drop> From<AllocFailed<T>> for UnfitKind {
 }
 
 /// What a refusal of a submission's text says: out of memory it says nothing of the text.
-pub(crate) fn wrong_of(refusal: Refusal) -> Wrong {
+pub(crate) fn wrong_of(refusal: Refusal) -> Wrong
+    ensures { IsCertain result → result ≡ Program refusal }
+{
     if is_memory(refusal) {
         Wrong::Memory
     } else {

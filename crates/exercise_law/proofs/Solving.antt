@@ -1,6 +1,6 @@
 -- A submission that meets a trial solves it.
-use Rattle.std.proofs.Common.{◌≡◌, ◌∙◌, ◌+◌, ◌<◌, ◌≤◌, ℕ, zero, suc, Bool, true, false, List, []}
-use Rattle.std.proofs.Common.{◌∷◌, Option, Some, None, Result, map, length, ap, ap₂, sym, subst}
+use Rattle.std.proofs.Common.{◌≡◌, ◌∙◌, ◌+◌, ◌<◌, ◌≤◌, ℕ, zero, suc, true, false, List, []}
+use Rattle.std.proofs.Common.{◌∷◌, Option, Some, None, Result, map, length, ap₂, sym, subst}
 use Rattle.std.proofs.Common.{refl, inl, arith, cond}
 use Rattle.std.specs.List.{range_with_len}
 use Rattle.std.specs.Prelude.{find, slice_index, IfOk}
@@ -100,6 +100,7 @@ module _ (trial : TrialData) (submission : List ℕ) (met : Meets trial submissi
 
   solved : Solves trial submission
   solved = record {
+    given = met.given;
     program = program;
     reads = met.ends.reads;
     run = run;

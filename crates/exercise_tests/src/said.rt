@@ -1,6 +1,6 @@
 //! What is said of an exercise and of a submission.
 use exercise_judge::{
-    ExerciseFault, Trial, Unfit, Verdict, Wrong, judge, read_exercise, trials_of,
+    ExerciseFault, Trial, Unfit, UnfitKind, Verdict, Wrong, judge, read_exercise, trials_of,
 };
 use std::alloc::{AllocError, Global};
 use std::str::from_utf8;
@@ -19,6 +19,15 @@ fn trials_in(alloc: Global, text: &str) -> Result<Result<Vec<Trial>, String>, Fa
     };
     Ok(match trials_of(alloc, &exercise) {
         Ok(trials) => Ok(trials),
+        Err(
+            Unfit {
+                line,
+                kind: UnfitKind::Unknown(word),
+            },
+        ) => {
+            let word = told(word.as_slice());
+            Err(format!(in alloc; "unfit {line} unknown {word}")?)
+        }
         Err(Unfit { line, kind }) => Err(format!(in alloc; "unfit {line} {kind:?}")?),
     })
 }
@@ -59,12 +68,13 @@ fn wrong_said(alloc: Global, wrong: &Wrong) -> Result<String, AllocError> {
         Wrong::Model {
             needs,
             allowed,
+            sharing,
             line,
             place,
             first,
             second,
         } => format!(in alloc;
-            "{needs:?} for {allowed:?} line={line} place={} processors={first},{second}",
+            "{needs:?} for {allowed:?} {sharing:?} line={line} place={} processors={first},{second}",
             told(place.as_slice())
         ),
         Wrong::Memory => format!(in alloc; "memory"),

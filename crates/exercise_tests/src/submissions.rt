@@ -3,7 +3,7 @@ use crate::said::submission_said;
 use std::rt::HostRuntime;
 use std::test::Fail;
 
-const SUMS: &str = "exercise 1
+pub const SUMS: &str = "exercise 1
 title prefix sums
 task A[i] becomes A[0] + .. + A[i], modulo 2^32.
 model EREW
@@ -34,7 +34,8 @@ hidden n=64 A=any:7:100
 hidden n=8 A=1,...
 ";
 
-const GOOD: &str = "pardo 1~rule common~const n = 16~procs i<n~shared A[n] = 3, ...~private x~code~\
+pub const GOOD: &str =
+    "pardo 1~rule common~const n = 16~procs i<n~shared A[n] = 3, ...~private x~code~\
 for k = 0 to lg(n) - 1~if i >= 1 << k~x := A[i - (1 << k)]~end~if i >= 1 << k~A[i] := A[i] + x~end~end";
 
 // the rows: what stands in the place of what, and what is said then
@@ -48,7 +49,35 @@ code => const m = 3~code => passed
 x := A[i - (1 << k)] => x := A[0] => 1 A[2] holds 19, wanted 17
 A[i] := A[i] + x => A[0] := x => 1 conflict line=13 place=A[0] processors=1,2
 code => code~while 1~A[i] := A[i]~end => 1 Job(JobFault { line: 8, kind: Endless })
-x := => x = => 1 Text(PardoFault { line: 10, kind: BadLine })";
+x := => x = => 1 Text(PardoFault { line: 10, kind: BadLine })
+(1 << k)] => (1 << k)] + A[0] - A[0] => 1 Crew for Erew SameRead line=10 place=A[0] processors=1,2";
+
+// what stands in the place of what in the exercise, and what is said of the good submission then
+const CHANGES: &str = "\
+for => for => passed
+model EREW => model priority => passed
+model EREW => lines <= 8 => 8 Duplicate
+lines <= 8 => lines <= 5 => 1 Lines 8 of 5
+want A => want A B => unfit 26 unknown B
+input n=4 A=5,3,9,1 => input n=4 a=5,3,9,1 => unfit 26 unknown a=5,3,9,1
+-> A=7,16 => -> B=7,16 => unfit 27 unknown B=7,16
+-> A=7,16 => -> -> A=7,16 => unfit 27 unknown ->
+-> A=7,16 => -> => 2 A[1] holds 16, wanted 9";
+
+#[test]
+fn exercises_are_judged_by(rt: HostRuntime) -> Result<(), Fail> {
+    let alloc = rt.alloc();
+    let good = GOOD.replace(alloc, "~", "\n")?;
+    for row in CHANGES.lines() {
+        let (old, rest) = row.split_once(" => ").expect(&rt, row);
+        let (new, wanted) = rest.split_once(" => ").expect(&rt, row);
+        let exercise = SUMS.replace(alloc, old, new)?;
+        let found = submission_said(alloc, exercise.as_str(), good.as_str())?;
+        let is_said = found.as_str() == wanted;
+        assert!(rt; is_said, "{row} but {found}");
+    }
+    Ok(())
+}
 
 #[test]
 fn submissions_are_judged(rt: HostRuntime) -> Result<(), Fail> {

@@ -1,15 +1,23 @@
-use Rattle.std.proofs.Common.{◌≡◌, ◌≤◌, Option, subst, sym, arith}
+use Rattle.std.proofs.Common.{ℕ, Option, arith, subst}
 use Rattle.std.specs.Prelude.{IfSome}
+use Rattle.pram_job.specs.Job.{JobData}
+use Rattle.pram_cost.specs.Beyond.{IsBeyond}
+use Rattle.pram_cost.specs.Models.{AcceptsSteps}
+use Rattle.pram_cost.specs.declared.beyond.Beyond.{Beyond}
 use Rattle.pram_cost.specs.declared.pram.Pram.{Pram}
-use Rattle.pram_cost.specs.Models.{AcceptsSteps, strength}
-use Rattle.exercise_judge.proofs.Costs.{accepts_more}
 use Rattle.exercise_judge.proofs.judging.check_model.Goals as goal
 
-pub returns-then-needed-given : goal.returns-then-needed-given
-returns-then-needed-given c = λ job is.
+-- what goes beyond a model the model does not accept
+refuses : (pram : Pram) (job : JobData) (n : ℕ) (beyond : Beyond) → IsBeyond pram job n beyond →
+    AcceptsSteps pram job n → ⊥
+refuses pram job n beyond is accepts =
+    let allowed = accepts is.first.before is.first.within beyond.sharing beyond.meeting.cell
+    beyond.meeting.first beyond.meeting.second is.first.least.meet in
+    absurd (omega (arith, allowed, is.refused))
+
+pub returns-in_ok-model_needed-in-Some-beyond : goal.returns-in_ok-model_needed-in-Some-beyond
+returns-in_ok-model_needed-in-Some-beyond c = λ job is certain accepts.
     let n = c.args.run.now.costs.cost.steps in
-    let enough : strength c.needs-needs.result ≤ strength c.in-Some.allowed =
-    omega (arith, c.strength-needed.ensures, c.strength-given.ensures, c.if-needed-given.true) in
-    subst (λ (m : Option Pram). IfSome m (λ allowed. AcceptsSteps allowed job n))
-    (sym c.in-Some.is)
-    (accepts_more c.needs-needs.result c.in-Some.allowed job n enough (c.needs-needs.ensures job is).accepts)
+    refuses c.in-Some.allowed job n c.in-Some-beyond.beyond (c.in-Some-beyond.ensures job is)
+    (subst (λ (m : Option Pram). IfSome m (λ allowed. AcceptsSteps allowed job n)) c.in-Some.is
+    accepts)

@@ -1,4 +1,4 @@
-use Rattle.std.proofs.Common.{◌≡◌, ◌∙◌, ℕ, List, map, ap₂, subst}
+use Rattle.std.proofs.Common.{◌∙◌, ℕ, List, map, ap₂, subst}
 use Rattle.std.specs.Prelude.{slice_index}
 use Rattle.pram_step.specs.Runs.{IsAnswer}
 use Rattle.pardo_program.specs.Program.{ArrayData}

@@ -1,0 +1,69 @@
+-- What a submission that meets a trial says of its run.
+use Rattle.std.proofs.Common.{◌≡◌, ◌∙◌, ℕ, List, ap₂, subst, sym}
+use Rattle.std.specs.Prelude.{IfSome, slice_index}
+use Rattle.pram_job.specs.Job.{JobData}
+use Rattle.pram_step.specs.declared.answer.RunAnswer.TheVariants.{Final}
+use Rattle.pram_step.specs.Runs.{IsAnswer}
+use Rattle.pram_step.proofs.LawAnswer.{one_answer}
+use Rattle.pram_cost.specs.Models.{AcceptsSteps}
+use Rattle.pram_cost.specs.declared.pram.Pram.{Pram}
+use Rattle.pardo_program.specs.Program.{ProgramData}
+use Rattle.pardo_text.specs.Reading.{program_of}
+use Rattle.pardo_job.specs.Compiled.{IsCompiled}
+use Rattle.pardo_costs.specs.declared.line_costs.LineCost.{LineCost}
+use Rattle.pardo_costs.specs.declared.run.Run.{Run}
+use Rattle.pardo_costs.specs.Costs.{line_costs, operations_in, time_in}
+use Rattle.pardo_costs.specs.Runs.{IsRun}
+use Rattle.exercise_given.specs.Submissions.{judged_text}
+use Rattle.exercise_judge.specs.Trials.{AreHeld, IsWithin, Meets, TrialData}
+use Rattle.exercise_judge.proofs.Costs.{all_steps}
+use Rattle.exercise_judge.proofs.OneJob.{one_job}
+use Rattle.exercise_judge.proofs.Refused.{ok_same}
+
+final_same : (a b : List ℕ) → Final a ≡ Final b → a ≡ b
+final_same a b same = cc
+
+module _ (trial : TrialData) (submission : List ℕ) (run : Run)
+    (is : IsRun (judged_text trial.header submission) run) (met : Meets trial submission) where
+  same_program : run.program ≡ met.program
+  same_program = ok_same run.program met.program (program_of (judged_text trial.header submission))
+      is.0 met.ends.reads
+
+  same_job : run.job ≡ met.job
+  same_job = one_job met.program run.job met.job (slice_index run.numbers.items) met.line_of
+      (subst (λ (p : ProgramData). IsCompiled p run.job (slice_index run.numbers.items))
+      same_program is.1.compiled) met.ends.compiled
+
+  ends : IsAnswer run.job (Final met.cells)
+  ends = subst (λ (j : JobData). IsAnswer j (Final met.cells)) (sym same_job) met.ends.ends
+
+  pub same_answer : run.ended.answer ≡ Final met.cells
+  same_answer = one_answer run.job run.ended.answer (Final met.cells) is.1.ended.answers ends
+
+  pub values_too : (cells : List ℕ) → run.ended.answer ≡ Final cells →
+      AreHeld trial.wanted run.program (slice_index cells)
+  values_too cells answer =
+      let same = final_same met.cells cells (sym same_answer ∙ answer) in
+      subst (λ (p : ProgramData). AreHeld trial.wanted p (slice_index cells)) (sym same_program)
+      (subst (λ (c : List ℕ). AreHeld trial.wanted met.program (slice_index c)) same met.values)
+
+  lines_are : line_costs met.program met.job ≡ run.costs.lines.items
+  lines_are = sym (is.1.lines ∙ ap₂ line_costs same_program same_job)
+
+  pub costs_too : IsWithin trial.time (time_in run.costs.lines.items)
+      × IsWithin trial.operations (operations_in run.costs.lines.items)
+  costs_too = (
+    subst (λ (l : List LineCost). IsWithin trial.time (time_in l)) lines_are met.time,
+    subst (λ (l : List LineCost). IsWithin trial.operations (operations_in l)) lines_are
+        met.operations,
+  )
+
+  pub steps_too : IsWithin trial.steps run.job.steps
+  steps_too = subst (λ (j : JobData). IsWithin trial.steps j.steps) (sym same_job) met.steps
+
+  pub model_too : IfSome trial.model (λ (allowed : Pram).
+      AcceptsSteps allowed run.job run.costs.cost.steps)
+  model_too = subst (λ (n : ℕ). IfSome trial.model (λ (allowed : Pram).
+      AcceptsSteps allowed run.job n)) (sym (all_steps run.job run.costs.cost met.cells is.1.cost ends))
+      (subst (λ (j : JobData). IfSome trial.model (λ (allowed : Pram).
+      AcceptsSteps allowed j j.steps)) (sym same_job) met.model)

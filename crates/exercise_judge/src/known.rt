@@ -1,0 +1,36 @@
+//! Whether an exercise names what there is.
+ghost use Rattle.std.specs.Prelude.{◌≡◌, None, OnOk};
+ghost use Rattle.text_lines.specs.Lines.{words_of};
+ghost use Rattle.exercise_given.specs.Sets.{unknown_word};
+ghost use Rattle.exercise_judge.specs.Trials.{AreKnown};
+
+use crate::verdict::UnfitKind;
+use exercise_given::unknown_word;
+use exercise_header::Wanted;
+use std::alloc::{AllocError, Global};
+
+/// Whether each word of an input sets a name that the header declares.
+pub(crate) fn check_words(alloc: Global, header: &[u8], words: &[u8]) -> Result<(), UnfitKind>
+    ensures { OnOk result (unknown_word header.now (words_of words.now) ≡ None) }
+{
+    match unknown_word(header, words) {
+        None => Ok(()),
+        Some(word) => Err(unknown(alloc, word)?),
+    }
+}
+
+/// Whether each wanted name has values.
+pub(crate) fn check_known(alloc: Global, wanted: &[Wanted]) -> Result<(), UnfitKind>
+    ensures { OnOk result (AreKnown wanted.now) }
+{
+    for want in wanted {
+        if want.values.is_empty() {
+            return Err(unknown(alloc, want.name.as_slice())?);
+        }
+    }
+    Ok(())
+}
+
+fn unknown(alloc: Global, word: &[u8]) -> Result<UnfitKind, AllocError> {
+    Ok(UnfitKind::Unknown(Vec::from_slice(alloc, word)?))
+}
