@@ -68,6 +68,7 @@ export const EXERCISE_FAULT = faultsIn(ofExercises('entries'), 'number_of_exerci
 export const WRONG = numbersIn(ofExercises('verdict'), 'tell_wrong', 'kind');
 export const UNFIT = numbersIn(ofExercises('verdict'), 'tell_unfit', 'kind');
 export const BAR = numbersIn(ofExercises('verdict'), 'number_of_bar');
+export const SHARING = numbersIn(ofExercises('verdict'), 'number_of_sharing');
 
 // What is told of programs has the same numbers in calls about exercises.
 for (const [source, name] of [['program', 'number_of_text_kind'], ['program', 'number_of_job_kind'],

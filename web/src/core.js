@@ -140,7 +140,7 @@ function readPairs(memory, rows, count) {
 const ROOM = { bytes: 65536, rows: 4096 };
 
 // Codes with which bytes are told.
-const WITH_BYTES = [CODE.DONE, CODE.FAILED];
+const WITH_BYTES = [CODE.DONE, CODE.FAILED, CODE.UNFIT];
 
 // A call on texts that fills bytes, and rows of this element where it has such: it is made again
 // where there was too little room. `struct` is what it tells besides.

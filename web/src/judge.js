@@ -1,7 +1,8 @@
 // Judges exercises: the core says by its proved judge whether a text meets one, and what is wrong.
-import { BAR, CODE, JOB_FAULT, MODELS, PROGRAM_SENTENCES, UNFIT, WRONG } from './declared.js';
+import { BAR, CODE, JOB_FAULT, MODELS, PROGRAM_SENTENCES, SHARING, UNFIT, WRONG }
+  from './declared.js';
 import { sizesInWords } from './exercises.js';
-import { grouped } from './numbers.js';
+import { grouped, shortened } from './numbers.js';
 import { wordsOfProgramFault } from './program_faults.js';
 import { Source } from './source.js';
 import { lineOf } from './text_lines.js';
@@ -9,6 +10,8 @@ import { english, phrase } from './words.js';
 
 // Of so many steps at most it is looked up which line wrote a place last.
 const MOST_LOOKED = 2000;
+
+const MOST_LETTERS = 60;
 
 const faultInWords = (fault, line, text) =>
   phrase('line {0}: {1}', grouped(line), wordsOfProgramFault(fault, lineOf(text, line)));
@@ -62,13 +65,13 @@ function conflictInWords(told, given) {
   return phrase(CONFLICTS[rule], ...partsOf(told), rule);
 }
 
-// By the model that is needed, what two processors do with one place.
-const MEETINGS = [
-  '',
-  english('it needs {4}: processors {0} and {1} read {2} in line {3}.'),
-  english('it needs {4}: processors {0} and {1} write {2} in line {3}.'),
-  english('it needs {4}: processors {0} and {1} write different values to {2} in line {3}.'),
-];
+// What two processors do with one place.
+const MEETINGS = {
+  [SHARING.SAME_READ]: english('it needs {4}: processors {0} and {1} read {2} in line {3}.'),
+  [SHARING.SAME_WRITE]: english('it needs {4}: processors {0} and {1} write {2} in line {3}.'),
+  [SHARING.OTHER_VALUE]:
+    english('it needs {4}: processors {0} and {1} write different values to {2} in line {3}.'),
+};
 
 const EXCESS = {
   [BAR.TIME]: english('all is right, but its time is {0}; at most {1} is allowed here.'),
@@ -86,7 +89,7 @@ function wrongInWords(ask, told, given) {
     case WRONG.CONFLICT: return conflictInWords(told, given);
     case WRONG.VALUE: return valueInWords(ask, told, given);
     case WRONG.BAR: return phrase(EXCESS[told.bar], grouped(told.took), grouped(told.most));
-    default: return phrase(MEETINGS[told.needs], ...partsOf(told), MODELS[told.needs]);
+    default: return phrase(MEETINGS[told.sharing], ...partsOf(told), MODELS[told.needs]);
   }
 }
 
@@ -126,10 +129,13 @@ const UNFITS = {
   [UNFIT.BAR]: english('a bar has no value with the input in its line {0}: {1}'),
   [UNFIT.REFERENCE]: english('its reference fails with the input in its line {0}: {1}'),
   [UNFIT.CONFLICT]: english('its reference ends in a conflict with the input in its line {0}'),
+  [UNFIT.UNKNOWN]:
+    english('the input in its line {0} sets “{1}”, which its header does not declare'),
 };
 
-function unfitInWords({ kind, line, fault, within }) {
-  const why = fault === 0 ? ''
+// What is wrong in a part, or the word that is not known.
+function unfitInWords({ kind, line, fault, within, text }) {
+  const why = fault === 0 ? shortened(text, MOST_LETTERS)
     : phrase('line {0}: {1}', grouped(within), phrase(PROGRAM_SENTENCES[fault]));
   return phrase('This exercise cannot be judged by: {0}',
     phrase(UNFITS[kind], grouped(line), why));

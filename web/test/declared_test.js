@@ -183,12 +183,12 @@ function testNumbers() {
 // No two names of a kind have one number, those without a name in the source among them.
 function testKinds() {
   const { CODE, CELLS, TEXT_FAULT, RULE, MODEL, PASS, FORM, OP, END, EVENT } = declared;
-  const { KEY, EXERCISE_FAULT, WRONG, UNFIT, BAR } = declared;
+  const { KEY, EXERCISE_FAULT, WRONG, UNFIT, BAR, SHARING } = declared;
   const { STATUS, TARGET, DOING, PART, TWIN } = kinds;
   const program = Object.entries({ ...declared.PROGRAM_FAULT })
     .concat(Object.entries(declared.JOB_FAULT).map(([name, number]) => [`JOB_${name}`, number]));
   const all = { CODE, CELLS, TEXT_FAULT, RULE, MODEL, PASS, FORM, OP, END, STATUS, TARGET, DOING, PART,
-    KEY, EXERCISE_FAULT, WRONG, UNFIT, BAR, EVENT: { ...EVENT, TWIN },
+    KEY, EXERCISE_FAULT, WRONG, UNFIT, BAR, SHARING, EVENT: { ...EVENT, TWIN },
     PROGRAM: Object.fromEntries(program) };
   for (const [name, numbers] of Object.entries(all)) {
     const each = Object.values(numbers).sort((one, other) => one - other);

@@ -1,7 +1,8 @@
 // Rows on exercises, in Node: how the core reads and judges them, and what is said of that.
 import { readFileSync } from 'node:fs';
-import { BAR, CODE, EXERCISE_FAULT, JOB_FAULT, KEY, PROGRAM_FAULT, WRONG }
-  from '../src/declared.js';
+import {
+  BAR, CODE, EXERCISE_FAULT, JOB_FAULT, KEY, MODEL, PROGRAM_FAULT, SHARING, UNFIT, WRONG,
+} from '../src/declared.js';
 import { isOf, isOfPage, readExercise, startOf, taskInWords } from '../src/exercises.js';
 import { learnWanted } from '../src/exercise_inputs.js';
 import { judgeExercise } from '../src/judge.js';
@@ -35,9 +36,9 @@ const tests = (name) =>
 
 // A constant that is a text.
 const constantIn = (source, name) =>
-  new RegExp(`const ${name}: &str = "([^"]*)"`).exec(source)[1].replaceAll('\\\n', '');
+  new RegExp(`const ${name}: &str =\\s*"([^"]*)"`).exec(source)[1].replaceAll('\\\n', '');
 
-const rowsOf = (source) => constantIn(source, 'ROWS').split('\n')
+const rowsOf = (source, name = 'ROWS') => constantIn(source, name).split('\n')
   .map((row) => row.split(' => ').map((part) => part.replaceAll('~', '\n')));
 
 // NOT_ASCII becomes NotAscii, as the sources have it.
@@ -70,12 +71,17 @@ function wrongOf(told) {
     case WRONG.CONFLICT: return `conflict line=${line} place=${text} processors=${first},${second}`;
     case WRONG.VALUE: return `${text} holds ${held}, wanted ${wanted}`;
     case WRONG.BAR: return `${wordOf(BAR, told.bar)} ${told.took} of ${told.most}`;
-    default: return `line=${line} place=${text} processors=${first},${second}`;
+    default: return `${wordOf(MODEL, told.needs)} for ${wordOf(MODEL, told.allowed)} ${
+      wordOf(SHARING, told.sharing)} line=${line} place=${text} processors=${first},${second}`;
   }
 }
 
-const saidOf = (told) =>
-  (told.code === CODE.PASSED ? 'passed' : `${told.input} ${wrongOf(told)}`);
+function saidOf(told) {
+  if (told.code === CODE.UNFIT && told.kind === UNFIT.UNKNOWN) {
+    return `unfit ${told.line} unknown ${told.text}`;
+  }
+  return told.code === CODE.PASSED ? 'passed' : `${told.input} ${wrongOf(told)}`;
+}
 
 function testVerdicts(core, is) {
   const source = tests('submissions');
@@ -83,6 +89,13 @@ function testVerdicts(core, is) {
   for (const [from, to, wanted] of rowsOf(source)) {
     const told = core.verdict(sums, good.replaceAll('~', '\n').replaceAll(from, to));
     is(`a verdict on ${JSON.stringify(to)}`, saidOf(told), wanted);
+  }
+  for (const [from, to, wanted] of rowsOf(source, 'CHANGES')) {
+    const exercise = sums.replaceAll(from, to);
+    const { code, line, fault } = core.entries(exercise);
+    const said = code === CODE.DONE ? saidOf(core.verdict(exercise, good.replaceAll('~', '\n')))
+      : `${line} ${wordOf(EXERCISE_FAULT, fault)}`;
+    is(`a verdict by ${JSON.stringify(to)}`, said, wanted);
   }
   return sums;
 }
@@ -187,7 +200,7 @@ async function testHeaders(core, is) {
 // ---- an exercise of one's own
 
 // What stands in the place of what in an exercise, and how that is told.
-const UNFIT = [
+const UNFITS = [
   ['n=4 A=5,3,9,1', 'n=0', 'its line 26 sets a bad header: line '],
   ['-> A=7,16', '-> A=1,2,3', 'its line 27 says badly what is wanted: line 5: '],
   ['6 * lg(n) + 4', '6 * m', 'a bar has no value with the input in its line 26: line '],
@@ -208,7 +221,7 @@ async function testOwn(core, is, sums) {
   await learnWanted(ask, core, own);
   is('what is wanted', own.inputs.map(({ wanted }) => wanted.join(' ')).join(' | '),
     'A,5,8,17,18 | A,7,16 |  | ');
-  for (const [from, to, words] of UNFIT) {
+  for (const [from, to, words] of UNFITS) {
     const exercise = readExercise(core, sums.replace(from, to));
     const { said } = await judgeExercise(ask, exercise, startOf(exercise));
     is(`unfit by ${to}`, (said.startsWith('This exercise cannot be judged by: ') &&

@@ -1,5 +1,7 @@
 -- What is said of a submission, in numbers and bytes.
 use Rattle.std.specs.Prelude.{◌≡◌, ◌⊎◌, ℕ, ◌<◌, ◌==◌, if◌then◌else◌, List, [], length, take}
+use Rattle.pram_cost.specs.declared.meeting.Sharing.{Sharing}
+use Rattle.pram_cost.specs.declared.meeting.Sharing.TheVariants as share
 use Rattle.pram_cost.specs.Models.{strength}
 use Rattle.pardo_text.specs.declared.fault.PardoFault.{PardoFault}
 use Rattle.pardo_text.specs.declared.fault.PardoKind.{PardoKind}
@@ -70,6 +72,11 @@ bar_code bar.Operations = place_of key.Operations
 bar_code bar.Steps = place_of key.Steps
 bar_code bar.Lines = place_of key.Lines
 
+abbrev pub sharing_code : Sharing → ℕ
+sharing_code share.SameRead = 0
+sharing_code share.SameWrite = 1
+sharing_code share.OtherValue = 2
+
 -- ---- what is told
 
 abbrev pub of_code : ℕ → VerdictTold
@@ -90,6 +97,7 @@ of_code code = record {
   second = 0;
   needs = 0;
   allowed = 0;
+  sharing = 0;
 }
 
 abbrev pub wrong_told : Wrong → VerdictTold
@@ -105,10 +113,11 @@ wrong_told (wrong.Value place held wanted) =
     record (of_code FAILED) { kind = 4; held = held; wanted = wanted }
 wrong_told (wrong.Bar which took most) =
     record (of_code FAILED) { kind = 5; bar = bar_code which; took = took; most = most }
-wrong_told (wrong.Model needs allowed line place first second) = record (of_code FAILED) {
+wrong_told (wrong.Model needs allowed sharing line place first second) = record (of_code FAILED) {
   kind = 6;
   needs = strength needs;
   allowed = strength allowed;
+  sharing = sharing_code sharing;
   line = line;
   first = first;
   second = second;
@@ -120,7 +129,7 @@ abbrev pub wrong_text : Wrong → List ℕ
 wrong_text (wrong.Missing line) = line.items
 wrong_text (wrong.Conflict line place first second) = place.items
 wrong_text (wrong.Value place held wanted) = place.items
-wrong_text (wrong.Model needs allowed line place first second) = place.items
+wrong_text (wrong.Model needs allowed sharing line place first second) = place.items
 wrong_text _ = []
 
 abbrev pub part_fault : ℕ → PardoFault → VerdictTold
@@ -141,7 +150,14 @@ unfit_told line (unfit.Reference refusal) = record (of_code UNFIT) {
   within = refusal_line refusal;
 }
 unfit_told line unfit.Conflict = record (of_code UNFIT) { kind = 5; line = line }
+unfit_told line (unfit.Unknown word) =
+    record (of_code UNFIT) { kind = 6; line = line; bytes = length word.items }
 unfit_told line unfit.Memory = of_code MEMORY
+
+-- the word that sets nothing
+abbrev pub unfit_text : UnfitKind → List ℕ
+unfit_text (unfit.Unknown word) = word.items
+unfit_text _ = []
 
 abbrev pub code_of_fault : ExerciseKind → ℕ
 code_of_fault exercise_kind.Memory = MEMORY
@@ -158,6 +174,7 @@ finding_told (Judged (Failed input wrong)) =
 
 abbrev pub finding_text : Finding → List ℕ
 finding_text (Judged (Failed input wrong)) = wrong_text wrong
+finding_text (Unfit unfit) = unfit_text unfit.kind
 finding_text _ = []
 
 -- ---- the buffer

@@ -1,13 +1,15 @@
 //! What is said of a submission, in numbers and bytes.
 ghost use Rattle.std.specs.Prelude.{◌≡◌, ◌++◌, length};
 ghost use Rattle.pram_cost.specs.Models.{strength};
+ghost use Rattle.exercise_page.specs.declared.codes.TheConstants.{FAILED as failed_code};
 ghost use Rattle.exercise_page.specs.declared.codes.TheConstants.{PASSED as passed_code};
-ghost use Rattle.exercise_page.specs.Findings.{IsMet};
+ghost use Rattle.exercise_page.specs.Findings.{IsFailed, IsMet};
 ghost use Rattle.exercise_page.specs.Put.{IsKept};
 ghost use Rattle.exercise_page.specs.Verdicts.{IsFindingPut, IsVerdictTold, bar_code, finding_text};
 ghost use Rattle.exercise_page.specs.Verdicts.{finding_told, job_kind_code, of_code, refusal_code};
 ghost use Rattle.exercise_page.specs.Verdicts.{refusal_line, text_kind_code, unfit_told, words_told};
-ghost use Rattle.exercise_page.specs.Verdicts.{code_of_fault, part_fault, wrong_text, wrong_told};
+ghost use Rattle.exercise_page.specs.Verdicts.{code_of_fault, part_fault, sharing_code};
+ghost use Rattle.exercise_page.specs.Verdicts.{unfit_text, wrong_text, wrong_told};
 
 use crate::codes::{FAILED, MEMORY, NO_EXERCISE, NO_ROOM, PASSED, TEXT_MOST, TEXT_TOO_LONG, UNFIT};
 use crate::entries::NoExercise;
@@ -15,15 +17,15 @@ use crate::finding::{Finding, found};
 use exercise_judge::{Bar, ExerciseKind, Unfit, UnfitKind, Verdict, Wrong};
 use pardo_job::{JobKind, Refusal};
 use pardo_text::{PardoFault, PardoKind};
-use pram_cost::Pram;
+use pram_cost::{Pram, Sharing};
 use std::alloc::Global;
 
 /// What is said of a submission. Where it fails, `input` is the number of the input, from 1, `kind`
 /// is what is wrong, 1 to 6 in the order of `Wrong`, and `bytes` is the length of its text: the line
 /// that is missing, or a place. A fault is that of a program, in line `line`; a bar is told by the
-/// number of its key, and models as `needs` of a cost. Where the exercise cannot be judged by,
-/// `kind` is 1 to 5 in the order of `UnfitKind`, `line` is that of the input, and `within` that of
-/// the part with the fault.
+/// number of its key, and models as `needs` of a cost; `sharing` is 0 to 2 in the order of `Sharing`.
+/// Where the exercise cannot be judged by, `kind` is 1 to 6 in the order of `UnfitKind`, `line` is
+/// that of the input, `within` that of the part with the fault, and the text is the unknown word.
 #[repr(C)]
 #[derive(Clone, Copy)]
 pub struct VerdictTold {
@@ -43,12 +45,15 @@ pub struct VerdictTold {
     pub second: u32,
     pub needs: u32,
     pub allowed: u32,
+    pub sharing: u32,
 }
 
-/// Judges a submission to an exercise: passed only where it meets all inputs. A text goes to the
-/// front of the buffer.
+/// Judges a submission to an exercise: passed only where it meets all inputs, failed only where it
+/// meets those before this one. A text goes to the front of the buffer.
 pub fn verdict(alloc: Global, exercise: &[u8], submission: &[u8], words: &mut [u8]) -> VerdictTold
     ensures passed { result.code ≡ passed_code → IsMet exercise.now submission.now }
+    ensures failed { result.code ≡ failed_code →
+        IsFailed exercise.now submission.now result.input }
     ensures told { IsVerdictTold exercise.now submission.now words.old words.new result }
     ensures words { IsKept (words_told result) words.old words.new }
 {
@@ -77,6 +82,7 @@ fn finding_text(finding: &Finding) -> &[u8]
 {
     match finding {
         Finding::Judged(Verdict::Failed { wrong, .. }) => wrong_text(wrong),
+        Finding::Unfit(unfit) => unfit_text(&unfit.kind),
         _ => b"",
     }
 }
@@ -89,6 +95,15 @@ fn wrong_text(wrong: &Wrong) -> &[u8]
         Wrong::Conflict { place, .. } => place.as_slice(),
         Wrong::Value { place, .. } => place.as_slice(),
         Wrong::Model { place, .. } => place.as_slice(),
+        _ => b"",
+    }
+}
+
+fn unfit_text(kind: &UnfitKind) -> &[u8]
+    ensures { result.now ≡ unfit_text kind.now }
+{
+    match kind {
+        UnfitKind::Unknown(word) => word.as_slice(),
         _ => b"",
     }
 }
@@ -113,6 +128,7 @@ fn of_code(code: u32) -> VerdictTold
         second: 0,
         needs: 0,
         allowed: 0,
+        sharing: 0,
     }
 }
 
@@ -176,6 +192,7 @@ fn tell_wrong(wrong: &Wrong) -> VerdictTold
         Wrong::Model {
             needs,
             allowed,
+            sharing,
             line,
             first,
             second,
@@ -184,6 +201,7 @@ fn tell_wrong(wrong: &Wrong) -> VerdictTold
             kind: 6,
             needs: number_of_model(*needs),
             allowed: number_of_model(*allowed),
+            sharing: number_of_sharing(*sharing),
             line: *line,
             first: *first,
             second: *second,
@@ -231,6 +249,12 @@ fn tell_unfit(unfit: &Unfit) -> VerdictTold
         UnfitKind::Conflict => VerdictTold {
             kind: 5,
             line,
+            ..of_code(UNFIT)
+        },
+        UnfitKind::Unknown(word) => VerdictTold {
+            kind: 6,
+            line,
+            bytes: word.len() as u64,
             ..of_code(UNFIT)
         },
         UnfitKind::Memory => of_code(MEMORY),
@@ -297,6 +321,16 @@ fn number_of_job_kind(kind: JobKind) -> u32
         JobKind::TooLong => 17,
         JobKind::Endless => 18,
         JobKind::TooManyCells => 19,
+    }
+}
+
+fn number_of_sharing(sharing: Sharing) -> u32
+    ensures { result ≡ sharing_code sharing }
+{
+    match sharing {
+        Sharing::SameRead => 0,
+        Sharing::SameWrite => 1,
+        Sharing::OtherValue => 2,
     }
 }
 

@@ -1,8 +1,8 @@
 //! Calls about exercises.
 ghost use Rattle.std.specs.Prelude.{◌≡◌};
-ghost use Rattle.exercise_page.specs.declared.codes.TheConstants.{PASSED};
+ghost use Rattle.exercise_page.specs.declared.codes.TheConstants.{FAILED, PASSED};
 ghost use Rattle.exercise_page.specs.Entries.{AreEntriesTold};
-ghost use Rattle.exercise_page.specs.Findings.{IsMet};
+ghost use Rattle.exercise_page.specs.Findings.{IsFailed, IsMet};
 ghost use Rattle.exercise_page.specs.Given.{IsGivenTold};
 ghost use Rattle.exercise_page.specs.Put.{IsKept, bytes_told, rows_told};
 ghost use Rattle.exercise_page.specs.Verdicts.{IsVerdictTold, words_told};
@@ -58,6 +58,8 @@ pub extern "C" fn pram_page_verdict(
     told: &mut VerdictTold,
 )
     ensures passed { told.new.code ≡ PASSED → IsMet exercise.now submission.now }
+    ensures failed { told.new.code ≡ FAILED →
+        IsFailed exercise.now submission.now told.new.input }
     ensures told { IsVerdictTold exercise.now submission.now words.old words.new told.new }
     ensures words { IsKept (words_told told.new) words.old words.new }
 {
