@@ -1,6 +1,7 @@
 // Judges exercises: the core says by its proved judge whether a text meets one, and what is wrong.
-import { BAR, CODE, JOB_FAULT, MODELS, PROGRAM_SENTENCES, SHARING, UNFIT, WRONG }
-  from './declared.js';
+import {
+  BAR, CODE, JOB_FAULT, MODELS, PROGRAM_SENTENCES, SHARING, UNFIT, WRONG,
+} from './declared.js';
 import { sizesInWords } from './exercises.js';
 import { grouped, shortened } from './numbers.js';
 import { wordsOfProgramFault } from './program_faults.js';
