@@ -397,6 +397,7 @@ export const CHINESE = {
   '{0} holds {1}, wanted {2}; line {3} wrote it last.': '{0} 是 {1}，应为 {2}；最后写它的是第 {3} 行。',
   'Not yet: the line “{0}” is missing. “Begin anew” brings it back.': '还不对：缺少行“{0}”。“重新开始”可以把它找回来。',
   'Not yet, {0}': '还不对，{0}',
+  'nothing is named “{1}”, with the input in its line {0}': '对其第 {0} 行的输入，没有名为“{1}”的东西',
   'Inputs that are shown': '显示的输入',
   input: '输入',
   '{0} wanted': '要求的 {0}',
@@ -441,8 +442,6 @@ export const CHINESE = {
   'a bar has no value with the input in its line {0}: {1}': '对其第 {0} 行的输入，有一个界限没有值：{1}',
   'its reference fails with the input in its line {0}: {1}': '其参考程序在第 {0} 行的输入上失败：{1}',
   'its reference ends in a conflict with the input in its line {0}': '其参考程序在第 {0} 行的输入上以冲突告终',
-  'the input in its line {0} sets “{1}”, which its header does not declare':
-    '其第 {0} 行的输入设了“{1}”，而头部没有声明它',
   'This exercise cannot be judged by: {0}': '无法按这道习题评判：{0}',
   'Right on all {0} inputs.': '在全部 {0} 个输入上都正确。',
   'Right on all {0} inputs, under {1}.': '在全部 {0} 个输入上都正确，在 {1} 下。',

@@ -456,6 +456,8 @@ export const FRENCH = {
   'Not yet: the line “{0}” is missing. “Begin anew” brings it back.':
     'Pas encore : la ligne « {0} » manque. « Recommencer » la remet.',
   'Not yet, {0}': 'Pas encore, {0}',
+  'nothing is named “{1}”, with the input in its line {0}':
+    'rien ne s’appelle « {1} », avec l’entrée de sa ligne {0}',
   'Inputs that are shown': 'Entrées montrées',
   input: 'entrée',
   '{0} wanted': '{0} voulu',
@@ -512,8 +514,6 @@ export const FRENCH = {
     'sa référence échoue sur l’entrée de sa ligne {0} : {1}',
   'its reference ends in a conflict with the input in its line {0}':
     'sa référence finit par un conflit sur l’entrée de sa ligne {0}',
-  'the input in its line {0} sets “{1}”, which its header does not declare':
-    'l’entrée de sa ligne {0} donne « {1} », que son en-tête ne déclare pas',
   'This exercise cannot be judged by: {0}': 'On ne peut pas juger d’après cet exercice : {0}',
   'Right on all {0} inputs.': 'Juste sur les {0} entrées.',
   'Right on all {0} inputs, under {1}.': 'Juste sur les {0} entrées, sous {1}.',

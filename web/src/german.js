@@ -452,6 +452,8 @@ export const GERMAN = {
   'Not yet: the line “{0}” is missing. “Begin anew” brings it back.':
     'Noch nicht: Die Zeile „{0}“ fehlt. „Neu beginnen“ bringt sie zurück.',
   'Not yet, {0}': 'Noch nicht, {0}',
+  'nothing is named “{1}”, with the input in its line {0}':
+    'nichts heißt „{1}“, bei der Eingabe in ihrer Zeile {0}',
   'Inputs that are shown': 'Eingaben, die gezeigt sind',
   input: 'Eingabe',
   '{0} wanted': '{0} verlangt',
@@ -507,8 +509,6 @@ export const GERMAN = {
     'ihre Musterlösung scheitert an der Eingabe in ihrer Zeile {0}: {1}',
   'its reference ends in a conflict with the input in its line {0}':
     'ihre Musterlösung endet mit der Eingabe in ihrer Zeile {0} in einem Konflikt',
-  'the input in its line {0} sets “{1}”, which its header does not declare':
-    'die Eingabe in ihrer Zeile {0} setzt „{1}“, was ihr Kopf nicht deklariert',
   'This exercise cannot be judged by: {0}': 'Nach dieser Aufgabe lässt sich nicht prüfen: {0}',
   'Right on all {0} inputs.': 'Richtig bei allen {0} Eingaben.',
   'Right on all {0} inputs, under {1}.': 'Richtig bei allen {0} Eingaben, unter {1}.',

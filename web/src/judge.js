@@ -130,13 +130,12 @@ const UNFITS = {
   [UNFIT.BAR]: english('a bar has no value with the input in its line {0}: {1}'),
   [UNFIT.REFERENCE]: english('its reference fails with the input in its line {0}: {1}'),
   [UNFIT.CONFLICT]: english('its reference ends in a conflict with the input in its line {0}'),
-  [UNFIT.UNKNOWN]:
-    english('the input in its line {0} sets “{1}”, which its header does not declare'),
+  [UNFIT.UNKNOWN]: english('nothing is named “{1}”, with the input in its line {0}'),
 };
 
 // What is wrong in a part, or the word that is not known.
 function unfitInWords({ kind, line, fault, within, text }) {
-  const why = fault === 0 ? shortened(text, MOST_LETTERS)
+  const why = fault === 0 ? shortened(text.split('=', 1)[0], MOST_LETTERS)
     : phrase('line {0}: {1}', grouped(within), phrase(PROGRAM_SENTENCES[fault]));
   return phrase('This exercise cannot be judged by: {0}',
     phrase(UNFITS[kind], grouped(line), why));

@@ -448,6 +448,8 @@ export const SPANISH = {
   'Not yet: the line “{0}” is missing. “Begin anew” brings it back.':
     'Todavía no: falta la línea «{0}». «Empezar de nuevo» la devuelve.',
   'Not yet, {0}': 'Todavía no, {0}',
+  'nothing is named “{1}”, with the input in its line {0}':
+    'nada se llama «{1}», con la entrada de su línea {0}',
   'Inputs that are shown': 'Entradas que se muestran',
   input: 'entrada',
   '{0} wanted': '{0} pedido',
@@ -503,8 +505,6 @@ export const SPANISH = {
     'su referencia falla con la entrada de su línea {0}: {1}',
   'its reference ends in a conflict with the input in its line {0}':
     'su referencia acaba en un conflicto con la entrada de su línea {0}',
-  'the input in its line {0} sets “{1}”, which its header does not declare':
-    'la entrada de su línea {0} da «{1}», que su cabecera no declara',
   'This exercise cannot be judged by: {0}': 'No se puede evaluar según este ejercicio: {0}',
   'Right on all {0} inputs.': 'Correcto con las {0} entradas.',
   'Right on all {0} inputs, under {1}.': 'Correcto con las {0} entradas, bajo {1}.',

@@ -205,6 +205,8 @@ const UNFITS = [
   ['-> A=7,16', '-> A=1,2,3', 'its line 27 says badly what is wanted: line 5: '],
   ['6 * lg(n) + 4', '6 * m', 'a bar has no value with the input in its line 26: line '],
   ['A[k] + A[k - 1]', 'A[k] +', 'its reference fails with the input in its line 26: line '],
+  ['want A', 'want B', 'nothing is named “B”, with the input in its line 26'],
+  ['n=4 A=5', 'n=4 a=5', 'nothing is named “a”, with the input in its line 26'],
   ['if i = 0', 'if i >= 0', 'its reference ends in a conflict with the input in its line 26'],
 ];
 
