@@ -11,3 +11,5 @@ mod said;
 mod submissions;
 #[cfg(test)]
 mod texts;
+#[cfg(test)]
+mod words;

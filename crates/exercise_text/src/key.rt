@@ -1,7 +1,8 @@
 //! What an entry of an exercise says, by its first word.
-ghost use Rattle.std.specs.Prelude.{◌≡◌};
+ghost use Rattle.std.specs.Prelude.{◌≡◌, ◌≢◌, Some};
 ghost use Rattle.exercise_text.specs.Keys.{bar_key, is_bar, is_input, is_once, is_part, key_named};
 ghost use Rattle.exercise_text.specs.Keys.{part_key, place_of, said_key};
+ghost use Rattle.exercise_text.specs.declared.key.Key.TheVariants.{Note};
 
 use text_lines::is_word;
 
@@ -49,6 +50,28 @@ impl Key {
             Some(key)
         } else {
             part_key(word)
+        }
+    }
+
+    /// The word that names it, or what begins a comment.
+    pub fn word(self) -> &'static str
+        ensures { self ≢ Note → key_named result.now ≡ Some self }
+    {
+        match self {
+            Key::Note => ";",
+            Key::Title => "title",
+            Key::Task => "task",
+            Key::Model => "model",
+            Key::Want => "want",
+            Key::Time => "time",
+            Key::Operations => "operations",
+            Key::Steps => "steps",
+            Key::Lines => "lines",
+            Key::Given => "given",
+            Key::Start => "start",
+            Key::Reference => "reference",
+            Key::Input => "input",
+            Key::Hidden => "hidden",
         }
     }
 

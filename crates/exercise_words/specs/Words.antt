@@ -1,0 +1,138 @@
+-- What is said of a judged submission, and of an exercise that cannot be judged by.
+use Rattle.std.specs.Prelude.{◌≡◌, ◌≤◌, ◌==◌, ◌||◌, ◌&&◌, ℕ, List, [], ◌∷◌, ◌++◌, All, codes, decimal, map}
+use Rattle.std.specs.Prelude.{nat_le, take, if◌then◌else◌}
+use Rattle.std.specs.Str.{IsTrimAscii}
+use Rattle.pram_cost.specs.declared.meeting.Sharing.{Sharing}
+use Rattle.pram_cost.specs.declared.meeting.Sharing.TheVariants.{SameRead, SameWrite, OtherValue}
+use Rattle.pram_cost.specs.declared.pram.Pram.{Pram}
+use Rattle.pram_cost.specs.Printed.{name_of}
+use Rattle.pardo_job.specs.declared.fault.Refusal.{Refusal}
+use Rattle.pardo_job.specs.declared.fault.Refusal.TheVariants.{Text, Job}
+use Rattle.exercise_text.specs.declared.fault.ExerciseKind.{ExerciseKind}
+use Rattle.exercise_text.specs.declared.fault.ExerciseKind.TheVariants as fault
+use Rattle.exercise_text.specs.Entries.{first_place}
+use Rattle.exercise_judge.specs.declared.verdict.Bar.{Bar}
+use Rattle.exercise_judge.specs.declared.verdict.Bar.TheVariants as bar
+use Rattle.exercise_judge.specs.declared.verdict.UnfitKind.{UnfitKind}
+use Rattle.exercise_judge.specs.declared.verdict.UnfitKind.TheVariants as unfit
+use Rattle.exercise_judge.specs.declared.verdict.Wrong.{Wrong}
+use Rattle.exercise_judge.specs.declared.verdict.Wrong.TheVariants as wrong
+
+-- ---- words as they are shown
+
+-- a byte of printable ASCII; a `?` stands for any other
+abbrev pub shown_byte : ℕ → ℕ
+shown_byte byte = if nat_le 32 byte && nat_le byte 126 then byte else 63
+
+abbrev pub shown : List ℕ → List ℕ
+shown words = map shown_byte words
+
+-- such words were added
+pub record Adds (old new : List ℕ) (AreSaid : List ℕ → Type 0) : Type 0 where
+  pub words : List ℕ
+  pub added : new ≡ old ++ shown words
+  pub are : AreSaid words
+
+abbrev pub IsPrintable : ℕ → Type 0
+IsPrintable byte = (32 ≤ byte) × (byte ≤ 126)
+
+-- what was added has neither line breaks nor other control characters
+abbrev pub AddsPrintable : List ℕ → List ℕ → Type 0
+AddsPrintable old new = (added : List ℕ) × (new ≡ old ++ added) × All IsPrintable added
+
+-- ---- parts
+
+-- the line that something is said of
+abbrev pub at_line : ℕ → List ℕ
+at_line line = codes "line " ++ decimal line ++ codes ": "
+
+abbrev pub IsAtLine : ℕ → List ℕ → Type 0
+IsAtLine line words = (sentence : List ℕ) × (words ≡ at_line line ++ sentence)
+
+-- what stands before the first `=` or `;`
+abbrev pub front_of : List ℕ → List ℕ
+front_of line = take (first_place (λ byte. (byte == 61) || (byte == 59)) line) line
+
+-- a place as it is named
+abbrev pub named : List ℕ → List ℕ
+named [] = codes "a cell"
+named (byte ∷ rest) = byte ∷ rest
+
+abbrev pub at_place : List ℕ → ℕ → List ℕ
+at_place place line = named place ++ codes " in line " ++ decimal line
+
+-- two processors
+unfoldable pub pair : ℕ → ℕ → List ℕ
+pair first second = codes "processors " ++ decimal first ++ codes " and " ++ decimal second
+
+-- how two processors meet at a place
+abbrev pub meeting : List ℕ → List ℕ → ℕ → ℕ → ℕ → List ℕ
+meeting deed place line first second = pair first second ++ deed ++ at_place place line
+
+-- ---- what is wrong with a submission
+
+-- the name that the line declares, or what else it begins with
+abbrev pub IsMissingSaid : List ℕ → List ℕ → Type 0
+IsMissingSaid line words = (part : List ℕ) × IsTrimAscii (front_of line) part
+    × (words ≡ codes "the line \"" ++ part ++ codes "\" is missing")
+
+abbrev pub line_of : Refusal → ℕ
+line_of (Text fault) = fault.line
+line_of (Job fault) = fault.line
+
+abbrev pub conflict_words : List ℕ → ℕ → ℕ → ℕ → List ℕ
+conflict_words place line first second =
+    meeting (codes " write ") place line first second ++ codes ", against the rule"
+
+abbrev pub value_words : List ℕ → ℕ → ℕ → List ℕ
+value_words place held wanted =
+    named place ++ codes " holds " ++ decimal held ++ codes ", wanted " ++ decimal wanted
+
+-- what stands before the number that a submission takes, and behind it
+abbrev pub around : Bar → List ℕ × List ℕ
+around bar.Time = (codes "it takes time ", codes "")
+around bar.Operations = (codes "it takes ", codes " operations")
+around bar.Steps = (codes "it takes ", codes " steps of the machine")
+around bar.Lines = (codes "it has ", codes " lines of code")
+
+abbrev pub allowed_words : ℕ → List ℕ
+allowed_words most = if most == 1 then codes " is allowed" else codes " are allowed"
+
+abbrev pub bar_words : Bar → ℕ → ℕ → List ℕ
+bar_words bar took most = (around bar).0 ++ decimal took ++ (around bar).1 ++ codes ", "
+    ++ decimal most ++ allowed_words most
+
+abbrev pub deed_of : Sharing → List ℕ
+deed_of SameRead = codes " read "
+deed_of SameWrite = codes " write "
+deed_of OtherValue = codes " write different values to "
+
+abbrev pub model_words : Pram → Pram → List ℕ
+model_words needs allowed = codes "it needs " ++ name_of needs ++ codes ", " ++ name_of allowed
+    ++ codes " is allowed: "
+
+abbrev pub IsWrongSaid : Wrong → List ℕ → Type 0
+IsWrongSaid (wrong.Missing line) words = IsMissingSaid line.items words
+IsWrongSaid (wrong.Program refusal) words = IsAtLine (line_of refusal) words
+IsWrongSaid (wrong.Conflict line place first second) words =
+    words ≡ conflict_words place.items line first second
+IsWrongSaid (wrong.Value place held wanted) words = words ≡ value_words place.items held wanted
+IsWrongSaid (wrong.Bar bar took most) words = words ≡ bar_words bar took most
+IsWrongSaid (wrong.Model needs allowed sharing line place first second) words =
+    words ≡ model_words needs allowed ++ meeting (deed_of sharing) place.items line first second
+IsWrongSaid wrong.Memory words = words ≡ codes "out of memory"
+
+-- ---- what is wrong with an exercise
+
+-- Out of memory no line is told.
+abbrev pub IsUnfitSaid : ℕ → UnfitKind → List ℕ → Type 0
+IsUnfitSaid line unfit.Conflict words =
+    words ≡ at_line line ++ codes "the reference ends in a conflict"
+IsUnfitSaid line (unfit.Unknown word) words =
+    words ≡ at_line line ++ codes "nothing is named " ++ front_of word.items
+IsUnfitSaid line unfit.Memory words = words ≡ codes "out of memory"
+IsUnfitSaid line _ words = IsAtLine line words
+
+abbrev pub IsFaultSaid : ℕ → ExerciseKind → List ℕ → Type 0
+IsFaultSaid line fault.Memory words = words ≡ codes "out of memory"
+IsFaultSaid line _ words = IsAtLine line words

@@ -1,0 +1,11 @@
+//! What is said of a judged submission, and of an exercise that cannot be judged by, in words: each
+//! time a part of a sentence, on one line.
+#![tactic(auto)]
+
+mod parts;
+mod shown;
+mod unfit;
+mod wrong;
+
+pub use unfit::{push_exercise_fault, push_unfit};
+pub use wrong::push_wrong;
