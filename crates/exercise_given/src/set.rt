@@ -1,5 +1,5 @@
 //! The header of an exercise as the words of an input set it.
-ghost use Rattle.std.specs.Prelude.{◌≡◌, ◌++◌, ◌∷◌, ◌==◌, [], find, IfOk, OnOk};
+ghost use Rattle.std.specs.Prelude.{◌≡◌, ◌++◌, ◌==◌, find, IfOk, OnOk};
 ghost use Rattle.std.specs.List.{list_any, position};
 ghost use Rattle.std.specs.Option.{option_map};
 ghost use Rattle.text_lines.specs.Lines.{lines_of, words_of};

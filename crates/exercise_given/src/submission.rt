@@ -1,8 +1,8 @@
 //! A submission with the header of an exercise.
-ghost use Rattle.std.specs.Prelude.{◌≡◌, ◌++◌, ◌∷◌, [], find, count_by, unwrap_or, IfOk, OnOk};
+ghost use Rattle.std.specs.Prelude.{◌≡◌, find, IfOk};
 ghost use Rattle.std.specs.List.{list_any};
 ghost use Rattle.std.specs.Option.{option_map};
-ghost use Rattle.text_lines.specs.Lines.{is_filled, lines_of, words_of};
+ghost use Rattle.text_lines.specs.Lines.{lines_of};
 ghost use Rattle.text_lines.specs.TextLines.{left_of};
 ghost use Rattle.exercise_given.specs.Keys.{has_line_key};
 ghost use Rattle.exercise_given.specs.Submissions.{code_lines, is_code, is_header_word};

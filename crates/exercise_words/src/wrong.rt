@@ -1,5 +1,5 @@
 //! What is wrong with a submission, in words.
-ghost use Rattle.std.specs.Prelude.{◌≡◌, ◌++◌, IfOk, OnErr, OnOk};
+ghost use Rattle.std.specs.Prelude.{◌≡◌, IfOk, OnErr, OnOk};
 ghost use Rattle.exercise_words.specs.Words.{Adds, AddsPrintable, IsAtLine, IsMissingSaid};
 ghost use Rattle.exercise_words.specs.Words.{IsWrongSaid, allowed_words, around, bar_words};
 ghost use Rattle.exercise_words.specs.Words.{conflict_words, deed_of, line_of, model_words};
