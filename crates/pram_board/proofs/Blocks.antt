@@ -21,7 +21,7 @@ use Rattle.walkx.specs.Walk.{IsWide, Then, Walking, goes_in, has_rank, if_ended,
 use Rattle.walkx.specs.Walk.{passes_over, processor_at, script_of, stands_in, turns, worked}
 use Rattle.walkx.proofs.Firsts.{rank_parts, rank_there}
 use Rattle.walkx.proofs.Idling.{Alike, asks_first, comes_at_once, task_alike}
-use Rattle.walkx.proofs.Memories.{memo_other}
+use Rattle.walkx.proofs.Memories.{memo_again, memo_other}
 use Rattle.walkx.proofs.PassingOver.{alone}
 use Rattle.walkx.proofs.Stepping.{goes_past, none_left, stops_here}
 use Rattle.walkx.proofs.Turning.{wide_does}
@@ -134,6 +134,29 @@ module _ (at : PostData) (leaf : IsLeafPost at) (wide : IsWide at.layout.form)
           ∙ ap (λ (f : ℕ). passes_over f at.job at.layout at.node at.phase (suc at.rank) kept)
           (sym is))
 
+  -- it is there without an atomic step
+  module _ (p : Driving) (walks : IsWalking (task_at at) p here) where
+    on : (m : Memo) → idle at memo ≡ Some m → (now : List Memo) →
+        slice_set memory (processor_of at) m ≡ now →
+        Moved (task_at at) p here p (in_block at (suc at.rank) now)
+    on m some now kept =
+        let is : here ≡ in_block at (suc at.rank) now = past m some
+        ∙ ap (in_block at (suc at.rank)) kept in record {
+          walks = subst (λ (v : Walking). IsWalking (task_at at) p v) is walks;
+          went = record {
+            ticks = 0;
+            ran = record { answers = []; count = refl; seat = refl; worker = sym is };
+            desk = refl;
+            count = omega arith;
+            small = λ h. h;
+          };
+        }
+
+    -- where nothing new is known, memory stays
+    pub on_at_once : idle at memo ≡ Some memo →
+        Moved (task_at at) p here p (in_block at (suc at.rank) memory)
+    on_at_once some = on memo some memory (memo_again memory (processor_of at))
+
   -- what follows the task
   abbrev pub after_task : Option Memo → Memo → Script Then
   after_task None = λ m. ends (has_worked at m)
@@ -196,20 +219,9 @@ module _ (at : PostData) (leaf : IsLeafPost at) (wide : IsWide at.layout.form)
 
     passed : (m : Memo) → idle at memo ≡ Some m → learned ≡ m → z ≡ p → Moves
     passed m some known same =
-        let now = in_block at (suc at.rank) (slice_set memory (processor_of at) learned) in
-        let is : here ≡ now = past m some
-        ∙ ap (λ (x : Memo). in_block at (suc at.rank) (slice_set memory (processor_of at) x))
-        (sym known) in
-        subst (λ (d : Driving). Moved (task_at at) p here d now) (sym same) (record {
-          walks = subst (λ (v : Walking). IsWalking (task_at at) p v) is walks;
-          went = record {
-            ticks = 0;
-            ran = record { answers = []; count = refl; seat = refl; worker = sym is };
-            desk = refl;
-            count = omega arith;
-            small = λ h. h;
-          };
-        })
+        let now = slice_set memory (processor_of at) learned in
+        subst (λ (d : Driving). Moved (task_at at) p here d (in_block at (suc at.rank) now))
+        (sym same) (on p walks m some now (ap (slice_set memory (processor_of at)) (sym known)))
 
     pub task_moves : Passes (idle at memo) p z learned →
         Drives (task_at at) (p, script) z (after_task (idle at memo) learned) → Moves

@@ -329,7 +329,7 @@ impl<'a, G: Gate> Driver<'a, G> {
     {
         let mut leaf = leaf;
         loop {
-            self.part(&leaf, memory);
+            self.second_part(&leaf, memory);
             if leaf.rank() + 1 == len {
                 return;
             }
@@ -486,6 +486,24 @@ impl<'a, G: Gate> Driver<'a, G> {
         match memory.take_up_by(self, leaf, by) {
             Ok(()) => self.seat.facts(),
             Err(_) => unreachable!(),
+        }
+    }
+
+    // The task of the leaf's processor, which is often seen at once to be none.
+    #[inline(always)]
+    fn second_part(&mut self, leaf: &Leaf, memory: &mut Memory)
+        requires leaf { IsLeafPost leaf.now }
+        requires fits { FitsMemory leaf.now.job memory.old }
+        requires walks { IsWalking (task_at leaf.now) (driving self.old)
+            (in_block leaf.now leaf.now.rank memory.old) }
+        ensures same { self.new.seat.ghost_name ≡ self.old.seat.ghost_name }
+        ensures fits { FitsMemory leaf.now.job memory.new }
+        ensures moved { Moved (task_at leaf.now) (driving self.old)
+            (in_block leaf.now leaf.now.rank memory.old) (driving self.new)
+            (in_block leaf.now (suc leaf.now.rank) memory.new) }
+    {
+        if !memory.has_done(leaf) {
+            self.part(leaf, memory);
         }
     }
 

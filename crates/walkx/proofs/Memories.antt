@@ -115,6 +115,12 @@ memo_other (m ∷ memory) (suc i) zero memo other = refl
 memo_other (m ∷ memory) (suc i) (suc k) memo other =
     memo_other memory i k memo (λ e. other (ap suc e))
 
+-- what is known already, once more
+pub memo_again : (memory : List Memo) (i : ℕ) → slice_set memory i (memo_of memory i) ≡ memory
+memo_again [] i = refl
+memo_again (m ∷ memory) zero = refl
+memo_again (m ∷ memory) (suc i) = ap (λ (rest : List Memo). m ∷ rest) (memo_again memory i)
+
 pub memory_set : (job : JobData) (memory : List Memo) (i : ℕ) (memo : Memo) →
     FitsMemory job memory → FitsMemo job memo → FitsMemory job (slice_set memory i memo)
 memory_set job memory i memo fits one = memo_set (λ k m. FitsMemo job m) memory i memo fits one

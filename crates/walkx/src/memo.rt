@@ -9,7 +9,7 @@ ghost use Rattle.pram_words.specs.Phases.{kind_at};
 ghost use Rattle.walkx.specs.Inner.Posts.{processor_of};
 ghost use Rattle.walkx.specs.Memory.{FitsMemo, at_start, blank, memo_of};
 ghost use Rattle.walkx.specs.Parts.{does_wide};
-ghost use Rattle.walkx.specs.Passing.{Spells, StandsAt, TakesUp};
+ghost use Rattle.walkx.specs.Passing.{Spells, StandsAt, TakesUp, idle};
 ghost use Rattle.walkx.specs.WideParts.{IsShaped, learned};
 
 use crate::left::Stopped;
@@ -198,6 +198,25 @@ impl Memory {
         }
         let mut memo = Memo::at_start();
         settle(wide_task(steps, leaf, &mut memo))
+    }
+
+    /// Whether the leaf's processor has nothing to do in the second pass, which is seen at once where
+    /// its step is known.
+    #[inline(always)]
+    pub fn has_done(&self, leaf: &Leaf) -> bool
+        ensures { IsTrue result → idle leaf.now (memo_of self.now (processor_of leaf.now))
+            ≡ Some (memo_of self.now (processor_of leaf.now)) }
+    {
+        match leaf.kind() {
+            Kind::Verify => {
+                let memo = self.memo(leaf.processor());
+                match memo.store {
+                    None => memo.step == leaf.step(),
+                    Some(_) => false,
+                }
+            }
+            _ => false,
+        }
     }
 
     /// The instruction that the leaf's processor stands at in the first pass, where it is known before

@@ -18,12 +18,12 @@ returns-then-rank-len-clause-moved g c =
     let i = c.loop-leaf.invariant in
     let done = done_to c.args.leaf c.loop-leaf.leaf i.same i.later c.args.len
     (driving c.args.self.now) c.args.memory.now (driving c.loop-leaf.self) c.loop-leaf.memory i.at
-    i.moved (driving c.part.new.self) c.part.new.memory c.part.ensures.moved c.part.ensures.fits in
+    i.moved (driving c.second_part.new.self) c.second_part.new.memory c.second_part.ensures.moved c.second_part.ensures.fits in
     let last : suc c.loop-leaf.leaf.rank ≡ c.args.len =
     omega (arith, c.rank.ensures, c.if-rank-len.true) in
     subst (λ (rank : ℕ). Moved (task_at c.args.leaf) (driving c.args.self.now)
-    (in_block c.args.leaf c.args.leaf.rank c.args.memory.now) (driving c.part.new.self)
-    (in_block c.args.leaf rank c.part.new.memory)) last done.moved
+    (in_block c.args.leaf c.args.leaf.rank c.args.memory.now) (driving c.second_part.new.self)
+    (in_block c.args.leaf rank c.second_part.new.memory)) last done.moved
 
 pub next-leaf-requires-clause-leaf : goal.next-leaf-requires-clause-leaf
 next-leaf-requires-clause-leaf g c =
@@ -48,11 +48,11 @@ loop-leaf-preserved g c =
     omega (arith, within, c.rank.ensures, c.if-rank-len.false) in
     let p = driving c.args.self.now in
     let q = driving c.loop-leaf.self in
-    let z = driving c.part.new.self in
+    let z = driving c.second_part.new.self in
     let memory = c.args.memory.now in
     let mid = c.loop-leaf.memory in
-    let now = c.part.new.memory in
-    let on = c.part.ensures in
+    let now = c.second_part.new.memory in
+    let on = c.second_part.ensures in
     let done = done_to c.args.leaf c.loop-leaf.leaf i.same i.later c.args.len p memory q mid i.at i.moved
     z now on.moved on.fits in
     rw c.next-leaf.ensures (record {
