@@ -41,7 +41,7 @@ impl<'a, G: Gate> Driver<'a, G> {
     ghost use Rattle.walkx.specs.Inner.Posts.{IsLeafPost};
     ghost use Rattle.pram_words.specs.Phases.{kind_at};
     ghost use Rattle.walkx.specs.Memory.{FitsMemory};
-    ghost use Rattle.walkx.specs.Passing.{Spells, StandsAt};
+    ghost use Rattle.walkx.specs.Passing.{IsStand, Spells};
     ghost use Rattle.walkx.specs.Turns.{beginning, turning};
     ghost use Rattle.walkx.specs.Walk.{end_of, has_rank};
     ghost use Rattle.pram_board.specs.Worked.{Worked, Works};
@@ -49,7 +49,7 @@ impl<'a, G: Gate> Driver<'a, G> {
     ghost use Rattle.pram_board.specs.Rules.{May};
     ghost use Rattle.pram_board.specs.Seats.{IsLater, hears};
     ghost use Rattle.pram_board.specs.Inner.Plays.{WorkerGoesOn, Led, Moved, IsWalking, driving};
-    ghost use Rattle.pram_board.specs.Inner.Plays.{AtTask, DoneTo};
+    ghost use Rattle.pram_board.specs.Inner.Plays.{AtTask, DoneMore, DoneTo, PastTask, Tried};
     ghost use Rattle.pram_board.specs.Inner.Plays.{in_block, led_to, next_turn, task_at, turning_at};
 
     /// A driver that has made no step.
@@ -286,11 +286,11 @@ impl<'a, G: Gate> Driver<'a, G> {
     {
         let mut leaf = leaf;
         loop {
-            self.task(&mut leaf, len, memory);
-            if leaf.rank() + 1 == len {
+            let last = self.task(&leaf, len, memory);
+            if last + 1 == len {
                 return;
             }
-            leaf = leaf.next();
+            leaf = leaf.after(last);
         }
     }
 
@@ -338,29 +338,60 @@ impl<'a, G: Gate> Driver<'a, G> {
     }
 
     // The first pass of the leaf's processor, and that of the next ones where all are known to stand
-    // at one instruction. The leaf is then that of the last of them.
+    // at one instruction: the rank of the last of them.
     #[inline(always)]
-    fn task(&mut self, leaf: &mut Leaf<'_>, len: u32, memory: &mut Memory)
-        requires first { kind_at leaf.old.phase ≡ Kind.Compute }
-        requires at { AtTask leaf.old len (driving self.old) memory.old }
+    fn task(&mut self, leaf: &Leaf, len: u32, memory: &mut Memory) -> u32
+        requires first { kind_at leaf.now.phase ≡ Kind.Compute }
+        requires at { AtTask leaf.now len (driving self.old) memory.old }
         ensures same { self.new.seat.ghost_name ≡ self.old.seat.ghost_name }
-        ensures done { DoneTo leaf.old len (driving self.old) memory.old leaf.new
+        ensures done { DoneTo leaf.now len (driving self.old) memory.old result
             (driving self.new) memory.new }
     {
-        match memory.stand(leaf) {
-            Some(stand) => self.run_form(leaf, len, memory, stand),
-            None => self.part(leaf, memory),
+        let stand = memory.stand(leaf);
+        self.part(leaf, memory);
+        match stand {
+            Some(stand) => self.more_tasks(leaf, len, memory, stand),
+            None => leaf.rank(),
         }
     }
 
-    // The first pass of those that stand at this instruction. Each form that has a row here has a
-    // loop of its own, in which no other is looked at.
+    // That of the next ones, after this leaf's, that stand at this instruction: the rank of the last
+    // of them. Loops by form are entered for two or more.
     #[inline(always)]
-    fn run_form(&mut self, leaf: &mut Leaf<'_>, len: u32, memory: &mut Memory, stand: Stand<'_>)
-        requires at { AtTask leaf.old len (driving self.old) memory.old }
-        requires stands { StandsAt leaf.old memory.old stand.counter stand.instr.now }
+    fn more_tasks(
+        &mut self,
+        leaf: &Leaf,
+        len: u32,
+        memory: &mut Memory,
+        stand: Stand<'_>,
+    ) -> u32
+        requires past { PastTask leaf.now len (driving self.old) memory.old }
+        requires stand { IsStand leaf.now stand.counter stand.instr.now }
         ensures same { self.new.seat.ghost_name ≡ self.old.seat.ghost_name }
-        ensures done { DoneTo leaf.old len (driving self.old) memory.old leaf.new
+        ensures done { DoneMore leaf.now len (driving self.old) memory.old result
+            (driving self.new) memory.new }
+    {
+        let rank = leaf.rank();
+        if rank + 1 < len && memory.stands_at(&leaf.next(), stand) {
+            self.run_form(leaf, len, memory, stand)
+        } else {
+            rank
+        }
+    }
+
+    // The same. Each form that has a row here has a loop of its own, in which no other is looked at.
+    #[inline(always)]
+    fn run_form(
+        &mut self,
+        leaf: &Leaf,
+        len: u32,
+        memory: &mut Memory,
+        stand: Stand<'_>,
+    ) -> u32
+        requires past { PastTask leaf.now len (driving self.old) memory.old }
+        requires stand { IsStand leaf.now stand.counter stand.instr.now }
+        ensures same { self.new.seat.ghost_name ≡ self.old.seat.ghost_name }
+        ensures done { DoneMore leaf.now len (driving self.old) memory.old result
             (driving self.new) memory.new }
     {
         match *stand.instr {
@@ -408,21 +439,20 @@ impl<'a, G: Gate> Driver<'a, G> {
         }
     }
 
-    // The first pass of the leaf's processor, and of the next ones that stand at this instruction, by
-    // a driver of its own.
+    // The same by a driver of its own.
     #[inline(never)]
     fn run<F: Fn() -> Instr>(
         &mut self,
-        leaf: &mut Leaf<'_>,
+        leaf: &Leaf,
         len: u32,
         memory: &mut Memory,
         by: &Formed<'_, F>,
-    )
-        requires at { AtTask leaf.old len (driving self.old) memory.old }
-        requires stands { StandsAt leaf.old memory.old by.now.stand.counter by.now.stand.instr.now }
+    ) -> u32
+        requires past { PastTask leaf.now len (driving self.old) memory.old }
+        requires stand { IsStand leaf.now by.now.stand.counter by.now.stand.instr.now }
         requires form { Spells F.Fn by.now.form by.now.stand.instr.now }
         ensures same { self.new.seat.ghost_name ≡ self.old.seat.ghost_name }
-        ensures done { DoneTo leaf.old len (driving self.old) memory.old leaf.new
+        ensures done { DoneMore leaf.now len (driving self.old) memory.old result
             (driving self.new) memory.new }
     {
         let mut driver = Driver {
@@ -433,58 +463,65 @@ impl<'a, G: Gate> Driver<'a, G> {
             made: self.made,
             rest: self.rest,
         };
-        driver.run_on(leaf, len, memory, by);
+        let instr = (by.form)();
+        let last = driver.run_on(leaf, len, memory, by.stand.counter, &instr);
         self.made = driver.made;
         self.rest = driver.rest;
         driver.end();
+        last
     }
 
-    // The first pass of the leaf's processor, and of the next ones that stand at this instruction.
+    // The same by this driver.
     #[inline(always)]
-    fn run_on<F: Fn() -> Instr>(
+    fn run_on(
         &mut self,
-        leaf: &mut Leaf<'_>,
+        leaf: &Leaf,
         len: u32,
         memory: &mut Memory,
-        by: &Formed<'_, F>,
-    )
-        requires at { AtTask leaf.old len (driving self.old) memory.old }
-        requires stands { StandsAt leaf.old memory.old by.now.stand.counter by.now.stand.instr.now }
-        requires form { Spells F.Fn by.now.form by.now.stand.instr.now }
+        counter: u32,
+        instr: &Instr,
+    ) -> u32
+        requires past { PastTask leaf.now len (driving self.old) memory.old }
+        requires stand { IsStand leaf.now counter instr.now }
         ensures same { self.new.seat.ghost_name ≡ self.old.seat.ghost_name }
-        ensures done { DoneTo leaf.old len (driving self.old) memory.old leaf.new
+        ensures done { DoneMore leaf.now len (driving self.old) memory.old result
             (driving self.new) memory.new }
     {
+        let first = leaf.rank();
+        if first + 1 == len {
+            return first;
+        }
+        let mut next = leaf.next();
         loop {
-            self.part_by(leaf, memory, by);
-            if leaf.rank() + 1 == len {
-                return;
+            let rank = next.rank();
+            if !self.part_at(&next, memory, counter, instr) {
+                return rank - 1;
             }
-            let next = leaf.next();
-            if !memory.stands_at(&next, by.stand) {
-                return;
+            if rank + 1 == len {
+                return rank;
             }
-            *leaf = next;
+            next = next.next();
         }
     }
 
-    // The first pass of the leaf's processor, which is known to stand at this instruction.
+    // The first pass of the leaf's processor, if it is known to stand at this instruction.
     #[inline(always)]
-    fn part_by<F: Fn() -> Instr>(&mut self, leaf: &Leaf, memory: &mut Memory, by: &Formed<'_, F>)
-        requires stands { StandsAt leaf.now memory.old by.now.stand.counter by.now.stand.instr.now }
-        requires form { Spells F.Fn by.now.form by.now.stand.instr.now }
+    fn part_at(&mut self, leaf: &Leaf, memory: &mut Memory, counter: u32, instr: &Instr) -> bool
+        requires stand { IsStand leaf.now counter instr.now }
         requires leaf { IsLeafPost leaf.now }
         requires fits { FitsMemory leaf.now.job memory.old }
         requires walks { IsWalking (task_at leaf.now) (driving self.old)
             (in_block leaf.now leaf.now.rank memory.old) }
         ensures same { self.new.seat.ghost_name ≡ self.old.seat.ghost_name }
-        ensures fits { FitsMemory leaf.now.job memory.new }
-        ensures moved { Moved (task_at leaf.now) (driving self.old)
-            (in_block leaf.now leaf.now.rank memory.old) (driving self.new)
-            (in_block leaf.now (suc leaf.now.rank) memory.new) }
+        ensures tried { Tried leaf.now (driving self.old) memory.old (driving self.new) memory.new
+            result }
     {
-        match memory.take_up_by(self, leaf, by) {
-            Ok(()) => self.seat.facts(),
+        match memory.take_up_at(self, leaf, counter, instr) {
+            Ok(true) => {
+                self.seat.facts();
+                true
+            }
+            Ok(false) => false,
             Err(_) => unreachable!(),
         }
     }

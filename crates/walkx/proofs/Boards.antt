@@ -1,5 +1,5 @@
 -- A job's board: words and what they may have.
-use Rattle.std.proofs.Common.{◌≡◌, ℕ, ◌+◌, ◌*◌, ◌^◌, ◌<◌, ◌≤◌, Bool, true, false, IsTrue}
+use Rattle.std.proofs.Common.{◌≡◌, ℕ, ◌+◌, ◌-◌, ◌*◌, ◌^◌, ◌<◌, ◌≤◌, Bool, true, false, IsTrue}
 use Rattle.std.proofs.Common.{if◌then◌else◌, Option, Some, None, ap, refl, sym, inl, inr, lit<}
 use Rattle.std.proofs.Common.{suc, subst, ◌∙◌, arith}
 use Rattle.pram_job.specs.Job.{JobData}
@@ -167,6 +167,63 @@ own_next y g i own form below is =
       counter = there.counter ∙ omega (arith, counter);
       register = λ r register. there.register r register ∙ omega (arith, registers);
     }
+
+own_later : (y : LayoutData) (g i more : ℕ) (own : OwnWords) → y.form ≡ Wide g →
+    i + more < y.procs → AreOwn y i own →
+    AreOwn y (i + more) (record {
+      counter = own.counter + 16 * more;
+      registers = own.registers + 16 * more;
+    })
+own_later y g i more own form below is =
+    let here = own_wide y g i (lines_at y i) form (omega (arith, below)) refl in
+    let there = own_wide y g (i + more) (lines_at y (i + more)) form below refl in
+    let counter = sym is.counter ∙ here.counter in
+    let registers = sym (is.register 0 (lit< tt)) ∙ here.register 0 (lit< tt) in
+    record {
+      counter = there.counter ∙ omega (arith, counter);
+      register = λ r register. there.register r register ∙ omega (arith, registers);
+    }
+
+-- the leaf at a later processor
+pub later_leaf : (at : PostData) (t : ℕ) (kind : Kind) (i : ℕ) (own : OwnWords) (first more : ℕ) →
+    IsWide at.layout.form → IsLeafOf at t kind i own first →
+    IsLeafPost (at_rank at (at.rank + more)) →
+    IsLeafOf (at_rank at (at.rank + more)) t kind (i + more) (record {
+      counter = own.counter + 16 * more;
+      registers = own.registers + 16 * more;
+    }) first
+later_leaf at t kind i own first more wide is later = record {
+  leaf = later;
+  step = is.step;
+  does = is.does;
+  processor = omega (arith, is.processor);
+  own = by_wide at.layout.form wide refl;
+  cells = is.cells;
+}
+  where
+    by_wide : (form : Form) → IsWide form → at.layout.form ≡ form → AreOwn at.layout (i + more)
+        (record { counter = own.counter + 16 * more; registers = own.registers + 16 * more })
+    by_wide Compact wide e = absurd wide
+    by_wide (Wide g) wide e =
+        own_later at.layout g i more own e (omega (arith, is.processor, later.last)) is.own
+
+-- the one after that of a rank
+pub after_leaf : (at : PostData) (t : ℕ) (kind : Kind) (i : ℕ) (own : OwnWords) (first rank : ℕ) →
+    IsWide at.layout.form → IsLeafOf at t kind i own first → at.rank ≤ rank →
+    IsLeafPost (at_rank at (suc rank)) →
+    IsLeafOf (at_rank at (rank + 1)) t kind (i + (rank - at.rank + 1)) (record {
+      counter = own.counter + 16 * (rank - at.rank + 1);
+      registers = own.registers + 16 * (rank - at.rank + 1);
+    }) first
+after_leaf at t kind i own first rank wide is low leaf =
+    let more = rank - at.rank + 1 in
+    let to : suc rank ≡ at.rank + more = omega (arith, low) in
+    let from : at.rank + more ≡ rank + 1 = omega (arith, low) in
+    subst (λ (r : ℕ). IsLeafOf (at_rank at r) t kind (i + more) (record {
+      counter = own.counter + 16 * more;
+      registers = own.registers + 16 * more;
+    }) first) from (later_leaf at t kind i own first more wide is
+    (subst (λ (r : ℕ). IsLeafPost (at_rank at r)) to leaf))
 
 -- the leaf at the next processor
 pub next_leaf : (at : PostData) (t : ℕ) (kind : Kind) (i : ℕ) (own : OwnWords) (first : ℕ) →

@@ -1,6 +1,6 @@
 -- Processors of a block whose task asks nothing, by a post.
 use Rattle.std.specs.Prelude.{◌≡◌, ℕ, Bool, if◌then◌else◌, List, slice_set, Option, Some, None}
-use Rattle.std.specs.Prelude.{IfSome, Result, slice_get, suc}
+use Rattle.std.specs.Prelude.{IfSome, Result, Ok, Err, true, false, slice_get, suc}
 use Rattle.std.specs.Fn.{AnyResult, Shared, always_fn}
 use Rattle.pram_job.specs.declared.instr.Instr.{Instr}
 use Rattle.pram_words.specs.Words.{grain}
@@ -44,6 +44,18 @@ pub record TakesUp {D : Type 0} (stands : Standing D) (at : PostData) (old : D)
     pub on : (from : D × Script Then) (late : Script Then) (next : Memo → Script Then) →
         stands from old (Some (does_wide at (memo_of memory (processor_of at)) late next)) →
         stands from new (goes next (learns_all result learned))
+
+-- It is done so, or, where the answer is no, nothing is.
+abbrev pub TakesUpIf : {D : Type 0} → Standing D → PostData → D → List Memo → D → List Memo →
+    Result Bool Stopped → Type 0
+TakesUpIf stands at old memory new now (Ok true) = TakesUp stands at old memory new now (Ok tt)
+TakesUpIf stands at old memory new now (Ok false) = (new ≡ old) × (now ≡ memory)
+TakesUpIf stands at old memory new now (Err why) = TakesUp stands at old memory new now (Err why)
+
+-- in the first pass, this is the instruction at this counter
+abbrev pub IsStand : PostData → ℕ → Instr → Type 0
+IsStand at counter instr =
+    (kind_at at.phase ≡ Kind.Compute) × (slice_get at.job.code counter ≡ Some instr)
 
 -- in the first pass the processor is known before the step, and stands at this counter, at this
 -- instruction

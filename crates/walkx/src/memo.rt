@@ -9,7 +9,7 @@ ghost use Rattle.pram_words.specs.Phases.{kind_at};
 ghost use Rattle.walkx.specs.Inner.Posts.{processor_of};
 ghost use Rattle.walkx.specs.Memory.{FitsMemo, at_start, blank, memo_of};
 ghost use Rattle.walkx.specs.Parts.{does_wide};
-ghost use Rattle.walkx.specs.Passing.{Spells, StandsAt, TakesUp, idle};
+ghost use Rattle.walkx.specs.Passing.{IsStand, StandsAt, TakesUp, TakesUpIf, idle};
 ghost use Rattle.walkx.specs.WideParts.{IsShaped, learned};
 
 use crate::left::Stopped;
@@ -247,33 +247,37 @@ impl Memory {
         memo.is_before(leaf.step()) && memo.counter == stand.counter
     }
 
-    /// As `take_up`, for a processor that is known to stand at this instruction in the first pass. A
-    /// caller that names its form gets code for that form alone.
+    /// As `take_up`, where the leaf's processor is known to stand at this instruction of the first
+    /// pass, which is the one at this counter; else nothing is done. A caller that knows the
+    /// instruction's form gets code for that form alone.
     #[inline(always)]
-    pub fn take_up_by<S: Steps, F: Fn() -> Instr>(
+    pub fn take_up_at<S: Steps>(
         &mut self,
         steps: &mut S,
         leaf: &Leaf,
-        by: &Formed<'_, F>,
-    ) -> Result<(), Stopped>
-        requires stands { StandsAt leaf.now self.old by.now.stand.counter by.now.stand.instr.now }
-        requires form { Spells F.Fn by.now.form by.now.stand.instr.now }
+        counter: u32,
+        instr: &Instr,
+    ) -> Result<bool, Stopped>
+        requires stand { IsStand leaf.now counter instr.now }
         requires memo { FitsMemo leaf.now.job (memo_of self.old (processor_of leaf.now)) }
         requires next { IsNextPart (S.stands leaf.now) steps.old
             (does_wide leaf.now (memo_of self.old (processor_of leaf.now))) }
-        ensures { TakesUp (S.stands leaf.now) leaf.now steps.old self.old steps.new self.new
+        ensures { TakesUpIf (S.stands leaf.now) leaf.now steps.old self.old steps.new self.new
             result }
     {
         let i = leaf.processor() as usize;
         match &mut self.memos {
             Some(memos) => {
                 if i < memos.len() {
-                    let instr = (by.form)();
-                    return settle(own_by(steps, leaf, &mut memos[i], &instr));
+                    let memo = &mut memos[i];
+                    if memo.is_before(leaf.step()) && memo.counter == counter {
+                        settle(own_by(steps, leaf, memo, instr))?;
+                        return Ok(true);
+                    }
                 }
             }
             None => {}
         }
-        self.take_up(steps, leaf)
+        Ok(false)
     }
 }

@@ -208,6 +208,27 @@ impl<'a> Leaf<'a> {
         }
     }
 
+    /// The leaf at the processor after that of this rank, which comes later in the block, in the wide
+    /// form.
+    #[inline(always)]
+    pub fn after(&self, rank: u32) -> Leaf<'a>
+        requires wide { IsWide self.now.layout.form }
+        requires later { self.now.rank ≤ rank }
+        requires leaf { IsLeafPost (at_rank self.now (suc rank)) }
+        ensures { result ≡ at_rank self.now (suc rank) }
+    {
+        let more = rank - self.rank + 1;
+        Leaf {
+            rank: rank + 1,
+            processor: self.processor + more,
+            own: OwnWords {
+                counter: self.own.counter + 16 * more,
+                registers: self.own.registers + 16 * more,
+            },
+            ..*self
+        }
+    }
+
     /// The processor's rank in the block.
     #[inline(always)]
     pub fn rank(&self) -> u32

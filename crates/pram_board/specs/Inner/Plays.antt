@@ -1,5 +1,5 @@
 -- A script that is played through a seat, and the ticks that come of it.
-use Rattle.std.specs.Prelude.{◌≡◌, ◌≤◌, ◌<◌, ℕ, Bool, false, ◌⊎◌, ◌+◌, ◌%◌, ◌^◌, nat_lt, suc}
+use Rattle.std.specs.Prelude.{◌≡◌, ◌≤◌, ◌<◌, ℕ, Bool, true, false, ◌⊎◌, ◌+◌, ◌%◌, ◌^◌, nat_lt, suc}
 use Rattle.std.specs.Prelude.{List, [], ◌∷◌, length, Option, Some, None}
 use Rattle.walkx.specs.declared.operation.Op.{Op}
 use Rattle.walkx.specs.Inner.Posts.{IsLeafPost, PostData, at_rank}
@@ -137,15 +137,37 @@ pub record AtTask (at : PostData) (len : ℕ) (driver : Driving) (memory : List 
   pub fits : FitsMemory at.job memory
   pub walks : IsWalking (task_at at) driver (in_block at at.rank memory)
 
--- the tasks of a block of this length were done, from this leaf's processor up to that of a leaf
-pub record DoneTo (at : PostData) (len : ℕ) (before : Driving) (memory : List Memo)
-    (last : PostData) (later : Driving) (now : List Memo) : Type 0 where
-  pub same : last ≡ at_rank at last.rank
-  pub onward : at.rank ≤ last.rank
-  pub within : last.rank < len
+-- the worker is past it
+pub record PastTask (at : PostData) (len : ℕ) (driver : Driving) (memory : List Memo)
+    : Type 0 where
+  pub leaf : IsLeafPost at
+  pub ranks : (rank : ℕ) → has_rank at.layout at.node rank ≡ nat_lt rank len
+  pub fits : FitsMemory at.job memory
+  pub walks : IsWalking (task_at at) driver (in_block at (suc at.rank) memory)
+
+-- the tasks of a block of this length were done, from one rank up to another, which is the leaf's or
+-- a later one
+pub record DoneFrom (from : ℕ) (at : PostData) (len : ℕ) (before : Driving) (memory : List Memo)
+    (last : ℕ) (later : Driving) (now : List Memo) : Type 0 where
+  pub onward : at.rank ≤ last
+  pub within : last < len
   pub fits : FitsMemory at.job now
-  pub moved : Moved (task_at at) before (in_block at at.rank memory) later
-      (in_block at (suc last.rank) now)
+  pub moved : Moved (task_at at) before (in_block at from memory) later (in_block at (suc last) now)
+
+-- from the leaf's on
+abbrev pub DoneTo : PostData → ℕ → Driving → List Memo → ℕ → Driving → List Memo → Type 0
+DoneTo at len before memory last later now = DoneFrom at.rank at len before memory last later now
+
+-- from the next one's on
+abbrev pub DoneMore : PostData → ℕ → Driving → List Memo → ℕ → Driving → List Memo → Type 0
+DoneMore at len before memory last later now =
+    DoneFrom (suc at.rank) at len before memory last later now
+
+-- the task of the leaf's processor was done, or nothing was
+abbrev pub Tried : PostData → Driving → List Memo → Driving → List Memo → Bool → Type 0
+Tried at before memory later now true = FitsMemory at.job now
+    × Moved (task_at at) before (in_block at at.rank memory) later (in_block at (suc at.rank) now)
+Tried at before memory later now false = (later ≡ before) × (now ≡ memory)
 
 -- where a turn leads it
 abbrev pub led_to : PostData → List Memo → Turned → Walking

@@ -1,7 +1,7 @@
 use Rattle.std.proofs.Common.{◌≡◌, ◌<◌, suc, ℕ, refl, ap, subst, ◌∙◌, arith}
 use Rattle.walkx.specs.Inner.Posts.{PostData}
 use Rattle.pram_board.specs.Inner.Plays.{Moved, driving, in_block, task_at}
-use Rattle.pram_board.proofs.Tasks.{at_next, done_to, is_within, leaf_at, not_moved, same_next}
+use Rattle.pram_board.proofs.Tasks.{at_next, done_from, is_within, leaf_at, not_moved, same_next}
 use Rattle.pram_board.proofs.driver.Driver.parts.Goals as goal
 
 pub loop-leaf-init : goal.loop-leaf-init
@@ -16,7 +16,7 @@ loop-leaf-init g c = record {
 pub returns-then-rank-len-clause-moved : goal.returns-then-rank-len-clause-moved
 returns-then-rank-len-clause-moved g c =
     let i = c.loop-leaf.invariant in
-    let done = done_to c.args.leaf c.loop-leaf.leaf i.same i.later c.args.len
+    let done = done_from c.args.leaf.rank c.args.leaf c.loop-leaf.leaf i.same i.later c.args.len
     (driving c.args.self.now) c.args.memory.now (driving c.loop-leaf.self) c.loop-leaf.memory i.at
     i.moved (driving c.second_part.new.self) c.second_part.new.memory c.second_part.ensures.moved c.second_part.ensures.fits in
     let last : suc c.loop-leaf.leaf.rank ≡ c.args.len =
@@ -53,14 +53,14 @@ loop-leaf-preserved g c =
     let mid = c.loop-leaf.memory in
     let now = c.second_part.new.memory in
     let on = c.second_part.ensures in
-    let done = done_to c.args.leaf c.loop-leaf.leaf i.same i.later c.args.len p memory q mid i.at i.moved
+    let done = done_from c.args.leaf.rank c.args.leaf c.loop-leaf.leaf i.same i.later c.args.len p memory q mid i.at i.moved
     z now on.moved on.fits in
     rw c.next-leaf.ensures (record {
       seat = on.same ∙ i.seat;
-      same = same_next c.args.leaf c.loop-leaf.leaf i.same i.later c.args.len p memory q mid i.at i.moved
+      same = same_next c.args.leaf.rank c.args.leaf c.loop-leaf.leaf i.same i.later c.args.len p memory q mid i.at i.moved
           z now on.moved on.fits;
       later = omega (arith, i.later);
-      at = at_next c.args.leaf c.loop-leaf.leaf i.same i.later c.args.len p memory q mid i.at i.moved z now
+      at = at_next c.args.leaf.rank c.args.leaf c.loop-leaf.leaf i.same i.later c.args.len p memory q mid i.at i.moved z now
           on.moved on.fits more;
       moved = done.moved;
     })

@@ -1,19 +1,18 @@
-use Rattle.std.proofs.Common.{◌≡◌, ◌≤◌, ◌-◌}
+use Rattle.std.proofs.Common.{◌≡◌, ◌<◌, ◌-◌, suc}
 use Rattle.walkx.specs.Inner.Posts.{at_rank}
-use Rattle.walkx.specs.Passing.{StandsAt}
 use Rattle.pram_board.specs.Inner.Plays.{AtTask, Moved, driving, in_block, task_at}
 use Rattle.pram_board.proofs.driver.Driver.run_on.Given as goal
 
-abbrev pub invariant-loop-len : goal.invariant-loop-len
-invariant-loop-len g l = record {
+abbrev pub invariant-loop-next : goal.invariant-loop-next
+invariant-loop-next g l = record {
   seat : l.self.seat.ghost_name ≡ l.fn.self.seat.ghost_name;
-  same : l.leaf ≡ at_rank l.fn.leaf l.leaf.rank;
-  later : l.fn.leaf.rank ≤ l.leaf.rank;
-  at : AtTask l.leaf l.len (driving l.self) l.memory;
-  stands : StandsAt l.leaf l.memory l.by.stand.counter l.by.stand.instr.now;
-  moved : Moved (task_at l.fn.leaf) (driving l.fn.self) (in_block l.fn.leaf l.fn.leaf.rank l.fn.memory)
-      (driving l.self) (in_block l.fn.leaf l.leaf.rank l.memory);
+  same : l.next ≡ at_rank l.leaf l.next.rank;
+  later : l.leaf.rank < l.next.rank;
+  at : AtTask l.next l.len (driving l.self) l.memory;
+  moved : Moved (task_at l.leaf) (driving l.fn.self)
+      (in_block l.leaf (suc l.leaf.rank) l.fn.memory) (driving l.self)
+      (in_block l.leaf l.next.rank l.memory);
 }
 
-abbrev pub decreases-loop-len : goal.decreases-loop-len
-decreases-loop-len g l = l.len - l.leaf.rank
+abbrev pub decreases-loop-next : goal.decreases-loop-next
+decreases-loop-next g l = l.len - l.next.rank

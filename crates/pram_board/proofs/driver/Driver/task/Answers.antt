@@ -1,11 +1,20 @@
-use Rattle.std.proofs.Common.{refl, arith}
-use Rattle.pram_board.specs.Inner.Plays.{driving}
-use Rattle.pram_board.proofs.Tasks.{done_to, not_moved}
+use Rattle.std.proofs.Common.{refl, sym, subst, ℕ, arith}
+use Rattle.pram_board.specs.Inner.Plays.{DoneTo, driving}
+use Rattle.pram_board.proofs.Tasks.{done_first, done_from, not_moved}
 use Rattle.pram_board.proofs.driver.Driver.task.Goals as goal
+
+pub returns-in-Some-clause-done : goal.returns-in-Some-clause-done
+returns-in-Some-clause-done g c =
+    done_first c.args.leaf.now c.args.len (driving c.args.self.now) c.args.memory.now
+    (driving c.part.new.self) c.part.new.memory c.part.ensures.moved c.more_tasks.result
+    (driving c.more_tasks.new.self) c.more_tasks.new.memory c.more_tasks.ensures.done
 
 pub returns-in-None-clause-done : goal.returns-in-None-clause-done
 returns-in-None-clause-done g c =
-    done_to c.args.leaf.now c.args.leaf.now refl (omega arith) c.args.len (driving c.args.self.now)
+    let at = c.args.leaf.now in
+    subst (λ (rank : ℕ). DoneTo at c.args.len (driving c.args.self.now) c.args.memory.now rank
+    (driving c.part.new.self) c.part.new.memory) (sym c.rank.ensures)
+    (done_from at.rank at at refl (omega arith) c.args.len (driving c.args.self.now)
     c.args.memory.now (driving c.args.self.now) c.args.memory.now c.requires.at
     (not_moved _ _ _ c.requires.at.walks) (driving c.part.new.self) c.part.new.memory
-    c.part.ensures.moved c.part.ensures.fits
+    c.part.ensures.moved c.part.ensures.fits)

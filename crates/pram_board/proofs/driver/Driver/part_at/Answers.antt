@@ -1,4 +1,4 @@
-use Rattle.std.proofs.Common.{refl, sym, ap, subst, ◌∙◌}
+use Rattle.std.proofs.Common.{◌≡◌, Bool, true, Ok, refl, ap, ◌∙◌}
 use Rattle.walkx.specs.declared.memo.Memo.{Memo}
 use Rattle.walkx.specs.Inner.Posts.{processor_of}
 use Rattle.walkx.specs.Passing.{idle}
@@ -8,10 +8,10 @@ use Rattle.pram_board.specs.Inner.Plays.{driving, in_block, task_at}
 use Rattle.pram_board.proofs.Blocks.{after_task, kept_fits, memo, passes_driving, task_moves}
 use Rattle.pram_board.proofs.Blocks.{task_starts}
 use Rattle.pram_board.proofs.Working.{sound_at}
-use Rattle.pram_board.proofs.driver.Driver.part_by.Goals as goal
+use Rattle.pram_board.proofs.driver.Driver.part_at.Goals as goal
 
-pub take_up_by-requires-clause-next : goal.take_up_by-requires-clause-next
-take_up_by-requires-clause-next g c =
+pub take_up_at-requires-clause-next : goal.take_up_at-requires-clause-next
+take_up_at-requires-clause-next g c =
     let at = c.args.leaf.now in
     let wide = c.requires.walks.fits.block.2 in
     let memory = c.args.memory.now in
@@ -42,12 +42,14 @@ unreachable-requires g c =
           (ends (begins 1)),
     )).1
 
-pub returns-clause-same : goal.returns-clause-same
-returns-clause-same g c =
+pub returns-in-Ok-true-clause-same : goal.returns-in-Ok-true-clause-same
+returns-in-Ok-true-clause-same g c =
     let at = c.args.leaf.now in
     let wide = c.requires.walks.fits.block.2 in
     let memory = c.args.memory.now in
-    (c.in-Ok.ensures.on (
+    let is : c.take_up_at.result ≡ Ok true =
+    c.in-Ok-true.is ∙ ap (λ (there : Bool). Ok there) c.in-Ok-true.field-0-test in
+    ((rw is at c.take_up_at.ensures).on (
       c.args.self.now,
       script_of at.job at.layout (in_block at at.rank memory),
     ) (ends (begins 1))
@@ -57,12 +59,14 @@ returns-clause-same g c =
           (ends (begins 1)),
     )).0
 
-pub returns-clause-moved : goal.returns-clause-moved
-returns-clause-moved g c =
+pub returns-in-Ok-true-clause-tried : goal.returns-in-Ok-true-clause-tried
+returns-in-Ok-true-clause-tried g c =
     let at = c.args.leaf.now in
     let wide = c.requires.walks.fits.block.2 in
     let memory = c.args.memory.now in
-    let takes = c.in-Ok.ensures in
+    let is : c.take_up_at.result ≡ Ok true =
+    c.in-Ok-true.is ∙ ap (λ (there : Bool). Ok there) c.in-Ok-true.field-0-test in
+    let takes = rw is at c.take_up_at.ensures in
     let done = (takes.on (
       c.args.self.now,
       script_of at.job at.layout (in_block at at.rank memory),
@@ -72,16 +76,13 @@ returns-clause-moved g c =
       task_starts at c.requires.leaf wide memory (driving c.args.self.now) c.requires.walks
           (ends (begins 1)),
     )).1 in
-    rw takes.kept (task_moves at c.requires.leaf wide memory (driving c.args.self.now)
-    (driving c.take_up_by.new.steps) c.requires.walks
-    (sound_at (task_at at) (driving c.take_up_by.new.steps) done.here c.facts.ensures) takes.learned
+    let moved = task_moves at c.requires.leaf wide memory (driving c.args.self.now)
+    (driving c.take_up_at.new.steps) c.requires.walks
+    (sound_at (task_at at) (driving c.take_up_at.new.steps) done.here c.facts.ensures) takes.learned
     (passes_driving (idle at (memo at c.requires.leaf wide memory)) takes.learned
-    (λ d. driving d) _ _ takes.idle) done)
-
-pub returns-clause-fits : goal.returns-clause-fits
-returns-clause-fits g c =
-    let at = c.args.leaf.now in
-    let takes = c.in-Ok.ensures in
-    let moved = returns-clause-moved g c in
-    rw takes.kept (kept_fits at.job at.layout at.node at.phase at.rank c.args.memory.now
-    takes.learned c.requires.fits (rw takes.kept at moved.walks.fits.memory))
+    (λ d. driving d) _ _ takes.idle) done in
+    rw takes.kept (
+      kept_fits at.job at.layout at.node at.phase at.rank memory takes.learned c.requires.fits
+          moved.walks.fits.memory,
+      moved,
+    )

@@ -1,0 +1,1 @@
+use Rattle.pram_board.proofs.driver.Driver.run.Goals as goal
