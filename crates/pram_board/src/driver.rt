@@ -358,13 +358,7 @@ impl<'a, G: Gate> Driver<'a, G> {
     // That of the next ones, after this leaf's, that stand at this instruction: the rank of the last
     // of them. Loops by form are entered for two or more.
     #[inline(always)]
-    fn more_tasks(
-        &mut self,
-        leaf: &Leaf,
-        len: u32,
-        memory: &mut Memory,
-        stand: Stand<'_>,
-    ) -> u32
+    fn more_tasks(&mut self, leaf: &Leaf, len: u32, memory: &mut Memory, stand: Stand<'_>) -> u32
         requires past { PastTask leaf.now len (driving self.old) memory.old }
         requires stand { IsStand leaf.now stand.counter stand.instr.now }
         ensures same { self.new.seat.ghost_name ≡ self.old.seat.ghost_name }
@@ -381,13 +375,7 @@ impl<'a, G: Gate> Driver<'a, G> {
 
     // The same. Each form that has a row here has a loop of its own, in which no other is looked at.
     #[inline(always)]
-    fn run_form(
-        &mut self,
-        leaf: &Leaf,
-        len: u32,
-        memory: &mut Memory,
-        stand: Stand<'_>,
-    ) -> u32
+    fn run_form(&mut self, leaf: &Leaf, len: u32, memory: &mut Memory, stand: Stand<'_>) -> u32
         requires past { PastTask leaf.now len (driving self.old) memory.old }
         requires stand { IsStand leaf.now stand.counter stand.instr.now }
         ensures same { self.new.seat.ghost_name ≡ self.old.seat.ghost_name }
