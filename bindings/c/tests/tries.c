@@ -95,6 +95,13 @@ typedef uint32_t command(const uint8_t *, size_t, const struct ks_request *, uin
                          struct ks_answer *);
 static const char rows[] = "worker,act,ticks\n0,go,30\n1,stop,0\n0,back,0\n2,sleep,3\n0,go,9\n";
 static const char settings[] = "n=4\nA=3,1,4,1\n";
+/* The second input fails. */
+static const char exercise[] = "exercise 1\ntitle squares\nwant A\ngiven\n pardo 1\n rule crew\n"
+                               " const n = 4\n procs i < n\n shared A[n]\nstart\n code\n"
+                               "input n=2 -> A=0,1\ninput n=4 -> A=0,1,4,9\n";
+static const char submission[] =
+    "pardo 1\nrule crew\nconst n = 4\nprocs i < n\nshared A[n]\ncode\nA[i] := i\n";
+static const char said[] = "no,2,\"A[2] holds 2, wanted 4\"\n";
 
 static struct ks_request request(uint32_t flags) {
   return (struct ks_request){.size = sizeof(struct ks_request),
@@ -159,6 +166,26 @@ static void set(const struct text *text, struct told *told) {
                         told->out, ROOM, &told->answer);
 }
 
+static uint32_t judge_by(const char *by, size_t length, const uint8_t *judged, size_t judged_length,
+                         struct told *told) {
+  return ks_judge((const uint8_t *)by, length, judged, judged_length, told->out, ROOM,
+                  &told->answer);
+}
+
+static void judge(const struct text *text, struct told *told) {
+  (void)text;
+  told->status = judge_by(exercise, sizeof exercise - 1, (const uint8_t *)submission,
+                          sizeof submission - 1, told);
+}
+
+static void judge_text(const struct text *text, struct told *told) {
+  told->status = judge_by(exercise, sizeof exercise - 1, text->bytes, text->length, told);
+}
+
+static void judge_by_text(const struct text *text, struct told *told) {
+  told->status = judge_by((const char *)text->bytes, text->length, text->bytes, text->length, told);
+}
+
 /* A board, worked to its end by a worker that comes back. What is seen on the way is compared,
  * too. */
 
@@ -204,12 +231,21 @@ typedef void call(const struct text *, struct told *);
 static const struct {
   const char *name;
   call *make;
-} calls[] = {{"check", check},       {"compile", compile},
-             {"plain", plain},       {"plain --why", why},
-             {"cost", cost},         {"cost --lines", cost_lines},
-             {"steps", steps},       {"steps --csv", csv},
-             {"replay", replay},     {"cells", cells},
-             {"plan", plan},         {"set", set},
+} calls[] = {{"check", check},
+             {"compile", compile},
+             {"plain", plain},
+             {"plain --why", why},
+             {"cost", cost},
+             {"cost --lines", cost_lines},
+             {"steps", steps},
+             {"steps --csv", csv},
+             {"replay", replay},
+             {"cells", cells},
+             {"plan", plan},
+             {"set", set},
+             {"judge", judge},
+             {"judge text", judge_text},
+             {"judge by", judge_by_text},
              {"board", board}};
 enum { CALLS = sizeof calls / sizeof *calls };
 
@@ -372,6 +408,29 @@ static void try_answers(const struct text *text) {
   expect("a text that is set, with an answer of another size", are_same(&told, &before));
 }
 
+/* What is said of a submission, and of what is no exercise. */
+static void try_verdicts(const struct text *text) {
+  static struct told told;
+  size_t length = sizeof said - 1;
+  clear(&told);
+  judge(text, &told);
+  expect("a submission that did not pass",
+         told.status == KS_NOT_PASSED && told.answer.length == length &&
+             !memcmp(told.out, said, length) && told.out[length] == NOTHING);
+  clear(&told);
+  told.answer.size++;
+  judge(text, &told);
+  expect("a verdict with an answer of another size",
+         told.status == KS_FAILED && told.out[0] == NOTHING);
+  clear(&told);
+  judge_by_text(text, &told);
+  int is_told = told.status == KS_REFUSED && told.answer.subject == KS_EXERCISE &&
+                told.answer.line == 1 && !strcmp(told.answer.kind, "BadHeader") &&
+                !strcmp(told.answer.sentence, "the first line must be exercise 1");
+  told.status = KS_MEMORY;
+  expect("what is no exercise", is_told && is_refusal(&told));
+}
+
 static void try_sizes(void) {
   struct text text = {"", calloc(TEXT_ROOM + 1, 1), TEXT_ROOM + 1};
   static struct told told;
@@ -436,6 +495,7 @@ static int try_wrong(const struct text *texts, int count) {
   for (int i = 0; i < count; i++) {
     try_requests(&texts[i]);
     try_answers(&texts[i]);
+    try_verdicts(&texts[i]);
     try_boards(&texts[i]);
   }
   try_sizes();

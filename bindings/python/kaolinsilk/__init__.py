@@ -20,8 +20,8 @@
 
 `plain`, `check`, `compile`, `cost`, `steps` and `replay` are the commands of the program pramx, and
 `run` that on threads of Python. `Board`, `Worker` and `Seat` are for threads of your own,
-`draw_work`, `draw_memory` and `draw_tree` draw, and `sweep` goes over sizes. A text is a `str` or
-`bytes`; a `pathlib.Path` names a file that has it.
+`draw_work`, `draw_memory` and `draw_tree` draw, `sweep` goes over sizes, and `judge` judges by an
+exercise. A text is a `str` or `bytes`; a `pathlib.Path` names a file that has it.
 """
 from ._library import version
 from .answers import Answer, Gone
@@ -29,6 +29,7 @@ from .boards import Board, Progress, Reading, Seat, Worker
 from .calls import Cost, cells, check, compile, cost, cost_by_lines, plain, replay, steps
 from .canvas import Picture
 from .errors import BadRequest, Conflict, KaolinsilkError, OutOfMemory, Refused, Unfinished
+from .judging import Verdict, judge
 from .moments import Moment, moment
 from .pictures import draw_memory, draw_moment, draw_tree, draw_work
 from .rows import Rows
@@ -55,6 +56,7 @@ __all__ = [
     "Seat",
     "Sweep",
     "Unfinished",
+    "Verdict",
     "Worker",
     "cells",
     "check",
@@ -65,6 +67,7 @@ __all__ = [
     "draw_moment",
     "draw_tree",
     "draw_work",
+    "judge",
     "moment",
     "plain",
     "replay",

@@ -19,7 +19,7 @@ ABI_VERSION = 1
 DONE, CONFLICT, REFUSED, UNFINISHED, FAILED, MEMORY = range(6)
 WORDS = ("done", "conflict", "refused", "unfinished", "failed", "memory")
 # What was refused, by its number.
-SUBJECTS = ("", "text", "text", "plan", "step", "size", "request", "memory", "set")
+SUBJECTS = ("", "text", "text", "plan", "step", "size", "request", "memory", "set", "exercise")
 # The greatest number of a request.
 MOST = 2**32 - 1
 # A buffer that most answers fit into, and the longest one that is taken at the first try.
@@ -88,6 +88,7 @@ CALLS = {
     "ks_cells": [*TEXT, *OUTPUT],
     "ks_plan": [*TEXT, c_uint32, *OUTPUT],
     "ks_set": [*TEXT, *TEXT, *OUTPUT],
+    "ks_judge": [*TEXT, *TEXT, *OUTPUT],
     "ks_open": [*TEXT, c_uint32, c_uint32, HANDLE],
     "ks_seat_of": [HANDLE, HANDLE],
     "ks_worker_of": [HANDLE, c_uint32, HANDLE],
@@ -164,6 +165,11 @@ def told(name: str, *texts: bytes, **asked: int) -> Told:
 def text_as_set(text: bytes, settings: bytes) -> bytes:
     """A text as another one sets names of it, by lines `NAME=V,V,..`."""
     return bytes(_printed("ks_set", (text, settings), []).output)
+
+
+def verdict(exercise: bytes, submission: bytes) -> str:
+    """What is said of a submission by an exercise: a record `passed,input,what`."""
+    return str(_printed("ks_judge", (exercise, submission), []).output, "ascii")
 
 
 def _printed(name: str, texts: Sequence[bytes], asked: List[Any]) -> Told:

@@ -12,11 +12,12 @@ class KaolinsilkError(Exception):
 
 
 class Refused(KaolinsilkError, ValueError):
-    """A text, a plan, a step or a setting is refused.
+    """A text, a plan, a step, a setting or an exercise is refused.
 
-    `subject` is "text", "plan", "step", "size" or "set"; `line` the line of the text, or the row of
-    the plan, from 1, or None; `column` that of a text, or None; `name` the name that cannot be
-    set so, or None; `kind` the kind of docs/FORMATS.md, as "BadLine"; `sentence` what is wrong.
+    `subject` is "text", "plan", "step", "size", "set" or "exercise"; `line` the line of the text or
+    of the exercise, or the row of the plan, from 1, or None; `column` that of a text, or None;
+    `name` the name that cannot be set so, or None; `kind` the kind of docs/FORMATS.md, as
+    "BadLine"; `sentence` what is wrong.
 
     >>> import kaolinsilk
     >>> try:

@@ -4,6 +4,7 @@ ghost use Rattle.library_core.specs.Calls.{IsCall};
 ghost use Rattle.library_core.specs.Cells.{AreCells, MeansNoJob};
 ghost use Rattle.library_core.specs.Commands.{checking, compiling, costing_by, in_lines};
 ghost use Rattle.library_core.specs.Commands.{plainly, replaying, stepping};
+ghost use Rattle.library_core.specs.Judging.{IsNoExercise, TellsVerdict};
 ghost use Rattle.library_core.specs.Plans.{AreRows, IsNoPlan};
 ghost use Rattle.library_core.specs.Requests.{is_set, window_of, wrong_in};
 ghost use Rattle.library_core.specs.Serving.{ServesRequest};
@@ -14,6 +15,7 @@ ghost use Rattle.library_core.specs.declared.request.Call.TheVariants.{Plain, Re
 use library_core::answer::Answer;
 use library_core::call::{Asked, serve_call};
 use library_core::cells::tell_cells;
+use library_core::judging::tell_verdict;
 use library_core::plan::{PlanRow, tell_plan};
 use library_core::request::{Call, Request};
 use library_core::setting::tell_set;
@@ -213,4 +215,21 @@ pub extern "C" fn ks_set(
         out.new answer.old answer.new result }
 {
     tell_set(alloc, text, settings, out, answer)
+}
+
+/// Judges a submission by an exercise, and writes one record, `yes,,` or `no,INPUT,WHAT`: whether
+/// it passed, and if not, under which input, counted from 1, and what is wrong. The status is then
+/// `NOT_PASSED`. If the exercise is refused, the answer tells the line of its text.
+#[unsafe(no_mangle)]
+pub extern "C" fn ks_judge(
+    alloc: Global,
+    exercise: &[u8],
+    submission: &[u8],
+    out: &mut [u8],
+    answer: &mut Answer,
+) -> u32
+    ensures { IsCall (TellsVerdict exercise.now submission.now) (IsNoExercise exercise.now) out.old
+        out.new answer.old answer.new result }
+{
+    tell_verdict(alloc, exercise, submission, out, answer)
 }

@@ -1,5 +1,5 @@
 -- A call prints what the line prints that it stands for.
-use Rattle.std.proofs.Common.{◌≡◌, ℕ, List, Option, Some, None, refl, subst, inl, inr}
+use Rattle.std.proofs.Common.{◌≡◌, ℕ, List, Option, Some, None, refl, subst, sym, inl, inr}
 use Rattle.command_data.specs.declared.line.AskAlone.{AskAlone}
 use Rattle.command_data.specs.declared.line.AskAlone.TheVariants as ask
 use Rattle.pram_commands.specs.Line.{command_alone}
@@ -8,10 +8,10 @@ use Rattle.pram_commands.specs.Plain.{checking, plainly}
 use Rattle.pram_commands.specs.Replayed.{replaying}
 use Rattle.pram_commands.specs.Steps.{stepping}
 use Rattle.pram_commands.specs.Under.{under_model}
-use Rattle.library_core.specs.Calls.{RefusesOrNot}
+use Rattle.library_core.specs.Calls.{IsCall, RefusesOrNot}
 use Rattle.library_core.specs.Requests.{IsAskOf, command_asked, is_set, to_of}
 use Rattle.library_core.specs.Serving.{PrintsAll}
-use Rattle.library_core.specs.Telling.{IsNever}
+use Rattle.library_core.specs.Telling.{AreThese, IsNever}
 use Rattle.library_core.specs.declared.answer.Answer.{Answer}
 use Rattle.library_core.specs.declared.fault.CallFault.{CallFault}
 use Rattle.library_core.specs.declared.request.Call.{Call}
@@ -27,6 +27,26 @@ pub not_refused : (Why : CallFault → Type 0) (answer answer' : Answer) (status
     RefusesOrNot IsNever answer answer' status → RefusesOrNot Why answer answer' status
 not_refused Why answer answer' status (inl refused) = absurd refused.why
 not_refused Why answer answer' status (inr untold) = inr untold
+
+-- what these items are is shown where they are
+pub shown_as : (Gives : List ℕ → ℕ → Type 0) (Why : CallFault → Type 0)
+    (items buffer buffer' : List ℕ) (given : ℕ) (answer answer' : Answer) (status : ℕ) →
+    Gives items given → IsCall (AreThese items given) IsNever buffer buffer' answer answer' status →
+    IsCall Gives Why buffer buffer' answer answer' status
+shown_as Gives Why items buffer buffer' given answer answer' status gives call = record {
+  done = λ ending.
+      let shown = call.done ending in record {
+        items = shown.items;
+        gives = subst (λ (n : ℕ). Gives shown.items n) (sym shown.gives.1)
+            (subst (λ (l : List ℕ). Gives l given) (sym shown.gives.0) gives);
+        front = shown.front;
+        sized = shown.sized;
+        placed = shown.placed;
+        told = shown.told;
+      };
+  kept = call.kept;
+  refused = λ not. not_refused Why answer answer' status (call.refused not);
+}
 
 module _ (text plan bytes : List ℕ) (status : ℕ) where
   pub prints_asked : (call : Call) (request : Request) (it : AskAlone) → IsAskOf call request it →

@@ -31,6 +31,5 @@ pub record AreCells (text cells : List ℕ) (status : ℕ) : Type 0 where
 
 -- the text means no job, or is too long, or memory ran out
 abbrev pub MeansNoJob : (text : List ℕ) → CallFault → Type 0
-MeansNoJob text (call.Request fault) = ⊥
 MeansNoJob text (call.Command fault) = IsUndone checking text [] fault
-MeansNoJob text (call.Setting fault) = ⊥
+MeansNoJob text _ = ⊥

@@ -8,15 +8,19 @@ use Rattle.refusals.specs.declared.fault.CommandFault.TheVariants.{Text, Program
 use Rattle.refusals.specs.declared.fault.CommandFault.TheVariants.{OutsideStep, JobTooLarge}
 use Rattle.refusals.specs.declared.fault.CommandFault.TheVariants.{PlanTooLarge}
 use Rattle.refusals.specs.declared.refusal.TheConstants.{FAILED, REFUSED}
-use Rattle.library_core.specs.declared.answer.TheConstants.{OUT_OF_MEMORY, PLAN, PROGRAM, REQUEST}
-use Rattle.library_core.specs.declared.answer.TheConstants.{SETTING, SIZE, STEP, TEXT}
+use Rattle.library_core.specs.declared.answer.TheConstants.{EXERCISE, OUT_OF_MEMORY, PLAN}
+use Rattle.library_core.specs.declared.answer.TheConstants.{PROGRAM, REQUEST, SETTING, SIZE}
+use Rattle.library_core.specs.declared.answer.TheConstants.{STEP, TEXT}
 use Rattle.library_core.specs.declared.fault.CallFault.{CallFault}
 use Rattle.library_core.specs.declared.fault.CallFault.TheVariants.{Request, Command, Setting}
+use Rattle.library_core.specs.declared.fault.CallFault.TheVariants.{Exercise, Unfit}
 
 abbrev pub status_of_call_fault : CallFault → ℕ
 status_of_call_fault (Request fault) = FAILED
 status_of_call_fault (Command fault) = fault_status fault
 status_of_call_fault (Setting fault) = REFUSED
+status_of_call_fault (Exercise fault) = REFUSED
+status_of_call_fault (Unfit line) = REFUSED
 
 -- what was refused
 abbrev pub command_subject : CommandFault → ℕ
@@ -32,8 +36,10 @@ abbrev pub subject_of : CallFault → ℕ
 subject_of (Request fault) = REQUEST
 subject_of (Command fault) = command_subject fault
 subject_of (Setting fault) = SETTING
+subject_of (Exercise fault) = EXERCISE
+subject_of (Unfit line) = EXERCISE
 
--- the line of the text, the row of the plan, or the number of the setting
+-- the line of the text or of the exercise, the row of the plan, or the number of the setting
 abbrev pub program_line : Refusal → ℕ
 program_line (program.Text fault) = fault.line
 program_line (program.Job fault) = fault.line
@@ -48,6 +54,8 @@ abbrev pub line_told : CallFault → ℕ
 line_told (Request fault) = 0
 line_told (Command fault) = command_line fault
 line_told (Setting fault) = fault.number
+line_told (Exercise fault) = fault.line
+line_told (Unfit line) = line
 
 -- A column is known of texts alone; 0 stands for none.
 abbrev pub IsColumn : CallFault → ℕ → Type 0

@@ -3,6 +3,7 @@ pub mod Calls
 pub mod Cells
 pub mod Commands
 pub mod Faults
+pub mod Judging
 pub mod Plans
 pub mod Requests
 pub mod Serving

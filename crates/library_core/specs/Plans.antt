@@ -48,4 +48,4 @@ abbrev pub IsNoPlan : ℕ → (text : List ℕ) → CallFault → Type 0
 IsNoPlan workers text (call.Request fault) = wrong_count workers ≡ Some fault
 IsNoPlan workers text (call.Command fault) =
     (wrong_count workers ≡ None) × IsBadPlan workers text fault
-IsNoPlan workers text (call.Setting fault) = ⊥
+IsNoPlan workers text _ = ⊥

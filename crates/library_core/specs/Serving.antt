@@ -73,7 +73,7 @@ abbrev pub IsWhy : Command → Option RequestFault → (text plan : List ℕ) �
 IsWhy command wrong text plan (call.Request fault) = wrong ≡ Some fault
 IsWhy command wrong text plan (call.Command fault) =
     (wrong ≡ None) × IsUndone command text plan fault
-IsWhy command wrong text plan (call.Setting fault) = ⊥
+IsWhy command wrong text plan _ = ⊥
 
 -- What the call does: it shows what the command prints on this text and plan, or says why not.
 abbrev pub ServesRequest : Command → Option RequestFault → (text plan : List ℕ)

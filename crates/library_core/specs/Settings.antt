@@ -81,7 +81,7 @@ text_set_by text others = do
 abbrev pub TellsWhy : {A : Type 0} → Result A Misset → CallFault → Type 0
 TellsWhy read (call.Setting fault) = read ≡ Err fault
 TellsWhy read (call.Command fault) = fault ≡ Memory
-TellsWhy read (call.Request fault) = ⊥
+TellsWhy read _ = ⊥
 
 -- ---- the call
 

@@ -6,8 +6,8 @@ use crate::telling::put_front;
 
 /// What a call tells beside its output, as C sees it. The caller sets `size` to `ANSWER_SIZE`. The
 /// length is that of the whole output, in bytes, or where cells or rows are told in these. The line
-/// is one of the text, a row of the plan, or the number of a setting, counted from 1, and 0 where
-/// there is none; so is the column. The kind and the sentence end with a 0.
+/// is one of the text or of the exercise, a row of the plan, or the number of a setting, counted
+/// from 1, and 0 where there is none; so is the column. The kind and the sentence end with a 0.
 #[repr(C)]
 #[derive(Clone, Copy)]
 pub struct Answer {
@@ -52,6 +52,9 @@ pub const OUT_OF_MEMORY: u32 = 7;
 
 /// A setting.
 pub const SETTING: u32 = 8;
+
+/// An exercise.
+pub const EXERCISE: u32 = 9;
 
 /// What is told in an answer.
 #[derive(Clone, Copy)]

@@ -5,8 +5,9 @@ ghost use Rattle.library_core.specs.Faults.{command_line, command_subject, line_
 ghost use Rattle.library_core.specs.Faults.{status_of_call_fault, subject_of};
 ghost use Rattle.refusals.specs.Faults.{fault_status};
 
-use crate::answer::{OUT_OF_MEMORY, PLAN, PROGRAM, REQUEST, SETTING, SIZE, STEP, TEXT};
+use crate::answer::{EXERCISE, OUT_OF_MEMORY, PLAN, PROGRAM, REQUEST, SETTING, SIZE, STEP, TEXT};
 use crate::request::RequestFault;
+use exercise_text::ExerciseFault;
 use pardo_explain::Diagnosis;
 use pardo_job::Refusal;
 use pardo_text::SetKind;
@@ -29,6 +30,10 @@ pub enum CallFault {
     Command(CommandFault),
     /// A name cannot be set so.
     Setting(Misset),
+    /// A text is no exercise.
+    Exercise(ExerciseFault),
+    /// Nothing can be judged by the input in this line of an exercise.
+    Unfit(u64),
 }
 
 impl CallFault {
@@ -40,7 +45,7 @@ impl CallFault {
         match self {
             CallFault::Request(_) => FAILED,
             CallFault::Command(fault) => command_status(fault),
-            CallFault::Setting(_) => REFUSED,
+            CallFault::Setting(_) | CallFault::Exercise(_) | CallFault::Unfit(_) => REFUSED,
         }
     }
 
@@ -52,11 +57,12 @@ impl CallFault {
             CallFault::Request(_) => REQUEST,
             CallFault::Command(fault) => command_subject(fault),
             CallFault::Setting(_) => SETTING,
+            CallFault::Exercise(_) | CallFault::Unfit(_) => EXERCISE,
         }
     }
 
-    /// The line of the text, the row of the plan, or the number of the setting, from 1; 0 where
-    /// there is none.
+    /// The line of the text or of the exercise, the row of the plan, or the number of the setting,
+    /// from 1; 0 where there is none.
     pub fn line(self) -> u64
         ensures { result ≡ line_told self }
     {
@@ -64,6 +70,8 @@ impl CallFault {
             CallFault::Request(_) => 0,
             CallFault::Command(fault) => command_line(fault),
             CallFault::Setting(fault) => fault.number,
+            CallFault::Exercise(fault) => fault.line,
+            CallFault::Unfit(line) => line,
         }
     }
 
@@ -73,6 +81,7 @@ impl CallFault {
             CallFault::Request(fault) => request_sentence(fault),
             CallFault::Command(fault) => command_sentence(fault),
             CallFault::Setting(fault) => setting_sentence(fault.kind),
+            CallFault::Exercise(_) | CallFault::Unfit(_) => "nothing can be judged by the exercise",
         }
     }
 }
@@ -80,7 +89,9 @@ impl CallFault {
 /// The name of what is wrong with a text, a plan or a setting, and else nothing.
 pub(crate) fn kind_of(alloc: Global, fault: CallFault) -> Result<String, AllocError> {
     match fault {
-        CallFault::Request(_) => Ok(String::new(alloc)),
+        CallFault::Request(_) | CallFault::Exercise(_) | CallFault::Unfit(_) => {
+            Ok(String::new(alloc))
+        }
         CallFault::Command(fault) => command_kind(alloc, fault),
         CallFault::Setting(fault) => {
             let kind = fault.kind;

@@ -78,7 +78,13 @@ fn explained(
     Ok((kind_of(alloc, fault)?, diagnosis_of(alloc, fault, text)?))
 }
 
-fn tell(fault: CallFault, kind: &[u8], found: Option<&Diagnosis>, answer: &mut Answer) -> u32
+/// Tells a fault, its kind and where it was found, and gives the status.
+pub(crate) fn tell(
+    fault: CallFault,
+    kind: &[u8],
+    found: Option<&Diagnosis>,
+    answer: &mut Answer,
+) -> u32
     ensures status { result ≡ status_of_call_fault fault }
     ensures ending { ¬ IsEndingStatus result }
     ensures placed { IsColumn fault answer.new.column }

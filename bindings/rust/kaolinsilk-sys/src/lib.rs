@@ -33,6 +33,8 @@ pub const KS_UNFINISHED: u32 = 3;
 pub const KS_FAILED: u32 = 4;
 /// Status: out of memory.
 pub const KS_MEMORY: u32 = 5;
+/// Status of `ks_judge`: the submission did not pass.
+pub const KS_NOT_PASSED: u32 = 1;
 
 /// Nothing was refused.
 pub const KS_NOTHING: u32 = 0;
@@ -52,6 +54,8 @@ pub const KS_REQUEST: u32 = 6;
 pub const KS_OUT_OF_MEMORY: u32 = 7;
 /// A setting was refused.
 pub const KS_SETTING: u32 = 8;
+/// An exercise was refused.
+pub const KS_EXERCISE: u32 = 9;
 
 /// How many workers there are at most.
 pub const KS_WORKERS_MOST: u32 = 64;
@@ -111,7 +115,8 @@ pub struct ks_answer {
     /// How long the whole output is, in elements of the buffer. Of it stands in the buffer what it
     /// has room for, from the front.
     pub length: u64,
-    /// The line of the text, the row of the plan, or the number of the setting, from 1; 0: none.
+    /// The line of the text or of the exercise, the row of the plan, or the number of the setting,
+    /// from 1; 0: none.
     pub line: u64,
     /// The column in the line, from 1; 0: not known.
     pub column: u32,
@@ -325,6 +330,16 @@ unsafe extern "C" {
         text_length: usize,
         settings: *const u8,
         settings_length: usize,
+        out: *mut u8,
+        room: usize,
+        answer: *mut ks_answer,
+    ) -> u32;
+    /// What is said of a submission by an exercise: a record `yes,,` or `no,INPUT,WHAT`.
+    pub fn ks_judge(
+        exercise: *const u8,
+        exercise_length: usize,
+        submission: *const u8,
+        submission_length: usize,
         out: *mut u8,
         room: usize,
         answer: *mut ks_answer,

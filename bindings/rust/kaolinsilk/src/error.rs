@@ -20,6 +20,8 @@ pub enum Subject {
     Step,
     /// A setting that is none, or does not fit the program.
     Setting,
+    /// An exercise by which nothing can be judged: it bears a fault in a line.
+    Exercise,
     /// A text or a plan of more than 67,108,864 bytes.
     Size,
     /// The request itself: a number of workers, a worker's number, a grain or a window that is
@@ -38,6 +40,7 @@ impl Subject {
             sys::KS_STEP => Subject::Step,
             sys::KS_SIZE => Subject::Size,
             sys::KS_SETTING => Subject::Setting,
+            sys::KS_EXERCISE => Subject::Exercise,
             sys::KS_OUT_OF_MEMORY => Subject::Memory,
             _ if status == sys::KS_MEMORY => Subject::Memory,
             _ => Subject::Request,
@@ -52,6 +55,7 @@ impl Subject {
             Subject::Plan => "the plan is refused",
             Subject::Step => "the job has no such step",
             Subject::Setting => "a setting is refused",
+            Subject::Exercise => "nothing can be judged by the exercise",
             Subject::Size => "a text has at most 67,108,864 bytes",
             Subject::Request => "the request is refused",
             Subject::Memory => "out of memory",
@@ -125,8 +129,8 @@ impl Error {
         self.subject
     }
 
-    /// The line of the text, the record of the plan or the number of the setting, from 1, where
-    /// there is one.
+    /// The line of the text or of the exercise, the record of the plan or the number of the setting,
+    /// from 1, where there is one.
     pub fn line(&self) -> Option<u64> {
         (self.line > 0).then_some(self.line)
     }
@@ -136,8 +140,8 @@ impl Error {
         (self.column > 0).then_some(self.column)
     }
 
-    /// The kind by the word that docs/FORMATS.md, docs/LANGUAGE.md and docs/PARDO.md have for it,
-    /// as `BadLine`; empty where there is none.
+    /// The kind by the word that docs/FORMATS.md, docs/LANGUAGE.md, docs/PARDO.md and, of exercises,
+    /// docs/TEACHING.md have for it, as `BadLine`; empty where there is none.
     pub fn kind(&self) -> &str {
         &self.kind
     }

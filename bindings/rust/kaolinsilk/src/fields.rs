@@ -1,4 +1,5 @@
 //! Numbers and words in what the library prints.
+use std::borrow::Cow;
 use std::str::FromStr;
 
 /// The number that a text spells.
@@ -18,5 +19,14 @@ pub(crate) fn optional<T: FromStr>(text: &str) -> Option<Option<T>> {
         Some(None)
     } else {
         number(text).map(Some)
+    }
+}
+
+/// What a field of a record says.
+pub(crate) fn unquoted(field: &str) -> Cow<'_, str> {
+    let quoted = field.strip_prefix('"').and_then(|it| it.strip_suffix('"'));
+    match quoted {
+        Some(said) => said.replace("\"\"", "\"").into(),
+        None => field.into(),
     }
 }

@@ -36,6 +36,7 @@
 //! | [`Job`] | a text that was judged, and what the commands of `pramx` tell of it |
 //! | [`Settings`] | what constants and shared arrays of a program are set to |
 //! | [`sweep`] | what a program costs with each value of a constant |
+//! | [`judge`] | a submission, judged by an exercise |
 //! | [`run`] | a job on threads, by a [`Plan`] |
 //! | [`Board`] | for threads of your own: each has a [`Worker`], or reads by a [`Seat`] |
 //! | [`Error`] | what was refused, where and why |
@@ -43,8 +44,9 @@
 //! # Memory, threads and processes
 //!
 //! What the library asks for, and all buffers of this crate, may be refused: that is an [`Error`].
-//! Rows of a [`Plan`] and of a [`Sweep`], [`Settings`], [`Values`], and what the standard library needs for the threads
-//! of [`run`], are asked for as Rust asks for memory everywhere.
+//! Rows of a [`Plan`] and of a [`Sweep`], [`Settings`], [`Values`], the words of a [`Verdict`], and
+//! what the standard library needs for the threads of [`run`], are asked for as Rust asks for memory
+//! everywhere.
 //!
 //! No call is to be made from a signal handler, or from the forked child of a process with threads.
 
@@ -54,6 +56,7 @@ mod cost;
 mod error;
 mod fields;
 mod job;
+mod judging;
 mod line_costs;
 mod outcome;
 mod plan;
@@ -69,6 +72,7 @@ pub use board::{Board, Progress, Reading, Seat, Stay, Worker};
 pub use cost::{Cost, Meeting, Place, Pram};
 pub use error::{Error, Result, Subject};
 pub use job::{Check, Job, Rule};
+pub use judging::{Verdict, judge};
 pub use line_costs::{LineCost, LineCosts};
 pub use outcome::{Ended, Fault, Outcome};
 pub use plan::{Act, Plan, Row};

@@ -2,7 +2,7 @@
 use std::borrow::Cow;
 use std::fmt;
 
-use crate::fields::number;
+use crate::fields::{number, unquoted};
 
 /// What each counted line of a program costs, as `pramx cost --lines` prints it; it is displayed byte
 /// for byte.
@@ -71,15 +71,6 @@ impl<'a> LineCost<'a> {
             most: number(fields.next()?)?,
             text: unquoted(fields.next()?),
         })
-    }
-}
-
-// What a field of a record says.
-fn unquoted(field: &str) -> Cow<'_, str> {
-    let quoted = field.strip_prefix('"').and_then(|it| it.strip_suffix('"'));
-    match quoted {
-        Some(said) => said.replace("\"\"", "\"").into(),
-        None => field.into(),
     }
 }
 

@@ -2,7 +2,7 @@
 //! its host are those of this file, as is the allocator of Rust: both count, and refuse in turn.
 mod shared;
 
-use kaolinsilk::{Board, Job, Plan, Result, Subject, run};
+use kaolinsilk::{Board, Job, Plan, Result, Subject, judge, run};
 use shared::example;
 use std::alloc::{GlobalAlloc, Layout, System};
 use std::cell::Cell;
@@ -212,6 +212,23 @@ fn of_a_refusal() {
         Err(error) if error.subject() == Subject::Plan => Ok(error.line()),
         Err(error) => Err(error),
         Ok(()) => panic!("a plan"),
+    });
+}
+
+#[test]
+fn of_a_verdict() {
+    let _turn = turn();
+    let exercise = "exercise 1\ntitle t\nwant s\ngiven\n pardo 1\n rule crew\n procs i < 1\n \
+        shared s\nstart\n code\ninput -> s=1\n";
+    let header = "pardo 1\nrule crew\nprocs i < 1\nshared s\ncode\n";
+    for line in ["s := 1\n", "s := 2\n", "s = 1\n"] {
+        let submission = format!("{header}{line}");
+        refuse(false, || judge(exercise, &submission));
+    }
+    refuse(true, || match judge("exercise 2\n", "") {
+        Err(error) if error.subject() == Subject::Exercise => Ok(error.line()),
+        Err(error) => Err(error),
+        Ok(verdict) => panic!("{verdict:?}"),
     });
 }
 
