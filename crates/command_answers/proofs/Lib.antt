@@ -1,4 +1,6 @@
 pub mod Refused
 pub mod Texts
 pub mod Waited
+pub mod Judged
+pub mod Planned
 pub mod Sweeps

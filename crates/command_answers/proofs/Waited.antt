@@ -1,10 +1,10 @@
 -- What is said of words whose line waited for threads.
 use Rattle.std.proofs.Common.{◌≡◌, ◌∙◌, ◌≤◌, ◌⊎◌, ℕ, Bool, true, false, List, [], ◌∷◌, Option, None}
-use Rattle.std.proofs.Common.{Some, ap, arith, inl, inr, subst}
-use Rattle.std.specs.Prelude.{MatchBool}
-use Rattle.std.specs.Borrow.{Bor}
+use Rattle.std.proofs.Common.{Some, ap, arith, inl, inr, max, subst}
+use Rattle.std.specs.Prelude.{MatchBool, MatchOption}
 use Rattle.std.specs.Global.{Vec}
-use Rattle.clap.specs.Words.{Row, Text, subcommand_of}
+use Rattle.clap.specs.Words.{Text, subcommand_of}
+use Rattle.command_data.specs.declared.line.Ask.{Ask}
 use Rattle.command_data.specs.declared.line.Ask.TheVariants.{OnThreads}
 use Rattle.command_data.specs.declared.line.AskOnThreads.{AskOnThreads}
 use Rattle.command_data.specs.declared.line.Line.{Line}
@@ -18,12 +18,26 @@ use Rattle.naming.specs.Writing.{Writing}
 use Rattle.pram_commands.specs.Did.{ends_with}
 use Rattle.pram_commands.specs.Files.{ServesFiles, ServesText}
 use Rattle.refusals.specs.declared.refusal.TheConstants.{MEMORY}
-use Rattle.command_answers.specs.Answering.{AnswersWords, IsTextIfSet, RefusesSet, ServesLineSet}
-use Rattle.command_answers.specs.Answering.{ServesOrRefusesSet, ServesWaiting, is_sweep}
+use Rattle.command_answers.specs.Answering.{AnswersWords, IsTextIfSet, RefusesSet, ServesAsked}
+use Rattle.command_answers.specs.Answering.{ServesLineSet, ServesOrRefusesSet, ServesOwn}
+use Rattle.command_answers.specs.Answering.{ServesWaiting, is_sweep}
+use Rattle.exercise_judge.specs.Trials.{TrialData}
+use Rattle.command_answers.specs.Judging.{AnswersJudging, AreRecords, status_of}
+use Rattle.command_answers.specs.Random.{AnswersByPlan, random_text}
 use Rattle.command_answers.specs.Setting.{IsRefusedSet}
 use Rattle.command_answers.specs.Sweeping.{AreSizes, IsRefusedSweep, ServesSweep}
 use Rattle.command_answers.proofs.Sweeps.{served_so}
-use Rattle.command_answers.proofs.Texts.{texts_of}
+
+-- a line that is done on threads follows no random plan
+no_random : (ask : Ask) (asks : AskOnThreads) (seed : Option ℕ) → ask ≡ OnThreads asks →
+    random_text ask seed ≡ None
+no_random ask asks seed threads = ap (λ (a : Ask). random_text a seed) threads
+
+-- what is done without one
+pub own_so : {A : Type 0} {B : List ℕ → Type 0} (plan : Option (List ℕ)) → plan ≡ None → A →
+    MatchOption plan A B
+own_so None none own = own
+own_so (Some plan) none own = cc none
 
 module _ (Holds : List ℕ → Option (List ℕ) → Type 0) (Fails : Type 0) (writes : Writing)
     (status : ℕ) where
@@ -44,29 +58,30 @@ module _ (Holds : List ℕ → Option (List ℕ) → Type 0) (Fails : Type 0) (w
       asks threads serves = inl (record {
         asked = asked;
         met = met;
-        plain = subst (λ (all : List Text). HasSettings (subcommand_of pramx words) all) none sets;
-        serves = subst (λ (l : Line). ServesFiles Holds Fails l writes status) same serves;
+        given = given;
+        sets = sets;
+        serves = own_so (random_text asked.line.ask asked.random)
+            (no_random asked.line.ask asks asked.random threads) (inl (
+              none,
+              subst (λ (l : Line). ServesFiles Holds Fails l writes status) same serves,
+            ));
       })
   waited_answers words on_terminal asked given (Some text) line met sets same set
       asks threads serves =
-      inr (inl (record {
+      inl (record {
         asked = asked;
         met = met;
         given = given;
         sets = sets;
-        serves = served_so _ _ (is_sweep asked.line.ask) (ap is_sweep threads) (inl (record {
-          text = text.items;
-          set = set;
-          serves = subst (λ (l : Line). ServesText text.items Holds Fails l writes status) same
-              serves;
-        }));
-      }))
-
--- where no word sets a name, none is set
-pub none_set : (matches : Option (Text × List Row)) (words : List (Bor Text)) → words ≡ [] →
-    HasSettings matches (texts_of words) → HasSettings matches []
-none_set matches words none sets =
-    subst (λ (all : List (Bor Text)). HasSettings matches (texts_of all)) none sets
+        serves = own_so (random_text asked.line.ask asked.random)
+            (no_random asked.line.ask asks asked.random threads)
+            (inr (served_so _ _ (is_sweep asked.line.ask) (ap is_sweep threads) (inl (record {
+              text = text.items;
+              set = set;
+              serves = subst (λ (l : Line). ServesText text.items Holds Fails l writes status) same
+                  serves;
+            }))));
+      })
 
 -- the status of a run, and of the runs of a sweep
 answer_most : (given : Option RunAnswer) → ends_with given ≤ MEMORY
@@ -118,3 +133,55 @@ pub set_most : (Holds : List ℕ → Option (List ℕ) → Type 0) (Fails : Type
     ServesOrRefusesSet Holds Fails line given writes status → status ≤ MEMORY
 set_most Holds Fails line given writes status serves =
     set_most_as Holds Fails line given writes status (is_sweep line.ask) serves
+
+-- so does one that is asked for, by a random plan or without
+own_most : (Holds : List ℕ → Option (List ℕ) → Type 0) (Fails : Type 0) (line : Line)
+    (given : List Text) (writes : Writing) (status : ℕ) →
+    ServesOwn Holds Fails line given writes status → status ≤ MEMORY
+own_most Holds Fails line given writes status (inl files) = files.1.served.most
+own_most Holds Fails line given writes status (inr set) =
+    set_most Holds Fails line given writes status set
+
+plan_most : (Holds : List ℕ → Option (List ℕ) → Type 0) (Fails : Type 0) (line : Line)
+    (given : List Text) (plan : List ℕ) (writes : Writing) (status : ℕ) →
+    AnswersByPlan Holds Fails line given plan writes status → status ≤ MEMORY
+plan_most Holds Fails line given plan writes status (inl own) = own.1.served.most
+plan_most Holds Fails line given plan writes status (inr (inl set)) = set.serves.served.most
+plan_most Holds Fails line given plan writes status (inr (inr refused)) =
+    refused_most _ writes status refused
+
+pub asked_most : (Holds : List ℕ → Option (List ℕ) → Type 0) (Fails : Type 0) (asked : Asked)
+    (given : List Text) (writes : Writing) (status : ℕ) →
+    ServesAsked Holds Fails asked given writes status → status ≤ MEMORY
+asked_most Holds Fails asked given writes status serves =
+    by (random_text asked.line.ask asked.random) serves
+  where
+    by : (plan : Option (List ℕ)) →
+        MatchOption plan (ServesOwn Holds Fails asked.line given writes status)
+        (λ plan. AnswersByPlan Holds Fails asked.line given plan writes status) → status ≤ MEMORY
+    by None own = own_most Holds Fails asked.line given writes status own
+    by (Some plan) answers = plan_most Holds Fails asked.line given plan writes status answers
+
+-- and what was judged
+records_most : (Holds : List ℕ → Option (List ℕ) → Type 0) (trials : List TrialData)
+    (files : List Text) (bytes : List ℕ) (status : ℕ) →
+    AreRecords Holds trials files bytes status → status ≤ 1
+records_most Holds trials [] bytes status records = let done = records.1 in omega (arith, done)
+records_most Holds trials (file ∷ files) bytes status
+    (said, rest, later, is, others, same, most) =
+    by said.passed (records_most Holds trials files rest later others) most
+  where
+    by : (passed : Bool) → later ≤ 1 → status ≡ max (status_of passed) later → status ≤ 1
+    by true after most = omega (arith, most, after)
+    by false after most = omega (arith, most, after)
+
+pub judging_most : (Holds : List ℕ → Option (List ℕ) → Type 0) (file : Text) (files : List Text)
+    (writes : Writing) (status : ℕ) → AnswersJudging Holds file files writes status →
+    status ≤ MEMORY
+judging_most Holds file files writes status (inl judged) = elim judged.wrote [
+  | inl took ↦
+      let most = records_most _ _ _ _ _ judged.judged.judged in
+      let same = took.0 in omega (arith, most, same)
+  | inr began ↦ began.1
+]
+judging_most Holds file files writes status (inr refused) = refused_most _ writes status refused

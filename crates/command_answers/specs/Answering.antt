@@ -1,6 +1,6 @@
 -- What a status says of the words that the program was given.
 use Rattle.std.specs.Prelude.{◌≡◌, ◌⊎◌, ℕ, Bool, true, false, List, [], Option, None}
-use Rattle.std.specs.Prelude.{MatchBool, Some}
+use Rattle.std.specs.Prelude.{MatchBool, MatchOption, Some, map}
 use Rattle.std.specs.Global.{Vec}
 use Rattle.clap.specs.Words.{IsAmong, Text, fault_of, subcommand_of}
 use Rattle.clap.specs.declared.error.kind.ErrorKind.TheVariants.{DisplayHelp, DisplayVersion}
@@ -12,21 +12,16 @@ use Rattle.command_data.specs.declared.line.Line.{Line}
 use Rattle.pardo_text.specs.declared.settings.SetKind.{SetKind}
 use Rattle.naming.specs.Writing.{Writing}
 use Rattle.pram_commands.specs.Files.{ServesFiles, ServesText}
-use Rattle.refusals.specs.declared.refusal.TheConstants.{DONE, FAILED, MEMORY, REFUSED}
-use Rattle.command_line.specs.CommandLine.{HasSettings, IsAskedLine, MeanNoLine, pramx}
+use Rattle.refusals.specs.declared.refusal.TheConstants.{DONE, FAILED, MEMORY}
+use Rattle.command_line.specs.CommandLine.{HasSettings, IsAskedLine, IsJudging, MeanNoLine, pramx}
 use Rattle.command_line.specs.declared.line.Asked.{Asked}
+use Rattle.command_line.specs.declared.line.Judging.{Judging}
+use Rattle.command_answers.specs.Judging.{AnswersJudging}
+use Rattle.command_answers.specs.Random.{AnswersByPlan, random_text}
+pub use Rattle.command_answers.specs.Refusing.{RefusesSet}
 use Rattle.command_answers.specs.Setting.{IsRefusedSet, IsSetText}
 use Rattle.command_answers.specs.Sweeping.{IsRefusedSweep, ServesSweep}
 use Rattle.command_answers.specs.declared.answer.Waiting.{Waiting}
-
--- The words mean a line, on such a device, and set no name, and it was served from the files that
--- it names.
-pub record ServesWords (Holds : List ℕ → Option (List ℕ) → Type 0) (Fails : Type 0)
-    (words : List Text) (on_terminal : Bool) (writes : Writing) (status : ℕ) : Type 0 where
-  pub asked : Asked
-  pub met : IsAskedLine on_terminal (subcommand_of pramx words) asked
-  pub plain : HasSettings (subcommand_of pramx words) []
-  pub serves : ServesFiles Holds Fails asked.line writes status
 
 -- The line was served with the text of its file as these words set names.
 pub record ServesLineSet (Holds : List ℕ → Option (List ℕ) → Type 0) (Fails : Type 0) (line : Line)
@@ -34,12 +29,6 @@ pub record ServesLineSet (Holds : List ℕ → Option (List ℕ) → Type 0) (Fa
   pub text : List ℕ
   pub set : IsSetText Holds line.file.now given text
   pub serves : ServesText text Holds Fails line writes status
-
--- It is refused for such a reason, or a file failed, or memory ran out, and nothing was written.
-pub record RefusesSet (Reason : Type 0) (writes : Writing) (status : ℕ) : Type 0 where
-  pub refused : status ≡ REFUSED → Reason
-  pub told : (status ≡ REFUSED) ⊎ ((status ≡ FAILED) ⊎ (status ≡ MEMORY))
-  pub unwritten : writes.Unwritten
 
 -- the line asks for a sweep
 abbrev pub is_sweep : Ask → Bool
@@ -56,24 +45,49 @@ ServesOrRefusesSet Holds Fails line given writes status =
     (ServesLineSet Holds Fails line given writes status
     ⊎ RefusesSet ((kind : SetKind) × IsRefusedSet Holds line.file.now given kind) writes status)
 
--- The words mean a line, on such a device, and set names: the line was served so, or the settings
--- are refused.
-pub record ServesSet (Holds : List ℕ → Option (List ℕ) → Type 0) (Fails : Type 0)
+-- The line was served from the files that it names, where no name is set, or so, or that is refused.
+abbrev pub ServesOwn : (List ℕ → Option (List ℕ) → Type 0) → Type 0 → Line → List Text → Writing →
+    ℕ → Type 0
+ServesOwn Holds Fails line given writes status =
+    ((given ≡ []) × ServesFiles Holds Fails line writes status)
+    ⊎ ServesOrRefusesSet Holds Fails line given writes status
+
+-- What is asked was served: by the random plan that it has, or else as it is.
+abbrev pub ServesAsked : (List ℕ → Option (List ℕ) → Type 0) → Type 0 → Asked → List Text →
+    Writing → ℕ → Type 0
+ServesAsked Holds Fails asked given writes status =
+    MatchOption (random_text asked.line.ask asked.random)
+    (ServesOwn Holds Fails asked.line given writes status)
+    (λ plan. AnswersByPlan Holds Fails asked.line given plan writes status)
+
+-- Memory ran out before anything was written.
+abbrev pub Starves : Writing → ℕ → Type 0
+Starves writes status = (status ≡ MEMORY) × writes.Unwritten
+
+-- The words mean a line, on such a device, and set these names: it was served.
+pub record ServesWords (Holds : List ℕ → Option (List ℕ) → Type 0) (Fails : Type 0)
     (words : List Text) (on_terminal : Bool) (writes : Writing) (status : ℕ) : Type 0 where
   pub asked : Asked
   pub met : IsAskedLine on_terminal (subcommand_of pramx words) asked
   pub given : List Text
   pub sets : HasSettings (subcommand_of pramx words) given
-  pub serves : ServesOrRefusesSet Holds Fails asked.line given writes status
+  pub serves : ServesAsked Holds Fails asked given writes status
 
--- The words are served as a line, unless they mean none, or memory ran out before anything was
--- written.
+-- The words ask for judging: it was done, or the exercise is refused.
+pub record JudgesWords (Holds : List ℕ → Option (List ℕ) → Type 0) (words : List Text)
+    (writes : Writing) (status : ℕ) : Type 0 where
+  pub judging : Judging
+  pub met : IsJudging (subcommand_of pramx words) judging
+  pub judges : AnswersJudging Holds judging.exercise.now
+      (map (λ file. file.now) judging.files.items) writes status
+
+-- The words are served as a line, or submissions are judged, unless they mean neither, or memory ran
+-- out before anything was written.
 abbrev pub AnswersWords :
     (List ℕ → Option (List ℕ) → Type 0) → Type 0 → List Text → Bool → Writing → ℕ → Type 0
 AnswersWords Holds Fails words on_terminal writes status =
     ServesWords Holds Fails words on_terminal writes status
-    ⊎ (ServesSet Holds Fails words on_terminal writes status
-    ⊎ (MeanNoLine words ⊎ ((status ≡ MEMORY) × writes.Unwritten)))
+    ⊎ (JudgesWords Holds words writes status ⊎ (MeanNoLine words ⊎ Starves writes status))
 
 -- The words ask for help or for the version.
 abbrev pub AskForHelp : List Text → Type 0

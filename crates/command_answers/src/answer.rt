@@ -5,18 +5,21 @@ ghost use Rattle.clap.specs.Words.{kind_of};
 ghost use Rattle.naming.specs.Writing.{writing};
 ghost use Rattle.pram_commands.specs.Files.{MayFail};
 ghost use Rattle.command_answers.specs.Answering.{AnswersWords, AskForThreads, EndsByWords};
-ghost use Rattle.command_answers.specs.Answering.{ServesOrRefusesSet, ServesWaiting, WaitsFor};
+ghost use Rattle.command_answers.specs.Answering.{ServesAsked, ServesOrRefusesSet, ServesOwn};
+ghost use Rattle.command_answers.specs.Answering.{ServesWaiting, Starves, WaitsFor};
 
+use crate::judging::answer_judging;
+use crate::random::{answer_by_plan, random_of};
 use crate::setting::set_text;
 use crate::sweep::{answer_sweep, is_sweep};
 use clap::error::ErrorKind;
-use command_line::read_line;
+use command_line::{Asked, Given, read_line};
 use pram_commands::{
     Ask, Console, DONE, FAILED, Folder, Line, MEMORY, Refusal, serve_files, serve_files_alone,
     serve_text, serve_text_alone, tell, tell_unset,
 };
 use pram_streams::{Sink, put};
-use std::alloc::Global;
+use std::alloc::{AllocError, Global};
 use std::rt::Clock;
 use std::sync::Wait;
 use std::thread::Threads;
@@ -92,14 +95,64 @@ pub fn answer_alone<'a, F: Folder, O: Sink, E: Sink>(
     ensures still { OnErr result ((console.new.out ≡ console.old.out)
         × (console.new.err ≡ console.old.err)) }
 {
-    let (asked, settings) = match read_line(alloc, words, console.is_terminal) {
-        Ok(given) => given,
-        Err(error) => return Ok(refusal_status(alloc, &error, console)),
-    };
+    match read_line(alloc, words, console.is_terminal) {
+        Ok(Given::Line(asked, settings)) => {
+            answer_asked(alloc, folder, asked, settings.as_slice(), console)
+        }
+        Ok(Given::Judge(judging)) => Ok(answer_judging(alloc, folder, &judging, console)),
+        Err(error) => Ok(refusal_status(alloc, &error, console)),
+    }
+}
+
+// Does what is asked, with the text of its file as these words set names, or gives the line and the
+// text where it asks for threads.
+fn answer_asked<'a, F: Folder, O: Sink, E: Sink>(
+    alloc: Global,
+    folder: &F,
+    asked: Asked<'a>,
+    settings: &[&'a str],
+    console: &mut Console<O, E>,
+) -> Result<u8, Waiting<'a>>
+    requires out { O.has_failed console.old.out ≡ false }
+    requires err { E.has_failed console.old.err ≡ false }
+    ensures served { IfOk result (λ status. ServesAsked (F.holds folder.now)
+        (MayFail F.File.Source) asked.entry (map (λ word. word.now) settings.now)
+        (writing O.Sink console.old.out console.new.out) status
+        ⊎ Starves (writing O.Sink console.old.out console.new.out) status) }
+    ensures waiting { IfErr result (WaitsFor (F.holds folder.now) asked.entry.line
+        (map (λ word. word.now) settings.now)) }
+    ensures still { OnErr result ((console.new.out ≡ console.old.out)
+        × (console.new.err ≡ console.old.err)) }
+{
     console.explains |= asked.explain;
     console.notes |= asked.explain;
     let line = asked.line;
-    match settings.as_slice() {
+    match random_of(alloc, &asked) {
+        Ok(None) => answer_own(alloc, folder, line, settings, console),
+        Ok(Some(random)) => Ok(answer_by_plan(alloc, folder, &line, settings, &random, console)),
+        Err(AllocError) => Ok(tell(alloc, Refusal::Memory, &mut console.err)),
+    }
+}
+
+// Does what a line asks without a random plan.
+fn answer_own<'a, F: Folder, O: Sink, E: Sink>(
+    alloc: Global,
+    folder: &F,
+    line: Line<'a>,
+    settings: &[&'a str],
+    console: &mut Console<O, E>,
+) -> Result<u8, Waiting<'a>>
+    requires out { O.has_failed console.old.out ≡ false }
+    requires err { E.has_failed console.old.err ≡ false }
+    ensures served { IfOk result (ServesOwn (F.holds folder.now) (MayFail F.File.Source)
+        line.entry (map (λ word. word.now) settings.now)
+        (writing O.Sink console.old.out console.new.out)) }
+    ensures waiting { IfErr result (WaitsFor (F.holds folder.now) line.entry
+        (map (λ word. word.now) settings.now)) }
+    ensures still { OnErr result ((console.new.out ≡ console.old.out)
+        × (console.new.err ≡ console.old.err)) }
+{
+    match settings {
         [] => match line.ask {
             Ask::Alone(ask) => Ok(serve_files_alone(alloc, folder, &line, ask, console)),
             Ask::OnThreads(_) => Err(Waiting { line, text: None }),

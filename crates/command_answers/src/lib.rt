@@ -5,6 +5,8 @@
 
 mod answer;
 mod input;
+mod judging;
+mod random;
 mod setting;
 mod sweep;
 

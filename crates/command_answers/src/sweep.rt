@@ -57,9 +57,9 @@ impl<'a> From<Unset<'a>> for Unswept<'a> {
     }
 }
 
-/// The records of a sweep, and the greatest of the statuses of its runs.
+/// Records, and the status that they end with: the greatest of those of their runs.
 #[derive(Drop)]
-pub(crate) struct Swept {
+pub(crate) struct Records {
     pub bytes: Vec<u8>,
     pub status: u8,
 }
@@ -91,7 +91,7 @@ pub(crate) fn answer_sweep<'a, F: Folder, O: Sink, E: Sink>(
         result }
 {
     match sweep_of(alloc, folder, line.file, words) {
-        Ok(swept) => print_swept(alloc, &swept, console),
+        Ok(swept) => print_records(alloc, &swept, console),
         Err(Unswept::Unset(unset)) => {
             tell_unset(alloc, &unset, console.explains, &mut console.err)
         }
@@ -99,17 +99,17 @@ pub(crate) fn answer_sweep<'a, F: Folder, O: Sink, E: Sink>(
     }
 }
 
-// Prints the records, and answers the status.
-fn print_swept<O: Sink, E: Sink>(alloc: Global, swept: &Swept, console: &mut Console<O, E>) -> u8
+/// Prints the records, and answers the status.
+pub(crate) fn print_records<O: Sink, E: Sink>(alloc: Global, records: &Records, console: &mut Console<O, E>) -> u8
     requires out { O.has_failed console.old.out ≡ false }
     requires err { E.has_failed console.old.err ≡ false }
-    ensures { ((result ≡ swept.now.status) × Appends (O.taken console.old.out)
-        (O.taken console.new.out) swept.now.bytes.items)
+    ensures { ((result ≡ records.now.status) × Appends (O.taken console.old.out)
+        (O.taken console.new.out) records.now.bytes.items)
         ⊎ ((FAILED ≤ result) × (result ≤ MEMORY) × AppendsBeginning (O.taken console.old.out)
-        (O.taken console.new.out) swept.now.bytes.items) }
+        (O.taken console.new.out) records.now.bytes.items) }
 {
-    match put(&mut console.out, swept.bytes.as_slice()) {
-        Ok(()) => swept.status,
+    match put(&mut console.out, records.bytes.as_slice()) {
+        Ok(()) => records.status,
         Err(_) => tell(alloc, Refusal::Output, &mut console.err),
     }
 }
@@ -149,7 +149,7 @@ fn sweep_of<'a, F: Folder>(
     folder: &F,
     file: &'a str,
     words: &[&'a str],
-) -> Result<Swept, Unswept<'a>>
+) -> Result<Records, Unswept<'a>>
     ensures sweep { IfOk result (λ swept. IsSweep (F.holds folder.now) file.now
         (map (λ word. word.now) words.now) swept.bytes.items swept.status) }
     ensures refused { IfErr result (ByRefusal (IsRefusedSweep (F.holds folder.now) file.now
@@ -171,7 +171,7 @@ fn sweep_of<'a, F: Folder>(
         &mut settings,
     )?;
     bytes.extend_from_slice(sizes.bytes.as_slice())?;
-    Ok(Swept {
+    Ok(Records {
         bytes,
         status: sizes.status,
     })
@@ -184,7 +184,7 @@ fn sizes<'a>(
     words: &[&'a str],
     values: &[u32],
     settings: &mut Settings,
-) -> Result<Swept, Unswept<'a>>
+) -> Result<Records, Unswept<'a>>
     ensures sizes { IfOk result (λ sizes.
         AreSizes settings.old text.now values.now sizes.bytes.items sizes.status) }
     ensures refused { IfErr result (ByRefusal (RefusesSizes settings.old text.now values.now)) }
@@ -195,10 +195,11 @@ fn sizes<'a>(
         let ends = push_size(text, words, value, settings, &mut bytes)?;
         status = greater(status, ends);
     }
-    Ok(Swept { bytes, status })
+    Ok(Records { bytes, status })
 }
 
-fn greater(status: u8, other: u8) -> u8
+/// The greater one of two statuses.
+pub(crate) fn greater(status: u8, other: u8) -> u8
     ensures { result ≡ max status other }
 {
     if other > status { other } else { status }

@@ -12,7 +12,7 @@ use Rattle.clap.specs.Matches.{matched_of, raw_values}
 use Rattle.command_data.specs.declared.line.Style.{Style}
 use Rattle.pram_cost.specs.declared.pram.Pram.{Pram}
 use Rattle.command_line.specs.CommandLine.{HasFile, HasFlag, HasModel, HasSettings, HasStyle}
-use Rattle.command_line.specs.CommandLine.{IsFlag, IsModelIfSet}
+use Rattle.command_line.specs.CommandLine.{HasSeed, IsFlag, IsModelIfSet, IsNumberIfSet}
 
 abbrev pub both : {B X Y : Type 0} → (B → X) → (B → Y) → B → X × Y
 both f g b = (f b, g b)
@@ -49,6 +49,13 @@ pub has_flag : (matches : Option (Text × List Row)) (name : Text) (f : Found) (
     HasFlag option matches flag
 has_flag matches name f option flag is holds =
     subst (λ (o : Option (Text × List Row)). HasFlag option o flag) (sym is) holds
+
+-- a seed that was met, or none
+pub has_seed : (matches : Option (Text × List Row)) (name : Text) (f : Found) (seed : Option ℕ) →
+    matches ≡ Some (name, rows_of f) → IsNumberIfSet (codes "random") (rows_of f) seed →
+    HasSeed matches seed
+has_seed matches name f seed is holds =
+    subst (λ (o : Option (Text × List Row)). HasSeed o seed) (sym is) holds
 
 -- a model that was met, or none
 pub has_model : (matches : Option (Text × List Row)) (name : Text) (f : Found)

@@ -1,9 +1,9 @@
 -- Cells that are spelled, and a block that there is, are no bad values.
 use Rattle.std.proofs.Common.{◌≡◌, ◌∙◌, ◌-◌, ℕ, List, Option}
 use Rattle.std.proofs.Common.{None, Some, MatchOption, option_map, arith, ap, codes}
-use Rattle.std.proofs.Common.{refl, subst, sym}
+use Rattle.std.proofs.Common.{refl, subst, sym, true, false}
 use Rattle.std.proofs.Math.Nat.{pow-le-pow_right}
-use Rattle.std.specs.Prelude.{IsSomeAnd, find, option_and_then, slice_get}
+use Rattle.std.specs.Prelude.{IsSome, IsSomeAnd, find, option_and_then, slice_get}
 use Rattle.std.specs.Str.{bytes_eq}
 use Rattle.std.specs.Str.Parse.{digits_value, without_leading_plus}
 use Rattle.clap.specs.Values.{read_as}
@@ -14,8 +14,8 @@ use Rattle.command_data.specs.Manner.{IsGrain, size_of}
 use Rattle.command_data.specs.declared.block.Block.{Block}
 use Rattle.pram_cost.specs.Beyond.{model_named}
 use Rattle.pram_cost.specs.declared.pram.Pram.{Pram}
-use Rattle.command_line.specs.CommandLine.{HasBadBlock, HasBadCells, HasBadModel, IsBlockIfSet}
-use Rattle.command_line.specs.CommandLine.{IsModelIfSet, IsNumberOf}
+use Rattle.command_line.specs.CommandLine.{HasBadBlock, HasBadCells, HasBadModel, HasTwoPlans}
+use Rattle.command_line.specs.CommandLine.{IsBlockIfSet, IsModelIfSet, IsNumberOf}
 
 abbrev value_of : Text → ℕ
 value_of text = digits_value 10 (without_leading_plus text)
@@ -63,6 +63,29 @@ no_block rows block set bad =
     by (Some text) (Some block) none set = bad.bad (subst IsGrain
         (same_number (one_of (codes "block") rows) (size_of block) bad.size set bad.has_block)
         (grain_of block))
+
+-- ---- two plans
+
+one_plan : (found : Option Text) → found ≡ None → IsSome found → ⊥
+one_plan None none some = let e : false ≡ true = some in cc e
+one_plan (Some text) none some = cc none
+
+is_some_text : (found : Option Text) (text : Text) → found ≡ Some text → IsSome found
+is_some_text None text some = cc some
+is_some_text (Some it) text some = refl
+
+pub no_plan : (rows : List Row) → first_of (codes "plan") rows ≡ None → HasTwoPlans rows → ⊥
+no_plan rows none two = one_plan (first_of (codes "plan") rows) none two.0
+
+pub no_seed : (rows : List Row) → first_of (codes "random") rows ≡ None → HasTwoPlans rows → ⊥
+no_seed rows none two = one_plan (first_of (codes "random") rows) none two.1
+
+pub two_plans : (rows : List Row) (plan seed : Text) → first_of (codes "plan") rows ≡ Some plan →
+    first_of (codes "random") rows ≡ Some seed → HasTwoPlans rows
+two_plans rows plan seed named given = (
+  is_some_text (first_of (codes "plan") rows) plan named,
+  is_some_text (first_of (codes "random") rows) seed given,
+)
 
 -- ---- models
 

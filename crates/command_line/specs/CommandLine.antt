@@ -1,8 +1,8 @@
 -- The program's command, and what a line holds of the matches of its words.
 use Rattle.std.specs.Prelude.{◌≡◌, ◌≢◌, ◌<◌, ◌≤◌, ◌⊎◌, ◌-◌, ◌^◌, MatchOption, ℕ, Bool, true, false}
 use Rattle.std.specs.Prelude.{⊤}
-use Rattle.std.specs.Prelude.{List, [], Option, Some, None, Result, IsErrAnd, IsSomeAnd, codes, pos}
-use Rattle.std.specs.Prelude.{IfSome, option_map, unwrap_or}
+use Rattle.std.specs.Prelude.{List, [], Option, Some, None, Result, IsErrAnd, IsSome, IsSomeAnd}
+use Rattle.std.specs.Prelude.{IfSome, codes, map, option_map, pos, unwrap_or}
 use Rattle.std.specs.Str.Parse.{digits_value, without_leading_plus}
 use Rattle.clap.specs.Words.{App, FailsBy, Row, Rule, Text}
 use Rattle.clap.specs.Words.{all_of, fault_of, first_of, kind_of, new_app, new_rule}
@@ -28,6 +28,9 @@ use Rattle.command_data.specs.declared.line.AskOnThreads.TheVariants.{Run, Watch
 use Rattle.command_data.specs.declared.line.Line.{Line}
 use Rattle.command_data.specs.declared.line.Style.{Style}
 use Rattle.command_line.specs.declared.line.Asked.{Asked}
+use Rattle.command_line.specs.declared.line.Given.{Given}
+use Rattle.command_line.specs.declared.line.Given.TheVariants as given
+use Rattle.command_line.specs.declared.line.Judging.{Judging}
 use Rattle.pram_cost.specs.Beyond.{model_named}
 use Rattle.pram_cost.specs.declared.pram.Pram.{Pram}
 
@@ -52,9 +55,13 @@ needed rule = record rule { required = true }
 abbrev pub flag_rule : Text → Rule
 flag_rule name = record (new_rule name) { long = Some name; action = Some SetTrue }
 
--- an option with a value that may stand several times
+-- an argument that may stand several times
+abbrev pub several_rule : Rule → Rule
+several_rule rule = record rule { action = Some Append }
+
+-- an option with a value that may
 abbrev pub list_rule : Text → Rule
-list_rule name = record (option_rule name) { action = Some Append }
+list_rule name = several_rule (option_rule name)
 
 -- NAME FILE [--explain]
 abbrev pub on_text : Text → App
@@ -68,6 +75,10 @@ on_file name = with_rule (on_text name) (list_rule (codes "set"))
 -- sweep FILE [--explain] --set NAME=V,.. [--set NAME=V,..]..
 abbrev pub on_sweep : App
 on_sweep = with_rule (on_text (codes "sweep")) (needed (list_rule (codes "set")))
+
+-- judge EXERCISE [--explain] FILE..
+abbrev pub on_judge : App
+on_judge = with_rule (on_text (codes "judge")) (needed (several_rule (placed_rule (codes "files"))))
 
 -- [--csv] [--why]
 abbrev pub with_style : App → App
@@ -123,9 +134,10 @@ abbrev pub on_watch : App
 on_watch = with_manner (with_rule (with_rule (with_workers (codes "watch"))
     (needed (option_rule (codes "cells")))) (needed (number_rule (codes "rounds") 1 1000000)))
 
--- replay FILE --workers W [--plan P] [--csv]
+-- replay FILE --workers W [--plan P] [--random SEED] [--csv]
 abbrev pub on_replay : App
-on_replay = with_rule (with_workers (codes "replay")) (flag_rule (codes "csv"))
+on_replay = with_rule (with_rule (with_workers (codes "replay"))
+    (number_rule (codes "random") 0 4294967295)) (flag_rule (codes "csv"))
 
 -- the program without its subcommands, of which one must stand
 abbrev pub bare : App
@@ -137,12 +149,13 @@ bare =
 abbrev pub on_machine : App
 on_machine =
     with_subcommand (with_subcommand (with_subcommand (with_subcommand (with_subcommand
-    (with_subcommand bare
+    (with_subcommand (with_subcommand bare
     on_check.top)
     (on_file (codes "compile")).top)
     on_plain.top)
     on_cost.top)
     on_sweep.top)
+    on_judge.top)
     on_steps.top
 
 -- the program's command
@@ -295,18 +308,35 @@ SuitsTerminal on_terminal Silent = ⊤
 SuitsTerminal on_terminal Lines = on_terminal ≡ false
 SuitsTerminal on_terminal OneLine = on_terminal ≡ true
 
--- The line is what was met, and so is whether a refusal is to be explained; what the line tells
--- suits the device.
+-- What was met has this seed of a random plan, if it has one.
+abbrev pub HasSeed : Option (Text × List Row) → Option ℕ → Type 0
+HasSeed matches random = IfSome matches (λ met. IsNumberIfSet (codes "random") met.1 random)
+
+-- The line is what was met, and so is the seed of its random plan, and whether a refusal is to be
+-- explained; what the line tells suits the device.
 pub record IsAskedLine (on_terminal : Bool) (matches : Option (Text × List Row))
     (asked : Asked) : Type 0 where
   pub line : IsMet matches asked.line
   pub telling : SuitsTerminal on_terminal (telling_of asked.line.ask)
+  pub random : HasSeed matches asked.random
   pub explain : HasFlag (codes "explain") matches asked.explain
 
 -- What names are set to: all values of the option, as they stand.
 abbrev pub HasSettings : Option (Text × List Row) → List Text → Type 0
 HasSettings matches settings =
     IfSome matches (λ met. settings ≡ unwrap_or (all_of (codes "set") met.1) [])
+
+-- Submissions were met, in these files, with this exercise.
+pub record IsJudging (matches : Option (Text × List Row)) (judging : Judging) : Type 0 where
+  pub of_file : HasFile matches (codes "judge") judging.exercise.now
+  pub files : all_of (codes "files") of_file.rows ≡ Some (map (λ file. file.now) judging.files.items)
+  pub explain : HasFlag (codes "explain") matches judging.explain
+
+-- What was met is a line, with what names are set to; or submissions.
+abbrev pub IsGiven : Bool → Option (Text × List Row) → Given → Type 0
+IsGiven on_terminal matches (given.Line asked settings) = IsAskedLine on_terminal matches asked
+    × HasSettings matches (map (λ word. word.now) settings.items)
+IsGiven on_terminal matches (given.Judge judging) = IsJudging matches judging
 
 -- What stands for cells names none.
 pub record HasBadCells (rows : List Row) : Type 0 where
@@ -332,6 +362,10 @@ pub record HasBadWindow (rows : List Row) : Type 0 where
 abbrev pub HasBadModel : List Row → Type 0
 HasBadModel rows = option_map model_named (first_of (codes "model") rows) ≡ Some None
 
+-- A plan is named, and there is a seed of a random one.
+abbrev pub HasTwoPlans : List Row → Type 0
+HasTwoPlans rows = IsSome (first_of (codes "plan") rows) × IsSome (first_of (codes "random") rows)
+
 abbrev pub TakesModel : Text → Type 0
 TakesModel name = (name ≡ codes "check") ⊎ ((name ≡ codes "plain") ⊎ (name ≡ codes "cost"))
 
@@ -339,7 +373,8 @@ TakesModel name = (name ≡ codes "check") ⊎ ((name ≡ codes "plain") ⊎ (na
 abbrev pub IsBadIn : Text → List Row → Type 0
 IsBadIn name rows = ((name ≡ codes "watch") × HasBadCells rows)
     ⊎ ((((name ≡ codes "run") ⊎ (name ≡ codes "watch")) × HasBadBlock rows)
-    ⊎ (((name ≡ codes "steps") × HasBadWindow rows) ⊎ (TakesModel name × HasBadModel rows)))
+    ⊎ (((name ≡ codes "steps") × HasBadWindow rows)
+    ⊎ (((name ≡ codes "replay") × HasTwoPlans rows) ⊎ (TakesModel name × HasBadModel rows))))
 
 -- A subcommand was met with a bad value.
 abbrev pub HasBadValue : Option (Text × List Row) → Type 0

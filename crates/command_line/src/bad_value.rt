@@ -2,11 +2,11 @@
 ghost use Rattle.std.specs.Prelude.{◌≡◌, IfOk, IfSome, MatchOption};
 ghost use Rattle.clap.specs.Words.{found_of, kind_of, rows_of, subcommand_rows_of};
 ghost use Rattle.command_line.specs.CommandLine.{HasBadBlock, HasBadCells, HasBadModel};
-ghost use Rattle.command_line.specs.CommandLine.{HasBadValue, HasBadWindow, IsBadIn};
+ghost use Rattle.command_line.specs.CommandLine.{HasBadValue, HasBadWindow, HasTwoPlans, IsBadIn};
 
 use crate::line::{
-    check_command, cost_command, number_if_set, plain_command, run_command, steps_command,
-    watch_command, window_of,
+    check_command, cost_command, number_if_set, plain_command, replay_command, run_command,
+    steps_command, watch_command, window_of,
 };
 use clap::error::ErrorKind;
 use clap::{ArgMatches, Command, Error};
@@ -23,6 +23,8 @@ pub(crate) enum BadValue<'a> {
     Block { watches: bool, text: &'a str },
     /// The window of steps ends before it begins.
     Window { from: u32, to: u32 },
+    /// A plan is named, and there is a seed of a random one.
+    TwoPlans,
     /// This stands for the model of the command of this name, and names none.
     Model { name: &'a str, text: &'a str },
 }
@@ -48,6 +50,7 @@ fn bad_in<'a>(name: &'a str, inner: &ArgMatches<'a>) -> Option<Option<BadValue<'
         "plain" => Some(bad_model(inner, name)),
         "cost" => Some(bad_model(inner, name)),
         "steps" => bad_window(inner),
+        "replay" => Some(bad_plans(inner)),
         "run" => bad_block(inner, false),
         "watch" => match bad_cells(inner)? {
             Some(text) => Some(Some(BadValue::Cells(text))),
@@ -99,6 +102,20 @@ fn bad_window(inner: &ArgMatches<'_>) -> Option<Option<BadValue<'static>>>
     }
 }
 
+fn bad_plans(inner: &ArgMatches<'_>) -> Option<BadValue<'static>>
+    ensures { MatchOption result
+        (¬ HasTwoPlans (rows_of (found_of inner.now)))
+        (λ bad. HasTwoPlans (rows_of (found_of inner.now))) }
+{
+    match inner.get_str("plan") {
+        None => None,
+        Some(_) => match inner.get_str("random") {
+            None => None,
+            Some(_) => Some(BadValue::TwoPlans),
+        },
+    }
+}
+
 fn bad_model<'a>(inner: &ArgMatches<'a>, name: &'a str) -> Option<BadValue<'a>>
     ensures { MatchOption result
         (¬ HasBadModel (rows_of (found_of inner.now)))
@@ -119,6 +136,7 @@ pub(crate) fn value_error(alloc: Global, bad: BadValue<'_>) -> Result<Error, All
         BadValue::Cells(text) => cells_error(alloc, text),
         BadValue::Block { watches, text } => block_error(alloc, watches, text),
         BadValue::Window { from, to } => window_error(alloc, from, to),
+        BadValue::TwoPlans => plans_error(alloc),
         BadValue::Model { name, text } => model_error(alloc, name, text),
     }
 }
@@ -154,6 +172,13 @@ fn window_error(alloc: Global, from: u32, to: u32) -> Result<Error, AllocError>
         "invalid value '{to}' for '--to <B>': there is no step from {from} to {to}"
     )?;
     refused(steps_command(alloc), "pramx steps", message.as_str())
+}
+
+fn plans_error(alloc: Global) -> Result<Error, AllocError>
+    ensures { IfOk result (λ error. kind_of error ≡ ErrorKind.ValueValidation) }
+{
+    let message = "the argument '--plan <P>' cannot be used with '--random <SEED>'";
+    refused(replay_command(alloc), "pramx replay", message)
 }
 
 fn model_error(alloc: Global, name: &str, text: &str) -> Result<Error, AllocError>

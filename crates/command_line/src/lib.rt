@@ -4,4 +4,4 @@
 mod bad_value;
 mod line;
 
-pub use line::{Asked, read_line};
+pub use line::{Asked, Given, Judging, read_line};

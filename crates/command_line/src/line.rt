@@ -7,12 +7,13 @@ ghost use Rattle.clap.specs.Words.{with_rule, with_subcommand};
 ghost use Rattle.command_data.specs.CellLists.{SpellsCells};
 ghost use Rattle.command_data.specs.Manner.{is_told};
 ghost use Rattle.command_line.specs.CommandLine.{AreRefused, FailsByWords, HasManner};
-ghost use Rattle.command_line.specs.CommandLine.{IsAskedLine, IsBlockIfSet, IsMet, IsModelIfSet};
+ghost use Rattle.command_line.specs.CommandLine.{IsAskedLine, IsBlockIfSet, IsGiven, IsJudging};
+ghost use Rattle.command_line.specs.CommandLine.{IsMet, IsModelIfSet};
 ghost use Rattle.command_line.specs.CommandLine.{IsNumberIfSet, IsNumberOf, IsNumberOr};
 ghost use Rattle.command_line.specs.CommandLine.{MeanNoLine, bare};
 ghost use Rattle.command_line.specs.CommandLine.{HasSettings, flag_rule, list_rule, needed};
-ghost use Rattle.command_line.specs.CommandLine.{number_rule, on_file};
-ghost use Rattle.command_line.specs.CommandLine.{on_check, on_cost, on_machine, on_plain};
+ghost use Rattle.command_line.specs.CommandLine.{number_rule, on_file, several_rule};
+ghost use Rattle.command_line.specs.CommandLine.{on_check, on_cost, on_judge, on_machine, on_plain};
 ghost use Rattle.command_line.specs.CommandLine.{on_replay, on_run, on_steps, on_trace};
 ghost use Rattle.command_line.specs.CommandLine.{on_sweep, on_text};
 ghost use Rattle.command_line.specs.CommandLine.{on_watch, option_rule, placed_rule, pramx};
@@ -39,12 +40,14 @@ Examples:
   pramx plain examples/sum.pram --why
   pramx cost examples/prefix.pram
   pramx sweep examples/prefix.pardo --set n=8,16,32
+  pramx judge exercises/prefix.exercise examples/prefix.pardo
   pramx steps examples/prefix.pram --from 1 --to 5
   pramx trace examples/prefix.pardo
   pramx run examples/prefix.pram --workers 4
   pramx run examples/prefix.pram --workers 4 --progress --pace 1000
   pramx watch examples/prefix.pram --workers 4 --cells 0,11 --rounds 3
-  pramx replay examples/prefix.pram --workers 4";
+  pramx replay examples/prefix.pram --workers 4
+  pramx replay examples/prefix.pram --workers 4 --random 7";
 
 /// The most steps of a job.
 const MOST_STEPS: i64 = 4_294_967_295;
@@ -52,12 +55,19 @@ const MOST_STEPS: i64 = 4_294_967_295;
 /// The most rounds of a watch.
 const MOST_ROUNDS: i64 = 1_000_000;
 
+/// The greatest seed of a random plan.
+const MOST_SEED: i64 = 4_294_967_295;
+
 /// The longest pause of a pace, in microseconds.
 const MOST_PACE: i64 = 1_000_000;
 
 // What the help says of the words of a line.
 
 const FILE: &str = "The text of the job; - is standard input";
+
+const EXERCISE: &str = "The exercise; - is standard input";
+
+const SUBMISSIONS: &str = "The submissions; - is standard input";
 
 const EXPLAIN: &str = "Explain a refusal in a sentence, as on a terminal";
 
@@ -83,6 +93,9 @@ const WORKERS: &str = "How many workers there are, from 1 to 64";
 
 const PLAN: &str = "The plan that the workers follow, as CSV; - is standard input";
 
+const RANDOM: &str =
+    "The seed of a random plan, up to 4294967295; the plan is told on standard error";
+
 const CELLS: &str = "The cells that are read, by their numbers, or as places of a program: A[3],s";
 
 const ROUNDS: &str = "How often they are read, from 1 to 1000000";
@@ -97,29 +110,42 @@ const MODEL: &str =
 const BLOCK: &str =
     "How many processors a leaf of the board stands for, a power of two from 1 to 64";
 
-/// What the words ask: a line, and whether a refusal is to be explained.
+/// A line, the seed of the random plan that it is to follow, if there is one, and whether a refusal
+/// is to be explained.
 #[derive(Clone, Copy, Debug, PartialEq, Eq)]
 pub struct Asked<'a> {
     pub line: Line<'a>,
+    pub random: Option<u32>,
     pub explain: bool,
 }
 
+/// Files with submissions, the exercise by which they are judged, and whether a refusal is to be
+/// explained.
+#[derive(Debug, Drop)]
+pub struct Judging<'a> {
+    pub exercise: &'a str,
+    pub files: Vec<&'a str>,
+    pub explain: bool,
+}
+
+/// What the words ask: a line, with what names are set to, or that submissions are judged.
+#[derive(Debug, Drop)]
+pub enum Given<'a> {
+    Line(Asked<'a>, Vec<&'a str>),
+    Judge(Judging<'a>),
+}
+
 /// What the words ask, of which the first is the program's name, where standard error is a terminal
-/// or not, and what they set names to. A call for help or for the version is an error too, as
-/// `clap` has it.
+/// or not. A call for help or for the version is an error too, as `clap` has it.
 // What clap needs of the stack is given back before a line is served.
 #[inline(never)]
 pub fn read_line<'a>(
     alloc: Global,
     words: &'a [&'a str],
     on_terminal: bool,
-) -> Result<(Asked<'a>, Vec<&'a str>), Error>
-    ensures met { IfOk result (λ given.
-        IsAskedLine on_terminal (subcommand_of pramx (map (λ word. word.now) words.entry.now))
-        given.0) }
-    ensures settings { IfOk result (λ given.
-        HasSettings (subcommand_of pramx (map (λ word. word.now) words.entry.now))
-        (map (λ word. word.now) given.1.items)) }
+) -> Result<Given<'a>, Error>
+    ensures given { IfOk result (IsGiven on_terminal
+        (subcommand_of pramx (map (λ word. word.now) words.entry.now))) }
     ensures taken { IfOk result (λ given. ¬ MeanNoLine (map (λ word. word.now)
         words.entry.now)) }
     ensures refused { IfErr result (λ error. kind_of error ≢ ErrorKind.OutOfMemory
@@ -133,10 +159,54 @@ pub fn read_line<'a>(
     if let Some(bad) = found {
         return Err(value_error(alloc, bad)?);
     }
-    match asked_of(&matches, on_terminal) {
-        Some(asked) => Ok((asked, settings_of(alloc, &matches)?)),
+    match given_of(alloc, &matches, on_terminal) {
+        Some(given) => Ok(given),
         None => Err(Error::from(AllocError)),
     }
+}
+
+// What the matches ask, if there is memory for it.
+fn given_of<'a>(
+    alloc: Global,
+    matches: &ArgMatches<'a>,
+    on_terminal: bool,
+) -> Option<Given<'a>>
+    ensures { IfSome result (IsGiven on_terminal (subcommand_rows_of matches.now)) }
+{
+    let Ok(found) = judging_of(alloc, matches) else {
+        return None;
+    };
+    if let Some(judging) = found {
+        return Some(Given::Judge(judging));
+    }
+    let asked = asked_of(matches, on_terminal)?;
+    let Ok(settings) = settings_of(alloc, matches) else {
+        return None;
+    };
+    Some(Given::Line(asked, settings))
+}
+
+// The submissions that are to be judged, if the words ask for that.
+fn judging_of<'a>(
+    alloc: Global,
+    matches: &ArgMatches<'a>,
+) -> Result<Option<Judging<'a>>, AllocError>
+    ensures { IfOk result (λ found. IfSome found (IsJudging (subcommand_rows_of matches.now))) }
+{
+    let Some(("judge", inner)) = matches.subcommand() else {
+        return Ok(None);
+    };
+    let Some(exercise) = inner.get_str("file") else {
+        return Ok(None);
+    };
+    let Some(files) = inner.get_strs("files") else {
+        return Ok(None);
+    };
+    Ok(Some(Judging {
+        exercise,
+        files: Vec::from_slice(alloc, files)?,
+        explain: inner.get_flag("explain"),
+    }))
 }
 
 // What names are set to, each as it was written.
@@ -172,6 +242,7 @@ fn machine_command<'a>(alloc: Global) -> Result<Command<'a>, AllocError>
     let command = with(command, plain_command(alloc));
     let command = with(command, cost_command(alloc));
     let command = with(command, sweep_command(alloc));
+    let command = with(command, judge_command(alloc));
     with(command, steps_command(alloc))
 }
 
@@ -180,7 +251,7 @@ fn bare_command<'a>(alloc: Global) -> Command<'a>
     ensures { app_of result ≡ bare }
 {
     Command::new(alloc, "pramx")
-        .version("0.8.2")
+        .version("0.9.0")
         .about("Runs programs of a synchronous parallel machine with shared memory.")
         .after_help(EXAMPLES)
         .subcommand_required(true)
@@ -266,6 +337,16 @@ fn sweep_command<'a>(alloc: Global) -> Result<Command<'a>, AllocError>
     with_arg(command, needed(list(alloc, "set", "NAME=V,..", SWEPT)))
 }
 
+fn judge_command<'a>(alloc: Global) -> Result<Command<'a>, AllocError>
+    ensures { IfOk result (λ command. app_of command ≡ on_judge) }
+{
+    let about = "Judge submissions by an exercise, and print a record for each";
+    let exercise = placed(alloc, "file", "EXERCISE", EXERCISE);
+    let command = named_command(alloc, "judge", about, exercise);
+    let submissions = placed(alloc, "files", "FILE", SUBMISSIONS);
+    with_arg(command, needed(several(submissions)))
+}
+
 pub(crate) fn steps_command<'a>(alloc: Global) -> Result<Command<'a>, AllocError>
     ensures { IfOk result (λ command. app_of command ≡ on_steps) }
 {
@@ -296,7 +377,7 @@ fn step<'a>(alloc: Global, name: &'a str, value: &'a str, help: &'a str) -> Arg<
     numbered(option, value_parser!(u32).range(1..=MOST_STEPS))
 }
 
-fn replay_command<'a>(alloc: Global) -> Result<Command<'a>, AllocError>
+pub(crate) fn replay_command<'a>(alloc: Global) -> Result<Command<'a>, AllocError>
     ensures { IfOk result (λ command. app_of command ≡ on_replay) }
 {
     let command = workers_command(
@@ -304,7 +385,16 @@ fn replay_command<'a>(alloc: Global) -> Result<Command<'a>, AllocError>
         "replay",
         "Run a job on one thread, and print each step",
     );
+    let command = with_arg(command, random(alloc));
     with_arg(command, flag(alloc, "csv", CSV))
+}
+
+fn random<'a>(alloc: Global) -> Arg<'a>
+    ensures rule { rule_of result ≡ number_rule (codes "random") 0 4294967295 }
+    ensures local { result.global ≡ false }
+{
+    let option = option(alloc, "random", "SEED", RANDOM);
+    numbered(option, value_parser!(u32).range(0..=MOST_SEED))
 }
 
 pub(crate) fn run_command<'a>(alloc: Global) -> Result<Command<'a>, AllocError>
@@ -406,8 +496,21 @@ fn file_command<'a>(alloc: Global, name: &'a str, about: &'a str) -> Result<Comm
 fn text_command<'a>(alloc: Global, name: &'a str, about: &'a str) -> Result<Command<'a>, AllocError>
     ensures { IfOk result (λ command. app_of command ≡ on_text name.entry.now) }
 {
+    named_command(alloc, name, about, placed(alloc, "file", "FILE", FILE))
+}
+
+// A command on a file, which this argument names.
+fn named_command<'a>(
+    alloc: Global,
+    name: &'a str,
+    about: &'a str,
+    file: Arg<'a>,
+) -> Result<Command<'a>, AllocError>
+    requires rule { rule_of file ≡ placed_rule (codes "file") }
+    requires local { file.global ≡ false }
+    ensures { IfOk result (λ command. app_of command ≡ on_text name.entry.now) }
+{
     let command = Command::new(alloc, name).about(about);
-    let file = placed(alloc, "file", "FILE", FILE);
     let command = with_arg(Ok(command), needed(file));
     with_arg(command, flag(alloc, "explain", EXPLAIN))
 }
@@ -436,7 +539,15 @@ fn list<'a>(alloc: Global, name: &'a str, value: &'a str, help: &'a str) -> Arg<
     ensures rule { rule_of result ≡ list_rule name.entry.now }
     ensures local { result.global ≡ false }
 {
-    option(alloc, name, value, help).action(ArgAction::Append)
+    several(option(alloc, name, value, help))
+}
+
+// Makes an argument one that may stand several times.
+fn several<'a>(arg: Arg<'a>) -> Arg<'a>
+    ensures rule { rule_of result ≡ several_rule (rule_of arg.entry) }
+    ensures local { result.global ≡ arg.entry.global }
+{
+    arg.action(ArgAction::Append)
 }
 
 // An option without a value, that stands or does not.
@@ -471,8 +582,10 @@ fn asked_of<'a>(matches: &ArgMatches<'a>, on_terminal: bool) -> Option<Asked<'a>
 {
     let line = line_of(matches, on_terminal)?;
     let (_, inner) = matches.subcommand()?;
+    let random = number_if_set(inner, "random")?;
     Some(Asked {
         line,
+        random,
         explain: inner.get_flag("explain"),
     })
 }

@@ -311,6 +311,8 @@ $ pramx replay job --workers * --plan plan
 4 : same under 0,stop,0~0,go,1~ | 2 plan row=3 kind=AfterStop~
 -- the job is judged before its plan
 4 : pram 1~cells 0~ under 4,go,1~ | 2 text line=2 kind=OutOfLimits~
+$ pramx replay job --workers 4 --random 7
+pram 1~cells 0~ | 2 text line=2 kind=OutOfLimits~
 ";
 
 #[test]

@@ -14,6 +14,8 @@ mod explanations;
 #[cfg(test)]
 mod gallery;
 #[cfg(test)]
+mod judging;
+#[cfg(test)]
 mod lines;
 #[cfg(test)]
 mod named;
@@ -21,6 +23,8 @@ mod named;
 mod programs;
 #[cfg(test)]
 mod progress;
+#[cfg(test)]
+mod random;
 #[cfg(test)]
 mod table;
 #[cfg(test)]

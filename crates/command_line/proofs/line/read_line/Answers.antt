@@ -1,7 +1,6 @@
 use Rattle.std.proofs.Common.{◌≡◌, ◌&&◌, ◌⊎◌, Bool, true, false, Result}
 use Rattle.std.proofs.Common.{Ok, Err, IsErrAnd, IfErr, List, [], inl, inr, refl, subst, sym}
-use Rattle.std.proofs.Common.{MatchOption, Option, Some, None, map}
-use Rattle.std.specs.Borrow.{Bor}
+use Rattle.std.proofs.Common.{MatchOption, Option, Some, None}
 use Rattle.clap.proofs.OnLiterals.{clap_on_literals}
 use Rattle.clap.specs.Words.{App, FailsBy, HasKind, HasMatchesOf, IsAmong, Kinds}
 use Rattle.clap.specs.Words.{Text, fault_of, is_simple_and_free}
@@ -10,7 +9,7 @@ use Rattle.clap.specs.declared.ArgMatches.{ArgMatches}
 use Rattle.clap.specs.declared.error.Error.{Error}
 use Rattle.clap.specs.declared.error.kind.ErrorKind.{ErrorKind}
 use Rattle.clap.specs.declared.error.kind.ErrorKind.TheVariants.{OutOfMemory}
-use Rattle.command_line.specs.CommandLine.{HasBadValue, HasSettings, IsAskedLine, pramx}
+use Rattle.command_line.specs.CommandLine.{HasBadValue, IsGiven, pramx}
 use Rattle.command_line.proofs.line.read_line.Goals as goal
 
 err_from : {T E : Type 0} (r : Result T E) (P Q : E → Type 0) → IsErrAnd r P →
@@ -82,14 +81,14 @@ returns-in_err-matches-clause-kinds c =
     (λ e same. rw same
     (kinds_at _ pramx _ _ c.in_ok-command.ensures is_simple_pramx c.in_err-matches.ensures.kinds)))
 
-pub returns-in-Some-asked_of-clause-met : goal.returns-in-Some-asked_of-clause-met
-returns-in-Some-asked_of-clause-met c =
-    subst (λ met. IsAskedLine c.args.on_terminal met c.in-Some-asked_of.asked)
+pub returns-in-Some-given_of-clause-given : goal.returns-in-Some-given_of-clause-given
+returns-in-Some-given_of-clause-given c =
+    subst (λ met. IsGiven c.args.on_terminal met c.in-Some-given_of.given)
     (same_subcommand _ pramx _ _ c.in_ok-command.ensures is_simple_pramx
-    c.in_ok-matches.ensures.matches) c.in-Some-asked_of.ensures
+    c.in_ok-matches.ensures.matches) c.in-Some-given_of.ensures
 
-pub returns-in-Some-asked_of-clause-kinds : goal.returns-in-Some-asked_of-clause-kinds
-returns-in-Some-asked_of-clause-kinds c =
+pub returns-in-Some-given_of-clause-kinds : goal.returns-in-Some-given_of-clause-kinds
+returns-in-Some-given_of-clause-kinds c =
     inl (no_fault _ pramx _ c.in_ok-command.ensures is_simple_pramx c.in_ok-matches.ensures.kinds)
 
 -- what was looked for among the values
@@ -123,18 +122,11 @@ bad_in_matches : (a b : App) (words : List Text) (m : ArgMatches) → a ≡ b �
 bad_in_matches a b words m same simple matches bad =
     subst (λ met. HasBadValue met) (sym (same_subcommand a b words m same simple matches)) bad
 
-pub returns-in-Some-asked_of-clause-taken : goal.returns-in-Some-asked_of-clause-taken
-returns-in-Some-asked_of-clause-taken c = λ none. elim none [
+pub returns-in-Some-given_of-clause-taken : goal.returns-in-Some-given_of-clause-taken
+returns-in-Some-given_of-clause-taken c = λ none. elim none [
   | inl fault ↦ fault (no_fault _ pramx _ c.in_ok-command.ensures is_simple_pramx
       c.in_ok-matches.ensures.kinds)
   | inr bad ↦ found_none _ _ c.in-Some.ensures c.in_default-found.is
       (bad_in_matches _ pramx _ _ c.in_ok-command.ensures is_simple_pramx
       c.in_ok-matches.ensures.matches bad)
 ]
-
-pub returns-in-Some-asked_of-clause-settings : goal.returns-in-Some-asked_of-clause-settings
-returns-in-Some-asked_of-clause-settings c =
-    let settings = c.in_ok-settings_of-in-Some-asked_of in
-    let given = map (λ (word : Bor Text). word.now) settings.field-0.items in
-    subst (λ met. HasSettings met given) (same_subcommand _ pramx _ _ c.in_ok-command.ensures
-    is_simple_pramx c.in_ok-matches.ensures.matches) settings.ensures

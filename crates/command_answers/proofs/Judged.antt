@@ -1,0 +1,66 @@
+-- The records of judged submissions, one after the other.
+use Rattle.std.proofs.Common.{◌≡◌, ◌∙◌, ◌+◌, ◌<◌, ◌≤◌, ◌⊎◌, ℕ, Bool, true, false, List, [], ◌∷◌, ◌++◌}
+use Rattle.std.proofs.Common.{ap, append_assoc, arith, get_or, inl, inr, length, max, refl, subst}
+use Rattle.std.proofs.Common.{sym, take, Option}
+use Rattle.std.proofs.lemmas.List.{append-nil, map-append, take_all, take_more}
+use Rattle.std.specs.Borrow.{Bor}
+use Rattle.clap.specs.Words.{Text}
+use Rattle.exercise_judge.specs.Trials.{TrialData}
+use Rattle.command_answers.specs.Judging.{AreRecords, IsSaid, record_of, status_of}
+use Rattle.command_answers.specs.declared.judging.Said.{Said}
+use Rattle.command_answers.proofs.Texts.{texts_of}
+
+module _ (Holds : List ℕ → Option (List ℕ) → Type 0) (trials : List TrialData) where
+  -- one record more after others
+  records_next : (files : List Text) (file : Text) (said : Said) (bytes : List ℕ) (status : ℕ) →
+      AreRecords Holds trials files bytes status → IsSaid Holds trials file said →
+      AreRecords Holds trials (files ++ file ∷ []) (bytes ++ record_of file said)
+      (max status (status_of said.passed))
+  records_next [] file said bytes status so_far is = (
+    said,
+    [],
+    0,
+    is,
+    (refl, refl),
+    (let e : bytes ++ record_of file said ≡ record_of file said ++ [] =
+    rw so_far.0 (sym (append-nil (record_of file said))) in e),
+    (let e : max status (status_of said.passed) ≡ max (status_of said.passed) 0 =
+    rw so_far.1 (omega arith) in e),
+  )
+  records_next (first ∷ files) file said bytes status
+      (head, rest, later, one, others, same, most) is =
+      let more = records_next files file said rest later others is in (
+        head,
+        rest ++ record_of file said,
+        max later (status_of said.passed),
+        one,
+        more,
+        ap (λ b. b ++ record_of file said) same
+            ∙ append_assoc (record_of first head) rest (record_of file said),
+        (let e : max status (status_of said.passed)
+        ≡ max (status_of head.passed) (max later (status_of said.passed)) =
+        rw most (omega arith) in e),
+      )
+
+  -- the records so far
+  pub records_more : (files : List (Bor Text)) (at : ℕ) (d : Bor Text) (said : Said)
+      (bytes : List ℕ) (status : ℕ) → at < length files →
+      AreRecords Holds trials (texts_of (take at files)) bytes status →
+      IsSaid Holds trials (get_or files at d).now said →
+      AreRecords Holds trials (texts_of (take (at + 1) files))
+      (bytes ++ record_of (get_or files at d).now said) (max status (status_of said.passed))
+  records_more files at d said bytes status within so_far is =
+      let file = (get_or files at d).now in
+      let texts : texts_of (take (at + 1) files) ≡ texts_of (take at files) ++ file ∷ [] =
+      ap texts_of (take_more files at d within)
+      ∙ map-append (λ (word : Bor Text). word.now) (take at files) (get_or files at d ∷ []) in
+      subst (λ (all : List Text). AreRecords Holds trials all (bytes ++ record_of file said)
+      (max status (status_of said.passed))) (sym texts)
+      (records_next (texts_of (take at files)) file said bytes status so_far is)
+
+  pub records_all : (files : List (Bor Text)) (at : ℕ) (bytes : List ℕ) (status : ℕ) →
+      length files ≤ at → AreRecords Holds trials (texts_of (take at files)) bytes status →
+      AreRecords Holds trials (texts_of files) bytes status
+  records_all files at bytes status over all =
+      subst (λ (l : List (Bor Text)). AreRecords Holds trials (texts_of l) bytes status)
+      (take_all at files over) all

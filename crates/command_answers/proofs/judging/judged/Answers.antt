@@ -1,0 +1,1 @@
+use Rattle.command_answers.proofs.judging.judged.Goals as goal

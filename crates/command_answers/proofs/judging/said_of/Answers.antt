@@ -1,0 +1,1 @@
+use Rattle.command_answers.proofs.judging.said_of.Goals as goal

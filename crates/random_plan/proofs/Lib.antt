@@ -1,0 +1,3 @@
+pub mod Living
+pub mod Rows
+pub mod Readable

@@ -1,0 +1,3 @@
+pub mod Random
+pub mod Texts
+pub mod Laws
