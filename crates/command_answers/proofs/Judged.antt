@@ -1,12 +1,12 @@
 -- The records of judged submissions, one after the other.
 use Rattle.std.proofs.Common.{◌≡◌, ◌∙◌, ◌+◌, ◌<◌, ◌≤◌, ◌⊎◌, ℕ, Bool, true, false, List, [], ◌∷◌, ◌++◌}
 use Rattle.std.proofs.Common.{ap, append_assoc, arith, get_or, inl, inr, length, max, refl, subst}
-use Rattle.std.proofs.Common.{sym, take, Option}
+use Rattle.std.proofs.Common.{codes, sym, take, Option}
 use Rattle.std.proofs.lemmas.List.{append-nil, map-append, take_all, take_more}
 use Rattle.std.specs.Borrow.{Bor}
 use Rattle.clap.specs.Words.{Text}
 use Rattle.exercise_judge.specs.Trials.{TrialData}
-use Rattle.command_answers.specs.Judging.{AreRecords, IsSaid, record_of, status_of}
+use Rattle.command_answers.specs.Judging.{AreRecords, IsSaid, judged_text, record_of, status_of}
 use Rattle.command_answers.specs.declared.judging.Said.{Said}
 use Rattle.command_answers.proofs.Texts.{texts_of}
 
@@ -23,9 +23,9 @@ module _ (Holds : List ℕ → Option (List ℕ) → Type 0) (trials : List Tria
     is,
     (refl, refl),
     (let e : bytes ++ record_of file said ≡ record_of file said ++ [] =
-    rw so_far.0 (sym (append-nil (record_of file said))) in e),
+        rw so_far.0 (sym (append-nil (record_of file said))) in e),
     (let e : max status (status_of said.passed) ≡ max (status_of said.passed) 0 =
-    rw so_far.1 (omega arith) in e),
+        rw so_far.1 (omega arith) in e),
   )
   records_next (first ∷ files) file said bytes status
       (head, rest, later, one, others, same, most) is =
@@ -38,8 +38,8 @@ module _ (Holds : List ℕ → Option (List ℕ) → Type 0) (trials : List Tria
         ap (λ b. b ++ record_of file said) same
             ∙ append_assoc (record_of first head) rest (record_of file said),
         (let e : max status (status_of said.passed)
-        ≡ max (status_of head.passed) (max later (status_of said.passed)) =
-        rw most (omega arith) in e),
+            ≡ max (status_of head.passed) (max later (status_of said.passed)) =
+            rw most (omega arith) in e),
       )
 
   -- the records so far
@@ -57,6 +57,22 @@ module _ (Holds : List ℕ → Option (List ℕ) → Type 0) (trials : List Tria
       subst (λ (all : List Text). AreRecords Holds trials all (bytes ++ record_of file said)
       (max status (status_of said.passed))) (sym texts)
       (records_next (texts_of (take at files)) file said bytes status so_far is)
+
+  -- and written after a header
+  pub records_made : (files : List (Bor Text)) (at : ℕ) (d : Bor Text) (said : Said) (status : ℕ)
+      (old new : List ℕ) → at < length files →
+      ((records : List ℕ) × AreRecords Holds trials (texts_of (take at files)) records status
+      × (old ≡ judged_text records)) → IsSaid Holds trials (get_or files at d).now said →
+      new ≡ old ++ record_of (get_or files at d).now said →
+      (records : List ℕ) × AreRecords Holds trials (texts_of (take (at + 1) files)) records
+      (max status (status_of said.passed)) × (new ≡ judged_text records)
+  records_made files at d said status old new within (records, so_far, text) is written =
+      let one = record_of (get_or files at d).now said in (
+        records ++ one,
+        records_more files at d said records status within so_far is,
+        written ∙ ap (λ (bytes : List ℕ). bytes ++ one) text
+            ∙ append_assoc (codes "file,passed,input,what\n") records one,
+      )
 
   pub records_all : (files : List (Bor Text)) (at : ℕ) (bytes : List ℕ) (status : ℕ) →
       length files ≤ at → AreRecords Holds trials (texts_of (take at files)) bytes status →

@@ -34,10 +34,10 @@ no_random : (ask : Ask) (asks : AskOnThreads) (seed : Option ℕ) → ask ≡ On
 no_random ask asks seed threads = ap (λ (a : Ask). random_text a seed) threads
 
 -- what is done without one
-pub own_so : {A : Type 0} {B : List ℕ → Type 0} (plan : Option (List ℕ)) → plan ≡ None → A →
+pub own_so : {A : Type 0} (B : List ℕ → Type 0) (plan : Option (List ℕ)) → plan ≡ None → A →
     MatchOption plan A B
-own_so None none own = own
-own_so (Some plan) none own = cc none
+own_so B None none own = own
+own_so B (Some plan) none own = cc none
 
 module _ (Holds : List ℕ → Option (List ℕ) → Type 0) (Fails : Type 0) (writes : Writing)
     (status : ℕ) where
@@ -60,7 +60,7 @@ module _ (Holds : List ℕ → Option (List ℕ) → Type 0) (Fails : Type 0) (w
         met = met;
         given = given;
         sets = sets;
-        serves = own_so (random_text asked.line.ask asked.random)
+        serves = own_so _ (random_text asked.line.ask asked.random)
             (no_random asked.line.ask asks asked.random threads) (inl (
               none,
               subst (λ (l : Line). ServesFiles Holds Fails l writes status) same serves,
@@ -73,7 +73,7 @@ module _ (Holds : List ℕ → Option (List ℕ) → Type 0) (Fails : Type 0) (w
         met = met;
         given = given;
         sets = sets;
-        serves = own_so (random_text asked.line.ask asked.random)
+        serves = own_so _ (random_text asked.line.ask asked.random)
             (no_random asked.line.ask asks asked.random threads)
             (inr (served_so _ _ (is_sweep asked.line.ask) (ap is_sweep threads) (inl (record {
               text = text.items;

@@ -11,7 +11,7 @@ ghost use Rattle.command_answers.specs.Judging.{AnswersJudging, AreRecords, ByEx
 ghost use Rattle.command_answers.specs.Judging.{IsOfExercise, IsSaid, IsSaidOf, judged_text};
 ghost use Rattle.command_answers.specs.Judging.{record_of, status_of, unjudged_status};
 
-use crate::setting::{taken, unset};
+use crate::setting::taken;
 use crate::sweep::{Records, greater, print_records};
 use command_line::Judging;
 use csv::Writer;
@@ -20,9 +20,7 @@ use exercise_judge::{
     trials_of,
 };
 use exercise_words::{push_exercise_fault, push_unfit, push_wrong};
-use pram_commands::{
-    Console, DONE, Folder, MEMORY, REFUSED, Refusal, Unset, tell, tell_unset,
-};
+use pram_commands::{Console, DONE, Folder, MEMORY, REFUSED, Refusal, Unset, tell, tell_unset};
 use pram_streams::{Reason, Sink, push_labelled, put};
 use std::alloc::{AllocError, Global};
 use std::io::Write;
@@ -59,7 +57,10 @@ impl<'a> From<AllocError> for Unjudged<'a> {
     ghost from_gives = { λ _ made. made ≡ Unset (record { refusal = Memory; reason = Unknown }) };
 
     fn from(_error: AllocError) -> Unjudged<'a> {
-        Unjudged::Unset(unset(Refusal::Memory))
+        Unjudged::Unset(Unset {
+            refusal: Refusal::Memory,
+            reason: Reason::Unknown,
+        })
     }
 }
 
@@ -262,10 +263,12 @@ fn tell_unjudged<O: Sink, E: Sink>(
         }
         Unjudged::Fault(fault) if fault.kind == ExerciseKind::Memory => Err(AllocError),
         Unjudged::Fault(fault) => fault_words(alloc, file, fault, console.explains),
-        Unjudged::Unfit(Unfit {
-            kind: UnfitKind::Memory,
-            ..
-        }) => Err(AllocError),
+        Unjudged::Unfit(
+            Unfit {
+                kind: UnfitKind::Memory,
+                ..
+            },
+        ) => Err(AllocError),
         Unjudged::Unfit(unfit) => unfit_words(alloc, file, unfit, console.explains),
     };
     match words {

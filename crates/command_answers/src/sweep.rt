@@ -100,7 +100,11 @@ pub(crate) fn answer_sweep<'a, F: Folder, O: Sink, E: Sink>(
 }
 
 /// Prints the records, and answers the status.
-pub(crate) fn print_records<O: Sink, E: Sink>(alloc: Global, records: &Records, console: &mut Console<O, E>) -> u8
+pub(crate) fn print_records<O: Sink, E: Sink>(
+    alloc: Global,
+    records: &Records,
+    console: &mut Console<O, E>,
+) -> u8
     requires out { O.has_failed console.old.out ≡ false }
     requires err { E.has_failed console.old.err ≡ false }
     ensures { ((result ≡ records.now.status) × Appends (O.taken console.old.out)

@@ -166,11 +166,7 @@ pub fn read_line<'a>(
 }
 
 // What the matches ask, if there is memory for it.
-fn given_of<'a>(
-    alloc: Global,
-    matches: &ArgMatches<'a>,
-    on_terminal: bool,
-) -> Option<Given<'a>>
+fn given_of<'a>(alloc: Global, matches: &ArgMatches<'a>, on_terminal: bool) -> Option<Given<'a>>
     ensures { IfSome result (IsGiven on_terminal (subcommand_rows_of matches.now)) }
 {
     let Ok(found) = judging_of(alloc, matches) else {
@@ -251,7 +247,7 @@ fn bare_command<'a>(alloc: Global) -> Command<'a>
     ensures { app_of result ≡ bare }
 {
     Command::new(alloc, "pramx")
-        .version("0.9.0")
+        .version("0.8.2")
         .about("Runs programs of a synchronous parallel machine with shared memory.")
         .after_help(EXAMPLES)
         .subcommand_required(true)

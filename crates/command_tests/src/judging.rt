@@ -32,7 +32,8 @@ const RIGHT: &[u8] = b"pardo 1\nrule crew\nconst n = 4\nprocs i < n\nshared A[n]
 const WRONG: &[u8] = b"pardo 1\nrule crew\nconst n = 4\nprocs i < n\nshared A[n] = 0\ncode\n\
     A[i] := A[i] + 1\n";
 
-const BAD: &[u8] = b"pardo 1\nrule crew\nconst n = 4\nprocs i < n\nshared A[n] = 0\ncode\nA[i] = 2\n";
+const BAD: &[u8] =
+    b"pardo 1\nrule crew\nconst n = 4\nprocs i < n\nshared A[n] = 0\ncode\nA[i] = 2\n";
 
 const ENDLESS: &[u8] = b"pardo 1\nrule crew\nconst n = 4\nprocs i < n\nshared A[n] = 0\ncode\n\
     while 1\nA[i] := 1\nend\n";

@@ -6,10 +6,11 @@ use Rattle.clap.specs.Words.{IsAmong, Text, kind_of, subcommand_of}
 use Rattle.clap.specs.declared.error.Error.{Error}
 use Rattle.clap.specs.declared.error.kind.ErrorKind.{ErrorKind}
 use Rattle.clap.specs.declared.error.kind.ErrorKind.TheVariants.{OutOfMemory}
-use Rattle.command_line.specs.CommandLine.{FailsByWords, HasSettings, MeanNoLine, pramx}
-use Rattle.command_line.specs.declared.line.Asked.{Asked}
+use Rattle.command_line.specs.CommandLine.{FailsByWords, HasSettings, IsGiven, MeanNoLine, pramx}
+use Rattle.command_line.specs.declared.line.Given.TheVariants as given
+use Rattle.command_line.specs.declared.line.Given.{Given}
 use Rattle.command_answers.proofs.Texts.{texts_of}
-use Rattle.command_answers.proofs.Waited.{set_most}
+use Rattle.command_answers.proofs.Waited.{asked_most, judging_most}
 use Rattle.command_answers.proofs.answer.answer_alone.Goals as goal
 
 -- memory ran out, or it did not
@@ -30,7 +31,7 @@ finds_fault error kinds other (inr among) = has_kinds (kind_of error) kinds amon
 
 -- so the words mean no line
 means_none : (words : List Text) (error : Error) → kind_of error ≢ OutOfMemory →
-    FailsByWords {T = Asked} words (Err error) → MeanNoLine words
+    FailsByWords {T = Given} words (Err error) → MeanNoLine words
 means_none words error other (inl fails) = inl (finds_fault error _ other fails)
 means_none words error other (inr bad) = inr bad.0
 
@@ -41,59 +42,72 @@ returns-in-Err-clause-answers g c = elim (memory_or_not (kind_of c.in-Err.error)
       c.in-Err.ensures.kinds)))
 ]
 
--- no words have no texts
-no_texts : (words shown : List (Bor Text)) → shown ≡ words → length shown < 1 →
-    texts_of words ≡ []
-no_texts words [] same below = ap texts_of (sym same)
-no_texts words (word ∷ rest) same below = absurd (omega (arith, below))
+-- a line, and names that are set
+pub returns-in-Ok-Line-clause-status : goal.returns-in-Ok-Line-clause-status
+returns-in-Ok-Line-clause-status g c = IfOk-weaker c.answer_asked.result _ _
+    (λ status serves. elim serves [
+      | inl asked ↦ asked_most _ _ c.in-Ok-Line.asked _ _ status asked
+      | inr starves ↦ (let five = starves.0 in omega (arith, five))
+    ]) c.answer_asked.ensures.served
 
-pub returns-in-empty-clause-line : goal.returns-in-empty-clause-line
-returns-in-empty-clause-line g c =
-    let below = c.in-empty.len_below in
-    let words = c.in-Ok.given.1.items in
+pub returns-in-Ok-Line-clause-words : goal.returns-in-Ok-Line-clause-words
+returns-in-Ok-Line-clause-words g c = IfOk-weaker c.answer_asked.result _ _
+    (λ status serves means. absurd (c.in-Ok-Line.ensures.taken means))
+    c.answer_asked.ensures.served
+
+pub returns-in-Ok-Line-clause-answers : goal.returns-in-Ok-Line-clause-answers
+returns-in-Ok-Line-clause-answers g c = IfOk-weaker c.answer_asked.result _ _
+    (λ status serves. elim serves [
+      | inl asked ↦
+          let is : c.in-Ok-Line.field-0 ≡ given.Line c.in-Ok-Line.asked c.in-Ok-Line.settings =
+          c.in-Ok-Line.field-0-is in
+          let met : IsGiven c.args.console.now.is_terminal (subcommand_of pramx
+          (texts_of c.args.words.now)) (given.Line c.in-Ok-Line.asked c.in-Ok-Line.settings) =
+          subst (IsGiven c.args.console.now.is_terminal (subcommand_of pramx
+          (texts_of c.args.words.now))) is c.in-Ok-Line.ensures.given in
+          inl (record {
+            asked = c.in-Ok-Line.asked;
+            met = met.0;
+            given = texts_of c.as_slice.result.now;
+            sets = subst (λ (all : List (Bor Text)). HasSettings (subcommand_of pramx
+                (texts_of c.args.words.now)) (texts_of all)) (sym c.as_slice.ensures.value) met.1;
+            serves = asked;
+          })
+      | inr starves ↦ inr (inr (inr starves))
+    ]) c.answer_asked.ensures.served
+
+pub returns-in-Ok-Line-clause-line : goal.returns-in-Ok-Line-clause-line
+returns-in-Ok-Line-clause-line g c = IfErr-weaker c.answer_asked.result _ _
+    (λ waiting waits.
+    let is : c.in-Ok-Line.field-0 ≡ given.Line c.in-Ok-Line.asked c.in-Ok-Line.settings =
+    c.in-Ok-Line.field-0-is in
+    let met : IsGiven c.args.console.now.is_terminal (subcommand_of pramx
+    (texts_of c.args.words.now)) (given.Line c.in-Ok-Line.asked c.in-Ok-Line.settings) =
+    subst (IsGiven c.args.console.now.is_terminal (subcommand_of pramx
+    (texts_of c.args.words.now))) is c.in-Ok-Line.ensures.given in
     record {
-      asked = c.in-Ok.given.0;
-      met = c.in-Ok.ensures.met;
-      given = texts_of words;
-      sets = c.in-Ok.ensures.settings;
-      taken = c.in-Ok.ensures.taken;
-      waits = record {
-        is = refl;
-        text = no_texts words c.as_slice.result.now c.as_slice.ensures.value (omega (arith, below));
-        asks = c.in-OnThreads.field-0;
-        threads = c.in-OnThreads.is;
-      };
-    }
-
-pub returns-clause-status : goal.returns-clause-status
-returns-clause-status g c = IfOk-weaker c.answer_set.result _ _
-    (λ status serves. set_most _ _ _ _ _ status serves) c.answer_set.ensures.served
-
-pub returns-clause-words : goal.returns-clause-words
-returns-clause-words g c = IfOk-weaker c.answer_set.result _ _
-    (λ status serves means. absurd (c.in-Ok.ensures.taken means)) c.answer_set.ensures.served
-
-pub returns-clause-answers : goal.returns-clause-answers
-returns-clause-answers g c = IfOk-weaker c.answer_set.result _ _
-    (λ status serves. inr (inl (record {
-      asked = c.in-Ok.given.0;
-      met = c.in-Ok.ensures.met;
+      asked = c.in-Ok-Line.asked;
+      met = met.0;
       given = texts_of c.as_slice.result.now;
       sets = subst (λ (all : List (Bor Text)). HasSettings (subcommand_of pramx
-          (texts_of c.args.words.now)) (texts_of all)) (sym c.as_slice.ensures.value)
-          c.in-Ok.ensures.settings;
-      serves = serves;
-    }))) c.answer_set.ensures.served
-
-pub returns-clause-line : goal.returns-clause-line
-returns-clause-line g c = IfErr-weaker c.answer_set.result _ _
-    (λ waiting waits. record {
-      asked = c.in-Ok.given.0;
-      met = c.in-Ok.ensures.met;
-      given = texts_of c.as_slice.result.now;
-      sets = subst (λ (all : List (Bor Text)). HasSettings (subcommand_of pramx
-          (texts_of c.args.words.now)) (texts_of all)) (sym c.as_slice.ensures.value)
-          c.in-Ok.ensures.settings;
-      taken = c.in-Ok.ensures.taken;
+          (texts_of c.args.words.now)) (texts_of all)) (sym c.as_slice.ensures.value) met.1;
+      taken = c.in-Ok-Line.ensures.taken;
       waits = waits;
-    }) c.answer_set.ensures.waiting
+    }) c.answer_asked.ensures.waiting
+
+-- submissions
+pub returns-in-Ok-Judge-clause-status : goal.returns-in-Ok-Judge-clause-status
+returns-in-Ok-Judge-clause-status g c = judging_most _ _ _ _ _ c.answer_judging.ensures
+
+pub returns-in-Ok-Judge-clause-words : goal.returns-in-Ok-Judge-clause-words
+returns-in-Ok-Judge-clause-words g c = λ means. absurd (c.in-Ok-Judge.ensures.taken means)
+
+pub returns-in-Ok-Judge-clause-answers : goal.returns-in-Ok-Judge-clause-answers
+returns-in-Ok-Judge-clause-answers g c =
+    let is : c.in-Ok-Judge.field-0 ≡ given.Judge c.in-Ok-Judge.judging = c.in-Ok-Judge.field-0-is in
+    inr (inl (record {
+      judging = c.in-Ok-Judge.judging;
+      met = subst (IsGiven c.args.console.now.is_terminal (subcommand_of pramx
+          (texts_of c.args.words.now))) is c.in-Ok-Judge.ensures.given;
+      judges = c.answer_judging.ensures;
+    }))
