@@ -1,7 +1,7 @@
 //! Judged submissions: what is printed, and the status.
 ghost use Rattle.std.specs.Prelude.{⊤};
 
-use crate::table::{AMPLE, Room, answer, lines_of};
+use crate::table::{AMPLE, answer, lines_of};
 use pram_commands::{Bytes, Folder};
 use std::str::from_utf8;
 use std::test::Fail;
@@ -32,12 +32,6 @@ const RIGHT: &[u8] = b"pardo 1\nrule crew\nconst n = 4\nprocs i < n\nshared A[n]
 const WRONG: &[u8] = b"pardo 1\nrule crew\nconst n = 4\nprocs i < n\nshared A[n] = 0\ncode\n\
     A[i] := A[i] + 1\n";
 
-const BAD: &[u8] =
-    b"pardo 1\nrule crew\nconst n = 4\nprocs i < n\nshared A[n] = 0\ncode\nA[i] = 2\n";
-
-const ENDLESS: &[u8] = b"pardo 1\nrule crew\nconst n = 4\nprocs i < n\nshared A[n] = 0\ncode\n\
-    while 1\nA[i] := 1\nend\n";
-
 /// Files by their names.
 #[derive(Drop)]
 struct Desk;
@@ -52,8 +46,6 @@ impl Folder for Desk {
             "double" => DOUBLE,
             "right" => RIGHT,
             "wrong" => WRONG,
-            "bad" => BAD,
-            "endless" => ENDLESS,
             _ => b"",
         })
     }
@@ -61,12 +53,12 @@ impl Folder for Desk {
 
 // Words, the status, and what the output and standard error took.
 const ROWS: &str = "\
-judge double right -> 0 file,passed,input,what~right,yes,,~ ;
-judge double right wrong odd,name -> 1 file,passed,input,what~right,yes,,~\
-    wrong,no,1,\"A[0] holds 1, wanted 0\"~{} ;
-judge nothing right -> 2 ; exercise line=1 kind=BadHeader~
-judge nothing right --explain -> 2 ; exercise line=1 kind=BadHeader~\
-    nothing: line 1: the first line must be exercise 1~";
+judge double right -> 0 file,passed,input,what~right,yes,,~;
+judge double right wrong -> 1 file,passed,input,what~right,yes,,~wrong,no,1,\"A[0] holds 1, wanted \
+    0\"~;
+judge nothing right -> 2 ;exercise line=1 kind=BadHeader~
+judge nothing right --explain -> 2 ;exercise line=1 kind=BadHeader~nothing: line 1: the first line \
+    must be exercise 1~";
 
 #[test]
 fn submissions_have_records(rt: HostRuntime) -> Result<(), Fail> {
