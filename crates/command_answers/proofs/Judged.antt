@@ -1,20 +1,20 @@
 -- The records of judged submissions, one after the other.
 use Rattle.std.proofs.Common.{◌≡◌, ◌∙◌, ◌+◌, ◌<◌, ◌≤◌, ◌⊎◌, ℕ, Bool, true, false, List, [], ◌∷◌, ◌++◌}
 use Rattle.std.proofs.Common.{ap, append_assoc, arith, get_or, inl, inr, length, max, refl, subst}
-use Rattle.std.proofs.Common.{codes, sym, take, Option}
+use Rattle.std.proofs.Common.{codes, sym, take}
 use Rattle.std.proofs.lemmas.List.{append-nil, map-append, take_all, take_more}
 use Rattle.std.specs.Borrow.{Bor}
 use Rattle.clap.specs.Words.{Text}
 use Rattle.exercise_judge.specs.Trials.{TrialData}
-use Rattle.command_answers.specs.Judging.{AreRecords, IsSaid, judged_text, record_of, status_of}
-use Rattle.command_answers.specs.declared.judging.Said.{Said}
+use Rattle.exercise_records.specs.Records.{AreRecords, IsSaidOf, judged_text, record_of, status_of}
+use Rattle.exercise_records.specs.declared.said.Said.{Said}
 use Rattle.command_answers.proofs.Texts.{texts_of}
 
-module _ (Holds : List ℕ → Option (List ℕ) → Type 0) (trials : List TrialData) where
+module _ (Gives : List ℕ → List ℕ → Type 0) (trials : List TrialData) where
   -- one record more after others
   records_next : (files : List Text) (file : Text) (said : Said) (bytes : List ℕ) (status : ℕ) →
-      AreRecords Holds trials files bytes status → IsSaid Holds trials file said →
-      AreRecords Holds trials (files ++ file ∷ []) (bytes ++ record_of file said)
+      AreRecords Gives trials files bytes status → IsSaidOf Gives trials file said →
+      AreRecords Gives trials (files ++ file ∷ []) (bytes ++ record_of file said)
       (max status (status_of said.passed))
   records_next [] file said bytes status so_far is = (
     said,
@@ -45,26 +45,26 @@ module _ (Holds : List ℕ → Option (List ℕ) → Type 0) (trials : List Tria
   -- the records so far
   pub records_more : (files : List (Bor Text)) (at : ℕ) (d : Bor Text) (said : Said)
       (bytes : List ℕ) (status : ℕ) → at < length files →
-      AreRecords Holds trials (texts_of (take at files)) bytes status →
-      IsSaid Holds trials (get_or files at d).now said →
-      AreRecords Holds trials (texts_of (take (at + 1) files))
+      AreRecords Gives trials (texts_of (take at files)) bytes status →
+      IsSaidOf Gives trials (get_or files at d).now said →
+      AreRecords Gives trials (texts_of (take (at + 1) files))
       (bytes ++ record_of (get_or files at d).now said) (max status (status_of said.passed))
   records_more files at d said bytes status within so_far is =
       let file = (get_or files at d).now in
       let texts : texts_of (take (at + 1) files) ≡ texts_of (take at files) ++ file ∷ [] =
       ap texts_of (take_more files at d within)
       ∙ map-append (λ (word : Bor Text). word.now) (take at files) (get_or files at d ∷ []) in
-      subst (λ (all : List Text). AreRecords Holds trials all (bytes ++ record_of file said)
+      subst (λ (all : List Text). AreRecords Gives trials all (bytes ++ record_of file said)
       (max status (status_of said.passed))) (sym texts)
       (records_next (texts_of (take at files)) file said bytes status so_far is)
 
   -- and written after a header
   pub records_made : (files : List (Bor Text)) (at : ℕ) (d : Bor Text) (said : Said) (status : ℕ)
       (old new : List ℕ) → at < length files →
-      ((records : List ℕ) × AreRecords Holds trials (texts_of (take at files)) records status
-      × (old ≡ judged_text records)) → IsSaid Holds trials (get_or files at d).now said →
+      ((records : List ℕ) × AreRecords Gives trials (texts_of (take at files)) records status
+      × (old ≡ judged_text records)) → IsSaidOf Gives trials (get_or files at d).now said →
       new ≡ old ++ record_of (get_or files at d).now said →
-      (records : List ℕ) × AreRecords Holds trials (texts_of (take (at + 1) files)) records
+      (records : List ℕ) × AreRecords Gives trials (texts_of (take (at + 1) files)) records
       (max status (status_of said.passed)) × (new ≡ judged_text records)
   records_made files at d said status old new within (records, so_far, text) is written =
       let one = record_of (get_or files at d).now said in (
@@ -75,8 +75,8 @@ module _ (Holds : List ℕ → Option (List ℕ) → Type 0) (trials : List Tria
       )
 
   pub records_all : (files : List (Bor Text)) (at : ℕ) (bytes : List ℕ) (status : ℕ) →
-      length files ≤ at → AreRecords Holds trials (texts_of (take at files)) bytes status →
-      AreRecords Holds trials (texts_of files) bytes status
+      length files ≤ at → AreRecords Gives trials (texts_of (take at files)) bytes status →
+      AreRecords Gives trials (texts_of files) bytes status
   records_all files at bytes status over all =
-      subst (λ (l : List (Bor Text)). AreRecords Holds trials (texts_of l) bytes status)
+      subst (λ (l : List (Bor Text)). AreRecords Gives trials (texts_of l) bytes status)
       (take_all at files over) all

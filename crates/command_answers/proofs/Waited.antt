@@ -22,7 +22,8 @@ use Rattle.command_answers.specs.Answering.{AnswersWords, IsTextIfSet, RefusesSe
 use Rattle.command_answers.specs.Answering.{ServesLineSet, ServesOrRefusesSet, ServesOwn}
 use Rattle.command_answers.specs.Answering.{ServesWaiting, is_sweep}
 use Rattle.exercise_judge.specs.Trials.{TrialData}
-use Rattle.command_answers.specs.Judging.{AnswersJudging, AreRecords, status_of}
+use Rattle.exercise_records.specs.Records.{AreRecords, status_of}
+use Rattle.command_answers.specs.Judging.{AnswersJudging}
 use Rattle.command_answers.specs.Random.{AnswersByPlan, random_text}
 use Rattle.command_answers.specs.Setting.{IsRefusedSet}
 use Rattle.command_answers.specs.Sweeping.{AreSizes, IsRefusedSweep, ServesSweep}
@@ -163,13 +164,12 @@ asked_most Holds Fails asked given writes status serves =
     by (Some plan) answers = plan_most Holds Fails asked.line given plan writes status answers
 
 -- and what was judged
-records_most : (Holds : List ℕ → Option (List ℕ) → Type 0) (trials : List TrialData)
-    (files : List Text) (bytes : List ℕ) (status : ℕ) →
-    AreRecords Holds trials files bytes status → status ≤ 1
-records_most Holds trials [] bytes status records = let done = records.1 in omega (arith, done)
-records_most Holds trials (file ∷ files) bytes status
+records_most : (Gives : List ℕ → List ℕ → Type 0) (trials : List TrialData) (files : List Text)
+    (bytes : List ℕ) (status : ℕ) → AreRecords Gives trials files bytes status → status ≤ 1
+records_most Gives trials [] bytes status records = let done = records.1 in omega (arith, done)
+records_most Gives trials (file ∷ files) bytes status
     (said, rest, later, is, others, same, most) =
-    by said.passed (records_most Holds trials files rest later others) most
+    by said.passed (records_most Gives trials files rest later others) most
   where
     by : (passed : Bool) → later ≤ 1 → status ≡ max (status_of passed) later → status ≤ 1
     by true after most = omega (arith, most, after)

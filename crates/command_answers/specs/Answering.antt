@@ -45,7 +45,8 @@ ServesOrRefusesSet Holds Fails line given writes status =
     (ServesLineSet Holds Fails line given writes status
     ⊎ RefusesSet ((kind : SetKind) × IsRefusedSet Holds line.file.now given kind) writes status)
 
--- The line was served from the files that it names, where no name is set, or so, or that is refused.
+-- The line was served from the files that it names, where no name is set, or so, or that is
+-- refused.
 abbrev pub ServesOwn : (List ℕ → Option (List ℕ) → Type 0) → Type 0 → Line → List Text → Writing →
     ℕ → Type 0
 ServesOwn Holds Fails line given writes status =
@@ -81,8 +82,8 @@ pub record JudgesWords (Holds : List ℕ → Option (List ℕ) → Type 0) (word
   pub judges : AnswersJudging Holds judging.exercise.now
       (map (λ file. file.now) judging.files.items) writes status
 
--- The words are served as a line, or submissions are judged, unless they mean neither, or memory ran
--- out before anything was written.
+-- The words are served as a line, or submissions are judged, unless they mean neither, or memory
+-- ran out before anything was written.
 abbrev pub AnswersWords :
     (List ℕ → Option (List ℕ) → Type 0) → Type 0 → List Text → Bool → Writing → ℕ → Type 0
 AnswersWords Holds Fails words on_terminal writes status =

@@ -1,51 +1,34 @@
 //! Submissions, judged by an exercise.
-ghost use Rattle.std.specs.Prelude.{◌≡◌, ◌⊎◌, ℕ, List, Ok, IfErr, IfOk, OnOk, false, map};
+ghost use Rattle.std.specs.Prelude.{◌≡◌, ◌⊎◌, ℕ, List, IfErr, IfOk, OnOk, false, map};
 ghost use Rattle.std.specs.Io.KnownBytes.{Appends};
 ghost use Rattle.csv.specs.Writing.{text_written};
-ghost use Rattle.exercise_text.specs.Entries.{EntryData};
-ghost use Rattle.exercise_text.specs.Reading.{exercise_of};
-ghost use Rattle.exercise_judge.specs.Trials.{AreTrials};
+ghost use Rattle.exercise_records.specs.Records.{AreRecords, IsJudged, IsSaidOf, judged_text};
+ghost use Rattle.exercise_records.specs.Records.{record_of};
 ghost use Rattle.naming.specs.Writing.{writing};
 ghost use Rattle.pram_streams.specs.Records.{IsBetweenRecords};
-ghost use Rattle.command_answers.specs.Judging.{AnswersJudging, AreRecords, ByExercise, IsJudged};
-ghost use Rattle.command_answers.specs.Judging.{IsOfExercise, IsSaid, IsSaidOf, judged_text};
-ghost use Rattle.command_answers.specs.Judging.{record_of, status_of, unjudged_status};
+ghost use Rattle.command_answers.specs.Judging.{AnswersJudging, ByExercise, reason_status};
+ghost use Rattle.command_answers.specs.Judging.{unjudged_status};
+ghost use Rattle.command_answers.specs.Setting.{FileGives};
 
 use crate::setting::taken;
 use crate::sweep::{Records, greater, print_records};
 use command_line::Judging;
 use csv::Writer;
-use exercise_judge::{
-    ExerciseFault, ExerciseKind, Trial, Unfit, UnfitKind, Verdict, Wrong, judge, read_exercise,
-    trials_of,
-};
-use exercise_words::{push_exercise_fault, push_unfit, push_wrong};
-use pram_commands::{Console, DONE, Folder, MEMORY, REFUSED, Refusal, Unset, tell, tell_unset};
-use pram_streams::{Reason, Sink, push_labelled, put};
+use exercise_judge::{ExerciseFault, Trial, Unfit};
+use exercise_records::{NoTrials, Said, said_of, trials_in, yes_or_no};
+use exercise_words::{fault_name, push_exercise_fault, push_unfit, unfit_name};
+use pram_commands::{Console, DONE, Folder, REFUSED, Refusal, Unset, tell, tell_unset};
+use pram_streams::{Reason, Sink, put};
 use std::alloc::{AllocError, Global};
 use std::io::Write;
-
-/// Some submission did not pass.
-pub const NOT_PASSED: u8 = 1;
-
-/// What is said of a submission: whether it passed; and if not, under which input, counted from 1,
-/// if it was run, and what is wrong with it.
-#[derive(Drop)]
-pub struct Said {
-    pub passed: bool,
-    pub input: Vec<u8>,
-    pub what: Vec<u8>,
-}
 
 /// Why no submission was judged.
 #[derive(Drop)]
 pub(crate) enum Unjudged<'a> {
     /// The exercise's file failed, or memory ran out.
     Unset(Unset<'a>),
-    /// The text is no exercise.
-    Fault(ExerciseFault),
-    /// Nothing can be judged by it.
-    Unfit(Unfit),
+    /// The text gives no trials.
+    Exercise(NoTrials),
 }
 
 impl<'a> From<AllocError> for Unjudged<'a> {
@@ -102,30 +85,14 @@ fn judged<'a, F: Folder>(
     file: &'a str,
     files: &[&'a str],
 ) -> Result<Records, Unjudged<'a>>
-    ensures judged { IfOk result (λ records. IsJudged (F.holds folder.now) file.now
+    ensures judged { IfOk result (λ records. IsJudged (FileGives (F.holds folder.now)) file.now
         (map (λ file. file.now) files.now) records.bytes.items records.status) }
     ensures refused { IfErr result (ByExercise (F.holds folder.now) file.now) }
 {
     let text = taken(alloc, folder, file)?;
-    let trials = match trials_in(alloc, text.as_slice()) {
-        Ok(trials) => trials,
-        Err(unjudged) => return Err(unjudged),
-    };
-    Ok(records_of(alloc, folder, trials.as_slice(), files)?)
-}
-
-// The trials of the exercise that a text spells.
-fn trials_in<'a>(alloc: Global, text: &[u8]) -> Result<Vec<Trial>, Unjudged<'a>>
-    ensures trials { IfOk result (λ trials. (exercise : List EntryData)
-        × (exercise_of text.now ≡ Ok exercise) × AreTrials exercise trials.items) }
-    ensures refused { IfErr result IsOfExercise }
-{
-    match read_exercise(alloc, text) {
-        Ok(exercise) => match trials_of(alloc, &exercise) {
-            Ok(trials) => Ok(trials),
-            Err(unfit) => Err(Unjudged::Unfit(unfit)),
-        },
-        Err(fault) => Err(Unjudged::Fault(fault)),
+    match trials_in(alloc, text.as_slice()) {
+        Ok(trials) => Ok(records_of(alloc, folder, trials.as_slice(), files)?),
+        Err(reason) => Err(Unjudged::Exercise(reason)),
     }
 }
 
@@ -136,28 +103,22 @@ fn records_of<F: Folder>(
     trials: &[Trial],
     files: &[&str],
 ) -> Result<Records, AllocError>
-    ensures { IfOk result (λ made. (records : List ℕ) × AreRecords (F.holds folder.now) trials.now
-        (map (λ file. file.now) files.now) records made.status
+    ensures { IfOk result (λ made. (records : List ℕ) × AreRecords (FileGives (F.holds folder.now))
+        trials.now (map (λ file. file.now) files.now) records made.status
         × (made.bytes.items ≡ judged_text records)) }
 {
     let header = Vec::from_slice(alloc, b"file,passed,input,what\n")?;
     let mut writer = Writer::from_writer(header);
     let mut status = DONE;
     for &file in files {
-        let said = said_of(alloc, folder, trials, file)?;
+        let said = said_of_file(alloc, folder, trials, file)?;
         write_record(&mut writer, file, &said)?;
-        status = greater(status, status_of(&said));
+        status = greater(status, said.status());
     }
     match writer.into_inner() {
         Ok(bytes) => Ok(Records { bytes, status }),
         Err(_) => Err(AllocError),
     }
-}
-
-fn status_of(said: &Said) -> u8
-    ensures { result ≡ status_of said.now.passed }
-{
-    if said.passed { DONE } else { NOT_PASSED }
 }
 
 // Writes the record of a file: the csv writer puts quotes where they are needed.
@@ -171,10 +132,9 @@ fn write_record<W: Write + Drop>(
     ensures text { OnOk result (Appends (text_written W.contents writer.old)
         (text_written W.contents writer.new) (record_of file.now said.now)) }
 {
-    let passed: &[u8] = if said.passed { b"yes" } else { b"no" };
     let fields = [
         file.as_bytes(),
-        passed,
+        yes_or_no(said.passed),
         said.input.as_slice(),
         said.what.as_slice(),
     ];
@@ -184,60 +144,37 @@ fn write_record<W: Write + Drop>(
     }
 }
 
-// What is said of the submission in a file. One that cannot be read has not passed.
-fn said_of<F: Folder>(
+// What is said of the submission in a file. One that cannot be read, or takes all memory, has not
+// passed.
+fn said_of_file<F: Folder>(
     alloc: Global,
     folder: &F,
     trials: &[Trial],
     file: &str,
 ) -> Result<Said, AllocError>
-    ensures { IfOk result (IsSaid (F.holds folder.now) trials.now file.now) }
+    ensures { IfOk result (IsSaidOf (FileGives (F.holds folder.now)) trials.now file.now) }
 {
     match taken(alloc, folder, file) {
-        Ok(submission) => said_of_text(alloc, trials, submission.as_slice()),
-        Err(unset) => Ok(Said {
-            passed: false,
-            input: Vec::new(alloc),
-            what: unread_words(alloc, &unset)?,
-        }),
+        Ok(submission) => match said_of(alloc, trials, submission.as_slice()) {
+            Ok(said) => Ok(said),
+            Err(AllocError) => {
+                Ok(unjudged(alloc, Vec::from_slice(alloc, b"out of memory")?))
+            }
+        },
+        Err(unset) => Ok(unjudged(alloc, unread_words(alloc, &unset)?)),
     }
 }
 
-// What is said of a submission.
-fn said_of_text(alloc: Global, trials: &[Trial], submission: &[u8]) -> Result<Said, AllocError>
-    ensures { IfOk result (IsSaidOf trials.now submission.now) }
+// A submission that was not judged has no input.
+fn unjudged(alloc: Global, what: Vec<u8>) -> Said
+    ensures passed { result.passed ≡ false }
+    ensures input { result.input.items ≡ [] }
 {
-    match judge(alloc, trials, submission) {
-        Verdict::Passed => Ok(Said {
-            passed: true,
-            input: Vec::new(alloc),
-            what: Vec::new(alloc),
-        }),
-        Verdict::Failed { input, wrong } => {
-            let mut number = Vec::new(alloc);
-            push_labelled(&mut number, b"", input as u64)?;
-            Ok(Said {
-                passed: false,
-                input: number,
-                what: wrong_words(alloc, trials, input, &wrong, submission)?,
-            })
-        }
+    Said {
+        passed: false,
+        input: Vec::new(alloc),
+        what,
     }
-}
-
-// What is wrong with a submission under the input of this number.
-fn wrong_words(
-    alloc: Global,
-    trials: &[Trial],
-    input: usize,
-    wrong: &Wrong,
-    submission: &[u8],
-) -> Result<Vec<u8>, AllocError> {
-    let mut words = Vec::new(alloc);
-    if let Some(trial) = trials.get(input.saturating_sub(1)) {
-        push_wrong(&mut words, wrong, trial, submission)?;
-    }
-    Ok(words)
 }
 
 // Why a file could not be read.
@@ -257,19 +194,27 @@ fn tell_unjudged<O: Sink, E: Sink>(
     ensures status { (result ≡ MEMORY) ⊎ (result ≡ unjudged_status unjudged.now) }
     ensures out { console.new.out ≡ console.old.out }
 {
-    let words = match unjudged {
-        Unjudged::Unset(unset) => {
-            return tell_unset(alloc, unset, console.explains, &mut console.err);
-        }
-        Unjudged::Fault(fault) if fault.kind == ExerciseKind::Memory => Err(AllocError),
-        Unjudged::Fault(fault) => fault_words(alloc, file, fault, console.explains),
-        Unjudged::Unfit(
-            Unfit {
-                kind: UnfitKind::Memory,
-                ..
-            },
-        ) => Err(AllocError),
-        Unjudged::Unfit(unfit) => unfit_words(alloc, file, unfit, console.explains),
+    match unjudged {
+        Unjudged::Unset(unset) => tell_unset(alloc, unset, console.explains, &mut console.err),
+        Unjudged::Exercise(reason) => tell_reason(alloc, file, reason, console),
+    }
+}
+
+// Tells why a text gives no trials.
+fn tell_reason<O: Sink, E: Sink>(
+    alloc: Global,
+    file: &str,
+    reason: &NoTrials,
+    console: &mut Console<O, E>,
+) -> u8
+    requires { E.has_failed console.old.err ≡ false }
+    ensures status { (result ≡ MEMORY) ⊎ (result ≡ reason_status reason.now) }
+    ensures out { console.new.out ≡ console.old.out }
+{
+    let words = match reason {
+        NoTrials::Fault(fault) => fault_words(alloc, file, fault, console.explains),
+        NoTrials::Unfit(unfit) => unfit_words(alloc, file, unfit, console.explains),
+        NoTrials::Memory => Err(AllocError),
     };
     match words {
         Ok(words) => {
@@ -319,29 +264,4 @@ fn line_words(alloc: Global, line: u64, kind: &str) -> Result<Vec<u8>, AllocErro
 fn push_file(words: &mut Vec<u8>, file: &str) -> Result<(), AllocError> {
     words.extend_from_slice(file.as_bytes())?;
     words.extend_from_slice(b": ")
-}
-
-fn fault_name(kind: ExerciseKind) -> &'static str {
-    match kind {
-        ExerciseKind::NotAscii => "NotAscii",
-        ExerciseKind::BadHeader => "BadHeader",
-        ExerciseKind::UnknownKey => "UnknownKey",
-        ExerciseKind::BadLine => "BadLine",
-        ExerciseKind::Duplicate => "Duplicate",
-        ExerciseKind::Missing(_) => "Missing",
-        ExerciseKind::NoAnswer => "NoAnswer",
-        ExerciseKind::Memory => "Memory",
-    }
-}
-
-fn unfit_name(kind: &UnfitKind) -> &'static str {
-    match kind {
-        UnfitKind::Given(_) => "Given",
-        UnfitKind::Answer(_) => "Answer",
-        UnfitKind::Bar(_) => "Bar",
-        UnfitKind::Reference(_) => "Reference",
-        UnfitKind::Conflict => "Conflict",
-        UnfitKind::Unknown(_) => "Unknown",
-        UnfitKind::Memory => "Memory",
-    }
 }

@@ -158,7 +158,8 @@ fn places_of(sizes: &[Size], name: &[u8]) -> u64
     }
 }
 
-/// The first word of an input, also behind the first `->`, that sets no name that a header declares.
+/// The first word of an input, also behind the first `->`, that sets no name that a header
+/// declares.
 ///
 /// For each word the lines of the header are gone through.
 pub fn unknown_word<'a>(header: &[u8], words: &'a [u8]) -> Option<&'a [u8]>

@@ -6,8 +6,8 @@ ghost use Rattle.text_lines.specs.Lines.{lines_of};
 ghost use Rattle.text_lines.specs.TextLines.{left_of};
 ghost use Rattle.exercise_given.specs.Keys.{has_line_key};
 ghost use Rattle.exercise_given.specs.Submissions.{code_lines, is_code, is_header_word};
-ghost use Rattle.exercise_given.specs.Submissions.{after_code, is_missing, judged_text, line_judged};
-ghost use Rattle.exercise_given.specs.Submissions.{missing_line};
+ghost use Rattle.exercise_given.specs.Submissions.{after_code, is_missing, judged_text};
+ghost use Rattle.exercise_given.specs.Submissions.{line_judged, missing_line};
 
 use crate::key::{declares, has_line_key, line_key};
 use std::alloc::{AllocError, Global};

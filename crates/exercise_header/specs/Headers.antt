@@ -1,9 +1,11 @@
 -- The header of an exercise as an input sets it, and what it says.
-use Rattle.std.specs.Prelude.{ℕ, List, [], ◌++◌, codes, length, map, slice_index, Result, Ok, Err}
+use Rattle.std.specs.Prelude.{◌≡◌, ◌≢◌, ℕ, List, [], ◌++◌, codes, length, map, slice_index}
+use Rattle.std.specs.Prelude.{Result, Ok, Err}
 use Rattle.text_lines.specs.Lines.{Line}
 use Rattle.text_lines.specs.Reads.{◌>>=◌}
 use Rattle.pardo_program.specs.Program.{ArrayData, ProgramData}
 use Rattle.pardo_text.specs.declared.fault.PardoFault.{PardoFault}
+use Rattle.pardo_text.specs.declared.fault.PardoKind.TheVariants.{Memory}
 use Rattle.pardo_text.specs.Reading.{program_of}
 use Rattle.exercise_given.specs.Sets.{SizeData, text_as_set}
 use Rattle.exercise_header.specs.Values.{start_of}
@@ -31,3 +33,7 @@ abbrev pub header_as_set : List ℕ → Line → Result (List ℕ) PardoFault
 header_as_set given words = do
   program ← header_of (text_as_set [] words given) (codes "0")
   Ok (text_as_set (map size_of program.arrays) words given)
+
+-- this fault says why it is not, unless memory ran out
+abbrev pub Refuses : {X : Type 0} → Result X PardoFault → PardoFault → Type 0
+Refuses spelled fault = fault.kind ≢ Memory → spelled ≡ Err fault

@@ -1,10 +1,11 @@
 //! The header of an exercise as an input sets it, and what it says.
-ghost use Rattle.std.specs.Prelude.{◌≡◌, Ok, IfOk, codes, map, slice_index};
+ghost use Rattle.std.specs.Prelude.{◌≡◌, Ok, IfErr, IfOk, codes, map, slice_index};
 ghost use Rattle.text_lines.specs.Lines.{words_of};
 ghost use Rattle.exercise_given.specs.Sets.{text_as_set};
-ghost use Rattle.exercise_header.specs.Headers.{header_as_set, header_of, header_text, size_of};
-ghost use Rattle.exercise_header.specs.Headers.{value_by};
+ghost use Rattle.exercise_header.specs.Headers.{Refuses, header_as_set, header_of, header_text};
+ghost use Rattle.exercise_header.specs.Headers.{size_of, value_by};
 ghost use Rattle.exercise_header.specs.Values.{start_of};
+ghost use Rattle.pardo_text.specs.declared.fault.PardoKind.TheVariants.{Memory};
 
 use crate::values::{array_named, value_at};
 use exercise_given::{Size, set_text};
@@ -16,7 +17,9 @@ const MEMORY: PardoFault = PardoFault {
     kind: PardoKind::Memory,
 };
 
-fn no_memory(_error: AllocError) -> PardoFault {
+fn no_memory(_error: AllocError) -> PardoFault
+    ensures { result.kind ≡ Memory }
+{
     MEMORY
 }
 
@@ -33,7 +36,8 @@ fn header_text(alloc: Global, header: &[u8], value: &[u8]) -> Result<Vec<u8>, Al
 
 /// The program of a header with one scalar more, `_`, that starts with the value of an expression.
 pub fn read_header(alloc: Global, header: &[u8], value: &[u8]) -> Result<Program, PardoFault>
-    ensures { IfOk result (λ program. header_of header.now value.now ≡ Ok program) }
+    ensures program { IfOk result (λ program. header_of header.now value.now ≡ Ok program) }
+    ensures refused { IfErr result (Refuses (header_of header.now value.now)) }
 {
     match header_text(alloc, header, value) {
         Ok(text) => read_program(alloc, text.as_slice()),
@@ -43,7 +47,8 @@ pub fn read_header(alloc: Global, header: &[u8], value: &[u8]) -> Result<Program
 
 /// The value of an expression over the constants of a header.
 pub fn value_by(alloc: Global, header: &[u8], value: &[u8]) -> Result<u32, PardoFault>
-    ensures { IfOk result (λ found. value_by header.now value.now ≡ Ok found) }
+    ensures found { IfOk result (λ found. value_by header.now value.now ≡ Ok found) }
+    ensures refused { IfErr result (Refuses (value_by header.now value.now)) }
 {
     let program = read_header(alloc, header, value)?;
     Ok(scalar_start(program.arrays()))
@@ -88,7 +93,9 @@ fn set_with(
 
 /// The header as the words of an input set it.
 pub fn header_as_set(alloc: Global, given: &[u8], words: &[u8]) -> Result<Vec<u8>, PardoFault>
-    ensures { IfOk result (λ set. header_as_set given.now (words_of words.now) ≡ Ok set.items) }
+    ensures set { IfOk result (λ set.
+        header_as_set given.now (words_of words.now) ≡ Ok set.items) }
+    ensures refused { IfErr result (Refuses (header_as_set given.now (words_of words.now))) }
 {
     let first = set_text(alloc, &[], words, given).map_err(no_memory)?;
     let program = read_header(alloc, first.as_slice(), b"0")?;

@@ -2,7 +2,8 @@
 ghost use Rattle.std.specs.Prelude.{◌≡◌, IfOk, map, slice_index};
 ghost use Rattle.std.specs.Option.{option_map};
 ghost use Rattle.text_lines.specs.Lines.{words_of};
-ghost use Rattle.exercise_header.specs.Values.{array_named, held_by, start_of, values_in, wanted_by};
+ghost use Rattle.exercise_header.specs.Values.{array_named, held_by, start_of, values_in};
+ghost use Rattle.exercise_header.specs.Values.{wanted_by};
 
 use pardo_text::Array;
 use std::alloc::{AllocError, Global};

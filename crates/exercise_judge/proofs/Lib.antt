@@ -1,4 +1,5 @@
 pub mod Costs
+pub mod Ends
 pub mod Judged
 pub mod Meeting
 pub mod OneJob

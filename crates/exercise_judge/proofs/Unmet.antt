@@ -4,12 +4,9 @@ use Rattle.std.specs.Prelude.{IfSome, slice_index}
 use Rattle.pram_job.specs.Job.{JobData}
 use Rattle.pram_step.specs.declared.answer.RunAnswer.TheVariants.{Final}
 use Rattle.pram_step.specs.Runs.{IsAnswer}
-use Rattle.pram_step.proofs.LawAnswer.{one_answer}
 use Rattle.pram_cost.specs.Models.{AcceptsSteps}
 use Rattle.pram_cost.specs.declared.pram.Pram.{Pram}
 use Rattle.pardo_program.specs.Program.{ProgramData}
-use Rattle.pardo_text.specs.Reading.{program_of}
-use Rattle.pardo_job.specs.Compiled.{IsCompiled}
 use Rattle.pardo_costs.specs.declared.line_costs.LineCost.{LineCost}
 use Rattle.pardo_costs.specs.declared.run.Run.{Run}
 use Rattle.pardo_costs.specs.Costs.{line_costs, operations_in, time_in}
@@ -17,28 +14,25 @@ use Rattle.pardo_costs.specs.Runs.{IsRun}
 use Rattle.exercise_given.specs.Submissions.{judged_text}
 use Rattle.exercise_judge.specs.Trials.{AreHeld, IsWithin, Meets, TrialData}
 use Rattle.exercise_judge.proofs.Costs.{all_steps}
-use Rattle.exercise_judge.proofs.OneJob.{one_job}
-use Rattle.exercise_judge.proofs.Refused.{ok_same}
-
-final_same : (a b : List ℕ) → Final a ≡ Final b → a ≡ b
-final_same a b same = cc
+use Rattle.exercise_judge.proofs.Ends.{final_same}
+use Rattle.exercise_judge.proofs.Ends as ends
 
 module _ (trial : TrialData) (submission : List ℕ) (run : Run)
     (is : IsRun (judged_text trial.header submission) run) (met : Meets trial submission) where
+  abbrev text : List ℕ
+  text = judged_text trial.header submission
+
   same_program : run.program ≡ met.program
-  same_program = ok_same run.program met.program (program_of (judged_text trial.header submission))
-      is.0 met.ends.reads
+  same_program = ends.same_program text run is met.program met.job met.line_of met.cells met.ends
 
   same_job : run.job ≡ met.job
-  same_job = one_job met.program run.job met.job (slice_index run.numbers.items) met.line_of
-      (subst (λ (p : ProgramData). IsCompiled p run.job (slice_index run.numbers.items))
-      same_program is.1.compiled) met.ends.compiled
+  same_job = ends.same_job text run is met.program met.job met.line_of met.cells met.ends
 
-  ends : IsAnswer run.job (Final met.cells)
-  ends = subst (λ (j : JobData). IsAnswer j (Final met.cells)) (sym same_job) met.ends.ends
+  run_ends : IsAnswer run.job (Final met.cells)
+  run_ends = ends.run_ends text run is met.program met.job met.line_of met.cells met.ends
 
   pub same_answer : run.ended.answer ≡ Final met.cells
-  same_answer = one_answer run.job run.ended.answer (Final met.cells) is.1.ended.answers ends
+  same_answer = ends.same_answer text run is met.program met.job met.line_of met.cells met.ends
 
   pub values_too : (cells : List ℕ) → run.ended.answer ≡ Final cells →
       AreHeld trial.wanted run.program (slice_index cells)
@@ -64,6 +58,6 @@ module _ (trial : TrialData) (submission : List ℕ) (run : Run)
   pub model_too : IfSome trial.model (λ (allowed : Pram).
       AcceptsSteps allowed run.job run.costs.cost.steps)
   model_too = subst (λ (n : ℕ). IfSome trial.model (λ (allowed : Pram).
-      AcceptsSteps allowed run.job n)) (sym (all_steps run.job run.costs.cost met.cells is.1.cost ends))
+      AcceptsSteps allowed run.job n)) (sym (all_steps run.job run.costs.cost met.cells is.1.cost run_ends))
       (subst (λ (j : JobData). IfSome trial.model (λ (allowed : Pram).
       AcceptsSteps allowed j j.steps)) (sym same_job) met.model)

@@ -1,5 +1,6 @@
 -- What is said of a submission, and what that means.
-use Rattle.std.specs.Prelude.{◌≡◌, ◌≢◌, ⊤, ℕ, ◌+◌, List, All, take, slice_get, Some, Result, Ok, Err}
+use Rattle.std.specs.Prelude.{◌≡◌, ◌≢◌, ⊤, ℕ, ◌+◌, List, All, take, slice_get, Some, Result, Ok}
+use Rattle.std.specs.Prelude.{Err, true}
 use Rattle.pardo_text.specs.declared.fault.PardoKind.TheVariants as text
 use Rattle.pardo_job.specs.declared.fault.JobKind.TheVariants as job
 use Rattle.pardo_job.specs.declared.fault.Refusal.{Refusal}
@@ -8,7 +9,12 @@ use Rattle.exercise_judge.specs.declared.verdict.Verdict.{Verdict}
 use Rattle.exercise_judge.specs.declared.verdict.Verdict.TheVariants.{Passed, Failed}
 use Rattle.exercise_judge.specs.declared.verdict.Wrong.{Wrong}
 use Rattle.exercise_judge.specs.declared.verdict.Wrong.TheVariants as wrong
-use Rattle.exercise_judge.specs.Trials.{Meets, TrialData}
+use Rattle.exercise_text.specs.Entries.{EntryData}
+use Rattle.exercise_text.specs.Keys.{is_input}
+use Rattle.exercise_judge.specs.declared.verdict.Unfit.{Unfit}
+use Rattle.exercise_judge.specs.declared.verdict.UnfitKind.{UnfitKind}
+use Rattle.exercise_judge.specs.declared.verdict.UnfitKind.TheVariants as unfit
+use Rattle.exercise_judge.specs.Trials.{IsTrial, Meets, TrialData}
 
 -- Memory did not run out, and the run was not cut off.
 abbrev pub IsOfText : Refusal → Type 0
@@ -39,3 +45,24 @@ pub record FailsAt (trials : List TrialData) (submission : List ℕ) (input : �
 abbrev pub IsVerdict : List TrialData → List ℕ → Verdict → Type 0
 IsVerdict trials submission Passed = All (λ trial. Meets trial submission) trials
 IsVerdict trials submission (Failed input wrong) = FailsAt trials submission input wrong
+
+-- ---- an exercise that nothing can be judged by
+
+-- it says something of the exercise
+abbrev pub IsOfExercise : UnfitKind → Type 0
+IsOfExercise unfit.Memory = ⊥
+IsOfExercise (unfit.Reference refusal) = IsOfText refusal
+IsOfExercise _ = ⊤
+
+-- there is no such thing, if that is certain
+abbrev pub HasNone : {X : Type 0} → UnfitKind → (X → Type 0) → Type 0
+HasNone {X} kind Is = IsOfExercise kind → (x : X) → ¬ Is x
+
+-- The input in this line has no trial, if that is certain.
+pub record IsUnfit (exercise : List EntryData) (found : Unfit) : Type 0 where
+  pub place : ℕ
+  pub input : EntryData
+  pub is_there : slice_get exercise place ≡ Some input
+  pub is : is_input input.key ≡ true
+  pub line : found.line ≡ input.number
+  pub none : HasNone found.kind (IsTrial exercise input)

@@ -1,8 +1,9 @@
 //! Whether an exercise names what there is.
-ghost use Rattle.std.specs.Prelude.{◌≡◌, None, OnOk};
+ghost use Rattle.std.specs.Prelude.{◌≡◌, ◌≢◌, IfErr, None, OnOk};
 ghost use Rattle.text_lines.specs.Lines.{words_of};
 ghost use Rattle.exercise_given.specs.Sets.{unknown_word};
 ghost use Rattle.exercise_judge.specs.Trials.{AreKnown};
+ghost use Rattle.exercise_judge.specs.Verdicts.{IsOfExercise};
 
 use crate::verdict::UnfitKind;
 use exercise_given::unknown_word;
@@ -11,7 +12,9 @@ use std::alloc::{AllocError, Global};
 
 /// Whether each word of an input sets a name that the header declares.
 pub(crate) fn check_words(alloc: Global, header: &[u8], words: &[u8]) -> Result<(), UnfitKind>
-    ensures { OnOk result (unknown_word header.now (words_of words.now) ≡ None) }
+    ensures known { OnOk result (unknown_word header.now (words_of words.now) ≡ None) }
+    ensures unknown { IfErr result (λ kind. IsOfExercise kind →
+        unknown_word header.now (words_of words.now) ≢ None) }
 {
     match unknown_word(header, words) {
         None => Ok(()),
@@ -21,7 +24,8 @@ pub(crate) fn check_words(alloc: Global, header: &[u8], words: &[u8]) -> Result<
 
 /// Whether each wanted name has values.
 pub(crate) fn check_known(alloc: Global, wanted: &[Wanted]) -> Result<(), UnfitKind>
-    ensures { OnOk result (AreKnown wanted.now) }
+    ensures known { OnOk result (AreKnown wanted.now) }
+    ensures unknown { IfErr result (λ kind. IsOfExercise kind → ¬ AreKnown wanted.now) }
 {
     for want in wanted {
         if want.values.is_empty() {

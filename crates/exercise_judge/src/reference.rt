@@ -1,8 +1,10 @@
 //! What the reference of an exercise ends with.
-ghost use Rattle.std.specs.Prelude.{◌++◌, ℕ, List, IfOk};
+ghost use Rattle.std.specs.Prelude.{◌≡◌, ◌≢◌, ◌++◌, ℕ, List, IfErr, IfOk, MatchOption};
 ghost use Rattle.text_lines.specs.Lines.{words_of};
 ghost use Rattle.pardo_costs.specs.Runs.{IsRun};
+ghost use Rattle.pram_step.specs.declared.answer.RunAnswer.TheVariants.{Final};
 ghost use Rattle.exercise_judge.specs.Trials.{AreEnds};
+ghost use Rattle.exercise_judge.specs.Verdicts.{HasNone};
 
 use crate::verdict::{UnfitKind, is_memory};
 use exercise_header::{Wanted, wanted_at_end};
@@ -17,8 +19,10 @@ pub(crate) fn wanted_by_reference(
     reference: &[u8],
     names: &[u8],
 ) -> Result<Vec<Wanted>, UnfitKind>
-    ensures { IfOk result (λ wanted. AreEnds (header.now ++ reference.now)
+    ensures ends { IfOk result (λ wanted. AreEnds (header.now ++ reference.now)
         (words_of names.now) wanted.items) }
+    ensures none { IfErr result (λ kind.
+        HasNone kind (AreEnds (header.now ++ reference.now) (words_of names.now))) }
 {
     let mut text = Vec::from_slice(alloc, header)?;
     text.extend_from_slice(reference)?;
@@ -31,14 +35,25 @@ pub(crate) fn wanted_by_reference(
 
 // What they hold at the end of the run of a text.
 fn wanted_by_run(alloc: Global, run: &Run, names: &[u8]) -> Result<Vec<Wanted>, UnfitKind>
-    ensures { (text : List ℕ) → IsRun text run.now →
+    ensures ends { (text : List ℕ) → IsRun text run.now →
         IfOk result (λ wanted. AreEnds text (words_of names.now) wanted.items) }
+    ensures none { (text : List ℕ) → IsRun text run.now →
+        IfErr result (λ kind. HasNone kind (AreEnds text (words_of names.now))) }
+{
+    match final_cells(run) {
+        Some(cells) => Ok(wanted_at_end(alloc, names, run.program.arrays(), cells)?),
+        None => Err(UnfitKind::Conflict),
+    }
+}
+
+// What the cells hold at the end of a run, if it has no conflict.
+fn final_cells(run: &Run) -> Option<&[u32]>
+    ensures { MatchOption result ((cells : List ℕ) → run.now.ended.answer ≢ Final cells)
+        (λ cells. run.now.ended.answer ≡ Final cells.now) }
 {
     match &run.ended.answer {
-        RunAnswer::Final(cells) => {
-            let cells = cells.as_slice();
-            Ok(wanted_at_end(alloc, names, run.program.arrays(), cells)?)
-        }
-        _ => Err(UnfitKind::Conflict),
+        RunAnswer::Final(cells) => Some(cells.as_slice()),
+        RunAnswer::Conflict(_) => None,
+        RunAnswer::Unfinished { .. } => None,
     }
 }

@@ -1,10 +1,14 @@
 //! The trials of an exercise.
-ghost use Rattle.std.specs.Prelude.{◌≡◌, IfOk, Ok, OnOk};
+ghost use Rattle.std.specs.Prelude.{◌≡◌, ◌≢◌, ℕ, List, IfErr, IfOk, Ok, OnOk, true};
 ghost use Rattle.text_lines.specs.Lines.{words_of};
 ghost use Rattle.exercise_text.specs.declared.key.Key.TheVariants.{Given as GivenKey};
 ghost use Rattle.exercise_header.specs.Headers.{header_as_set};
-ghost use Rattle.exercise_judge.specs.Trials.{AddsTrial, AreSaid, AreTrials, AreWanted, IsBar};
-ghost use Rattle.exercise_judge.specs.Trials.{IsTrial, part_in};
+ghost use Rattle.exercise_header.specs.Values.{WantedData};
+ghost use Rattle.exercise_judge.specs.Trials.{AddsTrial, AreKnown, AreSaid, AreTrials, AreWanted};
+ghost use Rattle.exercise_judge.specs.Trials.{IsBar, IsTrial, part_in};
+ghost use Rattle.exercise_judge.specs.Verdicts.{HasNone, IsOfExercise, IsUnfit};
+ghost use Rattle.exercise_text.specs.Keys.{is_input};
+ghost use Rattle.pardo_text.specs.declared.fault.PardoKind.TheVariants.{Memory};
 
 use crate::known::{check_known, check_words};
 use crate::reference::wanted_by_reference;
@@ -18,7 +22,8 @@ use std::alloc::Global;
 /// The trials of the inputs of an exercise, in their order. Its reference is run once for each that
 /// does not say what is wanted.
 pub fn trials_of(alloc: Global, exercise: &Exercise) -> Result<Vec<Trial>, Unfit>
-    ensures { IfOk result (λ trials. AreTrials exercise.now trials.items) }
+    ensures trials { IfOk result (λ trials. AreTrials exercise.now trials.items) }
+    ensures unfit { IfErr result (IsUnfit exercise.now) }
 {
     let mut trials = Vec::new(alloc);
     for entry in exercise.entries() {
@@ -37,7 +42,10 @@ fn push_trial(
     entry: &Entry,
     trials: &mut Vec<Trial>,
 ) -> Result<(), UnfitKind>
-    ensures { OnOk result (AddsTrial exercise.now entry.now trials.old.items trials.new.items) }
+    ensures adds { OnOk result
+        (AddsTrial exercise.now entry.now trials.old.items trials.new.items) }
+    ensures none { IfErr result (λ kind. (is_input entry.now.key ≡ true)
+        × HasNone kind (IsTrial exercise.now entry.now)) }
 {
     if entry.key().is_input() {
         trials.push(trial_of(alloc, exercise, entry)?)?;
@@ -48,12 +56,12 @@ fn push_trial(
 /// The trial of an input. Behind `->` a wanted name may be left out: it is then wanted to hold what
 /// it starts with.
 pub fn trial_of(alloc: Global, exercise: &Exercise, input: &Entry) -> Result<Trial, UnfitKind>
-    ensures { IfOk result (IsTrial exercise.now input.now) }
+    ensures trial { IfOk result (IsTrial exercise.now input.now) }
+    ensures none { IfErr result (λ kind. HasNone kind (IsTrial exercise.now input.now)) }
 {
     check_words(alloc, part_in(exercise, Key::Given), input.text())?;
     let header = given_header(alloc, exercise, input)?;
-    let wanted = wanted_of(alloc, exercise, input, header.as_slice())?;
-    check_known(alloc, wanted.as_slice())?;
+    let wanted = known_wanted(alloc, exercise, input, header.as_slice())?;
     let time = bar_of(alloc, exercise, header.as_slice(), Key::Time)?;
     let operations = bar_of(alloc, exercise, header.as_slice(), Key::Operations)?;
     let steps = bar_of(alloc, exercise, header.as_slice(), Key::Steps)?;
@@ -70,13 +78,17 @@ pub fn trial_of(alloc: Global, exercise: &Exercise, input: &Entry) -> Result<Tri
 
 // The header as the input sets it.
 fn given_header(alloc: Global, exercise: &Exercise, input: &Entry) -> Result<Vec<u8>, UnfitKind>
-    ensures { IfOk result (λ header. header_as_set (part_in GivenKey exercise.now)
+    ensures header { IfOk result (λ header. header_as_set (part_in GivenKey exercise.now)
         (words_of input.now.text) ≡ Ok header.items) }
+    ensures none { IfErr result (λ kind. HasNone kind (λ header. header_as_set
+        (part_in GivenKey exercise.now) (words_of input.now.text) ≡ Ok header)) }
 {
     header_as_set(alloc, part_in(exercise, Key::Given), input.text()).map_err(given_fault)
 }
 
-fn given_fault(fault: PardoFault) -> UnfitKind {
+fn given_fault(fault: PardoFault) -> UnfitKind
+    ensures { IsOfExercise result → fault.kind ≢ Memory }
+{
     if fault.kind == PardoKind::Memory {
         UnfitKind::Memory
     } else {
@@ -84,7 +96,9 @@ fn given_fault(fault: PardoFault) -> UnfitKind {
     }
 }
 
-fn answer_fault(fault: PardoFault) -> UnfitKind {
+fn answer_fault(fault: PardoFault) -> UnfitKind
+    ensures { IsOfExercise result → fault.kind ≢ Memory }
+{
     if fault.kind == PardoKind::Memory {
         UnfitKind::Memory
     } else {
@@ -92,7 +106,9 @@ fn answer_fault(fault: PardoFault) -> UnfitKind {
     }
 }
 
-fn bar_fault(fault: PardoFault) -> UnfitKind {
+fn bar_fault(fault: PardoFault) -> UnfitKind
+    ensures { IsOfExercise result → fault.kind ≢ Memory }
+{
     if fault.kind == PardoKind::Memory {
         UnfitKind::Memory
     } else {
@@ -107,19 +123,38 @@ fn part_in(exercise: &Exercise, key: Key) -> &[u8]
     exercise.text(key).unwrap_or(b"")
 }
 
+// What is wanted, if each wanted name has values.
+fn known_wanted(
+    alloc: Global,
+    exercise: &Exercise,
+    input: &Entry,
+    header: &[u8],
+) -> Result<Vec<Wanted>, UnfitKind>
+    ensures wanted { IfOk result (λ wanted. AreWanted exercise.now input.now header.now wanted.items
+        × AreKnown wanted.items) }
+    ensures none { IfErr result (λ kind. HasNone kind (λ wanted.
+        AreWanted exercise.now input.now header.now wanted × AreKnown wanted)) }
+{
+    let wanted = wanted_of(alloc, exercise, input, header)?;
+    check_known(alloc, wanted.as_slice())?;
+    Ok(wanted)
+}
+
 fn wanted_of(
     alloc: Global,
     exercise: &Exercise,
     input: &Entry,
     header: &[u8],
 ) -> Result<Vec<Wanted>, UnfitKind>
-    ensures { IfOk result (λ wanted.
+    ensures wanted { IfOk result (λ wanted.
         AreWanted exercise.now input.now header.now wanted.items) }
+    ensures none { IfErr result (λ kind.
+        HasNone kind (AreWanted exercise.now input.now header.now)) }
 {
     let names = part_in(exercise, Key::Want);
     match answer_in(input.text()) {
         None => wanted_by_reference(alloc, header, part_in(exercise, Key::Reference), names),
-        Some(words) => { wanted_by_words(alloc, header, words, names).map_err(answer_fault) }
+        Some(words) => wanted_by_words(alloc, header, words, names),
     }
 }
 
@@ -128,9 +163,29 @@ fn wanted_by_words(
     header: &[u8],
     words: &[u8],
     names: &[u8],
-) -> Result<Vec<Wanted>, PardoFault>
-    ensures { IfOk result (λ wanted. AreSaid header.now (words_of words.now)
+) -> Result<Vec<Wanted>, UnfitKind>
+    ensures said { IfOk result (λ wanted. AreSaid header.now (words_of words.now)
         (words_of names.now) wanted.items) }
+    ensures none { IfErr result (λ kind.
+        HasNone kind (AreSaid header.now (words_of words.now) (words_of names.now))) }
+{
+    match said_by(alloc, header, words, names) {
+        Ok(wanted) => Ok(wanted),
+        Err(fault) => Err(answer_fault(fault)),
+    }
+}
+
+// What the names start with in the header as the words set it.
+fn said_by(
+    alloc: Global,
+    header: &[u8],
+    words: &[u8],
+    names: &[u8],
+) -> Result<Vec<Wanted>, PardoFault>
+    ensures said { IfOk result (λ wanted. AreSaid header.now (words_of words.now)
+        (words_of names.now) wanted.items) }
+    ensures none { IfErr result (λ fault. fault.kind ≢ Memory → (wanted : List WantedData) →
+        ¬ AreSaid header.now (words_of words.now) (words_of names.now) wanted) }
 {
     let set = header_as_set(alloc, header, words)?;
     let program = read_header(alloc, set.as_slice(), b"0")?;
@@ -149,7 +204,8 @@ fn bar_of(
     header: &[u8],
     key: Key,
 ) -> Result<Option<u32>, UnfitKind>
-    ensures { IfOk result (IsBar exercise.now header.now key) }
+    ensures bar { IfOk result (IsBar exercise.now header.now key) }
+    ensures none { IfErr result (λ kind. HasNone kind (IsBar exercise.now header.now key)) }
 {
     let Some(bar) = exercise.bar(key) else {
         return Ok(None);

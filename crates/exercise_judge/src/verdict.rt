@@ -1,5 +1,5 @@
 //! What is said of a submission, and of an exercise that cannot be judged by.
-ghost use Rattle.std.specs.Prelude.{◌≡◌, ⊤};
+ghost use Rattle.std.specs.Prelude.{◌≡◌};
 ghost use Rattle.exercise_judge.specs.Verdicts.{IsCertain};
 ghost use Rattle.exercise_judge.specs.declared.verdict.Wrong.TheVariants.{Memory, Program};
 
@@ -112,7 +112,9 @@ impl<T: Drop> From<AllocFailed<T>> for Wrong {
 }
 
 impl From<AllocError> for UnfitKind {
-    ghost from_gives = { λ _ kind. ⊤ };
+    ghost use Rattle.exercise_judge.specs.declared.verdict.UnfitKind.TheVariants.{Memory};
+
+    ghost from_gives = { λ _ kind. kind ≡ Memory };
 
     fn from(_error: AllocError) -> UnfitKind {
         UnfitKind::Memory
@@ -120,7 +122,9 @@ impl From<AllocError> for UnfitKind {
 }
 
 impl<T: Drop> From<AllocFailed<T>> for UnfitKind {
-    ghost from_gives = { λ _ kind. ⊤ };
+    ghost use Rattle.exercise_judge.specs.declared.verdict.UnfitKind.TheVariants.{Memory};
+
+    ghost from_gives = { λ _ kind. kind ≡ Memory };
 
     fn from(_failed: AllocFailed<T>) -> UnfitKind {
         UnfitKind::Memory

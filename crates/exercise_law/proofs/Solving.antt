@@ -1,16 +1,20 @@
--- A submission that meets a trial solves it.
+-- A submission meets a trial if and only if it solves it.
 use Rattle.std.proofs.Common.{◌≡◌, ◌∙◌, ◌+◌, ◌<◌, ◌≤◌, ℕ, zero, suc, true, false, List, []}
-use Rattle.std.proofs.Common.{◌∷◌, Option, Some, None, Result, map, length, ap₂, sym, subst}
-use Rattle.std.proofs.Common.{refl, inl, arith, cond}
+use Rattle.std.proofs.Common.{◌∷◌, Option, Some, None, Result, Ok, map, length, ap, ap₂, sym, subst}
+use Rattle.std.proofs.Common.{refl, inl, arith, cond, cc, absurd}
 use Rattle.std.specs.List.{range_with_len}
 use Rattle.std.specs.Prelude.{find, slice_index, IfOk}
 use Rattle.std.specs.Str.{bytes_eq}
 use Rattle.std.proofs.lemmas.List.Sums.{sum_by-cons}
 use Rattle.text_lines.specs.Lines.{Word}
-use Rattle.pram_step.specs.declared.answer.RunAnswer.TheVariants.{Final}
+use Rattle.pram_step.specs.declared.answer.RunAnswer.{RunAnswer}
+use Rattle.pram_step.specs.declared.answer.RunAnswer.TheVariants.{Final, Conflict, Unfinished}
+use Rattle.pram_step.specs.Runs.{IsAnswer}
+use Rattle.pram_step.proofs.LawDisputes.{has_answer}
 use Rattle.pardo_program.specs.Lawful.{AreArrays, IsProgram}
 use Rattle.pardo_program.specs.Nested.{IsNested}
 use Rattle.pardo_program.specs.Program.{ArrayData, ProgramData, shared_cells}
+use Rattle.pardo_text.specs.Reading.{program_of}
 use Rattle.pardo_text.specs.declared.fault.PardoFault.{PardoFault}
 use Rattle.pardo_text.proofs.LawLawful.{programs_are_lawful}
 use Rattle.pardo_text.proofs.LawNesting.{programs_are_nested}
@@ -18,11 +22,11 @@ use Rattle.pardo_flat.specs.Layouts.{program_layout}
 use Rattle.pardo_job.specs.Meaning.{after}
 use Rattle.pardo_job.specs.Times.{AreAllLines}
 use Rattle.pardo_law.specs.Theorem.{IsAnswerOf}
-use Rattle.pardo_law.proofs.Answering.{answers_are_the_programs}
+use Rattle.pardo_law.proofs.Answering.{answers_are_the_programs, runs_end_once}
 use Rattle.exercise_given.specs.Submissions.{judged_text}
 use Rattle.exercise_header.specs.Values.{held_by, values_in}
 use Rattle.exercise_judge.specs.Trials.{IsWithin, Meets, TrialData}
-use Rattle.exercise_law.specs.Laws.{Solves, WhatIsMetIsSolved}
+use Rattle.exercise_law.specs.Laws.{Solves, WhatIsMetIsSolved, WhatIsSolvedIsMet}
 use Rattle.exercise_law.proofs.Summing.{operations_are, time_is}
 
 -- ---- values by cells that hold the same
@@ -70,22 +74,29 @@ shared_is : (program : ProgramData) → (program_layout program).shared ≡ shar
 unfolding program_layout
 shared_is program = refl
 
+lawful : (text : List ℕ) (program : ProgramData) → program_of text ≡ Ok program →
+    IsProgram program
+lawful text program reads = subst (λ (r : Result ProgramData PardoFault). IfOk r IsProgram) reads
+    (programs_are_lawful text)
+
+nested : (text : List ℕ) (program : ProgramData) → program_of text ≡ Ok program →
+    IsNested program.lines
+nested text program reads = subst (λ (r : Result ProgramData PardoFault).
+    IfOk r (λ (p : ProgramData). IsNested p.lines)) reads (programs_are_nested text)
+
 module _ (trial : TrialData) (submission : List ℕ) (met : Meets trial submission) where
   abbrev program : ProgramData
   program = met.program
 
-  lawful : IsProgram program
-  lawful = subst (λ (r : Result ProgramData PardoFault). IfOk r IsProgram) met.ends.reads
-      (programs_are_lawful (judged_text trial.header submission))
+  is_lawful : IsProgram program
+  is_lawful = lawful (judged_text trial.header submission) program met.ends.reads
 
-  nested : IsNested program.lines
-  nested = subst (λ (r : Result ProgramData PardoFault).
-      IfOk r (λ (p : ProgramData). IsNested p.lines)) met.ends.reads
-      (programs_are_nested (judged_text trial.header submission))
+  is_nested : IsNested program.lines
+  is_nested = nested (judged_text trial.header submission) program met.ends.reads
 
   answer : IsAnswerOf program (Final met.cells)
-  answer = answers_are_the_programs program met.job met.line_of lawful nested met.ends.compiled
-      (Final met.cells) met.ends.ends
+  answer = answers_are_the_programs program met.job met.line_of is_lawful is_nested
+      met.ends.compiled (Final met.cells) met.ends.ends
 
   abbrev run : ℕ
   run = answer.0
@@ -106,11 +117,11 @@ module _ (trial : TrialData) (submission : List ℕ) (met : Meets trial submissi
     run = run;
     ends = answer.1;
     values = λ k want lt. held_same (after program run).cells (slice_index met.cells) _
-        program.arrays 0 lawful.arrays cells_same ∙ met.values k want lt;
-    time = within_same trial.time _ _ (time_is program met.job met.line_of lawful nested
+        program.arrays 0 is_lawful.arrays cells_same ∙ met.values k want lt;
+    time = within_same trial.time _ _ (time_is program met.job met.line_of is_lawful is_nested
         met.ends.compiled run all_lines) met.time;
     operations = within_same trial.operations _ _ (operations_are program met.job met.line_of
-        lawful nested met.ends.compiled run all_lines) met.operations;
+        is_lawful is_nested met.ends.compiled run all_lines) met.operations;
     lines = met.lines;
     job = met.job;
     line_of = met.line_of;
@@ -121,3 +132,64 @@ module _ (trial : TrialData) (submission : List ℕ) (met : Meets trial submissi
 
 pub what_is_met_is_solved : WhatIsMetIsSolved
 what_is_met_is_solved trial submission met = solved trial submission met
+
+-- ---- and the other way
+
+module _ (trial : TrialData) (submission : List ℕ) (it : Solves trial submission) where
+  abbrev its : ProgramData
+  its = it.program
+
+  its_lawful : IsProgram its
+  its_lawful = lawful (judged_text trial.header submission) its it.reads
+
+  its_nested : IsNested its.lines
+  its_nested = nested (judged_text trial.header submission) its it.reads
+
+  its_lines : AreAllLines its it.run
+  its_lines = inl it.ends
+
+  -- its job ends with the cells of its end
+  met_with : (cells : List ℕ) → IsAnswer it.job (Final cells) → IsAnswerOf its (Final cells) →
+      Meets trial submission
+  met_with cells answers (n, over, same) =
+      let once : n ≡ it.run = (runs_end_once its n it.run None None over it.ends).0 in
+      let held : (cell : ℕ) → cell < 0 + shared_cells its.arrays →
+      slice_index cells cell ≡ (after its it.run).cells cell = λ cell low.
+      let e = shared_is its in same cell (omega (arith, e, low))
+          ∙ ap (λ (m : ℕ). (after its m).cells cell) once in record {
+        given = it.given;
+        program = its;
+        job = it.job;
+        line_of = it.line_of;
+        cells = cells;
+        ends = record {
+          reads = it.reads;
+          compiled = it.compiled;
+          ends = answers;
+        };
+        values = λ k want lt. held_same (slice_index cells) (after its it.run).cells _
+            its.arrays 0 its_lawful.arrays held ∙ it.values k want lt;
+        time = within_same trial.time _ _ (sym (time_is its it.job it.line_of its_lawful its_nested
+            it.compiled it.run its_lines)) it.time;
+        operations = within_same trial.operations _ _ (sym (operations_are its it.job it.line_of
+            its_lawful its_nested it.compiled it.run its_lines)) it.operations;
+        steps = it.steps;
+        lines = it.lines;
+        model = it.model;
+      }
+
+  met_by : (answer : RunAnswer) → IsAnswer it.job answer → IsAnswerOf its answer →
+      Meets trial submission
+  met_by (Final cells) answers of = met_with cells answers of
+  met_by (Conflict fault) answers (n, conflict) =
+      let once = (runs_end_once its n it.run _ None conflict it.ends).1 in absurd (cc)
+  met_by (Unfinished step) answers of = absurd of
+
+  is_met : Meets trial submission
+  is_met =
+      let found = has_answer it.job in met_by found.0 found.1
+      (answers_are_the_programs its it.job it.line_of its_lawful its_nested it.compiled found.0
+      found.1)
+
+pub what_is_solved_is_met : WhatIsSolvedIsMet
+what_is_solved_is_met trial submission it = is_met trial submission it

@@ -1,5 +1,6 @@
 -- What a submission that passes does, by its meaning.
-use Rattle.std.specs.Prelude.{◌≡◌, ℕ, List, IfSome, None, Ok}
+use Rattle.std.specs.Prelude.{◌≡◌, ◌≢◌, ◌+◌, ℕ, true, false, List, [], All, IfSome, Some, None, Ok}
+use Rattle.std.specs.Prelude.{decimal, slice_get, take}
 use Rattle.pram_job.specs.Job.{JobData}
 use Rattle.pram_cost.specs.Models.{AcceptsSteps}
 use Rattle.pardo_program.specs.Program.{ProgramData}
@@ -10,6 +11,11 @@ use Rattle.pardo_job.specs.Runs.{IsProgramEnd}
 use Rattle.pardo_job.specs.Times.{operations_to, time_to}
 use Rattle.exercise_given.specs.Submissions.{code_lines, judged_text, missing_line}
 use Rattle.exercise_judge.specs.Trials.{AreHeld, IsWithin, Meets, TrialData}
+use Rattle.exercise_judge.specs.Verdicts.{IsCertain}
+use Rattle.exercise_judge.specs.declared.verdict.Wrong.{Wrong}
+use Rattle.exercise_records.specs.Records.{HasTrials, IsJudged, IsSaidOf, IsWhat}
+use Rattle.exercise_records.specs.declared.said.Said.{Said}
+use Rattle.refusals.specs.declared.refusal.TheConstants.{DONE}
 
 -- The submission has all given lines, and with the header of the trial it is a program. Its run
 -- ends; the names then hold what is wanted, and its time, its operations and its lines are within
@@ -33,3 +39,58 @@ pub record Solves (trial : TrialData) (submission : List ℕ) : Type 0 where
 abbrev pub WhatIsMetIsSolved : Type 0
 WhatIsMetIsSolved = (trial : TrialData) (submission : List ℕ) → Meets trial submission →
     Solves trial submission
+
+abbrev pub WhatIsSolvedIsMet : Type 0
+WhatIsSolvedIsMet = (trial : TrialData) (submission : List ℕ) → Solves trial submission →
+    Meets trial submission
+
+-- ---- records
+
+abbrev pub SolvesAll : List TrialData → List ℕ → Type 0
+SolvesAll trials submission = All (λ trial. Solves trial submission) trials
+
+-- the file gave a submission that solves all trials
+abbrev pub GivesSolution : (List ℕ → List ℕ → Type 0) → List TrialData → List ℕ → Type 0
+GivesSolution Gives trials file =
+    (submission : List ℕ) × Gives file submission × SolvesAll trials submission
+
+-- What a record says passed solves all trials.
+abbrev pub WhatPassedSolves : Type 0
+WhatPassedSolves = (Gives : List ℕ → List ℕ → Type 0) (trials : List TrialData) (file : List ℕ)
+    (said : Said) → IsSaidOf Gives trials file said → said.passed ≡ true →
+    GivesSolution Gives trials file
+
+-- The file gave a submission that solves all trials before the one of this number, counted from 1,
+-- and not this one: these words say what is wrong, if it is certain.
+pub record GivesFailure (Gives : List ℕ → List ℕ → Type 0) (trials : List TrialData)
+    (file number what : List ℕ) : Type 0 where
+  pub submission : List ℕ
+  pub gives : Gives file submission
+  pub before : ℕ
+  pub counts : number ≡ decimal (before + 1)
+  pub trial : TrialData
+  pub is_there : slice_get trials before ≡ Some trial
+  pub solves : SolvesAll (take before trials) submission
+  pub wrong : Wrong
+  pub says : IsWhat wrong what
+  pub unsolved : IsCertain wrong → ¬ Solves trial submission
+
+-- What a record says failed under an input does not solve its trial.
+abbrev pub WhatFailedDoesNotSolve : Type 0
+WhatFailedDoesNotSolve = (Gives : List ℕ → List ℕ → Type 0) (trials : List TrialData)
+    (file : List ℕ) (said : Said) → IsSaidOf Gives trials file said → said.passed ≡ false →
+    said.input.items ≢ [] → GivesFailure Gives trials file said.input.items said.what.items
+
+-- The file gave an exercise, and each other file a submission that solves its trials.
+pub record AllSolve (Gives : List ℕ → List ℕ → Type 0) (file : List ℕ) (files : List (List ℕ))
+    : Type 0 where
+  pub text : List ℕ
+  pub gives : Gives file text
+  pub trials : List TrialData
+  pub has : HasTrials text trials
+  pub solve : All (GivesSolution Gives trials) files
+
+-- Where the judging of files ends as done, all of them solve the exercise.
+abbrev pub DoneWhereAllSolve : Type 0
+DoneWhereAllSolve = (Gives : List ℕ → List ℕ → Type 0) (file : List ℕ) (files : List (List ℕ))
+    (bytes : List ℕ) → IsJudged Gives file files bytes DONE → AllSolve Gives file files

@@ -1,9 +1,7 @@
 //! What is said of submissions and exercises in words.
 use crate::submissions::{GOOD, SUMS};
-use exercise_judge::{
-    ExerciseFault, ExerciseKind, Trial, Unfit, UnfitKind, Verdict, Wrong, judge, read_exercise,
-    trials_of,
-};
+use exercise_judge::{ExerciseFault, ExerciseKind, Unfit, UnfitKind, Wrong};
+use exercise_records::{NOT_PASSED, NoTrials, said_of, trials_in, yes_or_no};
 use exercise_words::{push_exercise_fault, push_unfit, push_wrong};
 use pardo_job::{JobFault, JobKind, Refusal};
 use std::alloc::{AllocError, Global};
@@ -40,24 +38,14 @@ want A => want => line 9: the line lacks what its first word asks for, or belong
 model EREW => want A => line 9: this may stand once, and an earlier line has it
 title prefix => task prefix => line 30: the text ends without a line title";
 
-fn trial_said(alloc: Global, trials: &[Trial], submission: &[u8]) -> Result<Vec<u8>, AllocError> {
-    let mut text = Vec::new(alloc);
-    if let Verdict::Failed { input, wrong } = judge(alloc, trials, submission)
-        && let Some(trial) = trials.get(input.saturating_sub(1))
-    {
-        push_wrong(&mut text, &wrong, trial, submission)?;
-    }
-    Ok(text)
-}
-
+// What is wrong with a submission, or with the exercise.
 fn said(alloc: Global, exercise: &[u8], submission: &[u8]) -> Result<Vec<u8>, AllocError> {
     let mut text = Vec::new(alloc);
-    match read_exercise(alloc, exercise) {
-        Err(fault) => push_exercise_fault(&mut text, &fault)?,
-        Ok(exercise) => match trials_of(alloc, &exercise) {
-            Err(unfit) => push_unfit(&mut text, &unfit)?,
-            Ok(trials) => return trial_said(alloc, trials.as_slice(), submission),
-        },
+    match trials_in(alloc, exercise) {
+        Ok(trials) => return Ok(said_of(alloc, trials.as_slice(), submission)?.what),
+        Err(NoTrials::Fault(fault)) => push_exercise_fault(&mut text, &fault)?,
+        Err(NoTrials::Unfit(unfit)) => push_unfit(&mut text, &unfit)?,
+        Err(NoTrials::Memory) => return Err(AllocError),
     }
     Ok(text)
 }
@@ -83,6 +71,23 @@ fn submissions_are_told_in_words(rt: HostRuntime) -> Result<(), Fail> {
 }
 
 #[test]
+fn submissions_have_fields(rt: HostRuntime) -> Result<(), Fail> {
+    let alloc = rt.alloc();
+    let Ok(trials) = trials_in(alloc, SUMS.as_bytes()) else {
+        return Ok(assert!(rt; false));
+    };
+    let good = change(alloc, GOOD, "~", "\n")?;
+    let right = said_of(alloc, trials.as_slice(), good.as_bytes())?;
+    assert!(rt; right.passed && right.input.is_empty() && right.what.is_empty());
+    assert!(rt; right.status() == 0 && yes_or_no(right.passed) == b"yes");
+    let bad = change(alloc, GOOD, "A[i] + x", "A[i] + x + k")?;
+    let wrong = said_of(alloc, trials.as_slice(), bad.as_bytes())?;
+    assert!(rt; wrong.status() == NOT_PASSED && yes_or_no(wrong.passed) == b"no");
+    assert!(rt; wrong.input.as_slice() == b"1");
+    Ok(())
+}
+
+#[test]
 fn exercises_are_told_in_words(rt: HostRuntime) -> Result<(), Fail> {
     let alloc = rt.alloc();
     let submission = change(alloc, GOOD, "~", "\n")?;
@@ -101,10 +106,7 @@ fn exercises_are_told_in_words(rt: HostRuntime) -> Result<(), Fail> {
 #[test]
 fn faults_of_a_run_are_told_in_words(rt: HostRuntime) -> Result<(), Fail> {
     let alloc = rt.alloc();
-    let Ok(exercise) = read_exercise(alloc, SUMS.as_bytes()) else {
-        return Ok(assert!(rt; false));
-    };
-    let Ok(trials) = trials_of(alloc, &exercise) else {
+    let Ok(trials) = trials_in(alloc, SUMS.as_bytes()) else {
         return Ok(assert!(rt; false));
     };
     let Some(trial) = trials.as_slice().first() else {

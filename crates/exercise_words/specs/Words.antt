@@ -1,5 +1,6 @@
 -- What is said of a judged submission, and of an exercise that cannot be judged by.
-use Rattle.std.specs.Prelude.{◌≡◌, ◌≤◌, ◌==◌, ◌||◌, ◌&&◌, ℕ, List, [], ◌∷◌, ◌++◌, All, codes, decimal, map}
+use Rattle.std.specs.Prelude.{◌≡◌, ◌≤◌, ◌==◌, ◌||◌, ◌&&◌, ℕ, List, [], ◌∷◌, ◌++◌, All, codes}
+use Rattle.std.specs.Prelude.{decimal, map}
 use Rattle.std.specs.Prelude.{nat_le, take, if◌then◌else◌}
 use Rattle.std.specs.Str.{IsTrimAscii}
 use Rattle.pram_cost.specs.declared.meeting.Sharing.{Sharing}

@@ -1,1 +1,0 @@
-use Rattle.command_answers.proofs.judging.judged.Goals as goal
