@@ -19,7 +19,7 @@ def with_inputs(text, lines, without=()):
 
 
 def judged(exercise, texts):
-    """For each text the number of the input that it fails and what is wrong, or nothing."""
+    """The judge's record of each text."""
     with tempfile.TemporaryDirectory() as folder:
         asked = Path(folder) / "asked.exercise"
         asked.write_text(exercise)
@@ -29,15 +29,20 @@ def judged(exercise, texts):
         made = subprocess.run([form.PROGRAM, "judge", asked, *files], capture_output=True, text=True)
     if made.returncode not in (0, 1):
         raise form.Refused(made.stderr.strip())
-    rows = list(csv.DictReader(made.stdout.split("\n")))
-    assert len(rows) == len(texts)
-    return [None if it["passed"] == "yes" else (int(it["input"]), it["what"]) for it in rows]
+    records = list(csv.DictReader(made.stdout.split("\n")))
+    assert len(records) == len(texts)
+    return records
+
+
+def fault_in(record, lines):
+    """The first input that a text fails and what is wrong, or nothing."""
+    return "" if record["passed"] == "yes" else f"{lines[int(record['input']) - 1][:120]}: {record['what']}"
 
 
 def faults_of(exercise, lines, texts, jobs, without=()):
-    """For each text the first thing that is wrong with it under these inputs, with the input, or nothing."""
+    """What is wrong first with each text under other inputs of an exercise, or nothing."""
     asked = with_inputs(exercise, lines, without)
     batches = [texts[k : k + BATCH] for k in range(0, len(texts), BATCH)]
     with concurrent.futures.ThreadPoolExecutor(jobs) as pool:
-        told = [it for batch in pool.map(lambda batch: judged(asked, batch), batches) for it in batch]
-    return [f"{lines[it[0] - 1][:120]}: {it[1]}" if it else "" for it in told]
+        told = list(pool.map(lambda batch: judged(asked, batch), batches))
+    return [fault_in(record, lines) for batch in told for record in batch]
