@@ -1,5 +1,5 @@
 use Rattle.std.proofs.Common.{append_assoc}
-use Rattle.naming.proofs.line_costs.push_sums.Goals as goal
+use Rattle.naming.proofs.costs.push_sums.Goals as goal
 
 pub returns : goal.returns
 returns c = rw (
