@@ -1,5 +1,6 @@
 -- What a submission has to do under one input, and that it does.
-use Rattle.std.specs.Prelude.{◌≡◌, ◌≢◌, ◌≤◌, ℕ, ◌++◌, List, [], ◌∷◌, All, IfSome, MatchBool, MatchOption, map}
+use Rattle.std.specs.Prelude.{◌≡◌, ◌≢◌, ◌≤◌, ℕ, ◌++◌, List, [], ◌∷◌, All, IfSome, MatchBool}
+use Rattle.std.specs.Prelude.{MatchOption, map}
 use Rattle.std.specs.Prelude.{codes, slice_index, unwrap_or, Option, Some, None, Ok}
 use Rattle.std.specs.Option.{option_and_then}
 use Rattle.text_lines.specs.Lines.{Line, words_of}
@@ -110,7 +111,8 @@ AreKnown wanted = All (λ want. want.values ≢ []) wanted
 abbrev pub model_of : List EntryData → Option Pram
 model_of exercise = option_and_then model_in (text_of key.Model exercise)
 
--- The trial of an input of an exercise. Each word of the input sets a name that the header declares.
+-- The trial of an input of an exercise. Each word of the input sets a name that the header
+-- declares.
 pub record IsTrial (exercise : List EntryData) (input : EntryData) (trial : TrialData)
     : Type 0 where
   pub words : unknown_word (part_in key.Given exercise) (words_of input.text) ≡ None

@@ -1,5 +1,6 @@
 -- What is said of a submission, and what that means.
-use Rattle.std.specs.Prelude.{◌≡◌, ◌≢◌, ⊤, ℕ, ◌+◌, List, All, take, slice_get, Some, Result, Ok, Err}
+use Rattle.std.specs.Prelude.{◌≡◌, ◌≢◌, ⊤, ℕ, ◌+◌, List, All, take, slice_get, Some, Result, Ok}
+use Rattle.std.specs.Prelude.{Err}
 use Rattle.pardo_text.specs.declared.fault.PardoKind.TheVariants as text
 use Rattle.pardo_job.specs.declared.fault.JobKind.TheVariants as job
 use Rattle.pardo_job.specs.declared.fault.Refusal.{Refusal}

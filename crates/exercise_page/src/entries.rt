@@ -40,8 +40,8 @@ pub enum NoExercise {
     Bad(ExerciseFault),
 }
 
-/// Puts the entries of the exercise that a text spells to the fronts of the buffers: their texts one
-/// after the other, and a row for each.
+/// Puts the entries of the exercise that a text spells to the fronts of the buffers: their texts
+/// one after the other, and a row for each.
 pub fn entries(alloc: Global, text: &[u8], bytes: &mut [u8], rows: &mut [EntryRow]) -> ExerciseTold
     ensures told { AreEntriesTold text.now bytes.old rows.old bytes.new rows.new result }
     ensures bytes { IsKept (bytes_told result) bytes.old bytes.new }

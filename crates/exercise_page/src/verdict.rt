@@ -23,11 +23,12 @@ use pram_cost::Sharing;
 use std::alloc::Global;
 
 /// What is said of a submission. Where it fails, `input` is the number of the input, from 1, `kind`
-/// is what is wrong, 1 to 6 in the order of `Wrong`, and `bytes` is the length of its text: the line
-/// that is missing, or a place. A fault is that of a program, in line `line`; a bar is told by the
-/// number of its key, and models as `needs` of a cost; `sharing` is 0 to 2 in the order of `Sharing`.
-/// Where the exercise cannot be judged by, `kind` is 1 to 6 in the order of `UnfitKind`, `line` is
-/// that of the input, `within` that of the part with the fault, and the text is the unknown word.
+/// is what is wrong, 1 to 6 in the order of `Wrong`, and `bytes` is the length of its text: the
+/// line that is missing, or a place. A fault is that of a program, in line `line`; a bar is told by
+/// the number of its key, and models as `needs` of a cost; `sharing` is 0 to 2 in the order of
+/// `Sharing`. Where the exercise cannot be judged by, `kind` is 1 to 6 in the order of `UnfitKind`,
+/// `line` is that of the input, `within` that of the part with the fault, and the text is the
+/// unknown word.
 #[repr(C)]
 #[derive(Clone, Copy)]
 pub struct VerdictTold {
