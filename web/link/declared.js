@@ -25,13 +25,8 @@ function byNumber(numbers, words) {
 
 // ---- codes
 
-// Those of exercises come after the others; some are in both.
-const constants = constantsIn(ofPage('codes'));
-for (const constant of constantsIn(ofExercises('codes'))) {
-  const same = constants.find(({ name }) => name === constant.name);
-  if (!same) constants.push(constant);
-  else if (same.value !== constant.value) throw new Error(`${same.name} has two values`);
-}
+// Those of exercises come after the others.
+const constants = [...constantsIn(ofPage('codes')), ...constantsIn(ofExercises('codes'))];
 const isLimit = ({ name }) => name.endsWith('_MOST');
 
 // What is at most, how calls end, and what cells are for.
@@ -69,14 +64,6 @@ export const WRONG = numbersIn(ofExercises('verdict'), 'tell_wrong', 'kind');
 export const UNFIT = numbersIn(ofExercises('verdict'), 'tell_unfit', 'kind');
 export const BAR = numbersIn(ofExercises('verdict'), 'number_of_bar');
 export const SHARING = numbersIn(ofExercises('verdict'), 'number_of_sharing');
-
-// What is told of programs has the same numbers in calls about exercises.
-for (const [source, name] of [['program', 'number_of_text_kind'], ['program', 'number_of_job_kind'],
-  ['cost', 'number_of_model']]) {
-  const [one, other] = [ofPage(source), ofExercises('verdict')].map((text) =>
-    JSON.stringify(numbersIn(text, name)));
-  if (one !== other) throw new Error(`${name} tells other numbers of exercises`);
-}
 
 // ---- words
 

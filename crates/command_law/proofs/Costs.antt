@@ -46,9 +46,10 @@ use Rattle.pardo_law.proofs.FlatTelling.{jobs_tell_lines}
 use Rattle.pardo_answers.specs.Language.{is_program}
 use Rattle.pardo_answers.specs.Laws.{IsAnswerText, IsCarrying}
 use Rattle.pardo_answers.proofs.LawAnswers.{printed_answers_are_the_programs}
-use Rattle.naming.specs.declared.line_costs.LineCost.{LineCost}
+use Rattle.pardo_costs.specs.declared.line_costs.LineCost.{LineCost}
 use Rattle.pram_commands.specs.Costs.{TellsCost}
-use Rattle.naming.specs.Costs.{cost_words, line_cost, line_costs}
+use Rattle.naming.specs.Costs.{cost_words, line_costs}
+use Rattle.pardo_costs.specs.Costs.{line_cost}
 use Rattle.naming.specs.Costs.{place_or_cell}
 use Rattle.naming.specs.Names.{AreNames, IsNaming, NamingData}
 use Rattle.command_law.specs.Programs.{AreLineCosts, AreProgramsCosts}

@@ -53,7 +53,7 @@ use Rattle.pardo_job.specs.declared.times.CountedLine.{CountedLine}
 use Rattle.pardo_law.specs.Between.{AreLinesMade, GoesThrough, PutsTo}
 use Rattle.pardo_answers.specs.Language.{is_program}
 use Rattle.naming.specs.CellLists.{AreCellsOf}
-use Rattle.naming.specs.declared.line_costs.LineCost.{LineCost}
+use Rattle.pardo_costs.specs.declared.line_costs.LineCost.{LineCost}
 use Rattle.naming.specs.Costs.{cost_words, place_or_cell, spot_in}
 use Rattle.pram_commands.specs.Costs.{costing}
 use Rattle.pram_commands.specs.LineRecords.{costing_by}

@@ -1,5 +1,5 @@
 -- Cells that are spelled, and a block that there is, are no bad values.
-use Rattle.std.proofs.Common.{◌≡◌, ◌∙◌, ◌-◌, ℕ, List, Option}
+use Rattle.std.proofs.Common.{◌≡◌, ◌∙◌, ℕ, List, Option}
 use Rattle.std.proofs.Common.{None, Some, MatchOption, option_map, arith, ap, codes}
 use Rattle.std.proofs.Common.{refl, subst, sym, true, false}
 use Rattle.std.proofs.Math.Nat.{pow-le-pow_right}

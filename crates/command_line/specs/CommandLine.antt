@@ -329,7 +329,8 @@ HasSettings matches settings =
 -- Submissions were met, in these files, with this exercise.
 pub record IsJudging (matches : Option (Text × List Row)) (judging : Judging) : Type 0 where
   pub of_file : HasFile matches (codes "judge") judging.exercise.now
-  pub files : all_of (codes "files") of_file.rows ≡ Some (map (λ file. file.now) judging.files.items)
+  pub files : all_of (codes "files") of_file.rows
+      ≡ Some (map (λ file. file.now) judging.files.items)
   pub explain : HasFlag (codes "explain") matches judging.explain
 
 -- What was met is a line, with what names are set to; or submissions.

@@ -4,10 +4,11 @@ ghost use Rattle.clap.specs.Words.{found_of, kind_of, rows_of, subcommand_rows_o
 ghost use Rattle.command_line.specs.CommandLine.{HasBadBlock, HasBadCells, HasBadModel};
 ghost use Rattle.command_line.specs.CommandLine.{HasBadValue, HasBadWindow, HasTwoPlans, IsBadIn};
 
-use crate::line::{
-    check_command, cost_command, number_if_set, plain_command, replay_command, run_command,
-    steps_command, watch_command, window_of,
+use crate::commands::{
+    check_command, cost_command, plain_command, replay_command, run_command, steps_command,
+    watch_command,
 };
+use crate::options::{number_if_set, window_of};
 use clap::error::ErrorKind;
 use clap::{ArgMatches, Command, Error};
 use command_data::{Block, CellList};

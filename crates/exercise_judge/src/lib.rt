@@ -14,5 +14,5 @@ pub use exercise_header::Wanted;
 pub use exercise_text::{Entry, Exercise, ExerciseFault, ExerciseKind, Key, read_exercise};
 pub use judging::{judge, judge_trial};
 pub use trial::Trial;
-pub use trials::{trial_of, trials_of};
+pub use trials::{part_in, trial_of, trials_of};
 pub use verdict::{Bar, Unfit, UnfitKind, Verdict, Wrong};

@@ -116,8 +116,8 @@ fn bar_fault(fault: PardoFault) -> UnfitKind
     }
 }
 
-// What a part of an exercise says, and nothing where it has none.
-fn part_in(exercise: &Exercise, key: Key) -> &[u8]
+/// What a part of an exercise says, and nothing where it has none.
+pub fn part_in(exercise: &Exercise, key: Key) -> &[u8]
     ensures { result.now ≡ part_in key exercise.now }
 {
     exercise.text(key).unwrap_or(b"")

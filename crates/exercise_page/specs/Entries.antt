@@ -6,8 +6,8 @@ use Rattle.exercise_text.specs.declared.fault.ExerciseKind.TheVariants as kind
 use Rattle.exercise_text.specs.Entries.{EntryData}
 use Rattle.exercise_text.specs.Keys.{place_of}
 use Rattle.exercise_text.specs.Reading.{IsRefusal, exercise_of}
-use Rattle.exercise_page.specs.declared.codes.TheConstants.{MEMORY, NO_EXERCISE, TEXT_MOST}
-use Rattle.exercise_page.specs.declared.codes.TheConstants.{TEXT_TOO_LONG}
+use Rattle.page_core.specs.declared.codes.TheConstants.{MEMORY, TEXT_MOST, TEXT_TOO_LONG}
+use Rattle.exercise_page.specs.declared.codes.TheConstants.{NO_EXERCISE}
 use Rattle.exercise_page.specs.declared.entries.EntryRow.{EntryRow}
 use Rattle.exercise_page.specs.declared.entries.NoExercise.{NoExercise}
 use Rattle.exercise_page.specs.declared.entries.NoExercise.TheVariants.{TextTooLong, Bad}

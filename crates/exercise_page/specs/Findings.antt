@@ -7,7 +7,7 @@ use Rattle.exercise_judge.specs.declared.verdict.Verdict.TheVariants.{Passed, Fa
 use Rattle.exercise_judge.specs.declared.verdict.Wrong.{Wrong}
 use Rattle.exercise_judge.specs.Trials.{AreTrials, TrialData}
 use Rattle.exercise_judge.specs.Verdicts.{IsVerdict}
-use Rattle.exercise_page.specs.declared.codes.TheConstants.{TEXT_MOST}
+use Rattle.page_core.specs.declared.codes.TheConstants.{TEXT_MOST}
 use Rattle.exercise_page.specs.declared.finding.Finding.{Finding}
 use Rattle.exercise_page.specs.declared.finding.Finding.TheVariants.{NoExercise, TextTooLong}
 use Rattle.exercise_page.specs.declared.finding.Finding.TheVariants.{Unfit, Judged}

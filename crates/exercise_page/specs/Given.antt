@@ -9,8 +9,8 @@ use Rattle.exercise_text.specs.Reading.{exercise_of}
 use Rattle.exercise_given.specs.Submissions.{judged_text}
 use Rattle.exercise_header.specs.Headers.{header_as_set}
 use Rattle.exercise_judge.specs.Trials.{part_in}
-use Rattle.exercise_page.specs.declared.codes.TheConstants.{MEMORY, NO_INPUT, TEXT_MOST}
-use Rattle.exercise_page.specs.declared.codes.TheConstants.{TEXT_TOO_LONG, UNFIT}
+use Rattle.page_core.specs.declared.codes.TheConstants.{MEMORY, TEXT_MOST, TEXT_TOO_LONG}
+use Rattle.exercise_page.specs.declared.codes.TheConstants.{NO_INPUT, UNFIT}
 use Rattle.exercise_page.specs.declared.given.NoGiven.{NoGiven}
 use Rattle.exercise_page.specs.declared.given.NoGiven.TheVariants.{NoExercise, TextTooLong}
 use Rattle.exercise_page.specs.declared.given.NoGiven.TheVariants.{NoInput, Unfit, Memory}

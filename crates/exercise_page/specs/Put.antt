@@ -1,6 +1,6 @@
 -- How bytes and rows are put into buffers.
 use Rattle.std.specs.Prelude.{◌≡◌, ◌⊎◌, ℕ, ◌<◌, ◌==◌, if◌then◌else◌, List, length, take, drop}
-use Rattle.exercise_page.specs.declared.codes.TheConstants.{DONE, NO_ROOM}
+use Rattle.page_core.specs.declared.codes.TheConstants.{DONE, NO_ROOM}
 use Rattle.exercise_page.specs.declared.put.ExerciseTold.{ExerciseTold}
 
 -- a code, so many bytes and so many rows

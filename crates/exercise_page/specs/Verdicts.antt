@@ -4,10 +4,6 @@ use Rattle.pram_cost.specs.declared.meeting.Sharing.{Sharing}
 use Rattle.pram_cost.specs.declared.meeting.Sharing.TheVariants as share
 use Rattle.pram_cost.specs.Models.{strength}
 use Rattle.pardo_text.specs.declared.fault.PardoFault.{PardoFault}
-use Rattle.pardo_text.specs.declared.fault.PardoKind.{PardoKind}
-use Rattle.pardo_text.specs.declared.fault.PardoKind.TheVariants as text_kind
-use Rattle.pardo_job.specs.declared.fault.JobKind.{JobKind}
-use Rattle.pardo_job.specs.declared.fault.JobKind.TheVariants as job_kind
 use Rattle.pardo_job.specs.declared.fault.Refusal.{Refusal}
 use Rattle.pardo_job.specs.declared.fault.Refusal.TheVariants.{Text, Job}
 use Rattle.exercise_text.specs.declared.fault.ExerciseKind.{ExerciseKind}
@@ -21,8 +17,9 @@ use Rattle.exercise_judge.specs.declared.verdict.UnfitKind.TheVariants as unfit
 use Rattle.exercise_judge.specs.declared.verdict.Verdict.TheVariants.{Passed, Failed}
 use Rattle.exercise_judge.specs.declared.verdict.Wrong.{Wrong}
 use Rattle.exercise_judge.specs.declared.verdict.Wrong.TheVariants as wrong
-use Rattle.exercise_page.specs.declared.codes.TheConstants.{FAILED, MEMORY, NO_EXERCISE, NO_ROOM}
-use Rattle.exercise_page.specs.declared.codes.TheConstants.{PASSED, TEXT_TOO_LONG, UNFIT}
+use Rattle.page_core.specs.declared.codes.TheConstants.{MEMORY, NO_ROOM, TEXT_TOO_LONG}
+use Rattle.page_core.specs.Programs.{job_kind_code, text_kind_code}
+use Rattle.exercise_page.specs.declared.codes.TheConstants.{FAILED, NO_EXERCISE, PASSED, UNFIT}
 use Rattle.exercise_page.specs.declared.entries.NoExercise.TheVariants as none
 use Rattle.exercise_page.specs.declared.finding.Finding.{Finding}
 use Rattle.exercise_page.specs.declared.finding.Finding.TheVariants.{NoExercise, TextTooLong}
@@ -33,30 +30,6 @@ use Rattle.exercise_page.specs.Findings.{IsFinding}
 -- ---- numbers
 
 -- those of faults are the same as in other calls; out of memory is no fault
-abbrev pub text_kind_code : PardoKind → ℕ
-text_kind_code text_kind.Memory = 0
-text_kind_code text_kind.NotAscii = 1
-text_kind_code text_kind.BadSymbol = 2
-text_kind_code text_kind.BadHeader = 3
-text_kind_code text_kind.BadLine = 4
-text_kind_code text_kind.UnknownName = 5
-text_kind_code text_kind.DuplicateName = 6
-text_kind_code text_kind.WrongKind = 7
-text_kind_code text_kind.OutOfLimits = 9
-text_kind_code text_kind.WrongLength = 10
-text_kind_code text_kind.TooManyCells = 11
-text_kind_code text_kind.BadBlock = 12
-text_kind_code text_kind.TooDeep = 13
-text_kind_code text_kind.OpenBlock = 14
-text_kind_code text_kind.NoCode = 15
-
-abbrev pub job_kind_code : JobKind → ℕ
-job_kind_code job_kind.Memory = 0
-job_kind_code job_kind.TooDeep = 16
-job_kind_code job_kind.TooLong = 17
-job_kind_code job_kind.Endless = 18
-job_kind_code job_kind.TooManyCells = 19
-
 abbrev pub refusal_code : Refusal → ℕ
 refusal_code (Text fault) = text_kind_code fault.kind
 refusal_code (Job fault) = job_kind_code fault.kind

@@ -8,9 +8,10 @@ ghost use Rattle.exercise_page.specs.Entries.{AreEntriesOf, AreEntriesTold, IsNo
 ghost use Rattle.exercise_page.specs.Entries.{entry_row, key_lacked, kind_code, no_exercise_told};
 ghost use Rattle.exercise_page.specs.Put.{IsKept, bytes_told, counted, rows_told};
 
-use crate::codes::{MEMORY, NO_EXERCISE, TEXT_MOST, TEXT_TOO_LONG};
+use crate::codes::NO_EXERCISE;
 use crate::put::{ExerciseTold, counted, put};
 use exercise_judge::{Entry, Exercise, ExerciseFault, ExerciseKind, Key, read_exercise};
+use page_core::codes::{MEMORY, TEXT_MOST, TEXT_TOO_LONG};
 use std::alloc::{AllocError, Global};
 
 /// What an entry says, by the number of its key, the line where it begins, and how many bytes its
@@ -39,8 +40,8 @@ pub enum NoExercise {
     Bad(ExerciseFault),
 }
 
-/// Puts the entries of the exercise that a text spells to the fronts of the buffers: their texts one
-/// after the other, and a row for each.
+/// Puts the entries of the exercise that a text spells to the fronts of the buffers: their texts
+/// one after the other, and a row for each.
 pub fn entries(alloc: Global, text: &[u8], bytes: &mut [u8], rows: &mut [EntryRow]) -> ExerciseTold
     ensures told { AreEntriesTold text.now bytes.old rows.old bytes.new rows.new result }
     ensures bytes { IsKept (bytes_told result) bytes.old bytes.new }

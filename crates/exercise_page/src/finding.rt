@@ -3,9 +3,9 @@ ghost use Rattle.std.specs.Prelude.{◌≡◌, List, ℕ, Ok};
 ghost use Rattle.exercise_text.specs.Reading.{exercise_of};
 ghost use Rattle.exercise_page.specs.Findings.{IsFinding};
 
-use crate::codes::TEXT_MOST;
 use crate::entries::{NoExercise, take_exercise};
 use exercise_judge::{Exercise, Unfit, Verdict, judge, trials_of};
+use page_core::codes::TEXT_MOST;
 use std::alloc::Global;
 
 /// What is found of a submission to an exercise.

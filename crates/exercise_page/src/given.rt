@@ -7,12 +7,13 @@ ghost use Rattle.exercise_page.specs.Given.{IsGivenText, IsGivenTold, IsNoGiven,
 ghost use Rattle.exercise_page.specs.Given.{no_given_told};
 ghost use Rattle.exercise_page.specs.Put.{IsKept, bytes_told};
 
-use crate::codes::{MEMORY, NO_INPUT, TEXT_MOST, TEXT_TOO_LONG, UNFIT};
+use crate::codes::{NO_INPUT, UNFIT};
 use crate::entries::{NoExercise, take_exercise, tell_no_exercise};
 use crate::put::{ExerciseTold, counted, put_text};
 use exercise_given::judged_text;
 use exercise_header::header_as_set;
-use exercise_judge::{Entry, Exercise, Key};
+use exercise_judge::{Entry, Exercise, Key, part_in};
+use page_core::codes::{MEMORY, TEXT_MOST, TEXT_TOO_LONG};
 use std::alloc::Global;
 
 /// Why there is no such text.
@@ -80,7 +81,7 @@ fn text_with(
     let Some(input) = input_at(exercise.entries(), line) else {
         return Err(NoGiven::NoInput);
     };
-    let part = exercise.text(Key::Given).unwrap_or(b"");
+    let part = part_in(exercise, Key::Given);
     let Ok(header) = header_as_set(alloc, part, input.text()) else {
         return Err(NoGiven::Unfit);
     };

@@ -3,11 +3,11 @@ ghost use Rattle.std.specs.Prelude.{◌≡◌, [], length};
 ghost use Rattle.exercise_page.specs.Put.{ArePut, IsKept, IsTextPut, bytes_told, counted};
 ghost use Rattle.exercise_page.specs.Put.{rows_told};
 
-use crate::codes::{DONE, NO_ROOM};
+use page_core::codes::{DONE, NO_ROOM};
 
-/// What is told of an exercise: how many bytes and how many rows were written, or (without room) how
-/// many there are. A fault is that of line `line`, 1 to 7 in the order of `ExerciseKind`; `lacks`
-/// is the number of the key that is missing.
+/// What is told of an exercise: how many bytes and how many rows were written, or (without room)
+/// how many there are. A fault is that of line `line`, 1 to 7 in the order of `ExerciseKind`;
+/// `lacks` is the number of the key that is missing.
 #[repr(C)]
 #[derive(Clone, Copy)]
 pub struct ExerciseTold {

@@ -1,31 +1,34 @@
 //! What is said of a submission, in numbers and bytes.
 ghost use Rattle.std.specs.Prelude.{◌≡◌, ◌++◌, length};
-ghost use Rattle.pram_cost.specs.Models.{strength};
 ghost use Rattle.exercise_page.specs.declared.codes.TheConstants.{FAILED as failed_code};
 ghost use Rattle.exercise_page.specs.declared.codes.TheConstants.{PASSED as passed_code};
 ghost use Rattle.exercise_page.specs.Findings.{IsFailed, IsMet};
 ghost use Rattle.exercise_page.specs.Put.{IsKept};
 ghost use Rattle.exercise_page.specs.Verdicts.{IsFindingPut, IsVerdictTold, bar_code, finding_text};
-ghost use Rattle.exercise_page.specs.Verdicts.{finding_told, job_kind_code, of_code, refusal_code};
-ghost use Rattle.exercise_page.specs.Verdicts.{refusal_line, text_kind_code, unfit_told, words_told};
+ghost use Rattle.exercise_page.specs.Verdicts.{finding_told, of_code, refusal_code, refusal_line};
+ghost use Rattle.exercise_page.specs.Verdicts.{unfit_told, words_told};
 ghost use Rattle.exercise_page.specs.Verdicts.{code_of_fault, part_fault, sharing_code};
 ghost use Rattle.exercise_page.specs.Verdicts.{unfit_text, wrong_text, wrong_told};
 
-use crate::codes::{FAILED, MEMORY, NO_EXERCISE, NO_ROOM, PASSED, TEXT_MOST, TEXT_TOO_LONG, UNFIT};
+use crate::codes::{FAILED, NO_EXERCISE, PASSED, UNFIT};
 use crate::entries::NoExercise;
 use crate::finding::{Finding, found};
 use exercise_judge::{Bar, ExerciseKind, Unfit, UnfitKind, Verdict, Wrong};
-use pardo_job::{JobKind, Refusal};
-use pardo_text::{PardoFault, PardoKind};
-use pram_cost::{Pram, Sharing};
+use page_core::codes::{MEMORY, NO_ROOM, TEXT_TOO_LONG};
+use page_core::cost::number_of_model;
+use page_core::program::{number_of_job_kind, number_of_text_kind};
+use pardo_job::Refusal;
+use pardo_text::PardoFault;
+use pram_cost::Sharing;
 use std::alloc::Global;
 
 /// What is said of a submission. Where it fails, `input` is the number of the input, from 1, `kind`
-/// is what is wrong, 1 to 6 in the order of `Wrong`, and `bytes` is the length of its text: the line
-/// that is missing, or a place. A fault is that of a program, in line `line`; a bar is told by the
-/// number of its key, and models as `needs` of a cost; `sharing` is 0 to 2 in the order of `Sharing`.
-/// Where the exercise cannot be judged by, `kind` is 1 to 6 in the order of `UnfitKind`, `line` is
-/// that of the input, `within` that of the part with the fault, and the text is the unknown word.
+/// is what is wrong, 1 to 6 in the order of `Wrong`, and `bytes` is the length of its text: the
+/// line that is missing, or a place. A fault is that of a program, in line `line`; a bar is told by
+/// the number of its key, and models as `needs` of a cost; `sharing` is 0 to 2 in the order of
+/// `Sharing`. Where the exercise cannot be judged by, `kind` is 1 to 6 in the order of `UnfitKind`,
+/// `line` is that of the input, `within` that of the part with the fault, and the text is the
+/// unknown word.
 #[repr(C)]
 #[derive(Clone, Copy)]
 pub struct VerdictTold {
@@ -290,40 +293,6 @@ fn line_of_refusal(refusal: Refusal) -> u64
     }
 }
 
-fn number_of_text_kind(kind: PardoKind) -> u32
-    ensures { result ≡ text_kind_code kind }
-{
-    match kind {
-        PardoKind::Memory => 0,
-        PardoKind::NotAscii => 1,
-        PardoKind::BadSymbol => 2,
-        PardoKind::BadHeader => 3,
-        PardoKind::BadLine => 4,
-        PardoKind::UnknownName => 5,
-        PardoKind::DuplicateName => 6,
-        PardoKind::WrongKind => 7,
-        PardoKind::OutOfLimits => 9,
-        PardoKind::WrongLength => 10,
-        PardoKind::TooManyCells => 11,
-        PardoKind::BadBlock => 12,
-        PardoKind::TooDeep => 13,
-        PardoKind::OpenBlock => 14,
-        PardoKind::NoCode => 15,
-    }
-}
-
-fn number_of_job_kind(kind: JobKind) -> u32
-    ensures { result ≡ job_kind_code kind }
-{
-    match kind {
-        JobKind::Memory => 0,
-        JobKind::TooDeep => 16,
-        JobKind::TooLong => 17,
-        JobKind::Endless => 18,
-        JobKind::TooManyCells => 19,
-    }
-}
-
 fn number_of_sharing(sharing: Sharing) -> u32
     ensures { result ≡ sharing_code sharing }
 {
@@ -343,17 +312,5 @@ fn number_of_bar(bar: Bar) -> u32
         Bar::Operations => 6,
         Bar::Steps => 7,
         Bar::Lines => 8,
-    }
-}
-
-// The models from the weakest to the strongest.
-fn number_of_model(pram: Pram) -> u32
-    ensures { result ≡ strength pram }
-{
-    match pram {
-        Pram::Erew => 0,
-        Pram::Crew => 1,
-        Pram::CommonCrcw => 2,
-        Pram::PriorityCrcw => 3,
     }
 }

@@ -101,7 +101,8 @@ impl Member {
     }
 
     /// The worker, if there is one, loses all that it knew, and comes back: it will stand where its
-    /// position word says, with an empty memory if there is room for one. Says whether there is one.
+    /// position word says, with an empty memory if there is room for one. Says whether there is
+    /// one.
     pub fn back(&mut self, alloc: Global) -> bool
         requires { IsMember self.old }
         ensures { IsBack self.old self.new result }

@@ -6,7 +6,7 @@ use Rattle.std.proofs.lemmas.List.{drop_all, drop_more, flat_map_more, get_or_pa
 use Rattle.std.specs.List.{flat_map}
 use Rattle.text_lines.specs.Lines.{lines_of}
 use Rattle.naming.specs.LineRecords.{line_numbered, line_record}
-use Rattle.naming.specs.declared.line_costs.LineCost.{LineCost}
+use Rattle.pardo_costs.specs.declared.line_costs.LineCost.{LineCost}
 
 module _ (text : List ℕ) where
   -- the line after those taken

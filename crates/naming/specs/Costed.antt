@@ -2,7 +2,7 @@
 use Rattle.std.specs.Prelude.{◌≡◌, Option}
 use Rattle.pram_job.specs.Job.{JobData}
 use Rattle.pram_cost.specs.Costs.{IsCost}
-use Rattle.naming.specs.declared.line_costs.Costs.{Costs}
+use Rattle.pardo_costs.specs.declared.line_costs.Costs.{Costs}
 use Rattle.naming.specs.declared.texts.Spelled.{Spelled}
 use Rattle.naming.specs.Costs.{line_costs}
 use Rattle.naming.specs.Names.{AreNames, NamingData}

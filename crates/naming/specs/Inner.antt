@@ -1,5 +1,4 @@
 -- For private contracts alone.
 pub mod Refusals
 pub mod Places
-pub mod Lines
 pub mod Finding

@@ -3,7 +3,7 @@ use Rattle.std.specs.Prelude.{ℕ, List, [], ◌∷◌, ◌++◌, codes, decimal
 use Rattle.std.specs.List.{flat_map}
 use Rattle.csv.specs.Writing.{default_writer, row_text}
 use Rattle.text_lines.specs.Lines.{lines_of}
-use Rattle.naming.specs.declared.line_costs.LineCost.{LineCost}
+use Rattle.pardo_costs.specs.declared.line_costs.LineCost.{LineCost}
 
 -- the line of this number, which counts from 1; no other number has a line
 abbrev pub line_numbered : List ℕ → ℕ → List ℕ

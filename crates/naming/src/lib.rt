@@ -3,14 +3,14 @@
 
 mod array_names;
 mod cell_list;
-mod line_costs;
+mod costs;
 mod line_records;
 mod names;
 mod places;
 mod texts;
 
 pub use cell_list::cells_in;
-pub use line_costs::{Costed, Costs, LineCost, total_operations, total_time};
+pub use costs::Costed;
 pub use line_records::records_of;
 pub use names::{Naming, origin_of, print_styled, print_told, read_costed, read_text};
 pub use texts::Spelled;

@@ -7,9 +7,9 @@ ghost use Rattle.naming.specs.Inner.Finding.{IsAt};
 ghost use Rattle.pram_streams.specs.Records.{IsBetweenRecords};
 ghost use Rattle.text_lines.specs.TextLines.{taken_of};
 
-use crate::line_costs::LineCost;
 use csv::Writer;
 use itoa::Buffer;
+use pardo_costs::LineCost;
 use pram_streams::number_text;
 use std::alloc::{AllocError, Global};
 use std::io::Write;

@@ -3,14 +3,10 @@ ghost use Rattle.std.specs.Prelude.{◌≡◌, ◌<◌, ◌++◌, ℕ, true, fal
 ghost use Rattle.std.specs.Option.{option_copied};
 ghost use Rattle.std.specs.Prelude.{MatchOption, ◌≤◌};
 ghost use Rattle.pardo_program.specs.Lawful.{AreArrays};
-ghost use Rattle.pardo_job.specs.Compiled.{IsWhole};
 ghost use Rattle.pardo_job.specs.Ends.{gone_in};
 ghost use Rattle.pardo_job.specs.Printed.{cell_text};
 ghost use Rattle.pardo_answers.specs.Language.{is_program};
-ghost use Rattle.pram_cost.specs.Costs.{IsLength};
 ghost use Rattle.pram_fates.specs.Told.{line_in};
-ghost use Rattle.pram_job.specs.Job.{JobData};
-ghost use Rattle.pram_step.specs.Runs.{IsAnswer};
 ghost use Rattle.naming.specs.Writing.{writing};
 ghost use Rattle.naming.specs.Costed.{AreCosts};
 ghost use Rattle.naming.specs.Puts.{PutText};
@@ -24,16 +20,15 @@ ghost use Rattle.naming.specs.Names.{recorded, styled};
 ghost use Rattle.naming.specs.RowNames.{row_words};
 ghost use Rattle.naming.specs.CellNames.{cell_words, or_number};
 
-use crate::line_costs::{Costed, Costs, costs_of, push_sums};
+use crate::costs::{Costed, push_sums};
 use crate::places::{Stretch, array_at, cell_at, place_text, push_told};
 use crate::texts::Spelled;
 use pardo_answers::{Names, is_program, print_named, print_records, push_conflict};
-use pardo_job::{
-    Ended, JobFault, JobKind, Refusal as ProgramRefusal, counted_lines, draft_in, finish,
-};
+use pardo_costs::{Costs, Run, finish_costed};
+use pardo_job::{Ended, JobFault, JobKind, Refusal as ProgramRefusal, draft_in, finish};
 use pardo_text::{Array, PardoFault, PardoKind, Program};
 use pardo_trace::Tracer;
-use pram_cost::{ByCells, CostNames, Measure, Meeting, cost_of};
+use pram_cost::{ByCells, CostNames, Meeting, cost_of};
 use pram_fates::Origin;
 use pram_job::Job;
 use pram_rows::print_cells;
@@ -324,35 +319,25 @@ fn cost_program(alloc: Global, text: &[u8]) -> Result<(Job, Naming, Costs), Comm
         Ok(draft) => draft,
         Err(refusal) => return Err(fault_of(refusal)),
     };
-    let counted = counted_lines(alloc, &draft.program, draft.places.as_slice())?;
     let places = Vec::from_slice(alloc, draft.places.as_slice())?;
-    let measure = Measure::new(alloc, &draft.job)?;
-    let (program, compiled, measure) = match finish(alloc, draft, measure) {
-        Ok(given) => given,
+    let run = match finish_costed(alloc, draft) {
+        Ok(run) => run,
         Err(fault) => return Err(fault_of(ProgramRefusal::Job(fault))),
     };
-    let (job, numbers, ended) = compiled.into_parts();
-    let cost = measure.tally.into_cost(conflict_of(&ended.answer));
-    let lines = costs_of(alloc, counted.as_slice(), &measure.profile)?;
+    let Run {
+        program,
+        job,
+        numbers,
+        ended,
+        costs,
+    } = run;
     let naming = Naming {
         program,
         places,
         numbers,
         ended,
     };
-    Ok((job, naming, Costs { cost, lines }))
-}
-
-// The conflict in which a job ends that has as many steps as it needs.
-fn conflict_of(answer: &RunAnswer) -> Option<Fault>
-    ensures { (job : JobData) → IsAnswer job answer.now → IsWhole job →
-        IsLength job job.steps result }
-{
-    match answer {
-        RunAnswer::Final(_) => None,
-        RunAnswer::Conflict(fault) => Some(*fault),
-        RunAnswer::Unfinished { .. } => None,
-    }
+    Ok((job, naming, costs))
 }
 
 fn fault_of(refusal: ProgramRefusal) -> CommandFault

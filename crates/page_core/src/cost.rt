@@ -99,8 +99,8 @@ fn refused_cost(refusal: Refusal) -> CostTold
     }
 }
 
-// The models from the weakest to the strongest.
-fn number_of_model(pram: Pram) -> u32
+/// The models from the weakest to the strongest.
+pub fn number_of_model(pram: Pram) -> u32
     ensures { result ≡ strength pram }
 {
     match pram {

@@ -227,7 +227,8 @@ fn no_more(code: u32, fault: u32, line: u64) -> ProgramTold
     }
 }
 
-fn number_of_text_kind(kind: PardoKind) -> u32
+/// The number of a fault of a text; out of memory is none.
+pub fn number_of_text_kind(kind: PardoKind) -> u32
     ensures { result ≡ text_kind_code kind }
 {
     match kind {
@@ -249,7 +250,8 @@ fn number_of_text_kind(kind: PardoKind) -> u32
     }
 }
 
-fn number_of_job_kind(kind: JobKind) -> u32
+/// The number of a fault of a job; out of memory is none.
+pub fn number_of_job_kind(kind: JobKind) -> u32
     ensures { result ≡ job_kind_code kind }
 {
     match kind {

@@ -5,4 +5,4 @@ mod line_costs;
 mod run;
 
 pub use line_costs::{Costs, LineCost, total_operations, total_time};
-pub use run::{Run, run_program};
+pub use run::{Run, finish_costed, run_program};

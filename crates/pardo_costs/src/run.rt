@@ -37,7 +37,8 @@ pub fn run_program(alloc: Global, text: &[u8]) -> Result<Run, Refusal>
     Ok(run)
 }
 
-fn finish_costed(alloc: Global, draft: Draft) -> Result<Run, JobFault>
+/// The run of the program of a draft, or why there is none. The program is run once.
+pub fn finish_costed(alloc: Global, draft: Draft) -> Result<Run, JobFault>
     requires draft { IsDraft draft.program draft.job draft.numbers.items }
     requires places { ArePlacesOf draft.program draft.places.items }
     ensures run { IfOk result (IsRunOf draft.program) }

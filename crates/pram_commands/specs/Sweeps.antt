@@ -16,7 +16,7 @@ use Rattle.naming.specs.Costs.{line_costs}
 use Rattle.pram_commands.specs.Did.{Command, ends_with}
 use Rattle.naming.specs.Names.{AreNames, NamingData}
 use Rattle.pram_commands.specs.Plain.{on_job}
-use Rattle.naming.specs.declared.line_costs.LineCost.{LineCost}
+use Rattle.pardo_costs.specs.declared.line_costs.LineCost.{LineCost}
 use Rattle.pram_commands.specs.declared.sweeps.RunRecord.{RunRecord}
 
 -- how a run ends: in a conflict; else with one of these processors gone, or done

@@ -11,7 +11,8 @@ ghost use Rattle.stop_plan.specs.Records.{FirstFault, SpellsPlan, no_memory, rec
 
 use crate::sources::{Inputs, Sources};
 use command_data::Workers;
-use naming::{Costs, Spelled, read_costed, read_text};
+use naming::{Spelled, read_costed, read_text};
+use pardo_costs::Costs;
 use pram_job::Job;
 use pram_streams::{Source, TakeFault, take};
 use refusals::CommandFault;

@@ -6,7 +6,8 @@ ghost use Rattle.naming.specs.BadTexts.{IsBadOrMemory};
 ghost use Rattle.pram_commands.specs.Sweeps.{IsRunRecord, end_word, fields_text, told_gone};
 
 use crate::commands::cost_status;
-use naming::{Costs, Naming, read_costed, total_operations, total_time};
+use naming::{Naming, read_costed};
+use pardo_costs::{Costs, total_operations, total_time};
 use pram_cost::Pram;
 use pram_streams::push_labelled;
 use refusals::CommandFault;

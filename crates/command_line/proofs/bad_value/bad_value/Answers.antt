@@ -1,4 +1,4 @@
-use Rattle.std.proofs.Common.{◌≡◌, List, MatchOption, Option, Some, subst, sym}
+use Rattle.std.proofs.Common.{List, MatchOption, Option, subst, sym}
 use Rattle.std.specs.Prelude.{IfSome}
 use Rattle.clap.specs.Words.{Row, Text}
 use Rattle.command_line.specs.CommandLine.{HasBadValue}

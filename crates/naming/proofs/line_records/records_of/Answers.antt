@@ -3,7 +3,7 @@ use Rattle.std.specs.Prelude.{codes}
 use Rattle.std.specs.List.{flat_map}
 use Rattle.std.proofs.lemmas.List.{take_all}
 use Rattle.naming.specs.LineRecords.{line_numbered, line_record}
-use Rattle.naming.specs.declared.line_costs.LineCost.{LineCost}
+use Rattle.pardo_costs.specs.declared.line_costs.LineCost.{LineCost}
 use Rattle.naming.proofs.LineFinding.{no_cost, record_more}
 use Rattle.naming.proofs.line_records.records_of.Goals as goal
 
