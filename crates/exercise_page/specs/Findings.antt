@@ -6,7 +6,7 @@ use Rattle.exercise_judge.specs.declared.verdict.Verdict.{Verdict}
 use Rattle.exercise_judge.specs.declared.verdict.Verdict.TheVariants.{Passed, Failed}
 use Rattle.exercise_judge.specs.declared.verdict.Wrong.{Wrong}
 use Rattle.exercise_judge.specs.Trials.{AreTrials, TrialData}
-use Rattle.exercise_judge.specs.Verdicts.{IsVerdict}
+use Rattle.exercise_judge.specs.Verdicts.{IsUnfit, IsVerdict}
 use Rattle.page_core.specs.declared.codes.TheConstants.{TEXT_MOST}
 use Rattle.exercise_page.specs.declared.finding.Finding.{Finding}
 use Rattle.exercise_page.specs.declared.finding.Finding.TheVariants.{NoExercise, TextTooLong}
@@ -33,5 +33,6 @@ IsFailed text submission input =
 abbrev pub IsFinding : List ℕ → List ℕ → Finding → Type 0
 IsFinding text submission (NoExercise why) = IsNoExercise text why
 IsFinding text submission TextTooLong = TEXT_MOST < length submission
-IsFinding text submission (Unfit unfit) = Unit {0}
+IsFinding text submission (Unfit unfit) = (exercise : List EntryData)
+    × (exercise_of text ≡ Ok exercise) × IsUnfit exercise unfit
 IsFinding text submission (Judged verdict) = IsJudged text submission verdict

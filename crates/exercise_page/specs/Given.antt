@@ -1,5 +1,5 @@
 -- A submission with the header of an exercise as an input sets it.
-use Rattle.std.specs.Prelude.{◌≡◌, ◌⊎◌, ℕ, ◌<◌, ◌==◌, ◌&&◌, List, length, find}
+use Rattle.std.specs.Prelude.{◌≡◌, ◌≢◌, ◌⊎◌, ℕ, ◌<◌, ◌==◌, ◌&&◌, List, length, find}
 use Rattle.std.specs.Prelude.{Option, Some, None, Ok}
 use Rattle.text_lines.specs.Lines.{words_of}
 use Rattle.exercise_text.specs.declared.key.Key.TheVariants as key
@@ -34,12 +34,27 @@ pub record IsGivenText (text submission : List ℕ) (line : ℕ) (given : List �
 
 -- ---- why there is none
 
+-- the header cannot be set as the input says, or memory ran out
+abbrev pub CannotBeSet : List EntryData → EntryData → NoGiven → Type 0
+CannotBeSet exercise input Unfit = (header : List ℕ) →
+    header_as_set (part_in key.Given exercise) (words_of input.text) ≢ Ok header
+CannotBeSet exercise input Memory = Unit {0}
+CannotBeSet exercise input _ = ⊥
+
+-- so it is of the input in this line
+pub record IsUnset (text : List ℕ) (line : ℕ) : Type 0 where
+  pub exercise : List EntryData
+  pub input : EntryData
+  pub reads : exercise_of text ≡ Ok exercise
+  pub at : input_at line exercise ≡ Some input
+  pub none : CannotBeSet exercise input Unfit
+
 abbrev pub IsNoGiven : List ℕ → List ℕ → ℕ → NoGiven → Type 0
 IsNoGiven text submission line (NoExercise why) = IsNoExercise text why
 IsNoGiven text submission line TextTooLong = TEXT_MOST < length submission
 IsNoGiven text submission line NoInput = (exercise : List EntryData)
     × (exercise_of text ≡ Ok exercise) × (input_at line exercise ≡ None)
-IsNoGiven text submission line Unfit = Unit {0}
+IsNoGiven text submission line Unfit = IsUnset text line
 IsNoGiven text submission line Memory = Unit {0}
 
 abbrev pub no_given_told : NoGiven → ExerciseTold

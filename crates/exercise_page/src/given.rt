@@ -3,8 +3,12 @@ ghost use Rattle.std.specs.Prelude.{◌≡◌, ◌==◌, ◌&&◌, List, ℕ, If
 ghost use Rattle.std.specs.Option.{option_map};
 ghost use Rattle.exercise_text.specs.Keys.{is_input};
 ghost use Rattle.exercise_text.specs.Reading.{exercise_of};
-ghost use Rattle.exercise_page.specs.Given.{IsGivenText, IsGivenTold, IsNoGiven, input_at};
-ghost use Rattle.exercise_page.specs.Given.{no_given_told};
+ghost use Rattle.text_lines.specs.Lines.{words_of};
+ghost use Rattle.exercise_text.specs.declared.key.Key.TheVariants.{Given as GivenKey};
+ghost use Rattle.exercise_header.specs.Headers.{header_as_set};
+ghost use Rattle.exercise_judge.specs.Trials.{part_in};
+ghost use Rattle.exercise_page.specs.Given.{CannotBeSet, IsGivenText, IsGivenTold, IsNoGiven};
+ghost use Rattle.exercise_page.specs.Given.{input_at, no_given_told};
 ghost use Rattle.exercise_page.specs.Put.{IsKept, bytes_told};
 
 use crate::codes::{NO_INPUT, UNFIT};
@@ -13,6 +17,7 @@ use crate::put::{ExerciseTold, counted, put_text};
 use exercise_given::judged_text;
 use exercise_header::header_as_set;
 use exercise_judge::{Entry, Exercise, Key, part_in};
+use pardo_text::PardoKind;
 use page_core::codes::{MEMORY, TEXT_MOST, TEXT_TOO_LONG};
 use std::alloc::Global;
 
@@ -81,13 +86,23 @@ fn text_with(
     let Some(input) = input_at(exercise.entries(), line) else {
         return Err(NoGiven::NoInput);
     };
-    let part = part_in(exercise, Key::Given);
-    let Ok(header) = header_as_set(alloc, part, input.text()) else {
-        return Err(NoGiven::Unfit);
-    };
+    let header = set_header(alloc, exercise, input)?;
     match judged_text(alloc, header.as_slice(), submission) {
         Ok(text) => Ok(text),
         Err(_) => Err(NoGiven::Memory),
+    }
+}
+
+// The header as the input sets it.
+fn set_header(alloc: Global, exercise: &Exercise, input: &Entry) -> Result<Vec<u8>, NoGiven>
+    ensures set { IfOk result (λ header. header_as_set (part_in GivenKey exercise.now)
+        (words_of input.now.text) ≡ Ok header.items) }
+    ensures none { IfErr result (CannotBeSet exercise.now input.now) }
+{
+    match header_as_set(alloc, part_in(exercise, Key::Given), input.text()) {
+        Ok(header) => Ok(header),
+        Err(fault) if fault.kind == PardoKind::Memory => Err(NoGiven::Memory),
+        Err(_) => Err(NoGiven::Unfit),
     }
 }
 
