@@ -132,9 +132,10 @@ fn write_record<W: Write + Drop>(
     ensures text { OnOk result (Appends (text_written W.contents writer.old)
         (text_written W.contents writer.new) (record_of file.now said.now)) }
 {
+    let passed: &[u8] = yes_or_no(said.passed);
     let fields = [
         file.as_bytes(),
-        yes_or_no(said.passed),
+        passed,
         said.input.as_slice(),
         said.what.as_slice(),
     ];

@@ -1,7 +1,6 @@
 -- What the records of submissions mean.
-use Rattle.std.proofs.Common.{◌≡◌, ◌∙◌, ◌≤◌, ℕ, Bool, true, false, List, [], ◌∷◌, All}
-use Rattle.std.proofs.Common.{absurd, ap, arith, cc, inl, inr, refl, sym}
-use Rattle.std.specs.Prelude.{max}
+use Rattle.std.proofs.Common.{◌≡◌, ◌∙◌, ℕ, Bool, true, false, List, [], ◌∷◌, All}
+use Rattle.std.proofs.Common.{ap, arith, decimal, get_or, inl, inr, max, refl, take}
 use Rattle.std.proofs.lemmas.List.Elements.{All-cons, All-nil}
 use Rattle.exercise_judge.specs.Trials.{TrialData}
 use Rattle.exercise_judge.specs.Verdicts.{IsVerdict}
@@ -9,32 +8,28 @@ use Rattle.exercise_judge.specs.declared.verdict.Verdict.{Verdict}
 use Rattle.exercise_judge.specs.declared.verdict.Verdict.TheVariants.{Passed, Failed}
 use Rattle.exercise_records.specs.Records.{AreRecords, IsSaidOf, Says, status_of}
 use Rattle.exercise_records.specs.declared.said.Said.{Said}
-use Rattle.exercise_law.specs.Laws.{DoneWhereAllSolve, GivesFailure, GivesSolution, SolvesAll}
-use Rattle.exercise_law.specs.Laws.{WhatFailedDoesNotSolve, WhatPassedSolves}
+use Rattle.exercise_law.specs.Laws.{DoneWhereAllSolve, Fails, SolvesAll}
+use Rattle.exercise_law.specs.Laws.{WhatDidNotPassFails, WhatPassedSolves}
 use Rattle.exercise_law.proofs.Solving.{what_is_met_is_solved, what_is_solved_is_met}
 
-module _ (Gives : List ℕ → List ℕ → Type 0) (trials : List TrialData) (file : List ℕ) (said : Said)
-    (submission : List ℕ) (gives : Gives file submission) where
+module _ (trials : List TrialData) (submission : List ℕ) (said : Said) where
   passed_by : (verdict : Verdict) → IsVerdict trials submission verdict → Says verdict said →
-      said.passed ≡ true → GivesSolution Gives trials file
-  passed_by Passed met says passed = (
-    submission,
-    gives,
-    λ k trial lt. what_is_met_is_solved trial submission (met k trial lt),
-  )
-  passed_by (Failed input wrong) fails says passed = let not = says.0 in absurd (cc)
+      said.passed ≡ true → SolvesAll trials submission
+  passed_by Passed met says passed = λ k trial lt.
+      what_is_met_is_solved (get_or trials k trial) submission (met k trial lt)
+  passed_by (Failed input wrong) fails says passed =
+      let not : said.passed ≡ false = says.0 in absurd (cc)
 
   failed_by : (verdict : Verdict) → IsVerdict trials submission verdict → Says verdict said →
-      said.passed ≡ false → GivesFailure Gives trials file said.input.items said.what.items
-  failed_by Passed met says failed = let yes = says.0 in absurd (cc)
+      said.passed ≡ false → Fails trials submission said.input.items said.what.items
+  failed_by Passed met says failed = let yes : said.passed ≡ true = says.0 in absurd (cc)
   failed_by (Failed input wrong) fails says failed = record {
-    submission = submission;
-    gives = gives;
     before = fails.before;
     counts = says.1 ∙ ap decimal fails.number;
     trial = fails.trial;
     is_there = fails.is_there;
-    solves = λ k trial lt. what_is_met_is_solved trial submission (fails.met k trial lt);
+    solves = λ k trial lt. what_is_met_is_solved (get_or (take fails.before trials) k trial)
+        submission (fails.met k trial lt);
     wrong = wrong;
     says = says.2;
     unsolved = λ certain solves. fails.unmet certain
@@ -42,16 +37,12 @@ module _ (Gives : List ℕ → List ℕ → Type 0) (trials : List TrialData) (f
   }
 
 pub what_passed_solves : WhatPassedSolves
-what_passed_solves Gives trials file said (inl (submission, gives, is)) passed =
-    passed_by Gives trials file said submission gives is.verdict is.judged is.says passed
-what_passed_solves Gives trials file said (inr unjudged) passed =
-    let not = unjudged.0 in absurd (cc)
+what_passed_solves trials submission said is passed =
+    passed_by trials submission said is.verdict is.judged is.says passed
 
-pub what_failed_does_not_solve : WhatFailedDoesNotSolve
-what_failed_does_not_solve Gives trials file said (inl (submission, gives, is)) failed named =
-    failed_by Gives trials file said submission gives is.verdict is.judged is.says failed
-what_failed_does_not_solve Gives trials file said (inr unjudged) failed named =
-    absurd (named unjudged.1)
+pub what_did_not_pass_fails : WhatDidNotPassFails
+what_did_not_pass_fails trials submission said is failed =
+    failed_by trials submission said is.verdict is.judged is.says failed
 
 -- ---- all records
 
@@ -65,18 +56,27 @@ later_done : (passed : Bool) (status later : ℕ) → status ≡ max (status_of 
 later_done true status later most done = omega (arith, most, done)
 later_done false status later most done = omega (arith, most, done)
 
-all_solve : (Gives : List ℕ → List ℕ → Type 0) (trials : List TrialData) (files : List (List ℕ))
-    (bytes : List ℕ) (status : ℕ) → AreRecords Gives trials files bytes status → status ≡ 0 →
-    All (GivesSolution Gives trials) files
-all_solve Gives trials [] bytes status records done = All-nil (GivesSolution Gives trials)
-all_solve Gives trials (file ∷ files) bytes status
-    (said, rest, later, is, others, same, most) done =
-    All-cons (GivesSolution Gives trials) file files
-    (what_passed_solves Gives trials file said is (passed_if said.passed status later most done))
-    (all_solve Gives trials files rest later others
-    (later_done said.passed status later most done))
+module _ (Gives : List ℕ → List ℕ → Type 0) (trials : List TrialData) where
+  abbrev GivesSolution : List ℕ → Type 0
+  GivesSolution file = (submission : List ℕ) × Gives file submission
+      × SolvesAll trials submission
 
-pub done_where_all_solve : DoneWhereAllSolve
+  one_solves : (file : List ℕ) (said : Said) → IsSaidOf Gives trials file said →
+      said.passed ≡ true → GivesSolution file
+  one_solves file said (inl (submission, gives, is)) passed =
+      (submission, gives, what_passed_solves trials submission said is passed)
+  one_solves file said (inr unjudged) passed =
+      let not : said.passed ≡ false = unjudged.0 in absurd (cc)
+
+  pub all_solve : (files : List (List ℕ)) (bytes : List ℕ) (status : ℕ) →
+      AreRecords Gives trials files bytes status → status ≡ 0 → All GivesSolution files
+  all_solve [] bytes status records done = All-nil GivesSolution
+  all_solve (file ∷ files) bytes status (said, rest, later, is, others, same, most) done =
+      All-cons GivesSolution file files
+      (one_solves file said is (passed_if said.passed status later most done))
+      (all_solve files rest later others (later_done said.passed status later most done))
+
+pub done_where_all_solve : (Gives : List ℕ → List ℕ → Type 0) → DoneWhereAllSolve Gives
 done_where_all_solve Gives file files bytes judged = record {
   text = judged.text;
   gives = judged.gives;

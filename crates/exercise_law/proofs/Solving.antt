@@ -1,12 +1,13 @@
 -- A submission meets a trial if and only if it solves it.
 use Rattle.std.proofs.Common.{◌≡◌, ◌∙◌, ◌+◌, ◌<◌, ◌≤◌, ℕ, zero, suc, true, false, List, []}
 use Rattle.std.proofs.Common.{◌∷◌, Option, Some, None, Result, Ok, map, length, ap, ap₂, sym, subst}
-use Rattle.std.proofs.Common.{refl, inl, arith, cond, cc, absurd}
+use Rattle.std.proofs.Common.{refl, inl, arith, cond}
 use Rattle.std.specs.List.{range_with_len}
 use Rattle.std.specs.Prelude.{find, slice_index, IfOk}
 use Rattle.std.specs.Str.{bytes_eq}
 use Rattle.std.proofs.lemmas.List.Sums.{sum_by-cons}
 use Rattle.text_lines.specs.Lines.{Word}
+use Rattle.pram_step.specs.declared.answer.Dispute.{Dispute}
 use Rattle.pram_step.specs.declared.answer.RunAnswer.{RunAnswer}
 use Rattle.pram_step.specs.declared.answer.RunAnswer.TheVariants.{Final, Conflict, Unfinished}
 use Rattle.pram_step.specs.Runs.{IsAnswer}
@@ -182,7 +183,13 @@ module _ (trial : TrialData) (submission : List ℕ) (it : Solves trial submissi
       Meets trial submission
   met_by (Final cells) answers of = met_with cells answers of
   met_by (Conflict fault) answers (n, conflict) =
-      let once = (runs_end_once its n it.run _ None conflict it.ends).1 in absurd (cc)
+      let dispute : Dispute = record {
+        cell = fault.cell;
+        first = fault.first;
+        second = fault.second;
+      } in
+      let once : Some dispute ≡ None =
+      (runs_end_once its n it.run (Some dispute) None conflict it.ends).1 in absurd (cc)
   met_by (Unfinished step) answers of = absurd of
 
   is_met : Meets trial submission

@@ -1,5 +1,5 @@
 -- What a submission that passes does, by its meaning.
-use Rattle.std.specs.Prelude.{◌≡◌, ◌≢◌, ◌+◌, ℕ, true, false, List, [], All, IfSome, Some, None, Ok}
+use Rattle.std.specs.Prelude.{◌≡◌, ◌+◌, ℕ, true, false, List, All, IfSome, Some, None, Ok}
 use Rattle.std.specs.Prelude.{decimal, slice_get, take}
 use Rattle.pram_job.specs.Job.{JobData}
 use Rattle.pram_cost.specs.Models.{AcceptsSteps}
@@ -13,7 +13,7 @@ use Rattle.exercise_given.specs.Submissions.{code_lines, judged_text, missing_li
 use Rattle.exercise_judge.specs.Trials.{AreHeld, IsWithin, Meets, TrialData}
 use Rattle.exercise_judge.specs.Verdicts.{IsCertain}
 use Rattle.exercise_judge.specs.declared.verdict.Wrong.{Wrong}
-use Rattle.exercise_records.specs.Records.{HasTrials, IsJudged, IsSaidOf, IsWhat}
+use Rattle.exercise_records.specs.Records.{HasTrials, IsJudged, IsSaid, IsWhat}
 use Rattle.exercise_records.specs.declared.said.Said.{Said}
 use Rattle.refusals.specs.declared.refusal.TheConstants.{DONE}
 
@@ -49,23 +49,14 @@ WhatIsSolvedIsMet = (trial : TrialData) (submission : List ℕ) → Solves trial
 abbrev pub SolvesAll : List TrialData → List ℕ → Type 0
 SolvesAll trials submission = All (λ trial. Solves trial submission) trials
 
--- the file gave a submission that solves all trials
-abbrev pub GivesSolution : (List ℕ → List ℕ → Type 0) → List TrialData → List ℕ → Type 0
-GivesSolution Gives trials file =
-    (submission : List ℕ) × Gives file submission × SolvesAll trials submission
-
--- What a record says passed solves all trials.
+-- What is said to have passed solves all trials.
 abbrev pub WhatPassedSolves : Type 0
-WhatPassedSolves = (Gives : List ℕ → List ℕ → Type 0) (trials : List TrialData) (file : List ℕ)
-    (said : Said) → IsSaidOf Gives trials file said → said.passed ≡ true →
-    GivesSolution Gives trials file
+WhatPassedSolves = (trials : List TrialData) (submission : List ℕ) (said : Said) →
+    IsSaid trials submission said → said.passed ≡ true → SolvesAll trials submission
 
--- The file gave a submission that solves all trials before the one of this number, counted from 1,
--- and not this one: these words say what is wrong, if it is certain.
-pub record GivesFailure (Gives : List ℕ → List ℕ → Type 0) (trials : List TrialData)
-    (file number what : List ℕ) : Type 0 where
-  pub submission : List ℕ
-  pub gives : Gives file submission
+-- The submission solves all trials before the one of this number, counted from 1, and not this one:
+-- these words say what is wrong, if it is certain.
+pub record Fails (trials : List TrialData) (submission number what : List ℕ) : Type 0 where
   pub before : ℕ
   pub counts : number ≡ decimal (before + 1)
   pub trial : TrialData
@@ -75,11 +66,11 @@ pub record GivesFailure (Gives : List ℕ → List ℕ → Type 0) (trials : Lis
   pub says : IsWhat wrong what
   pub unsolved : IsCertain wrong → ¬ Solves trial submission
 
--- What a record says failed under an input does not solve its trial.
-abbrev pub WhatFailedDoesNotSolve : Type 0
-WhatFailedDoesNotSolve = (Gives : List ℕ → List ℕ → Type 0) (trials : List TrialData)
-    (file : List ℕ) (said : Said) → IsSaidOf Gives trials file said → said.passed ≡ false →
-    said.input.items ≢ [] → GivesFailure Gives trials file said.input.items said.what.items
+-- What is said not to have passed fails so.
+abbrev pub WhatDidNotPassFails : Type 0
+WhatDidNotPassFails = (trials : List TrialData) (submission : List ℕ) (said : Said) →
+    IsSaid trials submission said → said.passed ≡ false →
+    Fails trials submission said.input.items said.what.items
 
 -- The file gave an exercise, and each other file a submission that solves its trials.
 pub record AllSolve (Gives : List ℕ → List ℕ → Type 0) (file : List ℕ) (files : List (List ℕ))
@@ -88,9 +79,10 @@ pub record AllSolve (Gives : List ℕ → List ℕ → Type 0) (file : List ℕ)
   pub gives : Gives file text
   pub trials : List TrialData
   pub has : HasTrials text trials
-  pub solve : All (GivesSolution Gives trials) files
+  pub solve : All (λ other. (submission : List ℕ) × Gives other submission
+      × SolvesAll trials submission) files
 
 -- Where the judging of files ends as done, all of them solve the exercise.
-abbrev pub DoneWhereAllSolve : Type 0
-DoneWhereAllSolve = (Gives : List ℕ → List ℕ → Type 0) (file : List ℕ) (files : List (List ℕ))
-    (bytes : List ℕ) → IsJudged Gives file files bytes DONE → AllSolve Gives file files
+abbrev pub DoneWhereAllSolve : (List ℕ → List ℕ → Type 0) → Type 0
+DoneWhereAllSolve Gives = (file : List ℕ) (files : List (List ℕ)) (bytes : List ℕ) →
+    IsJudged Gives file files bytes DONE → AllSolve Gives file files

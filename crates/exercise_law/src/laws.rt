@@ -1,5 +1,6 @@
 //! Laws of judged submissions: each function does nothing, and says to a proof that its law holds.
-ghost use Rattle.exercise_law.specs.Laws.{DoneWhereAllSolve, WhatFailedDoesNotSolve};
+ghost use Rattle.std.specs.Prelude.{ℕ, List};
+ghost use Rattle.exercise_law.specs.Laws.{DoneWhereAllSolve, WhatDidNotPassFails};
 ghost use Rattle.exercise_law.specs.Laws.{WhatIsMetIsSolved, WhatIsSolvedIsMet, WhatPassedSolves};
 
 /// A submission that meets a trial has all given lines. With the header of the trial it is a
@@ -21,11 +22,17 @@ pub fn what_passed_solves()
 
 /// What a record says failed under an input solves the trials before it, and not its trial, unless
 /// memory or steps ran out.
-pub fn what_failed_does_not_solve()
-    ensures { WhatFailedDoesNotSolve }
+pub fn what_did_not_pass_fails()
+    ensures { WhatDidNotPassFails }
 {}
 
 /// Where `pramx judge` ends as done, each file gave a submission that solves all trials.
-pub fn done_where_all_solve()
-    ensures { DoneWhereAllSolve }
+pub fn done_where_all_solve<G: Giving>()
+    ensures { DoneWhereAllSolve G.gives }
 {}
+
+/// Files that give texts.
+pub trait Giving {
+    // Which text the file of a name gives.
+    ghost gives: { List ℕ → List ℕ → Type 0 };
+}

@@ -1,5 +1,5 @@
 -- Why a header is not set is why there is no text.
-use Rattle.std.proofs.Common.{◌≡◌, ℕ, List, Ok, Some, absurd}
+use Rattle.std.proofs.Common.{◌≡◌, ℕ, List, Ok, Some}
 use Rattle.exercise_text.specs.Entries.{EntryData}
 use Rattle.exercise_text.specs.Reading.{exercise_of}
 use Rattle.exercise_page.specs.declared.given.NoGiven.{NoGiven}

@@ -80,11 +80,8 @@ fn write_record<W: Write + Drop>(writer: &mut Writer<W>, said: &Said) -> Result<
     ensures { OnOk result (Appends (text_written W.contents writer.old)
         (text_written W.contents writer.new) (record_of said.now)) }
 {
-    let fields = [
-        yes_or_no(said.passed),
-        said.input.as_slice(),
-        said.what.as_slice(),
-    ];
+    let passed: &[u8] = yes_or_no(said.passed);
+    let fields = [passed, said.input.as_slice(), said.what.as_slice()];
     match writer.write_fields(&fields) {
         Ok(()) => Ok(()),
         Err(_) => Err(AllocError),

@@ -2,4 +2,4 @@ use Rattle.exercise_law.proofs.Records.{done_where_all_solve}
 use Rattle.exercise_law.proofs.laws.done_where_all_solve.Goals as goal
 
 pub returns : goal.returns
-returns c = done_where_all_solve
+returns g c = done_where_all_solve g.G.Giving.gives
