@@ -49,7 +49,8 @@ impl<'a, G: Gate> Driver<'a, G> {
     ghost use Rattle.pram_board.specs.Rules.{May};
     ghost use Rattle.pram_board.specs.Seats.{IsLater, hears};
     ghost use Rattle.pram_board.specs.Inner.Plays.{WorkerGoesOn, Led, Moved, IsWalking, driving};
-    ghost use Rattle.pram_board.specs.Inner.Plays.{AtTask, DoneMore, DoneTo, PastTask, Tried};
+    ghost use Rattle.pram_board.specs.Inner.Plays.{AtPart, AtTask, DoneMore, DonePart, DoneTo};
+    ghost use Rattle.pram_board.specs.Inner.Plays.{PastTask, Tried};
     ghost use Rattle.pram_board.specs.Inner.Plays.{in_block, led_to, next_turn, task_at, turning_at};
 
     /// A driver that has made no step.
@@ -496,10 +497,7 @@ impl<'a, G: Gate> Driver<'a, G> {
     #[inline(always)]
     fn part_at(&mut self, leaf: &Leaf, memory: &mut Memory, counter: u32, instr: &Instr) -> bool
         requires stand { IsStand leaf.now counter instr.now }
-        requires leaf { IsLeafPost leaf.now }
-        requires fits { FitsMemory leaf.now.job memory.old }
-        requires walks { IsWalking (task_at leaf.now) (driving self.old)
-            (in_block leaf.now leaf.now.rank memory.old) }
+        requires at { AtPart leaf.now (driving self.old) memory.old }
         ensures same { self.new.seat.ghost_name ≡ self.old.seat.ghost_name }
         ensures tried { Tried leaf.now (driving self.old) memory.old (driving self.new) memory.new
             result }
@@ -514,36 +512,51 @@ impl<'a, G: Gate> Driver<'a, G> {
         }
     }
 
-    // The task of the leaf's processor, which is often seen at once to be none.
+    // The task of the leaf's processor. Where its step is known, little is left of it, and what else
+    // there may be is kept out of the loop.
     #[inline(always)]
     fn second_part(&mut self, leaf: &Leaf, memory: &mut Memory)
-        requires leaf { IsLeafPost leaf.now }
-        requires fits { FitsMemory leaf.now.job memory.old }
-        requires walks { IsWalking (task_at leaf.now) (driving self.old)
-            (in_block leaf.now leaf.now.rank memory.old) }
+        requires at { AtPart leaf.now (driving self.old) memory.old }
         ensures same { self.new.seat.ghost_name ≡ self.old.seat.ghost_name }
-        ensures fits { FitsMemory leaf.now.job memory.new }
-        ensures moved { Moved (task_at leaf.now) (driving self.old)
-            (in_block leaf.now leaf.now.rank memory.old) (driving self.new)
-            (in_block leaf.now (suc leaf.now.rank) memory.new) }
+        ensures done { DonePart leaf.now (driving self.old) memory.old (driving self.new)
+            memory.new }
     {
-        if !memory.has_done(leaf) {
-            self.part(leaf, memory);
+        match memory.carry(self, leaf) {
+            Ok(true) => self.seat.facts(),
+            Ok(false) => self.part_apart(&leaf.again(), memory),
+            Err(_) => unreachable!(),
         }
     }
 
-    // The task of the leaf's processor.
+    // The task of the leaf's processor, by a driver of its own.
     #[inline(always)]
-    fn part(&mut self, leaf: &Leaf, memory: &mut Memory)
-        requires leaf { IsLeafPost leaf.now }
-        requires fits { FitsMemory leaf.now.job memory.old }
-        requires walks { IsWalking (task_at leaf.now) (driving self.old)
-            (in_block leaf.now leaf.now.rank memory.old) }
+    fn part_apart(&mut self, leaf: &Leaf, memory: &mut Memory)
+        requires at { AtPart leaf.now (driving self.old) memory.old }
         ensures same { self.new.seat.ghost_name ≡ self.old.seat.ghost_name }
-        ensures fits { FitsMemory leaf.now.job memory.new }
-        ensures moved { Moved (task_at leaf.now) (driving self.old)
-            (in_block leaf.now leaf.now.rank memory.old) (driving self.new)
-            (in_block leaf.now (suc leaf.now.rank) memory.new) }
+        ensures done { DonePart leaf.now (driving self.old) memory.old (driving self.new)
+            memory.new }
+    {
+        let mut driver = Driver {
+            board: self.board,
+            seat: self.seat,
+            gate: self.gate,
+            worker: self.worker,
+            made: self.made,
+            rest: self.rest,
+        };
+        driver.part(leaf, memory);
+        self.made = driver.made;
+        self.rest = driver.rest;
+        driver.end();
+    }
+
+    // The task of the leaf's processor.
+    #[inline(never)]
+    fn part(&mut self, leaf: &Leaf, memory: &mut Memory)
+        requires at { AtPart leaf.now (driving self.old) memory.old }
+        ensures same { self.new.seat.ghost_name ≡ self.old.seat.ghost_name }
+        ensures done { DonePart leaf.now (driving self.old) memory.old (driving self.new)
+            memory.new }
     {
         match memory.take_up(self, leaf) {
             Ok(()) => self.seat.facts(),

@@ -229,6 +229,17 @@ impl<'a> Leaf<'a> {
         }
     }
 
+    /// The same leaf once more.
+    #[inline(always)]
+    pub fn again(&self) -> Leaf<'a>
+        ensures { result ≡ self.now }
+    {
+        Leaf {
+            own: self.layout.own_words(self.processor),
+            ..*self
+        }
+    }
+
     /// The processor's rank in the block.
     #[inline(always)]
     pub fn rank(&self) -> u32

@@ -17,7 +17,7 @@ use crate::parts::write_place;
 use crate::post::Leaf;
 use crate::request::fetch;
 use crate::steps::Steps;
-use crate::wide_request::{advanced, ask_by, know, turn_by};
+use crate::wide_request::{ask_by, know, turn_by};
 use pram_job::{Instr, Rule};
 use pram_machine::{Put, Request, Turn, cell_named};
 use pram_words::Kind;
@@ -30,6 +30,7 @@ pub(crate) fn write_own<S: Steps>(
     counter: u32,
     turn: Turn,
 ) -> Result<(), Left>
+    requires counter { counter < length leaf.now.job.code }
     requires shape { IsShaped leaf.now turn }
     requires next { IsNextPart (S.stands leaf.now) steps.old
         (own_written leaf.now counter (request_of turn)) }
@@ -48,6 +49,7 @@ pub(crate) fn write_own<S: Steps>(
 /// is claimed.
 #[inline(always)]
 fn make_own<S: Steps>(steps: &mut S, leaf: &Leaf, counter: u32, turn: Turn) -> Result<(), Left>
+    requires counter { counter < length leaf.now.job.code }
     requires shape { IsShaped leaf.now turn }
     requires next { IsNextPart (S.stands leaf.now) steps.old
         (own_made leaf.now.job.rule leaf.now counter (request_of turn)) }
@@ -137,7 +139,8 @@ pub(crate) fn passes_by(leaf: &Leaf, memo: &mut Memo, instr: &Instr) -> bool
 // The turn writes something of the processor's own, or claims a cell.
 #[inline(always)]
 fn writes(leaf: &Leaf, counter: u32, turn: Turn) -> bool
-    requires { IsShaped leaf.now turn }
+    requires counter { counter < length leaf.now.job.code }
+    requires shape { IsShaped leaf.now turn }
     ensures { result ≡ makes_own leaf.now.job.rule leaf.now counter (request_of turn) }
 {
     claimed(leaf, turn).is_some() || own_write(leaf, counter, turn).is_some()
@@ -160,13 +163,16 @@ fn claimed(leaf: &Leaf, turn: Turn) -> Option<u32>
 // What a turn writes of the processor's own: its counter, where that does not go on by one, or a
 // register.
 #[inline(always)]
+#[tactic(auto, using(crate::proofs::Counting::advanced_next))]
 fn own_write(leaf: &Leaf, counter: u32, turn: Turn) -> Option<(u32, u32, u32)>
-    requires { IsShaped leaf.now turn }
+    requires counter { counter < length leaf.now.job.code }
+    requires shape { IsShaped leaf.now turn }
     ensures value { option_map (λ write. (write.0, write.2)) result
         ≡ own_write leaf.now.job (processor_of leaf.now) counter (request_of turn) }
     ensures pair { IfSome result (λ write. IsPairAt leaf.now.layout write.0 write.1) }
 {
-    if turn.next != advanced(leaf.job(), 1, counter) {
+    let _ = leaf.job();
+    if turn.next != counter + 1 {
         return Some((leaf.counter_place(), leaf.counter_word(), turn.next));
     }
     match turn.put {
