@@ -72,15 +72,15 @@ impl Memo {
         requires { IsShaped leaf.now turn }
         ensures { self.new ≡ learned leaf.now self.old (request_of turn) }
     {
+        if let Put::Register(place, value) = turn.put {
+            self.registers[(place - leaf.register_place(0)) as usize] = value;
+        }
         self.step = leaf.step();
         self.counter = turn.next;
         self.store = match turn.put {
             Put::Cell(cell, value) => Some((cell, value)),
             _ => None,
         };
-        if let Put::Register(place, value) = turn.put {
-            self.registers[(place - leaf.register_place(0)) as usize] = value;
-        }
     }
 
     /// What is known after a step of a processor that has stopped.

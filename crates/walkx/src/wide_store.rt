@@ -48,7 +48,7 @@ pub(crate) fn store_by<S: Steps>(
 }
 
 /// The processor's store, worked out from its own places.
-#[inline(always)]
+#[inline(never)]
 fn load_store<S: Steps>(steps: &mut S, leaf: &Leaf) -> Result<(u32, u32), Left>
     requires next { IsNextPart (S.stands leaf.now) steps.old (store_loaded leaf.now) }
     ensures cell { IfOk result (λ write. IsCellOf leaf.now write.0) }
