@@ -51,7 +51,8 @@ impl<'a, G: Gate> Driver<'a, G> {
     ghost use Rattle.pram_board.specs.Inner.Plays.{WorkerGoesOn, Led, Moved, IsWalking, driving};
     ghost use Rattle.pram_board.specs.Inner.Plays.{AtPart, AtTask, DoneMore, DonePart, DoneTo};
     ghost use Rattle.pram_board.specs.Inner.Plays.{PastTask, Tried};
-    ghost use Rattle.pram_board.specs.Inner.Plays.{in_block, led_to, next_turn, task_at, turning_at};
+    ghost use Rattle.pram_board.specs.Inner.Plays.{in_block, led_to, next_turn, task_at};
+    ghost use Rattle.pram_board.specs.Inner.Plays.{turning_at};
 
     /// A driver that has made no step.
     #[inline(always)]
@@ -295,8 +296,8 @@ impl<'a, G: Gate> Driver<'a, G> {
         }
     }
 
-    // Those of another pass. A loop in a function of its own, and by a driver of its own, has what it
-    // uses in registers.
+    // Those of another pass. A loop in a function of its own, and by a driver of its own, has what
+    // it uses in registers.
     #[inline(never)]
     fn other_tasks(&mut self, leaf: Leaf<'_>, len: u32, memory: &mut Memory)
         requires at { AtTask leaf len (driving self.old) memory.old }
@@ -338,8 +339,8 @@ impl<'a, G: Gate> Driver<'a, G> {
         }
     }
 
-    // The first pass of the leaf's processor, and that of the next ones where all are known to stand
-    // at one instruction: the rank of the last of them.
+    // The first pass of the leaf's processor, and that of the next ones where all are known to
+    // stand at one instruction: the rank of the last of them.
     #[inline(always)]
     fn task(&mut self, leaf: &Leaf, len: u32, memory: &mut Memory) -> u32
         requires first { kind_at leaf.now.phase ≡ Kind.Compute }
@@ -356,8 +357,8 @@ impl<'a, G: Gate> Driver<'a, G> {
         }
     }
 
-    // That of the next ones, after this leaf's, that stand at this instruction: the rank of the last
-    // of them. Loops by form are entered for two or more.
+    // That of the next ones, after this leaf's, that stand at this instruction: the rank of the
+    // last of them. Loops by form are entered for two or more.
     #[inline(always)]
     fn more_tasks(&mut self, leaf: &Leaf, len: u32, memory: &mut Memory, stand: Stand<'_>) -> u32
         requires past { PastTask leaf.now len (driving self.old) memory.old }
@@ -374,7 +375,8 @@ impl<'a, G: Gate> Driver<'a, G> {
         }
     }
 
-    // The same. Each form that has a row here has a loop of its own, in which no other is looked at.
+    // The same. Each form that has a row here has a loop of its own, in which no other is looked
+    // at.
     #[inline(always)]
     fn run_form(&mut self, leaf: &Leaf, len: u32, memory: &mut Memory, stand: Stand<'_>) -> u32
         requires past { PastTask leaf.now len (driving self.old) memory.old }
@@ -512,8 +514,8 @@ impl<'a, G: Gate> Driver<'a, G> {
         }
     }
 
-    // The task of the leaf's processor. Where its step is known, little is left of it, and what else
-    // there may be is kept out of the loop.
+    // The task of the leaf's processor. Where its step is known, little is left of it, and what
+    // else there may be is kept out of the loop.
     #[inline(always)]
     fn second_part(&mut self, leaf: &Leaf, memory: &mut Memory)
         requires at { AtPart leaf.now (driving self.old) memory.old }
@@ -523,7 +525,7 @@ impl<'a, G: Gate> Driver<'a, G> {
     {
         match memory.carry(self, leaf) {
             Ok(true) => self.seat.facts(),
-            Ok(false) => self.part_apart(&leaf.again(), memory),
+            Ok(false) => self.part_apart(leaf, memory),
             Err(_) => unreachable!(),
         }
     }
@@ -544,7 +546,7 @@ impl<'a, G: Gate> Driver<'a, G> {
             made: self.made,
             rest: self.rest,
         };
-        driver.part(leaf, memory);
+        driver.part(&leaf.again(), memory);
         self.made = driver.made;
         self.rest = driver.rest;
         driver.end();

@@ -1,6 +1,7 @@
 -- The parts of the tasks of the wide form, by their results.
 use Rattle.std.specs.Prelude.{◌≡◌, ◌<◌, ◌≤◌, ℕ, ◌-◌, Bool, ◌==◌, ◌||◌, nat_lt, if◌then◌else◌}
-use Rattle.std.specs.Prelude.{List, [], slice_get, Option, Some, None, IfSome, is_some, option_map, Result, Ok, Err}
+use Rattle.std.specs.Prelude.{List, [], slice_get, Option, Some, None, IfSome, is_some}
+use Rattle.std.specs.Prelude.{option_map, Result, Ok, Err}
 use Rattle.pram_job.specs.Job.{JobData}
 use Rattle.pram_job.specs.declared.instr.Instr.{Instr}
 use Rattle.pram_job.specs.declared.instr.Rule.{Rule}
@@ -90,8 +91,8 @@ asked_with at known instr value =
 abbrev pub asks_with : PostData → Memo → Instr → (Request → Script Then) → ℕ → Script Then
 asks_with at known instr next value = next (asked_with at known instr value)
 
--- a turn of the processor: its data goes to a cell or to one of its registers, and its counter to an
--- instruction, or it stops
+-- a turn of the processor: its data goes to a cell or to one of its registers, and its counter to
+-- an instruction, or it stops
 pub record IsShaped (at : PostData) (turn : Turn) : Type 0 where
   pub place : (place value : ℕ) → put_of turn.put ≡ Some (place, value) →
       IsDataPlace at.job (processor_of at) place

@@ -228,8 +228,8 @@ impl Memory {
         Ok(false)
     }
 
-    /// The instruction that the leaf's processor stands at in the first pass, where it is known before
-    /// the step.
+    /// The instruction that the leaf's processor stands at in the first pass, where it is known
+    /// before the step.
     #[inline(always)]
     pub fn stand<'a>(&self, leaf: &Leaf<'a>) -> Option<Stand<'a>>
         requires { kind_at leaf.now.phase ≡ Kind.Compute }
@@ -250,7 +250,8 @@ impl Memory {
     pub fn stands_at(&self, leaf: &Leaf, stand: Stand<'_>) -> bool
         requires first { kind_at leaf.now.phase ≡ Kind.Compute }
         requires code { slice_get leaf.now.job.code stand.counter ≡ Some stand.instr.now }
-        ensures { IsTrue result → StandsAt leaf.now self.now stand.entry.counter stand.entry.instr.now }
+        ensures { IsTrue result → StandsAt leaf.now self.now stand.entry.counter
+            stand.entry.instr.now }
     {
         let memo = self.memo(leaf.processor());
         memo.is_before(leaf.step()) && memo.counter == stand.counter

@@ -208,8 +208,8 @@ impl<'a> Leaf<'a> {
         }
     }
 
-    /// The leaf at the processor after that of this rank, which comes later in the block, in the wide
-    /// form.
+    /// The leaf at the processor after that of this rank, which comes later in the block, in the
+    /// wide form.
     #[inline(always)]
     pub fn after(&self, rank: u32) -> Leaf<'a>
         requires wide { IsWide self.now.layout.form }

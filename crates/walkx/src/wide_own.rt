@@ -1,6 +1,6 @@
 //! The first pass of the wide form: what is a processor's own is written, and a store claimed.
-ghost use Rattle.std.specs.Prelude.{◌≡◌, ◌<◌, suc, false, length, slice_get, IfSome, None, Some, Ok};
-ghost use Rattle.std.specs.Prelude.{option_map};
+ghost use Rattle.std.specs.Prelude.{◌≡◌, ◌<◌, suc, false, length, slice_get, IfSome};
+ghost use Rattle.std.specs.Prelude.{None, Some, Ok, option_map};
 ghost use Rattle.pram_job.specs.Job.{IsInstr};
 ghost use Rattle.pram_machine.specs.Turns.{request_of};
 ghost use Rattle.walkx.specs.Driving.{IsNextPart, Plays, learns};

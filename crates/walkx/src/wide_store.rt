@@ -153,7 +153,8 @@ pub(crate) fn store_crew<S: Steps>(steps: &mut S, leaf: &Leaf, memo: &Memo) -> R
 pub(crate) fn store_priority<S: Steps>(steps: &mut S, leaf: &Leaf, memo: &Memo) -> Result<(), Left>
     requires rule { leaf.now.job.rule ≢ Rule.Common }
     requires memo { FitsMemo leaf.now.job memo.now }
-    requires next { IsNextPart (S.stands leaf.now) steps.old (does_priority_store leaf.now memo.now) }
+    requires next { IsNextPart (S.stands leaf.now) steps.old
+        (does_priority_store leaf.now memo.now) }
     ensures none { memo.now.step ≡ step_of leaf.now → memo.now.store ≡ None →
         steps.new ≡ steps.old }
     ensures plays { Plays (S.stands leaf.now) steps.old (does_priority_store leaf.now memo.now)

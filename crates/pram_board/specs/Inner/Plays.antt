@@ -145,8 +145,8 @@ pub record PastTask (at : PostData) (len : ℕ) (driver : Driving) (memory : Lis
   pub fits : FitsMemory at.job memory
   pub walks : IsWalking (task_at at) driver (in_block at (suc at.rank) memory)
 
--- the tasks of a block of this length were done, from one rank up to another, which is the leaf's or
--- a later one
+-- the tasks of a block of this length were done, from one rank up to another, which is the leaf's
+-- or a later one
 pub record DoneFrom (from : ℕ) (at : PostData) (len : ℕ) (before : Driving) (memory : List Memo)
     (last : ℕ) (later : Driving) (now : List Memo) : Type 0 where
   pub onward : at.rank ≤ last

@@ -93,4 +93,4 @@ part_apart-requires g c =
     let is : c.carry.result ≡ Ok false =
     c.in-Ok-false.is ∙ ap (λ (there : Bool). Ok there) c.in-Ok-false.field-0-test in
     let still = rw is at c.carry.ensures in
-    record { at = rw (c.again.ensures, still.0) c.requires.at }
+    record { at = rw still.0 c.requires.at }
