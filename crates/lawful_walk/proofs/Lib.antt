@@ -24,7 +24,9 @@ pub mod Remembered
 pub mod OwnTasks
 pub mod Stores
 pub mod Agreed
+pub mod CarryParts
 pub mod CarryTasks
+pub mod ClaimTasks
 pub mod WideTasks
 pub mod Blocks
 pub mod Hearing

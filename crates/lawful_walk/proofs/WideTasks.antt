@@ -18,8 +18,8 @@ use Rattle.walkx.specs.Memory.{IsTrueMemo}
 use Rattle.walkx.specs.Passes.{wide_task_of}
 use Rattle.lawful_walk.specs.Board.{phase_in, root, Done, DoneIn}
 use Rattle.lawful_walk.specs.Writes.{Floor}
-use Rattle.lawful_walk.proofs.CarryTasks.{carry_task_safe, crew_carry_task_safe}
-use Rattle.lawful_walk.proofs.CarryTasks.{priority_carry_task_safe}
+use Rattle.lawful_walk.proofs.CarryTasks.{carry_task_safe}
+use Rattle.lawful_walk.proofs.ClaimTasks.{crew_carry_task_safe, priority_carry_task_safe}
 use Rattle.lawful_walk.proofs.Known.{EndSafe, LearnedSafe}
 use Rattle.lawful_walk.proofs.OwnTasks.{own_task_safe, own_claim_task_safe}
 use Rattle.lawful_walk.proofs.Scripts.{Aim, Safe}

@@ -157,6 +157,7 @@ impl Board {
     }
 
     // One atomic step, and its answer. It is the only call that touches the words.
+    #[inline(always)]
     pub(crate) fn step(&self, seat: &mut Seat, op: Op) -> u64
         requires desk { seat.old.desk ≡ self.now }
         requires allowed { May self.now.task seat.old.record_of op }

@@ -49,8 +49,10 @@ impl<'a, G: Gate> Driver<'a, G> {
     ghost use Rattle.pram_board.specs.Rules.{May};
     ghost use Rattle.pram_board.specs.Seats.{IsLater, hears};
     ghost use Rattle.pram_board.specs.Inner.Plays.{WorkerGoesOn, Led, Moved, IsWalking, driving};
-    ghost use Rattle.pram_board.specs.Inner.Plays.{AtTask, DoneMore, DoneTo, PastTask, Tried};
-    ghost use Rattle.pram_board.specs.Inner.Plays.{in_block, led_to, next_turn, task_at, turning_at};
+    ghost use Rattle.pram_board.specs.Inner.Plays.{AtPart, AtTask, DoneMore, DonePart, DoneTo};
+    ghost use Rattle.pram_board.specs.Inner.Plays.{PastTask, Tried};
+    ghost use Rattle.pram_board.specs.Inner.Plays.{in_block, led_to, next_turn, task_at};
+    ghost use Rattle.pram_board.specs.Inner.Plays.{turning_at};
 
     /// A driver that has made no step.
     #[inline(always)]
@@ -294,8 +296,8 @@ impl<'a, G: Gate> Driver<'a, G> {
         }
     }
 
-    // Those of another pass. A loop in a function of its own, and by a driver of its own, has what it
-    // uses in registers.
+    // Those of another pass. A loop in a function of its own, and by a driver of its own, has what
+    // it uses in registers.
     #[inline(never)]
     fn other_tasks(&mut self, leaf: Leaf<'_>, len: u32, memory: &mut Memory)
         requires at { AtTask leaf len (driving self.old) memory.old }
@@ -337,8 +339,8 @@ impl<'a, G: Gate> Driver<'a, G> {
         }
     }
 
-    // The first pass of the leaf's processor, and that of the next ones where all are known to stand
-    // at one instruction: the rank of the last of them.
+    // The first pass of the leaf's processor, and that of the next ones where all are known to
+    // stand at one instruction: the rank of the last of them.
     #[inline(always)]
     fn task(&mut self, leaf: &Leaf, len: u32, memory: &mut Memory) -> u32
         requires first { kind_at leaf.now.phase ≡ Kind.Compute }
@@ -355,8 +357,8 @@ impl<'a, G: Gate> Driver<'a, G> {
         }
     }
 
-    // That of the next ones, after this leaf's, that stand at this instruction: the rank of the last
-    // of them. Loops by form are entered for two or more.
+    // That of the next ones, after this leaf's, that stand at this instruction: the rank of the
+    // last of them. Loops by form are entered for two or more.
     #[inline(always)]
     fn more_tasks(&mut self, leaf: &Leaf, len: u32, memory: &mut Memory, stand: Stand<'_>) -> u32
         requires past { PastTask leaf.now len (driving self.old) memory.old }
@@ -373,7 +375,8 @@ impl<'a, G: Gate> Driver<'a, G> {
         }
     }
 
-    // The same. Each form that has a row here has a loop of its own, in which no other is looked at.
+    // The same. Each form that has a row here has a loop of its own, in which no other is looked
+    // at.
     #[inline(always)]
     fn run_form(&mut self, leaf: &Leaf, len: u32, memory: &mut Memory, stand: Stand<'_>) -> u32
         requires past { PastTask leaf.now len (driving self.old) memory.old }
@@ -496,10 +499,7 @@ impl<'a, G: Gate> Driver<'a, G> {
     #[inline(always)]
     fn part_at(&mut self, leaf: &Leaf, memory: &mut Memory, counter: u32, instr: &Instr) -> bool
         requires stand { IsStand leaf.now counter instr.now }
-        requires leaf { IsLeafPost leaf.now }
-        requires fits { FitsMemory leaf.now.job memory.old }
-        requires walks { IsWalking (task_at leaf.now) (driving self.old)
-            (in_block leaf.now leaf.now.rank memory.old) }
+        requires at { AtPart leaf.now (driving self.old) memory.old }
         ensures same { self.new.seat.ghost_name ≡ self.old.seat.ghost_name }
         ensures tried { Tried leaf.now (driving self.old) memory.old (driving self.new) memory.new
             result }
@@ -514,36 +514,51 @@ impl<'a, G: Gate> Driver<'a, G> {
         }
     }
 
-    // The task of the leaf's processor, which is often seen at once to be none.
+    // The task of the leaf's processor. Where its step is known, little is left of it, and what
+    // else there may be is kept out of the loop.
     #[inline(always)]
     fn second_part(&mut self, leaf: &Leaf, memory: &mut Memory)
-        requires leaf { IsLeafPost leaf.now }
-        requires fits { FitsMemory leaf.now.job memory.old }
-        requires walks { IsWalking (task_at leaf.now) (driving self.old)
-            (in_block leaf.now leaf.now.rank memory.old) }
+        requires at { AtPart leaf.now (driving self.old) memory.old }
         ensures same { self.new.seat.ghost_name ≡ self.old.seat.ghost_name }
-        ensures fits { FitsMemory leaf.now.job memory.new }
-        ensures moved { Moved (task_at leaf.now) (driving self.old)
-            (in_block leaf.now leaf.now.rank memory.old) (driving self.new)
-            (in_block leaf.now (suc leaf.now.rank) memory.new) }
+        ensures done { DonePart leaf.now (driving self.old) memory.old (driving self.new)
+            memory.new }
     {
-        if !memory.has_done(leaf) {
-            self.part(leaf, memory);
+        match memory.carry(self, leaf) {
+            Ok(true) => self.seat.facts(),
+            Ok(false) => self.part_apart(leaf, memory),
+            Err(_) => unreachable!(),
         }
     }
 
-    // The task of the leaf's processor.
+    // The task of the leaf's processor, by a driver of its own.
     #[inline(always)]
-    fn part(&mut self, leaf: &Leaf, memory: &mut Memory)
-        requires leaf { IsLeafPost leaf.now }
-        requires fits { FitsMemory leaf.now.job memory.old }
-        requires walks { IsWalking (task_at leaf.now) (driving self.old)
-            (in_block leaf.now leaf.now.rank memory.old) }
+    fn part_apart(&mut self, leaf: &Leaf, memory: &mut Memory)
+        requires at { AtPart leaf.now (driving self.old) memory.old }
         ensures same { self.new.seat.ghost_name ≡ self.old.seat.ghost_name }
-        ensures fits { FitsMemory leaf.now.job memory.new }
-        ensures moved { Moved (task_at leaf.now) (driving self.old)
-            (in_block leaf.now leaf.now.rank memory.old) (driving self.new)
-            (in_block leaf.now (suc leaf.now.rank) memory.new) }
+        ensures done { DonePart leaf.now (driving self.old) memory.old (driving self.new)
+            memory.new }
+    {
+        let mut driver = Driver {
+            board: self.board,
+            seat: self.seat,
+            gate: self.gate,
+            worker: self.worker,
+            made: self.made,
+            rest: self.rest,
+        };
+        driver.part(&leaf.again(), memory);
+        self.made = driver.made;
+        self.rest = driver.rest;
+        driver.end();
+    }
+
+    // The task of the leaf's processor.
+    #[inline(never)]
+    fn part(&mut self, leaf: &Leaf, memory: &mut Memory)
+        requires at { AtPart leaf.now (driving self.old) memory.old }
+        ensures same { self.new.seat.ghost_name ≡ self.old.seat.ghost_name }
+        ensures done { DonePart leaf.now (driving self.old) memory.old (driving self.new)
+            memory.new }
     {
         match memory.take_up(self, leaf) {
             Ok(()) => self.seat.facts(),

@@ -13,6 +13,14 @@ use Rattle.walkx.specs.Tasks.{claims}
 use Rattle.walkx.specs.Walk.{Then}
 use Rattle.walkx.specs.WideParts.{claimed_cell, own_made, own_or_claim, own_written}
 
+-- what follows where the worker is late is not asked for
+pub made_late : (at : PostData) (counter : ℕ) (request : Request) (late other : Script Then)
+    (next : Unit {0} → Script Then) (r : Rule) →
+    own_made r at counter request late next ≡ own_made r at counter request other next
+made_late at counter request late other next Common = refl
+made_late at counter request late other next Priority = refl
+made_late at counter request late other next Crew = refl
+
 module _ (at : PostData) (counter : ℕ) (request : Request) (late : Script Then)
     (next : Unit {0} → Script Then) where
   none_by : (o : Option (ℕ × ℕ)) → cell_write at.job request.put ≡ o →

@@ -1,5 +1,5 @@
 -- What a processor's counter was, by a word of it.
-use Rattle.std.proofs.Common.{◌≡◌, ℕ, ◌+◌, ◌-◌, ◌≤◌, true, length, refl, inl, inr, arith}
+use Rattle.std.proofs.Common.{◌≡◌, ℕ, ◌+◌, ◌-◌, ◌<◌, ◌≤◌, true, length, refl, inl, inr, arith}
 use Rattle.std.proofs.lemmas.Bool.{cases_lt, le-ltb, lt-ltb}
 use Rattle.pram_job.specs.Job.{JobData}
 use Rattle.pram_job.specs.Places.{counters_at}
@@ -17,6 +17,10 @@ counter_is job i =
 pub told_is : (at : PostData) (word : ℕ) → counter_told at word
     ≡ advanced at.job (step_of at - 1 - stamp_of word) (payload_of word)
 told_is at word = rw (counter_is at.job (processor_of at)) refl
+
+-- the next instruction's
+pub advanced_next : (job : JobData) (c : ℕ) → c < length job.code → advanced job 1 c ≡ c + 1
+advanced_next job c low = rw (lt-ltb c (length job.code) low) (omega (arith, low))
 
 -- a counter that goes on is K + 1 at most
 pub advanced_most : (job : JobData) (n c : ℕ) → c ≤ length job.code + 1 →

@@ -46,3 +46,4 @@ pub mod Idling
 pub mod Memories
 pub mod Nodes
 pub mod PassingOver
+pub mod Loaded

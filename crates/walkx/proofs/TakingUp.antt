@@ -1,5 +1,5 @@
 -- A task that is done with what is remembered of its processor.
-use Rattle.std.proofs.Common.{◌≡◌, ℕ, zero, suc, ◌<◌, ◌≤◌, List, [], ◌∷◌, length, Some, Result}
+use Rattle.std.proofs.Common.{◌≡◌, ℕ, zero, suc, ◌<◌, ◌≤◌, List, [], ◌∷◌, length, None, Some, Ok, Result}
 use Rattle.std.proofs.Common.{refl, sym, ap, subst, arith, slice_index_or}
 use Rattle.std.specs.Prelude.{slice_get, slice_set}
 use Rattle.walkx.specs.declared.left.Left.{Left}
@@ -11,15 +11,21 @@ use Rattle.pram_job.specs.declared.instr.Instr.{Instr}
 use Rattle.pram_job.specs.declared.instr.Rule.{Rule}
 use Rattle.pram_job.specs.declared.instr.Rule.TheVariants.{Common, Priority, Crew}
 use Rattle.pram_words.specs.Phases.{kind_at}
-use Rattle.pram_words.specs.declared.phases.Kind.TheVariants.{Compute}
+use Rattle.pram_words.specs.declared.phases.Kind.{Kind}
+use Rattle.pram_words.specs.declared.phases.Kind.TheVariants.{Compute, Verify}
 use Rattle.std.proofs.lemmas.Bool.{eq-eqb}
 use Rattle.walkx.specs.Memory.{at_start, memo_of}
-use Rattle.walkx.specs.Parts.{does_wide}
-use Rattle.walkx.specs.Passes.{own_claim_task, own_task, wide_task_of}
+use Rattle.walkx.specs.Parts.{does_wide, does_wide_in}
+use Rattle.walkx.specs.Passes.{carry_task, crew_carry_task, own_claim_task, own_task}
+use Rattle.walkx.specs.Passes.{priority_carry_task, wide_task_of}
 use Rattle.walkx.specs.Passing.{Passes, TakesUp, idle, idle_in}
 use Rattle.walkx.specs.Walk.{Then}
 use Rattle.walkx.specs.Scripts.{Script}
+use Rattle.walkx.proofs.Memories.{memo_again}
+use Rattle.walkx.proofs.Passes.{next_as, plays_as}
 use Rattle.walkx.proofs.Settling.{learned_goes}
+use Rattle.walkx.proofs.Silent.{where_kept}
+use Rattle.walkx.proofs.WidePasses.{same_wide_kind}
 
 pub memo_there : (memory : List Memo) (i : ℕ) (other : Memo) → i < length memory →
     slice_index_or memory i other ≡ memo_of memory i
@@ -89,3 +95,52 @@ takes_up stands at old new memory now memo learned done is kept passes plays = r
       (plays.on from late next
       (subst (λ (m : Memo). stands from old (Some (does_wide at m late next))) (sym is) here));
 }
+
+-- the second pass, where the processor is known after the step; a store that is known to be none is
+-- not looked for again
+module _ (at : PostData) (memory : List Memo) (memo : Memo)
+    (is : memo ≡ memo_of memory (processor_of at)) (second : kind_at at.phase ≡ Verify)
+    (after : memo.step ≡ step_of at) where
+  none_carries : memo.store ≡ None → (late : Script Then) (next : Memo → Script Then) →
+      does_wide at memo late next ≡ next memo
+  unfolding wide_task_of carry_task crew_carry_task priority_carry_task
+  none_carries none late next = by at.job.rule refl
+    where
+      by : (rule : Rule) → at.job.rule ≡ rule → does_wide at memo late next ≡ next memo
+      by Common e = rw (second, e, eq-eqb _ _ after, none) refl
+      by Priority e = rw (second, e, eq-eqb _ _ after, none) refl
+      by Crew e = rw (second, e, eq-eqb _ _ after, none) refl
+
+  pub carry_next : {D : Type 0} (stands : Standing D) (old : D) →
+      IsNextPart stands old (does_wide at (memo_of memory (processor_of at))) →
+      IsNextPart stands old (does_wide_in Verify at memo)
+  carry_next stands old next = next_as stands _ _ _
+      (λ late then. same_wide_kind at memo late then _ _ second) (rw (sym is) at next)
+
+  same_memory : memory ≡ slice_set memory (processor_of at) memo
+  same_memory = rw is (sym (memo_again memory (processor_of at)))
+
+  carry_passes : {D : Type 0} (old new : D) →
+      (memo.step ≡ step_of at → memo.store ≡ None → new ≡ old) →
+      Passes (idle at memo) old new memo
+  carry_passes old new none = subst (λ (k : Kind). Passes (idle_in k at memo) old new memo)
+      (sym second) (where_kept at memo old new memo (λ step no. (refl, none step no)))
+
+  pub carry_takes : {D : Type 0} (stands : Standing D) (old new : D)
+      (done : Result (Unit {0}) Left) →
+      (memo.step ≡ step_of at → memo.store ≡ None → new ≡ old) →
+      Plays stands old (does_wide_in Verify at memo) new (learns done memo) →
+      TakesUp stands at old memory new memory (settled_or_late done)
+  carry_takes stands old new done none plays =
+      takes_up stands at old new memory memory memo memo done is same_memory
+      (carry_passes old new none)
+      (plays_as stands _ _ _ (λ late next. same_wide_kind at memo late next _ _ second) _ _ plays)
+
+  pub none_takes : {D : Type 0} (stands : Standing D) (old : D) → memo.store ≡ None →
+      TakesUp stands at old memory old memory (Ok tt)
+  none_takes stands old none =
+      takes_up stands at old old memory memory memo memo (Ok tt) is same_memory
+      (carry_passes old old (λ step no. refl)) (record {
+        on = λ from late next here.
+            subst (λ (s : Script Then). stands from old (Some s)) (none_carries none late next) here;
+      })

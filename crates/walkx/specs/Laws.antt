@@ -21,8 +21,8 @@ AnswersKeepFit =
     Fits job layout worker → HearsAdmitted job layout (ask_of job layout worker) found →
     Fits job layout (told job layout worker found)
 
--- a record that knows a worker knows it with the next answer, once it has the step; a root has to be
--- a phase of the form, which in the compact form each number is, and what it then remembers true
+-- a record that knows a worker knows it with the next answer, once it has the step; a root has to
+-- be a phase of the form, which in the compact form each number is, and what it then remembers true
 abbrev pub KnownStayKnown : Type 0
 KnownStayKnown =
     (job : JobData) (layout : LayoutData) (past : Record) (worker : Walking) (found : ℕ) →

@@ -59,7 +59,8 @@ IsStand at counter instr =
 
 -- in the first pass the processor is known before the step, and stands at this counter, at this
 -- instruction
-pub record StandsAt (at : PostData) (memory : List Memo) (counter : ℕ) (instr : Instr) : Type 0 where
+pub record StandsAt (at : PostData) (memory : List Memo) (counter : ℕ) (instr : Instr) : Type 0
+  where
   pub first : kind_at at.phase ≡ Kind.Compute
   pub before : suc (memo_of memory (processor_of at)).step ≡ step_of at
   pub there : (memo_of memory (processor_of at)).counter ≡ counter

@@ -26,9 +26,9 @@ use Rattle.walkx.specs.Passes.{task_in}
 
 -- ---- the scripts
 
--- what comes of a script: the worker begins at a node, makes a turn at a node in a phase, enters the
--- block of a leaf, has done the task of a processor there, by its rank, of which it now knows this,
--- or is over
+-- what comes of a script: the worker begins at a node, makes a turn at a node in a phase, enters
+-- the block of a leaf, has done the task of a processor there, by its rank, of which it now knows
+-- this, or is over
 pub data Then : Type 0 where
   begins : ℕ → Then
   turns : ℕ → ℕ → Then

@@ -1,6 +1,7 @@
 -- The parts of the tasks of the wide form, by their results.
-use Rattle.std.specs.Prelude.{◌≡◌, ◌≤◌, ℕ, ◌-◌, Bool, ◌==◌, ◌||◌, nat_lt, if◌then◌else◌, List, [], slice_get}
-use Rattle.std.specs.Prelude.{Option, Some, None, is_some, option_map, Result, Ok, Err}
+use Rattle.std.specs.Prelude.{◌≡◌, ◌<◌, ◌≤◌, ℕ, ◌-◌, Bool, ◌==◌, ◌||◌, nat_lt, if◌then◌else◌}
+use Rattle.std.specs.Prelude.{List, [], slice_get, Option, Some, None, IfSome, is_some}
+use Rattle.std.specs.Prelude.{option_map, Result, Ok, Err}
 use Rattle.pram_job.specs.Job.{JobData}
 use Rattle.pram_job.specs.declared.instr.Instr.{Instr}
 use Rattle.pram_job.specs.declared.instr.Rule.{Rule}
@@ -14,7 +15,7 @@ use Rattle.pram_machine.specs.Machine.{IsDataPlace, counter_place, out_of_range}
 use Rattle.pram_words.specs.Stamps.{newer_word, stamp_of, payload_of}
 use Rattle.walkx.specs.Counters.{wide_worth}
 use Rattle.walkx.specs.Driving.{Part}
-use Rattle.walkx.specs.Inner.Posts.{PostData, step_of, processor_of}
+use Rattle.walkx.specs.Inner.Posts.{IsCell, IsPairAt, PostData, step_of, processor_of}
 use Rattle.walkx.specs.OwnWrites.{cell_write, is_store, own_write}
 use Rattle.walkx.specs.Parts.{both_of, claim_loaded, decides_at, differs_from}
 use Rattle.walkx.specs.Parts.{either_differs, reports_if, swap_of, writes}
@@ -90,8 +91,8 @@ asked_with at known instr value =
 abbrev pub asks_with : PostData → Memo → Instr → (Request → Script Then) → ℕ → Script Then
 asks_with at known instr next value = next (asked_with at known instr value)
 
--- a turn of the processor: its data goes to a cell or to one of its registers, and its counter to an
--- instruction, or it stops
+-- a turn of the processor: its data goes to a cell or to one of its registers, and its counter to
+-- an instruction, or it stops
 pub record IsShaped (at : PostData) (turn : Turn) : Type 0 where
   pub place : (place value : ℕ) → put_of turn.put ≡ Some (place, value) →
       IsDataPlace at.job (processor_of at) place
@@ -128,6 +129,15 @@ claimed_cell Crew job request = option_map (λ write. write.0) (cell_write job r
 abbrev pub makes_own : Rule → PostData → ℕ → Request → Bool
 makes_own rule at counter request = is_some (claimed_cell rule at.job request)
     || is_some (own_write at.job (processor_of at) counter request)
+
+-- what it claims, and what it writes of its own, with the first word of each place
+pub record IsPlan (at : PostData) (counter : ℕ) (request : Request)
+    (plan : Option ℕ × Option (ℕ × ℕ × ℕ)) : Type 0 where
+  pub claim : plan.0 ≡ claimed_cell at.job.rule at.job request
+  pub cell : IfSome plan.0 (λ cell. (cell < at.job.cells) × IsCell at.layout cell)
+  pub write : option_map (λ write. (write.0, write.2)) plan.1
+      ≡ own_write at.job (processor_of at) counter request
+  pub pair : IfSome plan.1 (λ write. IsPairAt at.layout write.0 write.1)
 
 -- what follows what is known, and what is asked for
 abbrev pub made_after : Rule → PostData → (Memo → Script Then) → Memo → Request → Script Then

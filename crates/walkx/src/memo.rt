@@ -9,14 +9,14 @@ ghost use Rattle.pram_words.specs.Phases.{kind_at};
 ghost use Rattle.walkx.specs.Inner.Posts.{processor_of};
 ghost use Rattle.walkx.specs.Memory.{FitsMemo, at_start, blank, memo_of};
 ghost use Rattle.walkx.specs.Parts.{does_wide};
-ghost use Rattle.walkx.specs.Passing.{IsStand, StandsAt, TakesUp, TakesUpIf, idle};
+ghost use Rattle.walkx.specs.Passing.{IsStand, StandsAt, TakesUp, TakesUpIf};
 ghost use Rattle.walkx.specs.WideParts.{IsShaped, learned};
 
 use crate::left::Stopped;
 use crate::post::Leaf;
 use crate::request::fetch;
 use crate::steps::Steps;
-use crate::tasks::wide_task;
+use crate::tasks::{second_pass, wide_task};
 use crate::turns::settle;
 use crate::wide_own::own_by;
 use pram_job::Instr;
@@ -72,15 +72,15 @@ impl Memo {
         requires { IsShaped leaf.now turn }
         ensures { self.new ≡ learned leaf.now self.old (request_of turn) }
     {
+        if let Put::Register(place, value) = turn.put {
+            self.registers[(place - leaf.register_place(0)) as usize] = value;
+        }
         self.step = leaf.step();
         self.counter = turn.next;
         self.store = match turn.put {
             Put::Cell(cell, value) => Some((cell, value)),
             _ => None,
         };
-        if let Put::Register(place, value) = turn.put {
-            self.registers[(place - leaf.register_place(0)) as usize] = value;
-        }
     }
 
     /// What is known after a step of a processor that has stopped.
@@ -200,27 +200,36 @@ impl Memory {
         settle(wide_task(steps, leaf, &mut memo))
     }
 
-    /// Whether the leaf's processor has nothing to do in the second pass, which is seen at once where
-    /// its step is known.
+    /// As `take_up`, in the second pass, where the leaf's processor is known after the step; else
+    /// nothing is done.
     #[inline(always)]
-    pub fn has_done(&self, leaf: &Leaf) -> bool
-        ensures { IsTrue result → idle leaf.now (memo_of self.now (processor_of leaf.now))
-            ≡ Some (memo_of self.now (processor_of leaf.now)) }
+    pub fn carry<S: Steps>(&self, steps: &mut S, leaf: &Leaf) -> Result<bool, Stopped>
+        requires memo { FitsMemo leaf.now.job (memo_of self.now (processor_of leaf.now)) }
+        requires next { IsNextPart (S.stands leaf.now) steps.old
+            (does_wide leaf.now (memo_of self.now (processor_of leaf.now))) }
+        ensures { TakesUpIf (S.stands leaf.now) leaf.now steps.old self.now steps.new self.now
+            result }
     {
-        match leaf.kind() {
-            Kind::Verify => {
-                let memo = self.memo(leaf.processor());
-                match memo.store {
-                    None => memo.step == leaf.step(),
-                    Some(_) => false,
+        let i = leaf.processor() as usize;
+        match (&self.memos, leaf.kind()) {
+            (Some(memos), Kind::Verify) => {
+                if i < memos.len() {
+                    let memo = &memos[i];
+                    if memo.step == leaf.step() {
+                        if memo.store.is_some() {
+                            settle(second_pass(steps, leaf, memo))?;
+                        }
+                        return Ok(true);
+                    }
                 }
             }
-            _ => false,
+            _ => {}
         }
+        Ok(false)
     }
 
-    /// The instruction that the leaf's processor stands at in the first pass, where it is known before
-    /// the step.
+    /// The instruction that the leaf's processor stands at in the first pass, where it is known
+    /// before the step.
     #[inline(always)]
     pub fn stand<'a>(&self, leaf: &Leaf<'a>) -> Option<Stand<'a>>
         requires { kind_at leaf.now.phase ≡ Kind.Compute }
@@ -241,7 +250,8 @@ impl Memory {
     pub fn stands_at(&self, leaf: &Leaf, stand: Stand<'_>) -> bool
         requires first { kind_at leaf.now.phase ≡ Kind.Compute }
         requires code { slice_get leaf.now.job.code stand.counter ≡ Some stand.instr.now }
-        ensures { IsTrue result → StandsAt leaf.now self.now stand.entry.counter stand.entry.instr.now }
+        ensures { IsTrue result → StandsAt leaf.now self.now stand.entry.counter
+            stand.entry.instr.now }
     {
         let memo = self.memo(leaf.processor());
         memo.is_before(leaf.step()) && memo.counter == stand.counter

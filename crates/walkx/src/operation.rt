@@ -18,8 +18,8 @@ pub enum Activity {
     Begin,
     /// It makes a turn in this phase.
     Turn(u64),
-    /// In this phase it does the task of the processor of this rank in its leaf's block, in the wide
-    /// form, or marks the leaf, the rank being that after the last one's.
+    /// In this phase it does the task of the processor of this rank in its leaf's block, in the
+    /// wide form, or marks the leaf, the rank being that after the last one's.
     Part(u64, u32),
     /// It is over.
     Over(Ended),

@@ -208,8 +208,8 @@ impl<'a> Leaf<'a> {
         }
     }
 
-    /// The leaf at the processor after that of this rank, which comes later in the block, in the wide
-    /// form.
+    /// The leaf at the processor after that of this rank, which comes later in the block, in the
+    /// wide form.
     #[inline(always)]
     pub fn after(&self, rank: u32) -> Leaf<'a>
         requires wide { IsWide self.now.layout.form }
@@ -225,6 +225,17 @@ impl<'a> Leaf<'a> {
                 counter: self.own.counter + 16 * more,
                 registers: self.own.registers + 16 * more,
             },
+            ..*self
+        }
+    }
+
+    /// The same leaf once more.
+    #[inline(always)]
+    pub fn again(&self) -> Leaf<'a>
+        ensures { result ≡ self.now }
+    {
+        Leaf {
+            own: self.layout.own_words(self.processor),
             ..*self
         }
     }

@@ -1,6 +1,6 @@
 //! The first pass of the wide form: what is a processor's own is written, and a store claimed.
-ghost use Rattle.std.specs.Prelude.{◌≡◌, ◌<◌, suc, false, length, slice_get, IfSome, None, Some, Ok};
-ghost use Rattle.std.specs.Prelude.{option_map};
+ghost use Rattle.std.specs.Prelude.{◌≡◌, ◌<◌, suc, false, length, slice_get, IfSome};
+ghost use Rattle.std.specs.Prelude.{None, Some, Ok, option_map};
 ghost use Rattle.pram_job.specs.Job.{IsInstr};
 ghost use Rattle.pram_machine.specs.Turns.{request_of};
 ghost use Rattle.walkx.specs.Driving.{IsNextPart, Plays, learns};
@@ -8,8 +8,8 @@ ghost use Rattle.walkx.specs.Inner.Posts.{IsCell, IsCellOf, IsLeafPost, IsPairAt
 ghost use Rattle.walkx.specs.Inner.Posts.{step_of};
 ghost use Rattle.walkx.specs.OwnWrites.{cell_write, own_write};
 ghost use Rattle.walkx.specs.Passing.{Passes, idle_in, if_so};
-ghost use Rattle.walkx.specs.WideParts.{IsShaped, claimed_cell, does_own, does_own_by, makes_own};
-ghost use Rattle.walkx.specs.WideParts.{own_made, own_written};
+ghost use Rattle.walkx.specs.WideParts.{IsPlan, IsShaped, claimed_cell, does_own, does_own_by};
+ghost use Rattle.walkx.specs.WideParts.{makes_own, own_made};
 
 use crate::left::Left;
 use crate::memo::Memo;
@@ -17,38 +17,25 @@ use crate::parts::write_place;
 use crate::post::Leaf;
 use crate::request::fetch;
 use crate::steps::Steps;
-use crate::wide_request::{advanced, ask_by, know, turn_by};
+use crate::wide_request::{ask_by, know, turn_by};
 use pram_job::{Instr, Rule};
 use pram_machine::{Put, Request, Turn, cell_named};
 use pram_words::Kind;
 
-/// The own write of a turn, if it has one.
+// What a turn claims, a cell, and what it writes of the processor's own.
+type Plan = (Option<u32>, Option<(u32, u32, u32)>);
+
+// The store of a turn is claimed; where it has none, its own write is made. Under common no store
+// is claimed.
 #[inline(always)]
-pub(crate) fn write_own<S: Steps>(
+fn make_own<S: Steps>(
     steps: &mut S,
     leaf: &Leaf,
     counter: u32,
     turn: Turn,
+    plan: Plan,
 ) -> Result<(), Left>
-    requires shape { IsShaped leaf.now turn }
-    requires next { IsNextPart (S.stands leaf.now) steps.old
-        (own_written leaf.now counter (request_of turn)) }
-    ensures none { own_write leaf.now.job (processor_of leaf.now) counter (request_of turn) ≡ None →
-        (result ≡ Ok tt) × (steps.new ≡ steps.old) }
-    ensures plays { Plays (S.stands leaf.now) steps.old
-        (own_written leaf.now counter (request_of turn)) steps.new result }
-{
-    match own_write(leaf, counter, turn) {
-        None => Ok(()),
-        Some((place, word, value)) => write_place(steps, leaf, place, word, value),
-    }
-}
-
-/// The store of a turn is claimed; where it has none, its own write is made. Under common no store
-/// is claimed.
-#[inline(always)]
-fn make_own<S: Steps>(steps: &mut S, leaf: &Leaf, counter: u32, turn: Turn) -> Result<(), Left>
-    requires shape { IsShaped leaf.now turn }
+    requires plan { IsPlan leaf.now counter (request_of turn) plan }
     requires next { IsNextPart (S.stands leaf.now) steps.old
         (own_made leaf.now.job.rule leaf.now counter (request_of turn)) }
     ensures none { makes_own leaf.now.job.rule leaf.now counter (request_of turn) ≡ false →
@@ -56,12 +43,14 @@ fn make_own<S: Steps>(steps: &mut S, leaf: &Leaf, counter: u32, turn: Turn) -> R
     ensures plays { Plays (S.stands leaf.now) steps.old
         (own_made leaf.now.job.rule leaf.now counter (request_of turn)) steps.new result }
 {
-    match claimed(leaf, turn) {
-        Some(cell) => {
+    let _ = (counter, turn);
+    match plan {
+        (Some(cell), _) => {
             steps.make(leaf.claiming(cell))?;
             Ok(())
         }
-        None => write_own(steps, leaf, counter, turn),
+        (None, None) => Ok(()),
+        (None, Some((place, word, value))) => write_place(steps, leaf, place, word, value),
     }
 }
 
@@ -90,9 +79,10 @@ pub(crate) fn own_by<S: Steps>(
             return Err(why);
         }
     };
-    make_own(steps, leaf, memo.counter, turn)?;
+    let counter = memo.counter;
+    let plan = plan(leaf, counter, turn);
     memo.take_up(leaf, turn);
-    Ok(())
+    make_own(steps, leaf, counter, turn, plan)
 }
 
 /// The first pass.
@@ -137,10 +127,21 @@ pub(crate) fn passes_by(leaf: &Leaf, memo: &mut Memo, instr: &Instr) -> bool
 // The turn writes something of the processor's own, or claims a cell.
 #[inline(always)]
 fn writes(leaf: &Leaf, counter: u32, turn: Turn) -> bool
-    requires { IsShaped leaf.now turn }
+    requires counter { counter < length leaf.now.job.code }
+    requires shape { IsShaped leaf.now turn }
     ensures { result ≡ makes_own leaf.now.job.rule leaf.now counter (request_of turn) }
 {
     claimed(leaf, turn).is_some() || own_write(leaf, counter, turn).is_some()
+}
+
+// What it claims and writes.
+#[inline(always)]
+fn plan(leaf: &Leaf, counter: u32, turn: Turn) -> Plan
+    requires counter { counter < length leaf.now.job.code }
+    requires shape { IsShaped leaf.now turn }
+    ensures { IsPlan leaf.now counter (request_of turn) result }
+{
+    (claimed(leaf, turn), own_write(leaf, counter, turn))
 }
 
 // The cell that the turn claims, if it claims one.
@@ -160,13 +161,16 @@ fn claimed(leaf: &Leaf, turn: Turn) -> Option<u32>
 // What a turn writes of the processor's own: its counter, where that does not go on by one, or a
 // register.
 #[inline(always)]
+#[tactic(auto, using(crate::proofs::Counting::advanced_next))]
 fn own_write(leaf: &Leaf, counter: u32, turn: Turn) -> Option<(u32, u32, u32)>
-    requires { IsShaped leaf.now turn }
+    requires counter { counter < length leaf.now.job.code }
+    requires shape { IsShaped leaf.now turn }
     ensures value { option_map (λ write. (write.0, write.2)) result
         ≡ own_write leaf.now.job (processor_of leaf.now) counter (request_of turn) }
     ensures pair { IfSome result (λ write. IsPairAt leaf.now.layout write.0 write.1) }
 {
-    if turn.next != advanced(leaf.job(), 1, counter) {
+    let _ = leaf.job();
+    if turn.next != counter + 1 {
         return Some((leaf.counter_place(), leaf.counter_word(), turn.next));
     }
     match turn.put {

@@ -16,7 +16,7 @@ use crate::post::Leaf;
 use crate::request::{read_place, read_register};
 use crate::steps::Steps;
 use pram_job::{Instr, Job};
-use pram_machine::{Turn, cell_named, decided_by};
+use pram_machine::{Put, Turn, cell_named, decided_by};
 use pram_words::{newer, payload, stamp};
 
 /// What a counter becomes in so many steps, each of which takes it on by one, up to K, where it
@@ -108,28 +108,6 @@ pub(crate) fn know<S: Steps>(steps: &mut S, leaf: &Leaf, memo: &mut Memo) -> Res
     Ok(())
 }
 
-/// What the cell that an instruction reads held before the step, and 0 where it reads none.
-#[inline(always)]
-fn read_named<S: Steps>(
-    steps: &mut S,
-    leaf: &Leaf,
-    known: &Memo,
-    instr: &Instr,
-) -> Result<u32, Left>
-    requires instr { IsInstr leaf.now.job.cells (length leaf.now.job.code) instr.now }
-    requires next { IsNextPart (S.stands leaf.now) steps.old
-        (cell_of_memo leaf.now known.now instr.now) }
-    ensures none { named_cell leaf.now known.now instr.now ≡ None →
-        (result ≡ Ok 0) × (steps.new ≡ steps.old) }
-    ensures plays { Plays (S.stands leaf.now) steps.old (cell_of_memo leaf.now known.now instr.now)
-        steps.new result }
-{
-    match cell_named(leaf.job(), instr, &known.registers) {
-        Some(cell) => read_place(steps, leaf, cell, leaf.cell_word(cell)),
-        None => Ok(0),
-    }
-}
-
 /// What the processor asks for by the instruction at its counter.
 #[inline(always)]
 pub(crate) fn ask_by<S: Steps>(
@@ -148,8 +126,32 @@ pub(crate) fn ask_by<S: Steps>(
     ensures plays { Plays (S.stands leaf.now) steps.old
         (asks_by leaf.now known.now (Some instr.now)) steps.new (asked_as result) }
 {
-    let value = read_named(steps, leaf, known, instr)?;
-    Ok(turn_by(leaf, known, instr, value))
+    match cell_named(leaf.job(), instr, &known.registers) {
+        Some(cell) => {
+            let value = read_place(steps, leaf, cell, leaf.cell_word(cell))?;
+            Ok(loaded(leaf, known, instr, cell, value))
+        }
+        None => Ok(turn_by(leaf, known, instr, 0)),
+    }
+}
+
+// What it asks for, this cell having held this. Of a load the operands are not looked at again.
+#[inline(always)]
+fn loaded(leaf: &Leaf, known: &Memo, instr: &Instr, cell: u32, value: u32) -> Turn
+    requires counter { known.now.counter < length leaf.now.job.code }
+    requires instr { IsInstr leaf.now.job.cells (length leaf.now.job.code) instr.now }
+    requires cell { named_cell leaf.now known.now instr.now ≡ Some cell }
+    ensures value { request_of result ≡ asked_with leaf.now known.now instr.now value }
+    ensures shape { IsShaped leaf.now result }
+{
+    let _ = cell;
+    match *instr {
+        Instr::Ld(register, _) => Turn {
+            put: Put::Register(leaf.register_place(register), value),
+            next: known.counter + 1,
+        },
+        _ => unreachable!(),
+    }
 }
 
 /// What it asks for, the cell having held this.

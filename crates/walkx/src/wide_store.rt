@@ -48,7 +48,7 @@ pub(crate) fn store_by<S: Steps>(
 }
 
 /// The processor's store, worked out from its own places.
-#[inline(always)]
+#[inline(never)]
 fn load_store<S: Steps>(steps: &mut S, leaf: &Leaf) -> Result<(u32, u32), Left>
     requires next { IsNextPart (S.stands leaf.now) steps.old (store_loaded leaf.now) }
     ensures cell { IfOk result (λ write. IsCellOf leaf.now write.0) }
@@ -153,7 +153,8 @@ pub(crate) fn store_crew<S: Steps>(steps: &mut S, leaf: &Leaf, memo: &Memo) -> R
 pub(crate) fn store_priority<S: Steps>(steps: &mut S, leaf: &Leaf, memo: &Memo) -> Result<(), Left>
     requires rule { leaf.now.job.rule ≢ Rule.Common }
     requires memo { FitsMemo leaf.now.job memo.now }
-    requires next { IsNextPart (S.stands leaf.now) steps.old (does_priority_store leaf.now memo.now) }
+    requires next { IsNextPart (S.stands leaf.now) steps.old
+        (does_priority_store leaf.now memo.now) }
     ensures none { memo.now.step ≡ step_of leaf.now → memo.now.store ≡ None →
         steps.new ≡ steps.old }
     ensures plays { Plays (S.stands leaf.now) steps.old (does_priority_store leaf.now memo.now)

@@ -145,8 +145,8 @@ pub record PastTask (at : PostData) (len : ℕ) (driver : Driving) (memory : Lis
   pub fits : FitsMemory at.job memory
   pub walks : IsWalking (task_at at) driver (in_block at (suc at.rank) memory)
 
--- the tasks of a block of this length were done, from one rank up to another, which is the leaf's or
--- a later one
+-- the tasks of a block of this length were done, from one rank up to another, which is the leaf's
+-- or a later one
 pub record DoneFrom (from : ℕ) (at : PostData) (len : ℕ) (before : Driving) (memory : List Memo)
     (last : ℕ) (later : Driving) (now : List Memo) : Type 0 where
   pub onward : at.rank ≤ last
@@ -163,10 +163,21 @@ abbrev pub DoneMore : PostData → ℕ → Driving → List Memo → ℕ → Dri
 DoneMore at len before memory last later now =
     DoneFrom (suc at.rank) at len before memory last later now
 
--- the task of the leaf's processor was done, or nothing was
+-- the worker is at the task of this leaf's processor; the task was done
+pub record AtPart (at : PostData) (driver : Driving) (memory : List Memo) : Type 0 where
+  pub leaf : IsLeafPost at
+  pub fits : FitsMemory at.job memory
+  pub walks : IsWalking (task_at at) driver (in_block at at.rank memory)
+
+pub record DonePart (at : PostData) (before : Driving) (memory : List Memo) (later : Driving)
+    (now : List Memo) : Type 0 where
+  pub fits : FitsMemory at.job now
+  pub moved :
+      Moved (task_at at) before (in_block at at.rank memory) later (in_block at (suc at.rank) now)
+
+-- it was, or nothing was done
 abbrev pub Tried : PostData → Driving → List Memo → Driving → List Memo → Bool → Type 0
-Tried at before memory later now true = FitsMemory at.job now
-    × Moved (task_at at) before (in_block at at.rank memory) later (in_block at (suc at.rank) now)
+Tried at before memory later now true = DonePart at before memory later now
 Tried at before memory later now false = (later ≡ before) × (now ≡ memory)
 
 -- where a turn leads it

@@ -1,6 +1,7 @@
-use Rattle.std.proofs.Common.{ℕ, ◌<◌, Option, IfSome, sym, subst, ◌∙◌}
+use Rattle.std.proofs.Common.{◌≡◌, ℕ, ◌<◌, Option, IfSome, sym, ap, subst, ◌∙◌}
+use Rattle.std.specs.Prelude.{option_map}
+use Rattle.walkx.specs.Inner.Posts.{IsCell}
 use Rattle.walkx.proofs.Claimed.{made_none, made_some}
-use Rattle.walkx.proofs.Passing.{passed}
 use Rattle.walkx.proofs.Turning.{moved}
 use Rattle.walkx.proofs.wide_own.make_own.Goals as goal
 
@@ -8,8 +9,9 @@ pub make-requires : goal.make-requires
 make-requires g c =
     let at = c.args.leaf.now in
     let r = c.requires.next in
-    let below = subst (λ (o : Option ℕ). IfSome o (λ cell. cell < at.job.cells)) c.in-Some.is
-    c.claimed.ensures.below in
+    let plan = c.requires.plan in
+    let cell = subst (λ (o : Option ℕ). IfSome o (λ cell. (cell < at.job.cells)
+    × IsCell at.layout cell)) c.in-Some-default.is-0 plan.cell in
     rw c.claiming.ensures (
       at,
       record {
@@ -17,30 +19,23 @@ make-requires g c =
         after = r.after;
         next = λ found. r.next tt;
         here = moved (g.S.Steps.stands at) r.from _ _ _
-            (made_some at c.args.counter _ r.after r.next at.job.rule c.in-Some.cell below
-            (sym c.claimed.ensures.value ∙ c.in-Some.is)) r.here;
+            (made_some at c.args.counter _ r.after r.next at.job.rule c.in-Some-default.cell cell.0
+            (sym plan.claim ∙ c.in-Some-default.is-0)) r.here;
       },
     )
 
-pub write_own-requires-clause-next : goal.write_own-requires-clause-next
-write_own-requires-clause-next g c =
+pub write_place-requires-clause-next : goal.write_place-requires-clause-next
+write_place-requires-clause-next g c =
     let at = c.args.leaf.now in
     let r = c.requires.next in
+    let plan = c.requires.plan in
     record {
       from = r.from;
       after = r.after;
       next = r.next;
-      here = moved (g.S.Steps.stands at) r.from _ _ _
+      here = rw (sym plan.write
+          ∙ ap (option_map (λ (w : ℕ × ℕ × ℕ). (w.0, w.2))) c.in-None-Some.is-1) at
+          (moved (g.S.Steps.stands at) r.from _ _ _
           (made_none at c.args.counter _ r.after r.next at.job.rule
-          (sym c.claimed.ensures.value ∙ c.in-None.is)) r.here;
-    }
-
-pub returns-in-None-clause-plays : goal.returns-in-None-clause-plays
-returns-in-None-clause-plays g c =
-    let at = c.args.leaf.now in
-    record {
-      on = λ from after next here. c.write_own.ensures.plays.on from after next
-          (moved (g.S.Steps.stands at) from _ _ _
-          (made_none at c.args.counter _ after next at.job.rule
-          (sym c.claimed.ensures.value ∙ c.in-None.is)) here);
+          (sym plan.claim ∙ c.in-None-Some.is-0)) r.here);
     }

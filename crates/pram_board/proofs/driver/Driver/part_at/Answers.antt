@@ -13,39 +13,39 @@ use Rattle.pram_board.proofs.driver.Driver.part_at.Goals as goal
 pub take_up_at-requires-clause-next : goal.take_up_at-requires-clause-next
 take_up_at-requires-clause-next g c =
     let at = c.args.leaf.now in
-    let wide = c.requires.walks.fits.block.2 in
+    let wide = c.requires.at.walks.fits.block.2 in
     let memory = c.args.memory.now in
     record {
       from = (c.args.self.now, script_of at.job at.layout (in_block at at.rank memory));
       after = ends (begins 1);
-      next = after_task at c.requires.leaf wide memory
-          (idle at (memo at c.requires.leaf wide memory));
+      next = after_task at c.requires.at.leaf wide memory
+          (idle at (memo at c.requires.at.leaf wide memory));
       here = (
         refl,
-        task_starts at c.requires.leaf wide memory (driving c.args.self.now)
-            c.requires.walks (ends (begins 1)),
+        task_starts at c.requires.at.leaf wide memory (driving c.args.self.now)
+            c.requires.at.walks (ends (begins 1)),
       );
     }
 
 pub unreachable-requires : goal.unreachable-requires
 unreachable-requires g c =
     let at = c.args.leaf.now in
-    let wide = c.requires.walks.fits.block.2 in
+    let wide = c.requires.at.walks.fits.block.2 in
     let memory = c.args.memory.now in
     (c.in-Err.ensures.on (
       c.args.self.now,
       script_of at.job at.layout (in_block at at.rank memory),
     ) (ends (begins 1))
-    (after_task at c.requires.leaf wide memory (idle at (memo at c.requires.leaf wide memory))) (
+    (after_task at c.requires.at.leaf wide memory (idle at (memo at c.requires.at.leaf wide memory))) (
       refl,
-      task_starts at c.requires.leaf wide memory (driving c.args.self.now) c.requires.walks
+      task_starts at c.requires.at.leaf wide memory (driving c.args.self.now) c.requires.at.walks
           (ends (begins 1)),
     )).1
 
 pub returns-in-Ok-true-clause-same : goal.returns-in-Ok-true-clause-same
 returns-in-Ok-true-clause-same g c =
     let at = c.args.leaf.now in
-    let wide = c.requires.walks.fits.block.2 in
+    let wide = c.requires.at.walks.fits.block.2 in
     let memory = c.args.memory.now in
     let is : c.take_up_at.result ≡ Ok true =
     c.in-Ok-true.is ∙ ap (λ (there : Bool). Ok there) c.in-Ok-true.field-0-test in
@@ -53,16 +53,16 @@ returns-in-Ok-true-clause-same g c =
       c.args.self.now,
       script_of at.job at.layout (in_block at at.rank memory),
     ) (ends (begins 1))
-    (after_task at c.requires.leaf wide memory (idle at (memo at c.requires.leaf wide memory))) (
+    (after_task at c.requires.at.leaf wide memory (idle at (memo at c.requires.at.leaf wide memory))) (
       refl,
-      task_starts at c.requires.leaf wide memory (driving c.args.self.now) c.requires.walks
+      task_starts at c.requires.at.leaf wide memory (driving c.args.self.now) c.requires.at.walks
           (ends (begins 1)),
     )).0
 
 pub returns-in-Ok-true-clause-tried : goal.returns-in-Ok-true-clause-tried
 returns-in-Ok-true-clause-tried g c =
     let at = c.args.leaf.now in
-    let wide = c.requires.walks.fits.block.2 in
+    let wide = c.requires.at.walks.fits.block.2 in
     let memory = c.args.memory.now in
     let is : c.take_up_at.result ≡ Ok true =
     c.in-Ok-true.is ∙ ap (λ (there : Bool). Ok there) c.in-Ok-true.field-0-test in
@@ -71,18 +71,18 @@ returns-in-Ok-true-clause-tried g c =
       c.args.self.now,
       script_of at.job at.layout (in_block at at.rank memory),
     ) (ends (begins 1))
-    (after_task at c.requires.leaf wide memory (idle at (memo at c.requires.leaf wide memory))) (
+    (after_task at c.requires.at.leaf wide memory (idle at (memo at c.requires.at.leaf wide memory))) (
       refl,
-      task_starts at c.requires.leaf wide memory (driving c.args.self.now) c.requires.walks
+      task_starts at c.requires.at.leaf wide memory (driving c.args.self.now) c.requires.at.walks
           (ends (begins 1)),
     )).1 in
-    let moved = task_moves at c.requires.leaf wide memory (driving c.args.self.now)
-    (driving c.take_up_at.new.steps) c.requires.walks
+    let moved = task_moves at c.requires.at.leaf wide memory (driving c.args.self.now)
+    (driving c.take_up_at.new.steps) c.requires.at.walks
     (sound_at (task_at at) (driving c.take_up_at.new.steps) done.here c.facts.ensures) takes.learned
-    (passes_driving (idle at (memo at c.requires.leaf wide memory)) takes.learned
+    (passes_driving (idle at (memo at c.requires.at.leaf wide memory)) takes.learned
     (λ d. driving d) _ _ takes.idle) done in
-    rw takes.kept (
-      kept_fits at.job at.layout at.node at.phase at.rank memory takes.learned c.requires.fits
-          moved.walks.fits.memory,
-      moved,
-    )
+    rw takes.kept (record {
+      fits = kept_fits at.job at.layout at.node at.phase at.rank memory takes.learned
+          c.requires.at.fits moved.walks.fits.memory;
+      moved = moved;
+    })

@@ -18,7 +18,7 @@ returns-then-rank-len-clause-moved g c =
     let i = c.loop-leaf.invariant in
     let done = done_from c.args.leaf.rank c.args.leaf c.loop-leaf.leaf i.same i.later c.args.len
     (driving c.args.self.now) c.args.memory.now (driving c.loop-leaf.self) c.loop-leaf.memory i.at
-    i.moved (driving c.second_part.new.self) c.second_part.new.memory c.second_part.ensures.moved c.second_part.ensures.fits in
+    i.moved (driving c.second_part.new.self) c.second_part.new.memory c.second_part.ensures.done.moved c.second_part.ensures.done.fits in
     let last : suc c.loop-leaf.leaf.rank ≡ c.args.len =
     omega (arith, c.rank.ensures, c.if-rank-len.true) in
     subst (λ (rank : ℕ). Moved (task_at c.args.leaf) (driving c.args.self.now)
@@ -54,13 +54,13 @@ loop-leaf-preserved g c =
     let now = c.second_part.new.memory in
     let on = c.second_part.ensures in
     let done = done_from c.args.leaf.rank c.args.leaf c.loop-leaf.leaf i.same i.later c.args.len p memory q mid i.at i.moved
-    z now on.moved on.fits in
+    z now on.done.moved on.done.fits in
     rw c.next-leaf.ensures (record {
       seat = on.same ∙ i.seat;
       same = same_next c.args.leaf.rank c.args.leaf c.loop-leaf.leaf i.same i.later c.args.len p memory q mid i.at i.moved
-          z now on.moved on.fits;
+          z now on.done.moved on.done.fits;
       later = omega (arith, i.later);
       at = at_next c.args.leaf.rank c.args.leaf c.loop-leaf.leaf i.same i.later c.args.len p memory q mid i.at i.moved z now
-          on.moved on.fits more;
+          on.done.moved on.done.fits more;
       moved = done.moved;
     })

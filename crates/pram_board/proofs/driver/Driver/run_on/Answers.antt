@@ -65,7 +65,7 @@ returns-then-rank-len-clause-done g c =
     rank (driving c.part_at.new.self) c.part_at.new.memory) (sym c.rank-rank.ensures)
     (done_from (suc at.rank) at c.loop-next.next i.same low c.args.len (driving c.args.self.now)
     c.args.memory.now (driving c.loop-next.self) c.loop-next.memory i.at i.moved
-    (driving c.part_at.new.self) c.part_at.new.memory tried.1 tried.0)
+    (driving c.part_at.new.self) c.part_at.new.memory tried.moved tried.fits)
 
 pub next-next-requires-in-loop-next-clause-leaf : goal.next-next-requires-in-loop-next-clause-leaf
 next-next-requires-in-loop-next-clause-leaf g c =
@@ -99,13 +99,13 @@ loop-next-preserved g c =
     omega (arith, within, c.rank-rank.ensures, c.if-rank-len.false) in
     let tried = subst (Tried next q mid z now) c.if-not-part_at.false c.part_at.ensures.tried in
     let done = done_from (suc at.rank) at next i.same low c.args.len p memory q mid i.at i.moved z now
-    tried.1 tried.0 in
+    tried.moved tried.fits in
     rw c.next-next-in-loop-next.ensures (record {
       seat = c.part_at.ensures.same ∙ i.seat;
       same = same_next (suc at.rank) at next i.same low c.args.len p memory q mid i.at i.moved z now
-          tried.1 tried.0;
+          tried.moved tried.fits;
       later = omega (arith, i.later);
-      at = at_next (suc at.rank) at next i.same low c.args.len p memory q mid i.at i.moved z now tried.1
-          tried.0 more;
+      at = at_next (suc at.rank) at next i.same low c.args.len p memory q mid i.at i.moved z now tried.moved
+          tried.fits more;
       moved = done.moved;
     })

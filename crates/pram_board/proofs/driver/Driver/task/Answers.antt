@@ -6,7 +6,7 @@ use Rattle.pram_board.proofs.driver.Driver.task.Goals as goal
 pub returns-in-Some-clause-done : goal.returns-in-Some-clause-done
 returns-in-Some-clause-done g c =
     done_first c.args.leaf.now c.args.len (driving c.args.self.now) c.args.memory.now
-    (driving c.part.new.self) c.part.new.memory c.part.ensures.moved c.more_tasks.result
+    (driving c.part.new.self) c.part.new.memory c.part.ensures.done.moved c.more_tasks.result
     (driving c.more_tasks.new.self) c.more_tasks.new.memory c.more_tasks.ensures.done
 
 pub returns-in-None-clause-done : goal.returns-in-None-clause-done
@@ -17,4 +17,4 @@ returns-in-None-clause-done g c =
     (done_from at.rank at at refl (omega arith) c.args.len (driving c.args.self.now)
     c.args.memory.now (driving c.args.self.now) c.args.memory.now c.requires.at
     (not_moved _ _ _ c.requires.at.walks) (driving c.part.new.self) c.part.new.memory
-    c.part.ensures.moved c.part.ensures.fits)
+    c.part.ensures.done.moved c.part.ensures.done.fits)

@@ -1,5 +1,6 @@
 use Rattle.std.proofs.Common.{sym, ◌∙◌}
-use Rattle.walkx.proofs.wide_request.read_named.Goals as goal
+use Rattle.walkx.specs.WideParts.{asks_with}
+use Rattle.walkx.proofs.wide_request.ask_by.Goals as goal
 
 pub read_place-requires-clause-next : goal.read_place-requires-clause-next
 read_place-requires-clause-next g c =
@@ -8,6 +9,6 @@ read_place-requires-clause-next g c =
     record {
       from = r.from;
       after = r.after;
-      next = r.next;
+      next = asks_with c.args.leaf.now c.args.known.now c.args.instr.now r.next;
       here = rw some at r.here;
     }
