@@ -15,7 +15,7 @@ use crate::sweep::{Records, greater, print_records};
 use command_line::Judging;
 use csv::Writer;
 use exercise_judge::{ExerciseFault, Trial, Unfit};
-use exercise_records::{NoTrials, Said, said_of, trials_in, yes_or_no};
+use exercise_records::{NoTrials, Said, said_of, trials_in};
 use exercise_words::{fault_name, push_exercise_fault, push_unfit, unfit_name};
 use pram_commands::{Console, DONE, Folder, REFUSED, Refusal, Unset, tell, tell_unset};
 use pram_streams::{Reason, Sink, put};
@@ -132,10 +132,9 @@ fn write_record<W: Write + Drop>(
     ensures text { OnOk result (Appends (text_written W.contents writer.old)
         (text_written W.contents writer.new) (record_of file.now said.now)) }
 {
-    let passed: &[u8] = yes_or_no(said.passed);
     let fields = [
         file.as_bytes(),
-        passed,
+        said.yes_or_no(),
         said.input.as_slice(),
         said.what.as_slice(),
     ];

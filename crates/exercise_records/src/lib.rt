@@ -4,5 +4,5 @@
 mod said;
 mod trials;
 
-pub use said::{NOT_PASSED, Said, said_of, yes_or_no};
+pub use said::{NOT_PASSED, Said, said_of};
 pub use trials::{NoTrials, trials_in};

@@ -22,6 +22,13 @@ pub struct Said {
 }
 
 impl Said {
+    /// Whether it passed, as a record says it.
+    pub fn yes_or_no(&self) -> &[u8]
+        ensures { result.now ≡ yes_or_no self.now.passed }
+    {
+        if self.passed { b"yes" } else { b"no" }
+    }
+
     /// The status that it ends with.
     pub fn status(&self) -> u8
         ensures { result ≡ status_of self.now.passed }
@@ -73,11 +80,4 @@ fn what_of(
             Ok(what)
         }
     }
-}
-
-/// Whether a submission passed, as a record says it.
-pub fn yes_or_no(passed: bool) -> &'static [u8]
-    ensures { result.now ≡ yes_or_no passed }
-{
-    if passed { b"yes" } else { b"no" }
 }

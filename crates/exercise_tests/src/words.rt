@@ -1,7 +1,7 @@
 //! What is said of submissions and exercises in words.
 use crate::submissions::{GOOD, SUMS};
 use exercise_judge::{ExerciseFault, ExerciseKind, Unfit, UnfitKind, Wrong};
-use exercise_records::{NOT_PASSED, NoTrials, said_of, trials_in, yes_or_no};
+use exercise_records::{NOT_PASSED, NoTrials, said_of, trials_in};
 use exercise_words::{push_exercise_fault, push_unfit, push_wrong};
 use pardo_job::{JobFault, JobKind, Refusal};
 use std::alloc::{AllocError, Global};
@@ -79,10 +79,10 @@ fn submissions_have_fields(rt: HostRuntime) -> Result<(), Fail> {
     let good = change(alloc, GOOD, "~", "\n")?;
     let right = said_of(alloc, trials.as_slice(), good.as_bytes())?;
     assert!(rt; right.passed && right.input.is_empty() && right.what.is_empty());
-    assert!(rt; right.status() == 0 && yes_or_no(right.passed) == b"yes");
+    assert!(rt; right.status() == 0 && right.yes_or_no() == b"yes");
     let bad = change(alloc, GOOD, "A[i] + x", "A[i] + x + k")?;
     let wrong = said_of(alloc, trials.as_slice(), bad.as_bytes())?;
-    assert!(rt; wrong.status() == NOT_PASSED && yes_or_no(wrong.passed) == b"no");
+    assert!(rt; wrong.status() == NOT_PASSED && wrong.yes_or_no() == b"no");
     assert!(rt; wrong.input.as_slice() == b"1");
     Ok(())
 }

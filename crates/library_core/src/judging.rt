@@ -16,7 +16,7 @@ use crate::serving::Served;
 use crate::telling::{show, tell};
 use csv::Writer;
 use exercise_judge::Trial;
-use exercise_records::{NoTrials, Said, said_of, trials_in, yes_or_no};
+use exercise_records::{NoTrials, Said, said_of, trials_in};
 use exercise_words::{fault_name, push_exercise_fault, push_unfit, unfit_name};
 use pardo_explain::Diagnosis;
 use refusals::{CommandFault, FAILED};
@@ -80,8 +80,11 @@ fn write_record<W: Write + Drop>(writer: &mut Writer<W>, said: &Said) -> Result<
     ensures { OnOk result (Appends (text_written W.contents writer.old)
         (text_written W.contents writer.new) (record_of said.now)) }
 {
-    let passed: &[u8] = yes_or_no(said.passed);
-    let fields = [passed, said.input.as_slice(), said.what.as_slice()];
+    let fields = [
+        said.yes_or_no(),
+        said.input.as_slice(),
+        said.what.as_slice(),
+    ];
     match writer.write_fields(&fields) {
         Ok(()) => Ok(()),
         Err(_) => Err(AllocError),
