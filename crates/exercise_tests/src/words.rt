@@ -79,11 +79,11 @@ fn submissions_have_fields(rt: HostRuntime) -> Result<(), Fail> {
     let good = change(alloc, GOOD, "~", "\n")?;
     let right = said_of(alloc, trials.as_slice(), good.as_bytes())?;
     assert!(rt; right.passed && right.input.is_empty() && right.what.is_empty());
-    assert!(rt; right.status() == 0 && right.yes_or_no() == b"yes");
+    assert!(rt; right.status() == 0 && right.yes_or_no() == b"yes".as_slice());
     let bad = change(alloc, GOOD, "A[i] + x", "A[i] + x + k")?;
     let wrong = said_of(alloc, trials.as_slice(), bad.as_bytes())?;
-    assert!(rt; wrong.status() == NOT_PASSED && wrong.yes_or_no() == b"no");
-    assert!(rt; wrong.input.as_slice() == b"1");
+    assert!(rt; wrong.status() == NOT_PASSED && wrong.yes_or_no() == b"no".as_slice());
+    assert!(rt; wrong.input.as_slice() == b"1".as_slice());
     Ok(())
 }
 
