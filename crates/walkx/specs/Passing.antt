@@ -61,10 +61,10 @@ IsStand at counter instr =
 -- instruction
 pub record StandsAt (at : PostData) (memory : List Memo) (counter : ℕ) (instr : Instr) : Type 0
   where
-  pub first : kind_at at.phase ≡ Kind.Compute
-  pub before : suc (memo_of memory (processor_of at)).step ≡ step_of at
-  pub there : (memo_of memory (processor_of at)).counter ≡ counter
-  pub code : slice_get at.job.code counter ≡ Some instr
+    pub first : kind_at at.phase ≡ Kind.Compute
+    pub before : suc (memo_of memory (processor_of at)).step ≡ step_of at
+    pub there : (memo_of memory (processor_of at)).counter ≡ counter
+    pub code : slice_get at.job.code counter ≡ Some instr
 
 -- a closure that may always be called, and then gives this instruction
 abbrev pub Spells : {F : Type 0} → Shared F (Unit {0}) Instr → F → Instr → Type 0
