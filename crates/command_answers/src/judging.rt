@@ -157,9 +157,7 @@ fn said_of_file<F: Folder>(
     match taken(alloc, folder, file) {
         Ok(submission) => match said_of(alloc, trials, submission.as_slice()) {
             Ok(said) => Ok(said),
-            Err(AllocError) => {
-                Ok(unjudged(alloc, Vec::from_slice(alloc, b"out of memory")?))
-            }
+            Err(AllocError) => { Ok(unjudged(alloc, Vec::from_slice(alloc, b"out of memory")?)) }
         },
         Err(unset) => Ok(unjudged(alloc, unread_words(alloc, &unset)?)),
     }

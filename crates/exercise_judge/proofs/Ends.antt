@@ -70,8 +70,13 @@ text_same a b r x y = cc
 
 said_same : (header : List ℕ) (words names : Line) (a b : List WantedData) →
     AreSaid header words names a → AreSaid header words names b → a ≡ b
-said_same header words names a b (set, program, sets, reads, are) (other, too, other_sets, other_reads,
-    other_are) =
+said_same header words names a b (set, program, sets, reads, are) (
+  other,
+  too,
+  other_sets,
+  other_reads,
+  other_are,
+) =
     let same : set ≡ other = text_same set other (header_as_set header words) sets other_sets in
     let one : program ≡ too = ok_same program too (header_of other (codes "0"))
     (subst (λ (s : List ℕ). header_of s (codes "0") ≡ Ok program) same reads) other_reads in

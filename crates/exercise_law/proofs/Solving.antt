@@ -157,7 +157,7 @@ module _ (trial : TrialData) (submission : List ℕ) (it : Solves trial submissi
       let held : (cell : ℕ) → cell < 0 + shared_cells its.arrays →
       slice_index cells cell ≡ (after its it.run).cells cell = λ cell low.
       let e = shared_is its in same cell (omega (arith, e, low))
-          ∙ ap (λ (m : ℕ). (after its m).cells cell) once in record {
+      ∙ ap (λ (m : ℕ). (after its m).cells cell) once in record {
         given = it.given;
         program = its;
         job = it.job;

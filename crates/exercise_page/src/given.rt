@@ -17,8 +17,8 @@ use crate::put::{ExerciseTold, counted, put_text};
 use exercise_given::judged_text;
 use exercise_header::header_as_set;
 use exercise_judge::{Entry, Exercise, Key, part_in};
-use pardo_text::PardoKind;
 use page_core::codes::{MEMORY, TEXT_MOST, TEXT_TOO_LONG};
+use pardo_text::PardoKind;
 use std::alloc::Global;
 
 /// Why there is no such text.
