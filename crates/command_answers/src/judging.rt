@@ -157,14 +157,14 @@ fn said_of_file<F: Folder>(
     match taken(alloc, folder, file) {
         Ok(submission) => match said_of(alloc, trials, submission.as_slice()) {
             Ok(said) => Ok(said),
-            Err(AllocError) => { Ok(unjudged(alloc, Vec::from_slice(alloc, b"out of memory")?)) }
+            Err(AllocError) => { Ok(not_judged(alloc, Vec::from_slice(alloc, b"out of memory")?)) }
         },
-        Err(unset) => Ok(unjudged(alloc, unread_words(alloc, &unset)?)),
+        Err(unset) => Ok(not_judged(alloc, unread_words(alloc, &unset)?)),
     }
 }
 
 // A submission that was not judged has no input.
-fn unjudged(alloc: Global, what: Vec<u8>) -> Said
+fn not_judged(alloc: Global, what: Vec<u8>) -> Said
     ensures passed { result.passed ≡ false }
     ensures input { result.input.items ≡ [] }
 {
