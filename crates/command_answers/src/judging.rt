@@ -1,11 +1,12 @@
 //! Submissions, judged by an exercise.
-ghost use Rattle.std.specs.Prelude.{◌≡◌, ◌⊎◌, ℕ, List, IfErr, IfOk, OnOk, false, map};
+ghost use Rattle.std.specs.Prelude.{◌≡◌, ◌⊎◌, ℕ, List, [], IfErr, IfOk, OnOk, false, map};
 ghost use Rattle.std.specs.Io.KnownBytes.{Appends};
 ghost use Rattle.csv.specs.Writing.{text_written};
 ghost use Rattle.exercise_records.specs.Records.{AreRecords, IsJudged, IsSaidOf, judged_text};
 ghost use Rattle.exercise_records.specs.Records.{record_of};
 ghost use Rattle.naming.specs.Writing.{writing};
 ghost use Rattle.pram_streams.specs.Records.{IsBetweenRecords};
+ghost use Rattle.refusals.specs.declared.refusal.TheConstants.{MEMORY};
 ghost use Rattle.command_answers.specs.Judging.{AnswersJudging, ByExercise, reason_status};
 ghost use Rattle.command_answers.specs.Judging.{unjudged_status};
 ghost use Rattle.command_answers.specs.Setting.{FileGives};

@@ -78,10 +78,6 @@ asks_for at known = asks_by at known (slice_get at.job.code known.counter)
 abbrev pub named_cell : PostData → Memo → Instr → Option ℕ
 named_cell at known instr = cell_read at.job instr (operand_in known.registers instr 0)
 
-abbrev pub cell_of_memo : PostData → Memo → Instr → Part ℕ
-cell_of_memo at known instr =
-    reads_cell at.layout (step_of at) (named_cell at known instr)
-
 -- the cell having held this
 abbrev pub asked_with : PostData → Memo → Instr → ℕ → Request
 asked_with at known instr value =

@@ -6,7 +6,7 @@ ghost use Rattle.pram_machine.specs.Turns.{request_of};
 ghost use Rattle.walkx.specs.Counters.{advanced};
 ghost use Rattle.walkx.specs.Driving.{IsNextPart, Plays, asked_as, loads};
 ghost use Rattle.walkx.specs.Inner.Posts.{step_of};
-ghost use Rattle.walkx.specs.WideParts.{IsShaped, asked_with, asks_by, cell_of_memo, named_cell};
+ghost use Rattle.walkx.specs.WideParts.{IsShaped, asked_with, asks_by, named_cell};
 ghost use Rattle.walkx.specs.WideParts.{counter_told, counts, memo_known, memo_loaded, reads_all};
 
 use crate::left::Left;
