@@ -4,3 +4,4 @@ pub mod Waited
 pub mod Judged
 pub mod Planned
 pub mod Sweeps
+pub mod Unjudged

@@ -1,5 +1,5 @@
 -- A replay by a random plan, over a job's file or a text.
-use Rattle.std.proofs.Common.{◌≡◌, ◌∙◌, ℕ, List, Option, Some, IsTrue, true, false, refl}
+use Rattle.std.proofs.Common.{◌≡◌, ℕ, List, Option, Some, true, false, refl}
 use Rattle.pram_streams.specs.declared.device.Source as a_source
 use Rattle.command_data.specs.declared.line.Line.{Line}
 use Rattle.naming.specs.Writing.{Writing}

@@ -1,4 +1,4 @@
-use Rattle.std.proofs.Common.{◌≡◌, ◌<◌, ℕ, List, [], ◌∷◌, ap, arith, length, refl, sym}
+use Rattle.std.proofs.Common.{◌≡◌, ◌<◌, ℕ, List, [], ◌∷◌, arith, length, refl}
 use Rattle.std.specs.Borrow.{Bor}
 use Rattle.command_answers.proofs.Texts.{texts_of}
 use Rattle.command_answers.proofs.answer.answer_own.Goals as goal

@@ -1,4 +1,4 @@
-use Rattle.std.proofs.Common.{◌≡◌, ◌∙◌, None, Some, ap, refl}
+use Rattle.std.proofs.Common.{◌∙◌, None, Some, ap, refl}
 use Rattle.command_data.specs.declared.line.Ask.TheVariants.{Alone}
 use Rattle.pram_commands.proofs.Statuses.{served_as}
 use Rattle.command_answers.proofs.Planned.{planned}
