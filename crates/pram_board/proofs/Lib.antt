@@ -15,3 +15,4 @@ pub mod Blocks
 pub mod Working
 pub mod Remembering
 pub mod Tasks
+pub mod Quiet

@@ -272,7 +272,12 @@ impl<'a, G: Gate> Driver<'a, G> {
     {
         match leaf.kind() {
             Kind::Compute => self.first_tasks(leaf, len, memory),
-            _ => self.other_tasks(leaf, len, memory),
+            _ => {
+                if memory.rests(&leaf, len) {
+                    return;
+                }
+                self.other_tasks(leaf, len, memory)
+            }
         }
     }
 

@@ -1,6 +1,6 @@
 //! What a worker remembers.
 ghost use Rattle.std.specs.Prelude.{◌≡◌, ◌==◌, suc, List, slice_get, slice_set, IfOk, IfSome, []};
-ghost use Rattle.std.specs.Prelude.{IsTrue, Some, None};
+ghost use Rattle.std.specs.Prelude.{IsTrue, Some, None, ◌≤◌};
 ghost use Rattle.pram_machine.specs.Instructions.{goes_to};
 ghost use Rattle.pram_machine.specs.Turns.{request_of};
 ghost use Rattle.walkx.specs.declared.memo.Memo.{Memo};
@@ -9,7 +9,7 @@ ghost use Rattle.pram_words.specs.Phases.{kind_at};
 ghost use Rattle.walkx.specs.Inner.Posts.{processor_of};
 ghost use Rattle.walkx.specs.Memory.{FitsMemo, at_start, blank, memo_of};
 ghost use Rattle.walkx.specs.Parts.{does_wide};
-ghost use Rattle.walkx.specs.Passing.{IsStand, StandsAt, TakesUp, TakesUpIf};
+ghost use Rattle.walkx.specs.Passing.{AllRest, IsStand, NoneStored, StandsAt, TakesUp, TakesUpIf};
 ghost use Rattle.walkx.specs.WideParts.{IsShaped, learned};
 
 use crate::left::Stopped;
@@ -228,6 +228,26 @@ impl Memory {
         Ok(false)
     }
 
+    /// Whether the tasks of a block's processors, from the leaf's up to this length, ask nothing in
+    /// the second pass: all are known after the step, and none stores.
+    #[inline(always)]
+    pub fn rests(&self, leaf: &Leaf, len: u32) -> bool
+        requires { leaf.now.rank ≤ len }
+        ensures { IsTrue result → AllRest leaf.now len self.now }
+    {
+        match (&self.memos, leaf.kind()) {
+            (Some(memos), Kind::Verify) => {
+                let first = leaf.processor() as usize;
+                let count = (len - leaf.rank()) as usize;
+                if memos.len() < first || memos.len() - first < count {
+                    return false;
+                }
+                none_stored(&memos.as_slice()[first..first + count], leaf.step())
+            }
+            _ => false,
+        }
+    }
+
     /// The instruction that the leaf's processor stands at in the first pass, where it is known
     /// before the step.
     #[inline(always)]
@@ -290,4 +310,17 @@ impl Memory {
         }
         Ok(false)
     }
+}
+
+// All are known after this step, and none stored in it.
+#[inline(never)]
+fn none_stored(memos: &[Memo], step: u32) -> bool
+    ensures { IsTrue result → NoneStored memos.now step }
+{
+    for memo in memos {
+        if memo.step != step || memo.store.is_some() {
+            return false;
+        }
+    }
+    true
 }
