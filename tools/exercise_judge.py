@@ -35,8 +35,11 @@ def judged(exercise, texts):
 
 
 def fault_in(record, lines):
-    """The first input that a text fails and what is wrong, or nothing."""
-    return "" if record["passed"] == "yes" else f"{lines[int(record['input']) - 1][:120]}: {record['what']}"
+    """The first input that a text fails and what is wrong, or nothing. One that was not judged has no input."""
+    if record["passed"] == "yes":
+        return ""
+    under = f"{lines[int(record['input']) - 1][:120]}: " if record["input"] else ""
+    return under + record["what"]
 
 
 def faults_of(exercise, lines, texts, jobs, without=()):
