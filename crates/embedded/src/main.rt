@@ -52,11 +52,20 @@ fn work(alloc: Global, board: &Board, mut seat: Seat, number: u32) -> Seat
     let mut worker = Worker::start_with(number, board.worker_memory(alloc));
     board.work(&mut seat, &mut worker, &Open, Some(100));
     let mut worker = lost(alloc, board, &seat, worker);
-    board.facts();
-    Seat::workers_stay_known();
-    let Reading::At { .. } = board.read(&mut seat, 0);
+    let Reading::At { .. } = look(board, &mut seat, &worker);
     board.work(&mut seat, &mut worker, &Open, None);
     seat
+}
+
+// A look at cell 0, after which the worker is known as before.
+fn look(board: &Board, seat: &mut Seat, worker: &Worker) -> Reading
+    requires { Works board.now seat.old worker.now }
+    ensures { Works board.now seat.new worker.now }
+{
+    board.facts();
+    Seat::workers_stay_known();
+    let _ = worker;
+    board.read(seat, 0)
 }
 
 // Worker 2 is lost, and comes back.

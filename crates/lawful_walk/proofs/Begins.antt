@@ -15,12 +15,12 @@ use Rattle.walkx.specs.declared.operation.Op.TheVariants.{Load, Store, Max}
 use Rattle.lawful_walk.proofs.Frames.{only_set}
 use Rattle.lawful_walk.specs.Board.{held, Stands}
 use Rattle.lawful_walk.proofs.Effects.{writes_keep}
-use Rattle.lawful_walk.proofs.Scripts.{Aim, Safe, load_safe, goes_of}
+use Rattle.lawful_walk.proofs.Scripts.{Aim, Safe, goes_mark, load_safe}
 use Rattle.lawful_walk.proofs.Sees.{Sees, Lasts, so, always}
 use Rattle.lawful_walk.proofs.Setting.{store_keeps}
 use Rattle.lawful_walk.specs.Moments.{Moment}
 use Rattle.lawful_walk.specs.Walks.{Goes}
-use Rattle.lawful_walk.specs.Writes.{Floor}
+use Rattle.lawful_walk.specs.Writes.{Floor, IsMark}
 
 pub back_safe : (job : JobData) (y : LayoutData) (v w q : ℕ) (aim : Aim) (history : List (Op × ℕ)) →
     Safe job y w q aim (back_script y v) history
@@ -63,7 +63,7 @@ pub store_goes : (job : JobData) (y : LayoutData) (w q n : ℕ) (words : List �
     Goes job y w q (Store (number_of y (Position w)) n) words
 store_goes job y w q n words stands worker low high = record {
   keeps = store_keeps job y w n words stands worker low high;
-  stale = λ h a is other.
+  stale = λ h a is other fixed.
       (only_set y (Position w) n words stands.sizes stands.admitted.len worker).rest a is other;
 }
 
@@ -81,29 +81,30 @@ module _ (job : JobData) (y : LayoutData) (w q : ℕ) (aim : Aim) (x : ℕ)
     (some : 1 ≤ q) (most : q ≤ 3 * job.steps)
     (step : step_at q ≡ suc x) (P : List ℕ → Type 0) (lasts : Lasts job y P)
     (floor : (words : List ℕ) → P words → Floor job y q x words) where
-  -- both children of an inner node were heard as finished
-  pub inner_safe : (n l r : ℕ) (history : List (Op × ℕ)) → 1 ≤ n → n < y.leaves → q ≤ l → q ≤ r →
+  -- both children of an inner node were heard as marked so, or more
+  pub inner_safe : (n m l r : ℕ) (history : List (Op × ℕ)) → 1 ≤ n → n < y.leaves → IsMark y q m →
+      m ≤ l → m ≤ r →
       Sees job y history (Moment job y (Load (number_of y (Node (2 * n + 1)))) r
       (Moment job y (Load (number_of y (Node (2 * n)))) l P)) →
-      Safe job y w q aim (marks_node y n q) history
-  inner_safe n l r history low high left right sees = (
+      Safe job y w q aim (marks_node y n m q) history
+  inner_safe n m l r history low high mark left right sees = (
     so job y history (Moment job y (Load (number_of y (Node (2 * n + 1)))) r
         (Moment job y (Load (number_of y (Node (2 * n)))) l P))
-        (λ words. aim.given words → Goes job y w q (Max (number_of y (Node n)) q) words)
-        (λ words stands m given.
-        let first = m.earlier in
+        (λ words. aim.given words → Goes job y w q (Max (number_of y (Node n)) m) words)
+        (λ words stands moment given.
+        let first = moment.earlier in
         let a : l ≡ held y first.words (Node (2 * n)) = first.heard in
-        let b : r ≡ held y m.words (Node (2 * n + 1)) = m.heard in
-        let u : held y first.words (Node (2 * n)) ≤ held y m.words (Node (2 * n)) =
+        let b : r ≡ held y moment.words (Node (2 * n + 1)) = moment.heard in
+        let u : held y first.words (Node (2 * n)) ≤ held y moment.words (Node (2 * n)) =
         first.since (Node (2 * n)) (omega arith, omega arith) in
-        let v : held y m.words (Node (2 * n)) ≤ held y words (Node (2 * n)) =
-        m.since (Node (2 * n)) (omega arith, omega arith) in
-        let z : held y m.words (Node (2 * n + 1)) ≤ held y words (Node (2 * n + 1)) =
-        m.since (Node (2 * n + 1)) (omega arith, omega arith) in
-        let p = lasts m.words words m.stands stands m.since
-        (lasts first.words m.words first.stands m.stands first.since first.earlier) in
-        goes_of job y w q (Max (number_of y (Node n)) q) words
-        ((writes_keep job y words q x stands some most step (floor words p)).inner n low high
-        (omega arith) (omega arith))) sees,
+        let v : held y moment.words (Node (2 * n)) ≤ held y words (Node (2 * n)) =
+        moment.since (Node (2 * n)) (omega arith, omega arith) in
+        let z : held y moment.words (Node (2 * n + 1)) ≤ held y words (Node (2 * n + 1)) =
+        moment.since (Node (2 * n + 1)) (omega arith, omega arith) in
+        let p = lasts moment.words words moment.stands stands moment.since
+        (lasts first.words moment.words first.stands moment.stands first.since first.earlier) in
+        goes_mark job y w q n m words
+        ((writes_keep job y words q x stands some most step (floor words p)).inner n m low high mark
+        (omega (arith, left, a, u, v)) (omega (arith, right, b, z)))) sees,
     λ found ok. tt,
   )

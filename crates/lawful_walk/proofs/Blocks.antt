@@ -26,12 +26,12 @@ use Rattle.lawful_walk.specs.Board.{held, root, stamp_at, Grows, LeafDone, Stand
 use Rattle.lawful_walk.proofs.Effects.{writes_keep}
 use Rattle.lawful_walk.proofs.Facts.{facts}
 use Rattle.lawful_walk.proofs.Growths.{root_up, place_as_heard}
-use Rattle.lawful_walk.proofs.Scripts.{Aim, Safe, load_safe, both_safe, goes_of}
+use Rattle.lawful_walk.proofs.Scripts.{Aim, Safe, load_safe, both_safe, goes_mark, goes_of}
 use Rattle.lawful_walk.proofs.Sees.{Sees, Lasts, so, heard}
 use Rattle.lawful_walk.proofs.Values.{compact_under_way}
 use Rattle.lawful_walk.specs.Moments.{Moment}
 use Rattle.lawful_walk.specs.Walks.{Goes}
-use Rattle.lawful_walk.specs.Writes.{Floor}
+use Rattle.lawful_walk.specs.Writes.{Floor, IsMark, LeafRests}
 
 module _ (job : JobData) (y : LayoutData) (w q : ℕ) (aim : Aim) (x : ℕ)
     (some : 1 ≤ q) (most : q ≤ 3 * job.steps)
@@ -184,16 +184,17 @@ module _ (job : JobData) (y : LayoutData) (w q : ℕ) (aim : Aim) (x : ℕ)
 
   -- ---- a leaf is marked, and a conflict is reported
 
-  pub marks_safe : (n : ℕ) → y.leaves ≤ n → n < 2 * y.leaves → (history : List (Op × ℕ)) →
+  pub marks_safe : (n m : ℕ) → y.leaves ≤ n → n < 2 * y.leaves → IsMark y q m → m ≤ 3 * x + 3 →
+      (q < m → LeafRests job y x n) → (history : List (Op × ℕ)) →
       Sees job y history (λ words. P words × (aim.given words → root y words < q →
-      LeafDone job y x (kind_at q) n words)) → Safe job y w q aim (marks_node y n q) history
-  marks_safe n low high history sees = (
+      LeafDone job y x (kind_at q) n words)) → Safe job y w q aim (marks_node y n m q) history
+  marks_safe n m low high mark last rests history sees = (
     so job y history (λ words. P words × (aim.given words → root y words < q →
         LeafDone job y x (kind_at q) n words))
-        (λ words. aim.given words → Goes job y w q (Max (number_of y (Node n)) q) words)
-        (λ words stands h given. goes_of job y w q (Max (number_of y (Node n)) q) words
-        ((writes_keep job y words q x stands some most step (floor words h.0)).leaf n low high
-        (h.1 given))) sees,
+        (λ words. aim.given words → Goes job y w q (Max (number_of y (Node n)) m) words)
+        (λ words stands h given. goes_mark job y w q n m words
+        ((writes_keep job y words q x stands some most step (floor words h.0)).leaf n m low high
+        mark last (h.1 given) rests)) sees,
     λ found ok. tt,
   )
 

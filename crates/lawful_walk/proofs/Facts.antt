@@ -29,7 +29,7 @@ use Rattle.lawful_walk.specs.Board.{held, root, conflict, leaf, leaf_of, stamp_a
 use Rattle.lawful_walk.specs.Board.{HoldsNew, Raised, Claimed, ClaimStays, phase_in, CarriedCell}
 use Rattle.lawful_walk.specs.Board.{CarriedOwn, CompactDone, DoneIn, IsNew, IsPair, Stays, WideDone}
 use Rattle.lawful_walk.specs.Board.{newer_first, newer_second, new_first, new_second, IsClaimed}
-use Rattle.lawful_walk.specs.Board.{claimed_before, claimed_now, LawfulFor, Stands}
+use Rattle.lawful_walk.specs.Board.{claimed_before, claimed_now, LawfulFor, Stands, StoresNone}
 use Rattle.lawful_walk.proofs.Leaves.{leaf_word}
 use Rattle.lawful_walk.proofs.Values.{IsFin, fin, conflict_is, fin_reached, phase_low, phase_high}
 use Rattle.lawful_walk.proofs.Values.{claim_low, claim_most, tree_below, before_is, before_less}
@@ -103,6 +103,19 @@ pub done_claim_stays : (form : Form) (job : JobData) (y : LayoutData) (s : ℕ) 
 done_claim_stays Compact job y s words i d = d
 done_claim_stays (Wide g) job y s words i d = d.1
 
+-- one who writes no cell has nothing to do in the last phase of the wide form
+pub rests_done : (g : ℕ) (rule : Rule) (job : JobData) (y : LayoutData) (s : ℕ) (words : List ℕ)
+    (i : ℕ) → StoresNone job s i → DoneIn (Wide g) rule Verify job y s words i
+rests_done g Common job y s words i none = (
+  λ c v asks cell wins. absurd (none c v asks cell),
+  inr (λ c v asks cell. absurd (none c v asks cell)),
+)
+rests_done g Priority job y s words i none = λ c v asks cell wins. absurd (none c v asks cell)
+rests_done g Crew job y s words i none = (
+  λ c v asks cell wins. absurd (none c v asks cell),
+  inr (λ c v asks cell. absurd (none c v asks cell)),
+)
+
 -- the kind of the phase in which claims are made
 pub claim_kind : Form → Kind
 claim_kind Compact = Apply
@@ -139,7 +152,7 @@ module _ (job : JobData) (y : LayoutData) (words : List ℕ) (gone : ℕ) (limit
   place_below p h = let a = same_cells job y board in let b = same_procs job y board in omega arith
 
   pub below : (n : ℕ) → IsWord y (Node n) → root y words ≤ held y words (Node n)
-  below n is = tree_below job y words n lawful.tree is
+  below n is = tree_below job y gone words n lawful.tree is
 
   pub low_leaf : (i : ℕ) → i < y.procs → root y words ≤ leaf y words i
   low_leaf i h = below (leaf_of y i) (leaf_word y i sizes h)

@@ -28,7 +28,7 @@ use Rattle.lawful_walk.specs.Board.{CompactDone, Done, DoneIn, Stays, WideDone, 
 use Rattle.lawful_walk.specs.Board.{newer_first, newer_second, new_first, new_second, IsClaimed}
 use Rattle.lawful_walk.specs.Board.{claimed_before, claimed_now, LawfulFor, Lawful}
 use Rattle.lawful_walk.proofs.Moments.{stamps_rise}
-use Rattle.lawful_walk.proofs.Values.{fin, claim_most, phase_high}
+use Rattle.lawful_walk.proofs.Values.{fin, claim_most, highest_rises, phase_high}
 use Rattle.lawful_walk.specs.Lands.{IsLanded, landing_before, last_landing, settled, settled_before}
 use Rattle.lawful_walk.specs.Lands.{word_of_step}
 use Rattle.lawful_walk.proofs.Landings.{Left, Set, before_most, landing_cases, last_most, last_new}
@@ -330,7 +330,14 @@ module _ (job : JobData) (y : LayoutData) (words : List ℕ) (f : ℕ) (limits :
   pub root_over : LawfulFor job y (suc f) words
   root_over = record {
     reached = reached_more job f lawful.reached agrees;
-    tree = lawful.tree;
+    tree = record {
+      left = lawful.tree.left;
+      right = lawful.tree.right;
+      near = λ n is. let h = lawful.tree.near n is in
+          let more = highest_rises y.form f (suc f) (root y words) (root y words) (omega arith)
+          (omega arith) in omega (arith, h, more);
+      most = lawful.tree.most;
+    };
     asked = λ compact i j proc part. let a = lawful.asked compact i j proc part in
         let r = raised job y words f limits sizes layout lawful low high compact f i j proc part
         (omega arith) in
@@ -344,6 +351,8 @@ module _ (job : JobData) (y : LayoutData) (words : List ℕ) (f : ℕ) (limits :
         sizes layout lawful low high f c i v is (let h = claim_most y.form f in omega arith) asks)
         (lawful.claimed c is);
     done = λ i kind proc h. absurd (none_done i kind proc h);
+    ahead = λ i proc h. absurd (let l = flat i proc in let n = next_above y.form (root y words) in
+        let m = n.0 in omega (arith, l, m, h, full));
     named = record { first = λ s e. absurd (omega arith); near = λ s e. absurd (omega arith) };
   }
     where

@@ -167,7 +167,7 @@ goes_by job y (doing.Part q rank) aim script w history words goes safe stands ap
     (apply goes.0 (safe_first job y w q aim script history goes.0 goes.1 safe))
 goes_by job y (doing.Over e) aim script w history words goes safe stands apply = record {
   keeps = record { stands = stands; grows = same y words };
-  stale = λ h a is other. refl;
+  stale = λ h a is other fixed. refl;
 }
 
 pub moves : WorkerSafe → RankSafe → WorkersKeepWordsLawful

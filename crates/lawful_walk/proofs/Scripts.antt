@@ -2,35 +2,41 @@
 use Rattle.std.proofs.Common.{◌≡◌, ℕ, List, [], ◌∷◌, ◌++◌, Some, refl, ap, subst}
 use Rattle.pram_job.specs.Job.{JobData}
 use Rattle.pram_words.specs.Words.{LayoutData, number_of}
-use Rattle.pram_words.specs.declared.words.Word.TheVariants.{Stored}
+use Rattle.pram_words.specs.declared.words.Word.TheVariants.{Node, Stored}
 use Rattle.walkx.proofs.Asking.{admitted_earlier}
 use Rattle.walkx.specs.Scripts.{Script, asks, ends, rest_after, rest, first_op, op_with, heard_in}
 use Rattle.walkx.specs.Tasks.{loads_both}
 use Rattle.walkx.specs.Walk.{Then, worked, HearsAdmitted, AllAdmitted}
 use Rattle.walkx.specs.declared.memo.Memo.{Memo}
 use Rattle.walkx.specs.declared.operation.Op.{Op}
-use Rattle.walkx.specs.declared.operation.Op.TheVariants.{Load}
+use Rattle.walkx.specs.declared.operation.Op.TheVariants.{Load, Max}
 use Rattle.lawful_walk.specs.Board.{held, Stands}
 use Rattle.lawful_walk.proofs.Moments.{load_keeps}
 use Rattle.lawful_walk.proofs.Sees.{Sees, always, heard}
 use Rattle.lawful_walk.specs.Moments.{Moment}
 use Rattle.lawful_walk.specs.Walks.{Goes}
-use Rattle.lawful_walk.specs.Writes.{Does}
+use Rattle.lawful_walk.specs.Writes.{Does, Marks}
 
 -- ---- one operation
 
 pub load_goes : (job : JobData) (y : LayoutData) (w q k : ℕ) (words : List ℕ) → Stands job y words →
     Goes job y w q (Load k) words
 load_goes job y w q k words stands =
-    record { keeps = load_keeps job y k words stands; stale = λ h a is other. refl }
+    record { keeps = load_keeps job y k words stands; stale = λ h a is other fixed. refl }
 
 -- what the lemmas on writes say of an operation
 pub goes_of : (job : JobData) (y : LayoutData) (w q : ℕ) (op : Op) (words : List ℕ) →
     Does job y q op words → Goes job y w q op words
 goes_of job y w q op words does = record {
   keeps = does.keeps;
-  stale = λ h a is other. ap (λ (l : List ℕ). held y l a) (does.still h);
+  stale = λ h a is other fixed. ap (λ (l : List ℕ). held y l a) (does.still h);
 }
+
+-- and what they say of a mark
+pub goes_mark : (job : JobData) (y : LayoutData) (w q n m : ℕ) (words : List ℕ) →
+    Marks job y q n m words → Goes job y w q (Max (number_of y (Node n)) m) words
+goes_mark job y w q n m words marks =
+    record { keeps = marks.keeps; stale = λ h a is other fixed. marks.still h a is fixed }
 
 -- what is known of the words beside the history of a script, and what the history of a whole task
 -- in a block shows, this being what the worker then knows of its processor

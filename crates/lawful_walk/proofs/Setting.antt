@@ -17,7 +17,7 @@ use Rattle.pram_step.proofs.LawPlaces.{writes_place, writer_is}
 use Rattle.pram_step.specs.History.{Asks, Wins, part_after}
 use Rattle.pram_step.proofs.Past.{conflict_above, asks_fit}
 use Rattle.pram_words.specs.declared.phases.Kind.{Kind}
-use Rattle.pram_words.specs.declared.phases.Kind.TheVariants.{Verify}
+use Rattle.pram_words.specs.declared.phases.Kind.TheVariants.{Compute, Apply, Verify}
 use Rattle.pram_words.specs.declared.words.Word.{Word}
 use Rattle.pram_words.specs.declared.words.Word.TheVariants.{Conflict, Node, Asked, Position}
 use Rattle.pram_words.specs.declared.words.Word.TheVariants.{Stored, Claim}
@@ -27,7 +27,7 @@ use Rattle.pram_words.specs.Phases.{kind_at, step_at, next_phase}
 use Rattle.pram_words.specs.Words.{LayoutData, IsWord, IsStamped, number_of, places_of, counters_of}
 use Rattle.pram_words.specs.Words.{most_asked, most_stored}
 use Rattle.pram_words.specs.declared.layout.Form.{Form}
-use Rattle.pram_words.specs.declared.layout.Form.TheVariants.{Compact}
+use Rattle.pram_words.specs.declared.layout.Form.TheVariants.{Compact, Wide}
 use Rattle.walkx.specs.Walk.{IsBoard}
 use Rattle.walkx.specs.Tasks.{claim_of}
 use Rattle.walkx.specs.declared.operation.Op.TheVariants.{Max, Store, Swap}
@@ -35,7 +35,7 @@ use Rattle.walkx.proofs.Boards.{same_cells, same_procs}
 use Rattle.lawful_walk.specs.Board.{leaf_of, held, root, conflict, leaf, stamp_at, finished, Grows}
 use Rattle.lawful_walk.specs.Board.{IsAsked, phase_in, IsTree, IsNew, IsPair, newer_first}
 use Rattle.lawful_walk.specs.Board.{newer_second, new_first, new_second, IsClaimed, claimed_now}
-use Rattle.lawful_walk.specs.Board.{IsNamed, Lawful, Stands}
+use Rattle.lawful_walk.specs.Board.{Done, DoneIn, IsNamed, Lawful, Stands, highest}
 use Rattle.lawful_walk.proofs.Leaves.{leaf_word}
 use Rattle.lawful_walk.proofs.Frames.{Only, only_grows, same_or_other, does_max, does_swap}
 use Rattle.lawful_walk.proofs.Frames.{keeps_store}
@@ -45,7 +45,7 @@ use Rattle.lawful_walk.proofs.Landings.{before_most, last_least, last_most, stam
 use Rattle.lawful_walk.specs.Writes.{PlaceAsHeard, Floor, Does}
 use Rattle.lawful_walk.specs.Moments.{Keeps}
 use Rattle.lawful_walk.proofs.Values.{before_less, claim_most}
-use Rattle.lawful_walk.proofs.Facts.{facts, board, late_of, claim_fits, WordsShow}
+use Rattle.lawful_walk.proofs.Facts.{facts, board, late_of, claim_fits, rests_done, WordsShow}
 use Rattle.lawful_walk.proofs.Keeping.{done_later, settle}
 use Rattle.lawful_walk.proofs.Raising.{finished_before, alive, next}
 
@@ -94,7 +94,7 @@ module _ (job : JobData) (y : LayoutData) (words later : List ℕ) (a : Word)
   leaf_same : (i : ℕ) → i < y.procs → leaf y later i ≡ leaf y words i
   leaf_same i proc = nodes_same (leaf_of y i) (leaf_word y i stands.sizes proc)
 
-  tree_same : IsTree job y later
+  tree_same : IsTree job y (finished y words) later
   tree_same = record {
     left = λ n low high. let a = nodes_same n (low, omega arith) in
         let b = nodes_same (2 * n) (omega arith, omega arith) in
@@ -103,7 +103,7 @@ module _ (job : JobData) (y : LayoutData) (words later : List ℕ) (a : Word)
         let b = nodes_same (2 * n + 1) (omega arith, omega arith) in
         let h = stands.lawful.tree.right n low high in omega arith;
     near = λ n is. let a = nodes_same n is in
-        let b = ap (next_phase y.form) root_same in
+        let b = ap (highest y.form (finished y words)) root_same in
         let h = stands.lawful.tree.near n is in omega arith;
     most = λ n is. let a = nodes_same n is in
         let h = stands.lawful.tree.most n is in omega arith;
@@ -145,17 +145,20 @@ module _ (job : JobData) (y : LayoutData) (words later : List ℕ) (a : Word)
       root y words ≡ 3 * finished y words + 3 → conflict y later ≡ 0 → ⊥
   full_if same e none = let u = (facts job y words stands).full_root e in omega arith
 
-  pub set_lawful : (y.form ≡ Compact → (i j : ℕ) → i < y.procs →
+  -- a leaf that is raised to the last phase of the step: what it stands for is done still
+  abbrev pub Verified : Type 0
+  Verified = (i : ℕ) → i < y.procs → 3 * finished y words + 3 ≤ leaf y words i →
+      Done job.rule Verify job y (finished y words) later i
+
+  pub set_lawful_by : (y.form ≡ Compact → (i j : ℕ) → i < y.procs →
       j < 3 → IsAsked job (finished y words) i j (held y later (Asked i j))) →
       ((p : ℕ) → p < places_of y → IsPair y.form job (finished y words) (root y words) p
       (held y later (Stored p 0)) (held y later (Stored p 1))) →
       ((c : ℕ) → IsWord y (Claim c) →
       IsClaimed y.form job (finished y words) (root y words) c (held y later (Claim c))) →
-      ((i : ℕ) → i < y.procs → 3 * finished y words + 3 ≤ leaf y words i →
-      (c : ℕ) → IsWord y (Claim c) → held y later (Claim c) ≡ held y words (Claim c)) →
-      IsNamed y.form job (conflict y later) (root y words) →
+      Verified → IsNamed y.form job (conflict y later) (root y words) →
       (root y words ≡ 3 * finished y words + 3 → conflict y later ≡ 0 → ⊥) → Lawful job y later
-  set_lawful asked stored claimed still named full =
+  set_lawful_by asked stored claimed verified named full =
       let r = root_same in
       let low = (facts job y words stands).root_low in
       let high = (facts job y words stands).root_high in
@@ -168,17 +171,44 @@ module _ (job : JobData) (y : LayoutData) (words later : List ℕ) (a : Word)
         claimed =
             λ c is. subst (λ (r : ℕ). IsClaimed y.form job (finished y words) r c
             (held y later (Claim c))) (sym r) (claimed c is);
-        done = λ i kind proc h. done_later job y words later
-            (finished y words) stands.limits stands.sizes stands.layout up
-            (λ p place. pair_most y.form job
-            (finished y words) (root y words) p _ _ stands.limits (stored p place)) kind
-            (λ e. still i proc (let l = leaf_same i proc in
-            let k : phase_in (finished y words) Verify ≤ leaf y later i =
-            subst (λ (k : Kind). phase_in (finished y words) k ≤ leaf y later i) e h in
-            omega arith))
-            i proc (stands.lawful.done i kind proc (let l = leaf_same i proc in omega arith));
+        done = done_by;
+        ahead = λ i proc h. stands.lawful.ahead i proc (let l = leaf_same i proc in
+            let n = ap (next_phase y.form) r in omega (arith, l, n, h));
         named = subst (IsNamed y.form job (conflict y later)) (sym r) named;
       }) (omega arith) (omega arith) (λ e none i proc. absurd (full (omega arith) none))
+    where
+      kept : (i : ℕ) (kind : Kind) → i < y.procs → (kind ≡ Verify → ⊥) →
+          phase_in (finished y words) kind ≤ leaf y later i →
+          Done job.rule kind job y (finished y words) later i
+      kept i kind proc other h = done_later job y words later
+          (finished y words) stands.limits stands.sizes stands.layout up
+          (λ p place. pair_most y.form job
+          (finished y words) (root y words) p _ _ stands.limits (stored p place)) kind
+          (λ e. absurd (other e))
+          i proc (stands.lawful.done i kind proc (let l = leaf_same i proc in omega arith))
+
+      done_by : (i : ℕ) (kind : Kind) → i < y.procs →
+          phase_in (finished y words) kind ≤ leaf y later i →
+          Done job.rule kind job y (finished y words) later i
+      done_by i Compute proc h = kept i Compute proc (λ e. absurd (cc)) h
+      done_by i Apply proc h = kept i Apply proc (λ e. absurd (cc)) h
+      done_by i Verify proc h = verified i proc (let l = leaf_same i proc in omega arith)
+
+  -- the same where no claim changes
+  pub set_lawful : (y.form ≡ Compact → (i j : ℕ) → i < y.procs →
+      j < 3 → IsAsked job (finished y words) i j (held y later (Asked i j))) →
+      ((p : ℕ) → p < places_of y → IsPair y.form job (finished y words) (root y words) p
+      (held y later (Stored p 0)) (held y later (Stored p 1))) →
+      ((c : ℕ) → IsWord y (Claim c) →
+      IsClaimed y.form job (finished y words) (root y words) c (held y later (Claim c))) →
+      ((c : ℕ) → IsWord y (Claim c) → held y later (Claim c) ≡ held y words (Claim c)) →
+      IsNamed y.form job (conflict y later) (root y words) →
+      (root y words ≡ 3 * finished y words + 3 → conflict y later ≡ 0 → ⊥) → Lawful job y later
+  set_lawful asked stored claimed still named full =
+      set_lawful_by asked stored claimed (λ i proc h. done_later job y words later
+      (finished y words) stands.limits stands.sizes stands.layout up
+      (λ p place. pair_most y.form job (finished y words) (root y words) p _ _ stands.limits
+      (stored p place)) Verify (λ e. still) i proc (stands.lawful.done i Verify proc h)) named full
 
 -- ---- a position
 
@@ -195,7 +225,7 @@ store_keeps job y w n words stands worker low high =
     (λ p k is. only.rest (Stored p k) is (λ e. absurd (cc))))
     (claimed_if job y words later (Position w) n stands up only
     (λ m e. absurd (cc)) (λ c is. only.rest (Claim c) is (λ e. absurd (cc))))
-    (λ i proc h c is. only.rest (Claim c) is (λ e. absurd (cc)))
+    (λ c is. only.rest (Claim c) is (λ e. absurd (cc)))
     (named_if job y words later (Position w) n stands up only
     (λ m e. absurd (cc)) (only.rest Conflict tt (λ e. absurd (cc))))
     (full_if job y words later (Position w) n stands up only (λ m e. absurd (cc))
@@ -239,7 +269,7 @@ module _ (job : JobData) (y : LayoutData) (words : List ℕ) (q x : ℕ) (stands
             (λ m e. absurd (cc)) (λ p k is. only.rest (Stored p k) is (λ e. absurd (cc))))
             (claimed_if job y words later Conflict (suc x) stands up only
             (λ m e. absurd (cc)) (λ c is. only.rest (Claim c) is (λ e. absurd (cc))))
-            (λ i proc h c is. only.rest (Claim c) is (λ e. absurd (cc)))
+            (λ c is. only.rest (Claim c) is (λ e. absurd (cc)))
             (record {
               first = λ s e. let at = only.at in
                   let g : x ≡ s = omega arith in subst
@@ -280,7 +310,7 @@ module _ (job : JobData) (y : LayoutData) (words : List ℕ) (q x : ℕ) (stands
               | inr k ↦ absurd (let s = stale k in omega arith)
             ]) in
             let gone = alive job y words q x stands some most step floor live in
-            set_lawful job y words later (Claim c)
+            set_lawful_by job y words later (Claim c)
             (stamped_word (suc x) (claim_of job i)) stands up only (λ m e. absurd (cc))
             (asked_if job y words later (Claim c)
             (stamped_word (suc x) (claim_of job i)) stands up only (λ m e. absurd (cc))
@@ -304,9 +334,7 @@ module _ (job : JobData) (y : LayoutData) (words : List ℕ) (q x : ℕ) (stands
               | inr n ↦ subst (IsClaimed y.form job (finished y words) (root y words) d)
                   (sym (only.rest (Claim d) is_d n)) (stands.lawful.claimed d is_d)
             ])
-            (λ i proc h c is. absurd (let n =
-            stands.lawful.tree.near (leaf_of y i) (leaf_word y i stands.sizes proc) in
-            let m = coming live in omega arith))
+            (λ i proc h. ahead_done y.form refl later live i proc h)
             (named_if job y words later (Claim c) (stamped_word (suc x) (claim_of job i)) stands
             up only (λ m e. absurd (cc)) (only.rest Conflict tt (λ e. absurd (cc))))
             (full_if job y words later (Claim c) (stamped_word (suc x) (claim_of job i))
@@ -315,6 +343,25 @@ module _ (job : JobData) (y : LayoutData) (words : List ℕ) (q x : ℕ) (stands
     where
       claims_same : (c d : ℕ) → Claim d ≡ Claim c → c ≡ d
       claims_same c d e = cc
+
+      -- a leaf of which the last phase is done, before claims are made, has no store to be made
+      ahead_done : (form : Form) → y.form ≡ form → (later : List ℕ) → root y words < q → (i : ℕ) →
+          i < y.procs → 3 * finished y words + 3 ≤ leaf y words i →
+          Done job.rule Verify job y (finished y words) later i
+      ahead_done Compact e later live i proc h = absurd (
+          let near = subst (λ (f : Form).
+          leaf y words i ≤ highest f (finished y words) (root y words)) e
+          (stands.lawful.tree.near (leaf_of y i) (leaf_word y i stands.sizes proc)) in
+          let come = subst (λ (f : Form). next_phase f (root y words) ≡ q) e (coming live) in
+          let claimed = subst (λ (f : Form). q ≡ phase_claimed f x) e phase in
+          let l = ahead in omega (arith, near, come, claimed, l, h))
+      ahead_done (Wide g) e later live i proc h =
+          let claimed = subst (λ (f : Form). q ≡ phase_claimed f x) e phase in
+          let come = coming live in
+          let l = ahead in
+          subst (λ (f : Form). DoneIn f job.rule Verify job y (finished y words) later i) (sym e)
+          (rests_done g job.rule job y (finished y words) later i
+          (stands.lawful.ahead i proc (omega (arith, claimed, come, l, h))))
 
 -- ---- ranges of what is written
 
@@ -554,7 +601,7 @@ module _ (job : JobData) (y : LayoutData) (words : List ℕ) (q x : ℕ) (stands
           each_pair
           (claimed_if job y words later (Stored p k) value stands grows_stored only
           (λ m e. absurd (cc)) (λ c is. only.rest (Claim c) is (λ e. absurd (cc))))
-          (λ i proc h c is. only.rest (Claim c) is (λ e. absurd (cc)))
+          (λ c is. only.rest (Claim c) is (λ e. absurd (cc)))
           (named_if job y words later (Stored p k) value stands grows_stored only
           (λ m e. absurd (cc)) (only.rest Conflict tt (λ e. absurd (cc))))
           (full_if job y words later (Stored p k) value stands grows_stored only
@@ -698,7 +745,7 @@ module _ (job : JobData) (y : LayoutData) (words : List ℕ) (q x : ℕ) (stands
         (λ m e. absurd (cc)) (λ p k is. only.rest (Stored p k) is (λ e. absurd (cc))))
         (claimed_if job y words later (Asked i j) asked_value stands up only
         (λ m e. absurd (cc)) (λ c is. only.rest (Claim c) is (λ e. absurd (cc))))
-        (λ i proc h c is. only.rest (Claim c) is (λ e. absurd (cc)))
+        (λ c is. only.rest (Claim c) is (λ e. absurd (cc)))
         (named_if job y words later (Asked i j) asked_value stands up only (λ m e. absurd (cc))
         (only.rest Conflict tt (λ e. absurd (cc))))
         (full_if job y words later (Asked i j) asked_value stands up only (λ m e. absurd (cc))

@@ -9,7 +9,6 @@ use Rattle.std.specs.Prelude.{replicate}
 use Rattle.pram_job.specs.Job.{JobData, IsJob}
 use Rattle.pram_machine.specs.Machine.{place_count}
 use Rattle.pram_step.specs.Runs.{state_after}
-use Rattle.pram_words.proofs.NextPhases.{next_above}
 use Rattle.pram_words.proofs.Starts.{starts_admitted, layout_of_limits}
 use Rattle.pram_words.specs.Start.{start_of, start_words, StartsAdmitted}
 use Rattle.pram_words.specs.Words.{LayoutData, IsGrain, IsLayout, IsWord, grain_of, layout_of}
@@ -86,8 +85,7 @@ module _ (job : JobData) (form : Form) (workers : ℕ) (limits : IsJob job)
     tree = record {
       left = λ n low high. let a = node_zero n (low, omega arith) in omega arith;
       right = λ n low high. let a = node_zero n (low, omega arith) in omega arith;
-      near = λ n is. let a = node_zero n is in let b = next_above y.form (root y words) in
-          let c = b.0 in omega arith;
+      near = λ n is. let a = node_zero n is in omega arith;
       most = λ n is. let a = node_zero n is in omega arith;
     };
     asked = λ compact i j proc part. let e = value (Asked i j) (proc, part) in
@@ -98,6 +96,7 @@ module _ (job : JobData) (form : Form) (workers : ℕ) (limits : IsJob job)
         claimed_before (let m = last_most form job limits 0 c in omega arith)
         (λ s h. absurd (omega arith));
     done = λ i kind proc h. absurd (none_done i kind proc h);
+    ahead = λ i proc h. absurd (let z = leaf_zero i proc in omega (arith, z, h));
     named = (let u = value Conflict tt in
         record { first = λ s e. absurd (omega arith); near = λ s e. absurd (omega arith) });
   }

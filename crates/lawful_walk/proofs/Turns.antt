@@ -2,8 +2,11 @@
 use Rattle.std.proofs.Common.{◌≡◌, ℕ, zero, suc, ◌+◌, ◌-◌, ◌*◌, ◌/◌, ◌%◌, ◌<◌, ◌≤◌, ◌==◌, ◌&&◌}
 use Rattle.std.proofs.Common.{nat_le, if◌then◌else◌, true, false, true≢false, List, [], ◌∷◌, IsTrue}
 use Rattle.std.proofs.Common.{refl, sym, ap, subst, ◌∙◌, inl, inr, arith}
-use Rattle.std.proofs.Math.Nat.{div-add-mod, mul-div-le}
-use Rattle.std.proofs.lemmas.Bool.{cond_both, cases_Bool, cases_lt, eqb-false, leb-true, leb-false}
+use Rattle.std.proofs.Math.Nat.{div-add-mod}
+use Rattle.std.proofs.lemmas.Bool.{cond_both, cases_Bool, cases_eq, cases_lt, eqb-false, eqb-true}
+use Rattle.std.proofs.lemmas.Bool.{leb-true, leb-false}
+use Rattle.std.proofs.lemmas.Option.{none-some}
+use Rattle.std.specs.Prelude.{Option, Some, None, is_none, min}
 use Rattle.std.proofs.lemmas.Nat.{mod_below}
 use Rattle.pram_job.specs.Job.{JobData}
 use Rattle.pram_job.specs.declared.instr.Rule.{Rule}
@@ -19,15 +22,18 @@ use Rattle.pram_words.specs.declared.words.Word.TheVariants.{Node}
 use Rattle.walkx.specs.Doing as doing
 use Rattle.walkx.specs.Passes.{task_in}
 use Rattle.walkx.specs.declared.memo.Memo.{Memo}
-use Rattle.walkx.specs.Memory.{IsTrueMemo, IsTrueMemory, at_start, memo_of}
+use Rattle.walkx.specs.Memory.{IsTrueMemo, IsTrueMemory, at_start, has_rested, memo_of, store_in}
 use Rattle.walkx.proofs.Beginnings.{start_true}
-use Rattle.walkx.proofs.Boards.{same_procs}
+use Rattle.walkx.proofs.Boards.{in_range, same_procs}
 use Rattle.walkx.proofs.Nodes.{node_range}
 use Rattle.pram_words.specs.Forms.{by_form}
 use Rattle.walkx.specs.Walk.{IsPhase, script_by, begun_phase, part_script, phase_begun, turn_script}
 use Rattle.walkx.specs.Walk.{leaf_script, Then, begins, enters, worked, IsInBlock, IsWide, node_of}
 use Rattle.walkx.specs.Walk.{after_part, task_at}
 use Rattle.walkx.specs.Walk.{has_rank, processor_at, marks_node, stands_at, way_down, IsBoard}
+use Rattle.walkx.specs.Walk.{block_mark, empty_mark, inner_mark, last_phase, none_stores}
+use Rattle.walkx.proofs.Forms.{form_both}
+use Rattle.walkx.proofs.Marks.{block_marks, both_parts, empty_marks, inner_marks}
 use Rattle.walkx.proofs.Ends.{way_inside}
 use Rattle.walkx.proofs.Firsts.{rank_parts, rank_there}
 use Rattle.walkx.specs.Doing.{Doing}
@@ -38,6 +44,8 @@ use Rattle.walkx.specs.declared.operation.Op.TheVariants.{Load}
 use Rattle.lawful_walk.specs.Lands.{phase_written, compact_phase_written}
 use Rattle.lawful_walk.proofs.Effects.{phase_at}
 use Rattle.lawful_walk.specs.Board.{leaf_of, phase_in, root, Done, LeafDone, CompactDone, DoneIn}
+use Rattle.lawful_walk.specs.Board.{StoresNone}
+use Rattle.lawful_walk.proofs.OwnPlaces.{asks_cell}
 use Rattle.lawful_walk.proofs.Applying.{apply_safe, crew_apply_safe, claim_safe}
 use Rattle.lawful_walk.proofs.Begins.{back_safe, begin_safe, stands_safe, inner_safe}
 use Rattle.lawful_walk.proofs.Blocks.{marks_safe}
@@ -53,7 +61,7 @@ use Rattle.lawful_walk.proofs.Winning.{priority_apply_safe}
 use Rattle.lawful_walk.specs.Moments.{Moment}
 use Rattle.lawful_walk.specs.WalkLaws.{WorkersKeepWordsLawful}
 use Rattle.lawful_walk.specs.Walks.{phase_now}
-use Rattle.lawful_walk.specs.Writes.{Floor}
+use Rattle.lawful_walk.specs.Writes.{Floor, IsMark, LeafRests}
 
 claims_are : (job : JobData) (y : LayoutData) (rule : Rule) → IsBoard job y → job.rule ≡ rule →
     IsTrue (has_claims rule) → IsTrue y.claims
@@ -66,6 +74,18 @@ written_in : (job : JobData) (y : LayoutData) (x q : ℕ) (rule : Rule) → y.fo
 written_in job y x q rule compact is e p =
     subst (λ (f : Form). q ≡ phase_written f job p x) (sym compact)
     (sym e ∙ ap (λ (r : Rule). compact_phase_written r x) (sym is))
+
+-- an inner node is marked no higher than either of its children
+inner_both : (y : LayoutData) (q l r : ℕ) → (nat_le q l && nat_le q r) ≡ true →
+    (inner_mark y q l r ≤ l) × (inner_mark y q l r ≤ r)
+inner_both y q l r e =
+    form_both y.form q (min l r) (λ m. (m ≤ l) × (m ≤ r)) (both_true e) (omega arith, omega arith)
+  where
+    both_true : (nat_le q l && nat_le q r) ≡ true → (q ≤ l) × (q ≤ r)
+    both_true e = elim (cases_Bool (nat_le q l)) [
+      | inl a ↦ (let b : nat_le q r ≡ true = rw a at e in (leb-true q l a, leb-true q r b))
+      | inr a ↦ absurd (let b = rw a at e in cc)
+    ]
 
 module _ (job : JobData) (y : LayoutData) (w q : ℕ) (aim : Aim) (x : ℕ)
     (some : 1 ≤ q) (most : q ≤ 3 * job.steps)
@@ -135,33 +155,35 @@ module _ (job : JobData) (y : LayoutData) (w q : ℕ) (aim : Aim) (x : ℕ)
 
   -- ---- the turn
 
-  both_true : (l r : ℕ) → (nat_le q l && nat_le q r) ≡ true → (q ≤ l) × (q ≤ r)
-  both_true l r e = elim (cases_Bool (nat_le q l)) [
-    | inl a ↦ (let b : nat_le q r ≡ true = rw a at e in (leb-true q l a, leb-true q r b))
-    | inr a ↦ absurd (let b = rw a at e in cc)
-  ]
-
-  pub down_safe : (n : ℕ) → w < y.workers → 1 ≤ n → n < y.leaves →
+  pub down_safe : (n : ℕ) → IsTrue (has_phase y.form q) → w < y.workers → 1 ≤ n → n < y.leaves →
       (history : List (Op × ℕ)) → Sees job y history (Floor job y q x) →
       Safe job y w q aim (asks (Load (number_of y (Node (2 * n))))
       (λ l. asks (Load (number_of y (Node (2 * n + 1)))) (λ r. if nat_le q l && nat_le q r
-      then marks_node y n q else stands_at y w (way_down y w n q l r) q))) history
-  down_safe n worker low high history sees =
+      then marks_node y n (inner_mark y q l r) q else stands_at y w (way_down y w n q l r) q))) history
+  down_safe n formed worker low high history sees =
       load_safe job y w q aim (number_of y (Node (2 * n)))
-      (λ l. asks (Load (number_of y (Node (2 * n + 1)))) (λ r.
-      if nat_le q l && nat_le q r then marks_node y n q else stands_at y w (way_down y w n q l r)
-      q))
-      history (λ l ok. load_safe job y w q aim (number_of y (Node (2 * n + 1))) (λ r.
-      if nat_le q l && nat_le q r then marks_node y n q else stands_at y w (way_down y w n q l r) q)
-      ((Load (number_of y (Node (2 * n))), l) ∷ history) (λ r ok_too.
+      (λ l. asks (Load (number_of y (Node (2 * n + 1)))) (λ r. if nat_le q l && nat_le q r
+      then marks_node y n (inner_mark y q l r) q else stands_at y w (way_down y w n q l r) q))
+      history (λ l left. load_safe job y w q aim (number_of y (Node (2 * n + 1))) (λ r.
+      if nat_le q l && nat_le q r then marks_node y n (inner_mark y q l r) q
+      else stands_at y w (way_down y w n q l r) q)
+      ((Load (number_of y (Node (2 * n))), l) ∷ history) (λ r right.
       let longer : List (Op × ℕ) = (Load (number_of y (Node (2 * n + 1))), r)
       ∷ (Load (number_of y (Node (2 * n))), l) ∷ history in
-      cond_both (nat_le q l && nat_le q r) (marks_node y n q)
+      cond_both (nat_le q l && nat_le q r) (marks_node y n (inner_mark y q l r) q)
       (stands_at y w (way_down y w n q l r) q)
       (λ (s : Script Then). Safe job y w q aim s longer) (λ e.
-      let h = both_true l r e in
+      let mark = inner_marks job.steps y q l r most formed
+      (in_range job y (Node (2 * n)) l board (omega arith, omega arith) left)
+      (in_range job y (Node (2 * n + 1)) r board (omega arith, omega arith) right) e in
+      let both = inner_both y q l r e in
       inner_safe job y w q aim x some most step (Floor job y q x)
-      (floor_lasts job y q x) (λ words f. f) n l r longer low high h.0 h.1
+      (floor_lasts job y q x) (λ words f. f) n (inner_mark y q l r) l r longer low high
+      (record {
+        low = mark.least;
+        is_phase = mark.formed;
+        compact = λ c. ap (λ (f : Form). by_form f q (min l r)) c;
+      }) both.0 both.1
       (heard job y ((Load (number_of y (Node (2 * n))), l) ∷ history) (Moment job y (Load
       (number_of y (Node (2 * n)))) l (Floor job y q x)) (Load (number_of y (Node (2 * n + 1)))) r
       (heard job y history (Floor job y q x) (Load (number_of y (Node (2 * n)))) l sees)))
@@ -170,18 +192,28 @@ module _ (job : JobData) (y : LayoutData) (w q : ℕ) (aim : Aim) (x : ℕ)
 
 -- ---- the leaf
 
+-- the rank of a processor in the block of its leaf
+block_at : (y : LayoutData) (i n : ℕ) → IsLayout y → i < y.procs → leaf_of y i ≡ n →
+    (i % grain y < grain y) × (i ≡ processor_at y n (i % grain y))
+    × IsTrue (has_rank y n (i % grain y))
+block_at y i n limits proc leaf =
+    let some = grain_some y limits in
+    let below = mod_below i (grain y) some in
+    let block : n - y.leaves ≡ i / grain y = omega arith in
+    let is : i ≡ processor_at y n (i % grain y) =
+    rw block (omega (arith, div-add-mod i (grain y))) in
+    (below, is, rank_there y n (i % grain y) below (omega (arith, is, proc)))
+
 -- the processors of a leaf's block: before a rank that it has not
 block_rank : (y : LayoutData) (i n rank : ℕ) → IsLayout y → i < y.procs → leaf_of y i ≡ n →
     has_rank y n rank ≡ false →
     (i % grain y < rank) × (i ≡ processor_at y n (i % grain y))
     × IsTrue (has_rank y n (i % grain y))
 block_rank y i n rank limits proc leaf last =
-    let some = grain_some y limits in
-    let below = mod_below i (grain y) some in
-    let block : n - y.leaves ≡ i / grain y = omega arith in
-    let is : i ≡ processor_at y n (i % grain y) =
-    rw block (omega (arith, div-add-mod i (grain y))) in
-    let there = rank_there y n (i % grain y) below (omega (arith, is, proc)) in
+    let at = block_at y i n limits proc leaf in
+    let below = at.0 in
+    let is = at.1 in
+    let there = at.2 in
     elim (cases_lt (i % grain y) rank) [
       | inl c ↦ (c, is, there)
       | inr c ↦ absurd (let last_too = rank_there y n rank (omega (arith, c, below))
@@ -190,7 +222,7 @@ block_rank y i n rank limits proc leaf last =
 
 -- by the form, what follows a task is the mark, or the next task
 compact_end : (y : LayoutData) (n q rank : ℕ) (memo : Memo) → y.form ≡ Compact →
-    after_part y n q rank memo ≡ marks_node y n q
+    after_part y n q rank memo ≡ marks_node y n q q
 compact_end y n q rank memo compact = rw compact refl
 
 wide_end : (y : LayoutData) (n q rank g : ℕ) (memo : Memo) → y.form ≡ Wide g →
@@ -203,8 +235,80 @@ by_wide : {A : Type 0} (form form_of : Form) → form_of ≡ form → IsWide for
 by_wide Compact f is wide each = absurd wide
 by_wide (Wide g) f is wide each = each g is
 
+-- those of a block of which none stored, by what is remembered of them
+rested_at : (y : LayoutData) (n t more rank k : ℕ) (memory : List Memo) → rank ≤ k → k < rank + more →
+    IsTrue (has_rank y n k) → none_stores more y n t rank memory ≡ true →
+    has_rested t (memo_of memory (processor_at y n k)) ≡ true
+rested_at y n t zero rank k memory low high there all = absurd (omega (arith, low, high))
+rested_at y n t (suc more) rank k memory low high there all =
+    let at = rank_parts y n k there in
+    let less = at.0 in
+    let last = at.1 in
+    let here = rank_there y n rank (omega (arith, low, less)) (omega (arith, low, last)) in
+    let both = both_parts (has_rested t (memo_of memory (processor_at y n rank)))
+    (none_stores more y n t (suc rank) memory) (rw here at all) in
+    elim (cases_eq rank k) [
+      | inl same ↦ subst (λ (j : ℕ). has_rested t (memo_of memory (processor_at y n j)) ≡ true) same
+          both.0
+      | inr other ↦ rested_at y n t more (suc rank) k memory (omega (arith, low, other))
+          (omega (arith, high)) there both.1
+    ]
+
+-- one of which is remembered that it did not store writes no cell
+rested_none : (job : JobData) (i x : ℕ) (memo : Memo) → IsTrueMemo job i memo →
+    has_rested (suc x) memo ≡ true → StoresNone job x i
+rested_none job i x memo is_true rested c v made_so cell =
+    let both = both_parts (memo.step == suc x) (is_none memo.store) rested in
+    let at = eqb-true memo.step (suc x) both.0 in
+    let none = none_is memo.store both.1 in
+    let made : store_in job i memo.step ≡ Some (c, v) =
+    subst (λ (t : ℕ). store_in job i t ≡ Some (c, v)) (sym at) (asks_cell job x i c v cell made_so) in
+    absurd (none-some (c, v) (sym none ∙ is_true.store ∙ made))
+  where
+    none_is : (o : Option (ℕ × ℕ)) → is_none o ≡ true → o ≡ None
+    none_is None e = refl
+    none_is (Some w) e = absurd (cc)
+
 module _ (job : JobData) (y : LayoutData) (w q x : ℕ) (some : 1 ≤ q) (most : q ≤ 3 * job.steps)
-    (step : step_at q ≡ suc x) (board : IsBoard job y) where
+    (step : step_at q ≡ suc x) (board : IsBoard job y) (formed : IsTrue (has_phase y.form q)) where
+  -- the phase itself is a mark, and in the wide form the last one of the step
+  own_mark : IsMark y q q
+  own_mark = record { low = omega arith; is_phase = formed; compact = λ e. refl }
+
+  rest_mark : (n : ℕ) (memory : List Memo) → IsWide y.form → IsMark y q (block_mark y n q memory)
+  rest_mark n memory wide =
+      let mark = block_marks job.steps y n q memory most formed in
+      record {
+        low = mark.least;
+        is_phase = mark.formed;
+        compact = λ e. absurd (subst IsWide e wide);
+      }
+
+  block_last : (n : ℕ) (memory : List Memo) → block_mark y n q memory ≤ 3 * x + 3
+  block_last n memory =
+      cond_both (none_stores (grain y) y n (step_at q) 0 memory) (last_phase q) q
+      (λ (m : ℕ). m ≤ 3 * x + 3) (λ e. omega (arith, step)) (λ e. omega (arith, step))
+
+  -- it is above the phase where none of the block stores
+  block_rests : (n : ℕ) (memory : List Memo) → IsTrueMemory job memory →
+      q < block_mark y n q memory → LeafRests job y x n
+  block_rests n memory is_true less = by less
+    where
+      by : q < block_mark y n q memory → LeafRests job y x n
+      by less i proc leaf = elim (cases_Bool (none_stores (grain y) y n (step_at q) 0 memory)) [
+        | inr some_stores ↦ absurd (let h : q < q = rw some_stores at less in omega (arith, h))
+        | inl none ↦ (
+            let at = block_at y i n board.layout proc leaf in
+            let same = same_procs job y board in
+            let rested = rested_at y n (step_at q) (grain y) 0 (i % grain y) memory (omega arith)
+            (let b = at.0 in omega (arith, b)) at.2 none in
+            let known = subst (λ (k : ℕ). has_rested (step_at q) (memo_of memory k) ≡ true)
+            (sym at.1) rested in
+            rested_none job i x (memo_of memory i)
+            (is_true board.limits i (omega (arith, proc, same)))
+            (subst (λ (t : ℕ). has_rested t (memo_of memory i) ≡ true) step known))
+      ]
+
   end_done : (n rank : ℕ) (words : List ℕ) → has_rank y n rank ≡ false →
       (aim_at job y q n rank).given words → root y words < q → LeafDone job y x (kind_at q) n words
   end_done n rank words none given live i proc leaf =
@@ -215,13 +319,14 @@ module _ (job : JobData) (y : LayoutData) (w q x : ℕ) (some : 1 ≤ q) (most :
       step_of (given (i % grain y) at.0 at.2 live))
 
   -- the leaf is marked where those before this rank are done, and it has no others
-  mark_safe : (n rank : ℕ) → y.leaves ≤ n → n < 2 * y.leaves → has_rank y n rank ≡ false →
+  mark_safe : (n rank m : ℕ) → y.leaves ≤ n → n < 2 * y.leaves → has_rank y n rank ≡ false →
+      IsMark y q m → m ≤ 3 * x + 3 → (q < m → LeafRests job y x n) →
       (history : List (Op × ℕ)) → Sees job y history (Floor job y q x) →
-      Safe job y w q (aim_at job y q n rank) (marks_node y n q) history
-  mark_safe n rank low high none history sees =
+      Safe job y w q (aim_at job y q n rank) (marks_node y n m q) history
+  mark_safe n rank m low high none mark last rests history sees =
       let aim = aim_at job y q n rank in
       marks_safe job y w q aim x some most step (Floor job y q x)
-      (floor_lasts job y q x) (λ words f. f) n low high history
+      (floor_lasts job y q x) (λ words f. f) n m low high mark last rests history
       (so job y history (Floor job y q x) (λ words. Floor job y q x words
       × (aim.given words → root y words < q → LeafDone job y x (kind_at q) n words))
       (λ words stands f. (f, end_done n rank words none)) sees)
@@ -281,7 +386,8 @@ module _ (job : JobData) (y : LayoutData) (w q x : ℕ) (some : 1 ≤ q) (most :
       subst (λ (s : Script Then). Safe job y w q aim s longer)
       (sym (compact_end y n q 0 learned compact))
       (marks_safe job y w q aim x some most step (Floor job y q x) (floor_lasts job y q x)
-      (λ words f. f) n low high longer
+      (λ words f. f) n q low high own_mark (omega (arith, step)) (λ e. absurd (omega (arith, e)))
+      longer
       (so job y longer (λ words. Floor job y q x words × (root y words < q →
       Done job.rule (kind_at q) job y x words i)) (λ words. Floor job y q x words
       × (aim.given words → root y words < q → LeafDone job y x (kind_at q) n words))
@@ -306,11 +412,27 @@ module _ (job : JobData) (y : LayoutData) (w q x : ℕ) (some : 1 ≤ q) (most :
       Safe job y w q (aim_at job y q n 0) (leaf_script job y n q) history
   leaf_safe n low high history sees =
       cond_both (has_rank y n 0)
-      (by_form y.form (part_script job y n q 0 at_start) (ends (enters n q))) (marks_node y n q)
+      (by_form y.form (part_script job y n q 0 at_start) (ends (enters n q)))
+      (marks_node y n (empty_mark y q) q)
       (λ (s : Script Then). Safe job y w q (aim_at job y q n 0) s history)
       (λ e. by y.form refl e)
-      (λ e. mark_safe n 0 low high e history sees)
+      (λ e. mark_safe n 0 (empty_mark y q) low high e mark
+      (form_both y.form q (last_phase q) (λ (m : ℕ). m ≤ 3 * x + 3) (omega (arith, step))
+      (omega (arith, step))) (λ less i proc leaf. absurd (true≢false
+      (sym (let at = block_at y i n board.layout proc leaf in
+      let below = (rank_parts y n (i % grain y) at.2).1 in
+      rank_there y n 0 (let some = grain_some y board.layout in omega (arith, some))
+      (omega (arith, below))) ∙ e))) history sees)
     where
+      mark : IsMark y q (empty_mark y q)
+      mark =
+          let is = empty_marks job.steps y q most formed in
+          record {
+            low = is.least;
+            is_phase = is.formed;
+            compact = λ c. ap (λ (f : Form). by_form f q (last_phase q)) c;
+          }
+
       by : (f : Form) → y.form ≡ f → IsTrue (has_rank y n 0) →
           Safe job y w q (aim_at job y q n 0)
           (by_form f (part_script job y n q 0 at_start) (ends (enters n q))) history
@@ -325,9 +447,8 @@ module _ (job : JobData) (y : LayoutData) (w q x : ℕ) (some : 1 ≤ q) (most :
   unfolding turn_script
   turn_safe_on n worker low high history sees =
       let down = asks (Load (number_of y (Node (2 * n))))
-      (λ l. asks (Load (number_of y (Node (2 * n + 1)))) (λ r.
-      if nat_le q l && nat_le q r then marks_node y n q else stands_at y w (way_down y w n q l r)
-      q)) in
+      (λ l. asks (Load (number_of y (Node (2 * n + 1)))) (λ r. if nat_le q l && nat_le q r
+      then marks_node y n (inner_mark y q l r) q else stands_at y w (way_down y w n q l r) q)) in
       load_safe job y w q (aim_at job y q n 0) (number_of y (Node n))
       (λ found. if nat_le q found then (if n == 1 then ends (begins 1) else stands_at y w (n / 2) q)
       else (if nat_le y.leaves n then leaf_script job y n q else down)) history (λ found ok.
@@ -344,7 +465,7 @@ module _ (job : JobData) (y : LayoutData) (w q x : ℕ) (some : 1 ≤ q) (most :
       (λ e. cond_both (nat_le y.leaves n) (leaf_script job y n q) down (λ (s : Script Then).
       Safe job y w q (aim_at job y q n 0) s longer)
       (λ l. leaf_safe n (leb-true y.leaves n l) high longer more)
-      (λ l. down_safe job y w q (aim_at job y q n 0) x some most step board n worker
+      (λ l. down_safe job y w q (aim_at job y q n 0) x some most step board n formed worker
       low (let less = leb-false y.leaves n l in omega arith) longer more)))
 
 -- ---- a worker
@@ -361,7 +482,7 @@ doing_safe job y board doing.Begin w n memory worker low high phase block is_tru
 doing_safe job y board (doing.Turn q) w n memory worker low high phase block is_true =
     let some = phase.0 in
     let step : step_at q ≡ suc (step_at q - 1) = omega arith in
-    turn_safe_on job y w q (step_at q - 1) some phase.1 step board n worker low high
+    turn_safe_on job y w q (step_at q - 1) some phase.1 step board phase.2 n worker low high
     (begun_phase y q) (floor_seen job y q (step_at q - 1) some step phase.2)
 doing_safe job y board (doing.Part q rank) w n memory worker low high phase block is_true =
     let some = phase.0 in
@@ -370,12 +491,16 @@ doing_safe job y board (doing.Part q rank) w n memory worker low high phase bloc
     let sees = floor_seen job y q x some step phase.2 in
     let i = processor_at y n rank in
     let same = same_procs job y board in
-    cond_both (has_rank y n rank) (part_script job y n q rank (memo_of memory i)) (marks_node y n q)
+    cond_both (has_rank y n rank) (part_script job y n q rank (memo_of memory i))
+    (marks_node y n (block_mark y n q memory) q)
     (λ (s : Script Then). Safe job y w q (aim_at job y q n rank) s (begun_phase y q))
     (λ there. let proc = (rank_parts y n rank there).1 in
-    part_safe job y w q x some phase.1 step board n rank block.2 block.0 high there
+    part_safe job y w q x some phase.1 step board phase.2 n rank block.2 block.0 high there
     (memo_of memory i) (is_true board.limits i (omega (arith, proc, same))) (begun_phase y q) sees)
-    (λ none. mark_safe job y w q x some phase.1 step board n rank block.0 high none
+    (λ none. mark_safe job y w q x some phase.1 step board phase.2 n rank (block_mark y n q memory)
+    block.0 high none (rest_mark job y w q x some phase.1 step board phase.2 n memory block.2)
+    (block_last job y w q x some phase.1 step board phase.2 n memory)
+    (block_rests job y w q x some phase.1 step board phase.2 n memory is_true)
     (begun_phase y q) sees)
 doing_safe job y board (doing.Over e) w n memory worker low high phase block is_true =
     begin_safe job y n w 0 (aim_of job y n (doing.Over e)) []
@@ -390,7 +515,7 @@ worker_safe job y w board fits is_true =
 pub rank_safe : RankSafe
 rank_safe job y board wide w n q rank memo is_true low high some most formed there =
     let step : step_at q ≡ suc (step_at q - 1) = omega arith in
-    part_safe job y w q (step_at q - 1) some most step board n rank wide low high there memo is_true
+    part_safe job y w q (step_at q - 1) some most step board formed n rank wide low high there memo is_true
     (begun_phase y q) (floor_seen job y q (step_at q - 1) some step formed)
 
 -- the worker's lemma

@@ -16,6 +16,7 @@ use Rattle.pram_words.specs.Words.{places_of}
 use Rattle.pram_words.specs.declared.layout.Form.{Form}
 use Rattle.pram_words.specs.declared.layout.Form.TheVariants.{Compact, Wide}
 use Rattle.pram_words.specs.Phases.{next_phase}
+use Rattle.pram_words.specs.Forms.{by_form}
 use Rattle.walkx.specs.Tasks.{claim_of}
 use Rattle.walkx.specs.Walk.{IsLayoutOf}
 use Rattle.walkx.specs.Reads.{step_seen}
@@ -136,6 +137,10 @@ DoneIn (Wide grain) rule kind job layout t words i = WideDone rule kind job layo
 abbrev pub Done : Rule → Kind → JobData → LayoutData → ℕ → List ℕ → ℕ → Type 0
 Done rule kind job layout = DoneIn layout.form rule kind job layout
 
+-- in the step after t steps processor i writes no cell
+abbrev pub StoresNone : JobData → ℕ → ℕ → Type 0
+StoresNone job t i = (cell value : ℕ) → Asks job t cell i value → cell < job.cells → ⊥
+
 -- the task of this kind is done for all processors of the block of a leaf
 abbrev pub LeafDone : JobData → LayoutData → ℕ → Kind → ℕ → List ℕ → Type 0
 LeafDone job layout t kind node words =
@@ -149,13 +154,17 @@ phase_in t Verify = 3 * t + 3
 
 -- ---- lawful words: the clauses, after so many finished steps
 
-pub record IsTree (job : JobData) (layout : LayoutData) (words : List ℕ) : Type 0 where
+-- how high a node may be: the phase after the root's, in the wide form the last one of the step
+abbrev pub highest : Form → ℕ → ℕ → ℕ
+highest form steps root = by_form form (next_phase form root) (3 * steps + 3)
+
+pub record IsTree (job : JobData) (layout : LayoutData) (steps : ℕ) (words : List ℕ) : Type 0 where
   pub left : (node : ℕ) → 1 ≤ node → node < layout.leaves →
       held layout words (Node node) ≤ held layout words (Node (2 * node))
   pub right : (node : ℕ) → 1 ≤ node → node < layout.leaves →
       held layout words (Node node) ≤ held layout words (Node (2 * node + 1))
   pub near : (node : ℕ) → IsWord layout (Node node) →
-      held layout words (Node node) ≤ next_phase layout.form (root layout words)
+      held layout words (Node node) ≤ highest layout.form steps (root layout words)
   pub most : (node : ℕ) → IsWord layout (Node node) → held layout words (Node node) ≤ 3 * job.steps
 
 -- a request word of processor i, part j
@@ -211,12 +220,12 @@ pub record IsNamed (form : Form) (job : JobData) (found root : ℕ) : Type 0 whe
 
 -- Words with so many finished steps: their state is reached; no node is above its children, nor far
 -- above the root; request words, places and claims are of these steps or of the one after them;
--- what the raised leaves stand for is done; word 0 names the first conflict, if any. The wide form
--- has no requests.
+-- what the raised leaves stand for is done, and a leaf that is ahead of the phase has no store to be
+-- made; word 0 names the first conflict, if any. The wide form has no requests.
 pub record LawfulFor (job : JobData) (layout : LayoutData) (steps : ℕ)
     (words : List ℕ) : Type 0 where
   pub reached : IsReached job steps
-  pub tree : IsTree job layout words
+  pub tree : IsTree job layout steps words
   pub asked : layout.form ≡ Compact → (i j : ℕ) → i < layout.procs → j < 3 →
       IsAsked job steps i j (held layout words (Asked i j))
   pub stored : (place : ℕ) → place < places_of layout →
@@ -226,6 +235,8 @@ pub record LawfulFor (job : JobData) (layout : LayoutData) (steps : ℕ)
       IsClaimed layout.form job steps (root layout words) cell (held layout words (Claim cell))
   pub done : (i : ℕ) (kind : Kind) → i < layout.procs → phase_in steps kind ≤ leaf layout words i →
       Done job.rule kind job layout steps words i
+  pub ahead : (i : ℕ) → i < layout.procs →
+      next_phase layout.form (root layout words) < leaf layout words i → StoresNone job steps i
   pub named : IsNamed layout.form job (conflict layout words) (root layout words)
 
 -- *lawful* words

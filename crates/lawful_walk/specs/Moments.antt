@@ -2,6 +2,10 @@
 use Rattle.std.specs.Prelude.{◌≡◌, ℕ, List, [], ◌∷◌}
 use Rattle.pram_job.specs.Job.{JobData}
 use Rattle.pram_words.specs.Words.{LayoutData}
+use Rattle.pram_words.specs.declared.layout.Form.{Form}
+use Rattle.pram_words.specs.declared.layout.Form.TheVariants.{Compact, Wide}
+use Rattle.pram_words.specs.declared.words.Word.{Word}
+use Rattle.pram_words.specs.declared.words.Word.TheVariants.{Node}
 use Rattle.walkx.specs.declared.operation.Op.{Op}
 use Rattle.walkx.specs.Operations.{words_after, answer}
 use Rattle.walkx.specs.Records.{Record, empty, after, both}
@@ -40,6 +44,12 @@ Sound job layout (both past other) = Sound job layout past × Sound job layout o
 abbrev pub afters : Record → List (Op × ℕ) → Record
 afters past [] = past
 afters past (step ∷ steps) = after (afters past steps) step.0 step.1
+
+-- the word is none that a worker may still change when its phase is over: marks of the wide form
+abbrev pub IsFixed : Form → Word → Type 0
+IsFixed Compact word = Unit {0}
+IsFixed (Wide grain) (Node node) = ⊥
+IsFixed (Wide grain) _ = Unit {0}
 
 -- a step that leaves standing words which have grown
 pub record Keeps (job : JobData) (layout : LayoutData) (op : Op) (words : List ℕ) : Type 0 where

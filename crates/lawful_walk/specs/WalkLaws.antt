@@ -22,7 +22,7 @@ use Rattle.walkx.specs.Scripts.{ends, rest, heard_in}
 use Rattle.walkx.specs.Walk.{Walking, Fits, IsBoard, IsGoing, ask_of, told}
 use Rattle.walkx.specs.Counters.{worth}
 use Rattle.lawful_walk.specs.Board.{Stands, Grows, held, root, finished}
-use Rattle.lawful_walk.specs.Moments.{Backed, WasBacked, Sound, afters}
+use Rattle.lawful_walk.specs.Moments.{Backed, IsFixed, WasBacked, Sound, afters}
 use Rattle.lawful_walk.specs.Seen.{Heard, KnowsStep}
 use Rattle.lawful_walk.specs.Walks.{Moves, IsLawfulRead, DoneWell, IsConflict, ProgressWell}
 use Rattle.lawful_walk.specs.Walks.{phase_now, steps_heard}
@@ -35,13 +35,14 @@ WorkersKeepWordsLawful =
     Stands job layout words → Fits job layout worker → Knows job layout past worker →
     Backed job layout past words → Moves job layout past worker words
 
--- its phase is over
+-- its phase is over: what still may change in the wide form are marks, which rise
 abbrev pub LateWorkersChangeNothing : Type 0
 LateWorkersChangeNothing =
     (job : JobData) (layout : LayoutData) (past : Record) (worker : Walking) (words : List ℕ) →
     Stands job layout words → Fits job layout worker → Knows job layout past worker →
     Backed job layout past words → phase_now worker.now ≤ root layout words →
     (word : Word) → IsWord layout word → word ≢ Position worker.number →
+    IsFixed layout.form word →
     held layout (words_after words (ask_of job layout worker)) word ≡ held layout words word
 
 -- the worker with the answer fits and is known, and what else was known is

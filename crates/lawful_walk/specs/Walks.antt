@@ -14,7 +14,7 @@ use Rattle.walkx.specs.Walk.{Walking, ask_of}
 use Rattle.walkx.specs.Records.{Record, after}
 use Rattle.pram_step.specs.declared.answer.Fault.{Fault}
 use Rattle.lawful_walk.specs.Board.{held, root}
-use Rattle.lawful_walk.specs.Moments.{Backed, Keeps}
+use Rattle.lawful_walk.specs.Moments.{Backed, IsFixed, Keeps}
 use Rattle.lawful_walk.specs.Seen.{Heard, Shows, KnowsStep, HeardThen}
 
 -- the phase that it is in, or 0, which is over for all words
@@ -24,12 +24,12 @@ phase_now (doing.Part phase rank) = phase
 phase_now _ = 0
 
 -- A step that keeps the words. Where the phase is over, no word but the worker's position
--- changes: phase 0 for a script of loads.
+-- changes, in the wide form none but that and marks, which rise: phase 0 for a script of loads.
 pub record Goes (job : JobData) (layout : LayoutData) (worker phase : ℕ) (op : Op)
     (words : List ℕ) : Type 0 where
   pub keeps : Keeps job layout op words
   pub stale : phase ≤ root layout words →
-      (word : Word) → IsWord layout word → word ≢ Position worker →
+      (word : Word) → IsWord layout word → word ≢ Position worker → IsFixed layout.form word →
       held layout (words_after words op) word ≡ held layout words word
 
 -- Its next operation goes well, and the words that it leaves bear out the record with it.

@@ -16,9 +16,9 @@ use Rattle.walkx.specs.declared.operation.Op.TheVariants.{Store, Max, Swap}
 use Rattle.walkx.specs.Operations.{words_after}
 use Rattle.walkx.specs.Tasks.{claim_of}
 use Rattle.walkx.specs.Counters.{worth}
-use Rattle.lawful_walk.specs.Board.{held, root, stamp_at, IsLate, LeafDone}
+use Rattle.lawful_walk.specs.Board.{held, leaf_of, root, stamp_at, IsLate, LeafDone, StoresNone}
 use Rattle.lawful_walk.specs.Lands.{Lands, phase_claimed, phase_written}
-use Rattle.lawful_walk.specs.Moments.{Keeps}
+use Rattle.lawful_walk.specs.Moments.{IsFixed, Keeps}
 
 -- Of a place whose two words were heard: the newer one stands for the value after t steps, and the
 -- older one as heard still stands, or the place was written in step t + 1 or later.
@@ -53,8 +53,29 @@ pub record MovesPosition (job : JobData) (layout : LayoutData) (worker node : �
       held layout (words_after words (Store (number_of layout (Position worker)) node)) word
       ≡ held layout words word
 
--- A part of a request, in the compact form; a node whose children are finished; a leaf whose
--- processors' work is done; a place, by a write that gets a word and wins, in its phase; the step,
+-- What a turn of the phase marks a node with: the phase, or in the wide form a later one.
+pub record IsMark (layout : LayoutData) (phase mark : ℕ) : Type 0 where
+  pub low : phase ≤ mark
+  pub is_phase : IsTrue (has_phase layout.form mark)
+  pub compact : layout.form ≡ Compact → mark ≡ phase
+
+-- The mark keeps the words; where the phase is over, it changes no word, in the wide form no other
+-- one.
+pub record Marks (job : JobData) (layout : LayoutData) (phase node mark : ℕ)
+    (words : List ℕ) : Type 0 where
+  pub keeps : Keeps job layout (Max (number_of layout (Node node)) mark) words
+  pub still : phase ≤ root layout words → (word : Word) → IsWord layout word →
+      IsFixed layout.form word →
+      held layout (words_after words (Max (number_of layout (Node node)) mark)) word
+      ≡ held layout words word
+
+-- the processors of a leaf write no cell in the step after t steps
+abbrev pub LeafRests : JobData → LayoutData → ℕ → ℕ → Type 0
+LeafRests job layout t node =
+    (i : ℕ) → i < layout.procs → leaf_of layout i ≡ node → StoresNone job t i
+
+-- A part of a request, in the compact form; a node whose children are marked so, or more; a leaf
+-- whose processors' work is done, up to the phase, or the step where none of them stores; a place, by a write that gets a word and wins, in its phase; the step,
 -- as a conflict, in its last phase; the claim of a cell that is written, in its phase; a worker's
 -- position, as a node.
 pub record MayWrite (job : JobData) (layout : LayoutData)
@@ -63,13 +84,13 @@ pub record MayWrite (job : JobData) (layout : LayoutData)
       (i j : ℕ) → i < layout.procs → j < 3 → kind_at phase ≡ Compute →
       Does job layout phase
       (Max (number_of layout (Asked i j)) (stamped_word (suc t) (part_after job t i j))) words
-  pub inner : (node : ℕ) →
-      1 ≤ node → node < layout.leaves → phase ≤ held layout words (Node (2 * node)) →
-      phase ≤ held layout words (Node (2 * node + 1)) →
-      Does job layout phase (Max (number_of layout (Node node)) phase) words
-  pub leaf : (node : ℕ) → layout.leaves ≤ node → node < 2 * layout.leaves →
+  pub inner : (node mark : ℕ) → 1 ≤ node → node < layout.leaves → IsMark layout phase mark →
+      mark ≤ held layout words (Node (2 * node)) → mark ≤ held layout words (Node (2 * node + 1)) →
+      Marks job layout phase node mark words
+  pub leaf : (node mark : ℕ) → layout.leaves ≤ node → node < 2 * layout.leaves →
+      IsMark layout phase mark → mark ≤ 3 * t + 3 →
       (root layout words < phase → LeafDone job layout t (kind_at phase) node words) →
-      Does job layout phase (Max (number_of layout (Node node)) phase) words
+      (phase < mark → LeafRests job layout t node) → Marks job layout phase node mark words
   pub place : (place i value first second : ℕ) →
       phase ≡ phase_written layout.form job place t → Lands layout.form job t place i value →
       Wins job t place i → PlaceAsHeard job layout t place first second words →

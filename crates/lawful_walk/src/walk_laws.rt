@@ -14,7 +14,8 @@ pub fn worker_keeps_words_lawful()
     ensures { WorkersKeepWordsLawful }
 {}
 
-/// A late worker, whose phase is at most the root, changes no word but its own position.
+/// A late worker, whose phase is at most the root, changes no word but its own position, and in the
+/// wide form marks, which rise.
 #[tactic(auto, using(crate::proofs::Staying::late_changes_nothing))]
 pub fn late_worker_changes_nothing()
     ensures { LateWorkersChangeNothing }

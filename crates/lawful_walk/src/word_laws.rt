@@ -16,7 +16,7 @@ pub fn start_words_are_lawful()
 {}
 
 /// What a worker writes while the words stand leaves words that stand and have grown. Where its
-/// phase is over it changes none but its own position.
+/// phase is over it changes none but its own position, and in the wide form marks, which rise.
 #[tactic(auto, using(crate::proofs::Effects::writes_keep))]
 pub fn writes_keep_words_lawful()
     ensures { WritesKeepWordsLawful }

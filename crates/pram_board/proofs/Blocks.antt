@@ -17,11 +17,11 @@ use Rattle.walkx.specs.Passes.{wide_task_of}
 use Rattle.walkx.specs.Passing.{Passes, idle}
 use Rattle.walkx.specs.Rests.{block_of, has_worked, leads}
 use Rattle.walkx.specs.Scripts.{Script, asks, ends, first_op, rest, rest_after}
-use Rattle.walkx.specs.Walk.{IsWide, Then, Walking, goes_in, has_rank, if_ended, marks_node}
+use Rattle.walkx.specs.Walk.{IsWide, Then, Walking, block_mark, goes_in, has_rank, if_ended}
 use Rattle.walkx.specs.Walk.{passes_over, processor_at, script_of, stands_in, turns, worked}
 use Rattle.walkx.proofs.Firsts.{rank_parts, rank_there}
 use Rattle.walkx.proofs.Idling.{Alike, asks_first, comes_at_once, task_alike}
-use Rattle.walkx.proofs.Memories.{memo_again, memo_other}
+use Rattle.walkx.proofs.Memories.{memo_other}
 use Rattle.walkx.proofs.PassingOver.{alone}
 use Rattle.walkx.proofs.Stepping.{goes_past, none_left, stops_here}
 use Rattle.walkx.proofs.Turning.{wide_does}
@@ -152,11 +152,6 @@ module _ (at : PostData) (leaf : IsLeafPost at) (wide : IsWide at.layout.form)
           };
         }
 
-    -- where nothing new is known, memory stays
-    pub on_at_once : idle at memo ≡ Some memo →
-        Moved (task_at at) p here p (in_block at (suc at.rank) memory)
-    on_at_once some = on memo some memory (memo_again memory (processor_of at))
-
   -- what follows the task
   abbrev pub after_task : Option Memo → Memo → Script Then
   after_task None = λ m. ends (has_worked at m)
@@ -251,17 +246,21 @@ one_end op r e answers is = elim (comes answers) [
       | inr is ↦ inr (ap (λ (s : Script Then). rest_after s found) is)
     ]
 
+-- its mark
+abbrev pub marks_block : PostData → List Memo → Script Then
+marks_block at memory = then_marks at (block_mark at.layout at.node at.phase memory)
+
 module _ (at : PostData) (rank : ℕ) (memory : List Memo) (wide : IsWide at.layout.form)
     (last : has_rank at.layout at.node rank ≡ false) where
   at_end : in_block at rank memory ≡ stands_in at.worker at.node at.phase (rank, memory)
   at_end = ap (stands_in at.worker at.node at.phase)
       (none_left at.job at.layout at.node at.phase rank memory wide (grain at.layout) last)
 
-  mark_script : script_of at.job at.layout (in_block at rank memory) ≡ then_marks at
+  mark_script : script_of at.job at.layout (in_block at rank memory) ≡ marks_block at memory
   mark_script = ap (script_of at.job at.layout) at_end ∙ rw last refl
 
   pub mark_starts : (p : Driving) → IsWalking (task_at at) p (in_block at rank memory) →
-      Drives (task_at at) (p, then_marks at) p (then_marks at)
+      Drives (task_at at) (p, marks_block at memory) p (marks_block at memory)
   mark_starts p walks =
       subst (λ (s : Script Then). Drives (task_at at) (p, s) p s) mark_script
       (driver_starts (task_at at) p (in_block at rank memory) walks refl tt)
@@ -269,20 +268,22 @@ module _ (at : PostData) (rank : ℕ) (memory : List Memo) (wide : IsWide at.lay
   pub mark_leads : (p z : Driving) (turned : Turned) →
       IsWalking (task_at at) p (in_block at rank memory) →
       Sound at.job at.layout z.seat.record_of →
-      Drives (task_at at) (p, then_marks at) z (ends (leads at turned)) →
+      Drives (task_at at) (p, marks_block at memory) z (ends (leads at turned)) →
       Led (task_at at) p (in_block at rank memory) z (turning_at at memory)
   mark_leads p z turned walks sound drives =
       let w = stands_in at.worker at.node at.phase (rank, memory) in
       let end = turns at.node at.phase in
-      let script : script_of at.job at.layout w ≡ then_marks at = rw last refl in
+      let script : script_of at.job at.layout w ≡ marks_block at memory = rw last refl in
       let walks_there = subst (λ (v : Walking). IsWalking (task_at at) p v) at_end walks in
       let is = one_end _ end (leads at turned) drives.plays.answers drives.plays.comes in
       let plays = subst (λ (s : Script Then). PlaysScript (task_at at) s p (ends end) z) (sym script)
-      (subst (λ (e : Then). PlaysScript (task_at at) (then_marks at) p (ends e) z) is drives.plays) in
+      (subst (λ (e : Then). PlaysScript (task_at at) (marks_block at memory) p (ends e) z) is
+      drives.plays) in
       subst (λ (v : Walking). Led (task_at at) p v z (turning_at at memory)) (sym at_end)
       (led (task_at at) w p z end (turning_at at memory) refl tt drives.here walks_there.fits
       walks_there.knows sound (λ e. absurd
-      (let asks_one : then_marks at ≡ ends end = sym script ∙ e in cc)) (λ found earlier. refl) plays)
+      (let asks_one : marks_block at memory ≡ ends end = sym script ∙ e in cc))
+      (λ found earlier. refl) plays)
 
 -- what a task that asks nothing leaves as it was, seen from outside
 pub passes_driving : {D : Type 0} (o : Option Memo) (learned : Memo) (seen : D → Driving)

@@ -15,4 +15,3 @@ pub mod Blocks
 pub mod Working
 pub mod Remembering
 pub mod Tasks
-pub mod Quiet

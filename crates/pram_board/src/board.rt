@@ -41,6 +41,7 @@ impl Board {
     ghost use Rattle.pram_words.specs.Words.{IsGrain, grain_for};
     ghost use Rattle.pram_words.specs.declared.layout.Form.TheVariants.{Compact, Wide};
     ghost use Rattle.walkx.specs.Walk.{IsBoard, IsLayoutOf};
+    ghost use Rattle.walkx.specs.declared.operation.Op.TheVariants.{Load, Swap};
     ghost use Rattle.lawful_walk.specs.Moments.{Sound};
     ghost use Rattle.pram_board.specs.Rules.{May};
     ghost use Rattle.pram_board.specs.Seats.{HasLoaded, IsOpened, Remembers, hears, unites};
@@ -156,7 +157,31 @@ impl Board {
         &self.task
     }
 
-    // One atomic step, and its answer. It is the only call that touches the words.
+    // A load, and what it found.
+    #[inline(always)]
+    pub(crate) fn load(&self, seat: &mut Seat, word: u32) -> u64
+        requires desk { seat.old.desk ≡ self.now }
+        requires allowed { May self.now.task seat.old.record_of (Load word) }
+        ensures grows { seat.new ≡ hears seat.old (Load word) result }
+        ensures sound { Sound self.now.task.job self.now.task.layout seat.new.record_of }
+    {
+        let shared = &self.table.shared;
+        shared.load::<Loads>(&mut seat.seat, word as usize)
+    }
+
+    // A swap, and what it found.
+    #[inline(always)]
+    pub(crate) fn swap(&self, seat: &mut Seat, word: u32, old: u64, new: u64) -> u64
+        requires desk { seat.old.desk ≡ self.now }
+        requires allowed { May self.now.task seat.old.record_of (Swap word old new) }
+        ensures grows { seat.new ≡ hears seat.old (Swap word old new) result }
+        ensures sound { Sound self.now.task.job self.now.task.layout seat.new.record_of }
+    {
+        let shared = &self.table.shared;
+        shared.compare_exchange::<Swaps>(&mut seat.seat, word as usize, old, new)
+    }
+
+    // One atomic step, and its answer.
     #[inline(always)]
     pub(crate) fn step(&self, seat: &mut Seat, op: Op) -> u64
         requires desk { seat.old.desk ≡ self.now }

@@ -8,6 +8,7 @@ use crate::task::Task;
 use crate::work::Stay;
 use pram_job::{Instr, Place};
 use pram_words::Kind;
+use std::mem;
 use stop_plan::Gate;
 use walkx::turns::{Turned, mark, turn};
 use walkx::{Formed, Leaf, Memory, Op, Post, Stand, Steps, Stopped, Worker};
@@ -34,10 +35,21 @@ impl<'a, G: Gate> Steps for Driver<'a, G> {
     fn make(&mut self, op: Op) -> Result<u64, Stopped> {
         Ok(self.step(op))
     }
+
+    #[inline(always)]
+    fn load(&mut self, word: u32) -> Result<u64, Stopped> {
+        Ok(self.look(word))
+    }
+
+    #[inline(always)]
+    fn swap(&mut self, word: u32, old: u64, new: u64) -> Result<u64, Stopped> {
+        Ok(self.exchange(word, old, new))
+    }
 }
 
 impl<'a, G: Gate> Driver<'a, G> {
     ghost use Rattle.std.specs.Prelude.{◌≡◌, ◌<◌, ◌≤◌, ◌+◌, ◌%◌, ◌^◌, suc, None, false, true};
+    ghost use Rattle.walkx.specs.declared.operation.Op.TheVariants.{Load, Swap};
     ghost use Rattle.walkx.specs.Inner.Posts.{IsLeafPost};
     ghost use Rattle.pram_words.specs.Phases.{kind_at};
     ghost use Rattle.walkx.specs.Memory.{FitsMemory};
@@ -93,6 +105,43 @@ impl<'a, G: Gate> Driver<'a, G> {
         let answer = self.board.step(self.seat, op);
         self.rest.hear(op, answer);
         answer
+    }
+
+    // The same, where it is a load.
+    #[inline(always)]
+    fn look(&mut self, word: u32) -> u64
+        requires desk { self.old.seat.now.desk ≡ self.old.board.now }
+        requires allowed { May self.old.board.now.task self.old.seat.now.record_of (Load word) }
+        ensures same { self.new.seat.ghost_name ≡ self.old.seat.ghost_name }
+        ensures board { self.new.board.now ≡ self.old.board.now }
+        ensures grows { self.new.seat.now ≡ hears self.old.seat.now (Load word) result }
+        ensures count { self.new.made ≡ (self.old.made + 1) % 2 ^ 64 }
+        ensures sound { Sound self.old.board.now.task.job self.old.board.now.task.layout
+            self.new.seat.now.record_of }
+    {
+        let made = self.made;
+        self.gate.pass(self.worker, made);
+        self.made = made.wrapping_add(1);
+        self.board.load(self.seat, word)
+    }
+
+    // The same, where it is a swap.
+    #[inline(always)]
+    fn exchange(&mut self, word: u32, old: u64, new: u64) -> u64
+        requires desk { self.old.seat.now.desk ≡ self.old.board.now }
+        requires allowed { May self.old.board.now.task self.old.seat.now.record_of
+            (Swap word old new) }
+        ensures same { self.new.seat.ghost_name ≡ self.old.seat.ghost_name }
+        ensures board { self.new.board.now ≡ self.old.board.now }
+        ensures grows { self.new.seat.now ≡ hears self.old.seat.now (Swap word old new) result }
+        ensures count { self.new.made ≡ (self.old.made + 1) % 2 ^ 64 }
+        ensures sound { Sound self.old.board.now.task.job self.old.board.now.task.layout
+            self.new.seat.now.record_of }
+    {
+        let made = self.made;
+        self.gate.pass(self.worker, made);
+        self.made = made.wrapping_add(1);
+        self.board.swap(self.seat, word, old, new)
     }
 
     /// The seat has done what the driver did.
@@ -272,12 +321,7 @@ impl<'a, G: Gate> Driver<'a, G> {
     {
         match leaf.kind() {
             Kind::Compute => self.first_tasks(leaf, len, memory),
-            _ => {
-                if memory.rests(&leaf, len) {
-                    return;
-                }
-                self.other_tasks(leaf, len, memory)
-            }
+            _ => self.other_tasks(leaf, len, memory),
         }
     }
 
@@ -319,7 +363,9 @@ impl<'a, G: Gate> Driver<'a, G> {
             made: self.made,
             rest: self.rest,
         };
-        driver.parts(leaf, len, memory);
+        let mut own = mem::replace(memory, Memory::none());
+        driver.parts(leaf, len, &mut own);
+        *memory = own;
         self.made = driver.made;
         self.rest = driver.rest;
         driver.end();
@@ -435,7 +481,8 @@ impl<'a, G: Gate> Driver<'a, G> {
         }
     }
 
-    // The same by a driver of its own.
+    // The same by a driver of its own, and a memory of its own: so what the loop uses is in
+    // registers.
     #[inline(never)]
     fn run<F: Fn() -> Instr>(
         &mut self,
@@ -460,7 +507,9 @@ impl<'a, G: Gate> Driver<'a, G> {
             rest: self.rest,
         };
         let instr = (by.form)();
-        let last = driver.run_on(leaf, len, memory, by.stand.counter, &instr);
+        let mut own = mem::replace(memory, Memory::none());
+        let last = driver.run_on(leaf, len, &mut own, by.stand.counter, &instr);
+        *memory = own;
         self.made = driver.made;
         self.rest = driver.rest;
         driver.end();
@@ -551,7 +600,9 @@ impl<'a, G: Gate> Driver<'a, G> {
             made: self.made,
             rest: self.rest,
         };
-        driver.part(&leaf.again(), memory);
+        let mut own = mem::replace(memory, Memory::none());
+        driver.part(&leaf.again(), &mut own);
+        *memory = own;
         self.made = driver.made;
         self.rest = driver.rest;
         driver.end();
@@ -571,7 +622,7 @@ impl<'a, G: Gate> Driver<'a, G> {
         }
     }
 
-    // The leaf is marked, after its last processor.
+    // The leaf is marked, after its last processor, as its processors are known.
     #[inline(always)]
     fn mark(&mut self, post: &Post, rank: u32, memory: &Memory)
         requires last { has_rank post.now.layout post.now.node rank ≡ false }
@@ -581,7 +632,8 @@ impl<'a, G: Gate> Driver<'a, G> {
         ensures led { Led (task_at post.now) (driving self.old) (in_block post.now rank memory.now)
             (driving self.new) (turning_at post.now memory.now) }
     {
-        match mark(self, post) {
+        let to = memory.mark(post);
+        match mark(self, post, to) {
             Ok(turned) => {
                 self.rest.mark(self.board.task().layout.leaves(), turned);
                 self.seat.facts();

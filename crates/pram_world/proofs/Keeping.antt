@@ -14,6 +14,7 @@ use Rattle.walkx.specs.Operations.{answer}
 use Rattle.walkx.specs.Records.{Record, empty, after, Knows}
 use Rattle.walkx.specs.Walk.{Walking, ask_of, told, started, come_back}
 use Rattle.lawful_walk.specs.Board.{held, root}
+use Rattle.lawful_walk.specs.Moments.{IsFixed}
 use Rattle.lawful_walk.specs.Walks.{phase_now}
 use Rattle.lawful_walk.proofs.Starting.{starts_stand}
 use Rattle.pram_world.specs.declared.event.Event.{Event}
@@ -234,16 +235,16 @@ run_more s (x ∷ es) e = run_more (happens s x) es e
 
 stale_step : (s : WorldData) (b : ℕ) (o : Option Body) → slice_get s.bodies b ≡ o →
     Held s → (w : Walking) → o ≡ Some (walks w) → phase_now w.now ≤ root s.layout s.words →
-    (a : Word) → IsWord s.layout a → a ≢ Position w.number →
+    (a : Word) → IsWord s.layout a → a ≢ Position w.number → IsFixed s.layout.form a →
     held s.layout (went s b o).words a ≡ held s.layout s.words a
-stale_step s b None is h w e behind a word apart = refl
-stale_step s b (Some (stopped n)) is h w e behind a word apart = refl
-stale_step s b (Some (walks v)) is h w e behind a word apart =
+stale_step s b None is h w e behind a word apart fixed = refl
+stale_step s b (Some (stopped n)) is h w e behind a word apart fixed = refl
+stale_step s b (Some (walks v)) is h w e behind a word apart fixed =
     let f : w ≡ v = cc in
     let k = (h.holds).known b v is in
     let m = moves s.job s.layout h.made v s.words (h.holds).stands (h.holds).backed k.0 k.1 in
     (m.goes).stale (subst (λ (x : Walking). phase_now x.now ≤ root s.layout s.words) f behind) a
-    word (subst (λ (x : Walking). a ≢ Position x.number) f apart)
+    word (subst (λ (x : Walking). a ≢ Position x.number) f apart) fixed
 
 replaced_words : (s : WorldData) (b : ℕ) (new : ℕ → Body) (o : Option Body) →
     (replaced s b new o).words ≡ s.words
@@ -252,8 +253,8 @@ replaced_words s b new (Some body) = refl
 
 pub stale_changes_nothing : (s : WorldData) (e : Event) → Held s →
     StaleChangesNothing s e (happens s e)
-stale_changes_nothing s (Go b) h = λ w is behind a word apart.
-    stale_step s b (slice_get s.bodies b) refl h w is behind a word apart
+stale_changes_nothing s (Go b) h = λ w is behind a word apart fixed.
+    stale_step s b (slice_get s.bodies b) refl h w is behind a word apart fixed
 stale_changes_nothing s (Stop b) h = replaced_words s b stopped (slice_get s.bodies b)
 stale_changes_nothing s (Back b) h =
     replaced_words s b (λ n. walks (come_back n)) (slice_get s.bodies b)

@@ -15,6 +15,7 @@ use Rattle.walkx.specs.declared.operation.Op.{Op}
 use Rattle.walkx.specs.declared.operation.Op.TheVariants.{Load, Store, Max, Swap, Over}
 use Rattle.walkx.specs.Operations.{words_after, answer}
 use Rattle.walkx.specs.Walk.{Walking, ask_of, told, end_of, started, come_back}
+use Rattle.lawful_walk.specs.Moments.{IsFixed}
 use Rattle.lawful_walk.specs.Board.{Stands, held, root}
 use Rattle.lawful_walk.specs.Walks.{phase_now}
 use Rattle.pram_world.specs.declared.event.Effect.{Effect}
@@ -147,12 +148,12 @@ abbrev pub going : WorldData → ℕ → Bool
 going world body = body_goes (slice_get world.bodies body)
 
 -- *A stale write changes no word*: where the phase of a body is at most the root, its step changes
--- no word but its own position.
+-- no word but its own position, and in the wide form marks, which rise.
 abbrev pub StaleChangesNothing : WorldData → Event → WorldData → Type 0
 StaleChangesNothing world (Go body) now = (walking : Walking) → Walks world body walking →
     phase_now walking.now ≤ root world.layout world.words → (word : Word) →
     IsWord world.layout word →
-    word ≢ Position walking.number →
+    word ≢ Position walking.number → IsFixed world.layout.form word →
     held world.layout now.words word ≡ held world.layout world.words word
 StaleChangesNothing world (Stop body) now = now.words ≡ world.words
 StaleChangesNothing world (Back body) now = now.words ≡ world.words

@@ -1,5 +1,5 @@
 -- What a worker that fits asks is on the board, and what it writes is admitted there.
-use Rattle.std.proofs.Common.{◌≡◌, ℕ, zero, suc, ◌+◌, ◌*◌, ◌/◌, ◌%◌, ◌<◌, ◌≤◌}
+use Rattle.std.proofs.Common.{◌≡◌, ℕ, ◌+◌, ◌*◌, ◌/◌, ◌%◌, ◌<◌, ◌≤◌}
 use Rattle.std.proofs.Common.{◌==◌, ◌&&◌, nat_le, IsTrue}
 use Rattle.std.proofs.Common.{List, [], ◌∷◌, ◌++◌}
 use Rattle.std.proofs.Common.{Some, refl, ap, inl, inr, lit<, arith}
@@ -24,12 +24,14 @@ use Rattle.walkx.specs.declared.memo.Memo.{Memo}
 use Rattle.walkx.specs.Memory.{FitsMemo, FitsMemory, at_start}
 use Rattle.walkx.proofs.Forms.{form_both}
 use Rattle.walkx.proofs.Memories.{start_fits}
-use Rattle.walkx.specs.Walk.{marks_node, stands_at, way_down, begin_script, turn_script}
-use Rattle.walkx.proofs.Boards.{admits}
+use Rattle.walkx.specs.Walk.{block_mark, empty_mark, inner_mark, marks_node}
+use Rattle.walkx.specs.Walk.{stands_at, way_down, begin_script, turn_script}
+use Rattle.walkx.proofs.Boards.{admits, in_range}
 use Rattle.walkx.proofs.Boards.{step_most}
 use Rattle.walkx.proofs.Ends.{way_inside}
 use Rattle.walkx.proofs.Firsts.{rank_parts}
 use Rattle.walkx.proofs.Nodes.{node_range}
+use Rattle.walkx.proofs.Marks.{IsMark, block_marks, empty_marks, inner_marks, phase_marks}
 use Rattle.walkx.proofs.Going.{Asks, asks_of, going_or_over, next_of}
 use Rattle.walkx.proofs.TaskAsking.{AllAsk, ends_of, load_of, max_of}
 use Rattle.walkx.proofs.WideAsking.{form_asks}
@@ -43,10 +45,11 @@ module _ (job : JobData) (y : LayoutData) (board : IsBoard job y) where
   abbrev InForm : ℕ → Type 0
   InForm q = IsTrue (has_phase y.form q)
 
-  marks_ask : (n q : ℕ) → 1 ≤ n → n < 2 * y.leaves → q ≤ 3 * job.steps → InForm q →
-      AllAsk job y (FitsThen job) (marks_node y n q)
-  marks_ask n q low high last formed =
-      max_of job y board (FitsThen job) (Node n) q _ (low, high) (last, formed) (ends_of job y board (FitsThen job) _ tt)
+  marks_ask : (n m q : ℕ) → 1 ≤ n → n < 2 * y.leaves → IsMark job.steps y q m →
+      AllAsk job y (FitsThen job) (marks_node y n m q)
+  marks_ask n m q low high is =
+      max_of job y board (FitsThen job) (Node n) m _ (low, high) (is.most, is.formed)
+      (ends_of job y board (FitsThen job) _ tt)
 
   stands_ask : (w n q : ℕ) → w < y.workers → 1 ≤ n → n < 2 * y.leaves →
       AllAsk job y (FitsThen job) (stands_at y w n q)
@@ -61,8 +64,9 @@ module _ (job : JobData) (y : LayoutData) (board : IsBoard job y) where
   part_asks n q rank memo low high last formed there fits =
       form_asks job y board (FitsThen job) y.form (kind_at q) (step_at q) (processor_at y n rank) memo
       (after_part y n q rank) (step_most job.steps q last) ((rank_parts y n rank there).1) fits
-      (λ m fit. form_both y.form (marks_node y n q) (ends (worked n q rank m))
-      (AllAsk job y (FitsThen job)) (marks_ask n q low high last formed)
+      (λ m fit. form_both y.form (marks_node y n q q) (ends (worked n q rank m))
+      (AllAsk job y (FitsThen job))
+      (marks_ask n q q low high (phase_marks job.steps y q last formed))
       (ends_of job y board (FitsThen job) (worked n q rank m) fit))
 
   pub block_asks : (n q rank : ℕ) (memory : List Memo) → 1 ≤ n → n < 2 * y.leaves →
@@ -71,13 +75,13 @@ module _ (job : JobData) (y : LayoutData) (board : IsBoard job y) where
   block_asks n q rank memory low high last formed fits =
       cond_both (has_rank y n rank) _ _ (AllAsk job y (FitsThen job))
       (λ e. part_asks n q rank _ low high last formed e (fits (processor_at y n rank)))
-      (λ e. marks_ask n q low high last formed)
+      (λ e. marks_ask n (block_mark y n q memory) q low high
+      (block_marks job.steps y n q memory last formed))
 
   turn_asks : (w n q : ℕ) → w < y.workers → 1 ≤ n → n < 2 * y.leaves → q ≤ 3 * job.steps →
       InForm q → AllAsk job y (FitsThen job) (turn_script job y w n q)
   unfolding turn_script
   turn_asks w n q worker low high last formed =
-      let marked = marks_ask n q low high last formed in
       load_of job y board (FitsThen job) (Node n) _ (low, high) (λ found ok.
       cond_both (nat_le q found) _ _ (AllAsk job y (FitsThen job))
       (λ e. cond_both (n == 1) _ _ (AllAsk job y (FitsThen job)) (λ g. ends_of job y board (FitsThen job) _ tt) (λ g.
@@ -86,11 +90,16 @@ module _ (job : JobData) (y : LayoutData) (board : IsBoard job y) where
       (λ g. cond_both (has_rank y n 0) _ _ (AllAsk job y (FitsThen job))
       (λ h. form_both y.form (part_script job y n q 0 at_start) (ends (enters n q))
       (AllAsk job y (FitsThen job)) (part_asks n q 0 at_start low high last formed h (start_fits job))
-      (ends_of job y board (FitsThen job) (enters n q) tt)) (λ h. marked))
+      (ends_of job y board (FitsThen job) (enters n q) tt))
+      (λ h. marks_ask n (empty_mark y q) q low high (empty_marks job.steps y q last formed)))
       (λ g. let l = leb-false y.leaves n g in
       load_of job y board (FitsThen job) (Node (2 * n)) _ (omega arith, omega arith)
-      (λ a ok. load_of job y board (FitsThen job) (Node (2 * n + 1)) _ (omega arith, omega arith) (λ b ok.
-      cond_both (nat_le q a && nat_le q b) _ _ (AllAsk job y (FitsThen job)) (λ h. marked) (λ h.
+      (λ a left. load_of job y board (FitsThen job) (Node (2 * n + 1)) _
+      (omega arith, omega arith) (λ b right.
+      cond_both (nat_le q a && nat_le q b) _ _ (AllAsk job y (FitsThen job))
+      (λ h. marks_ask n (inner_mark y q a b) q low high (inner_marks job.steps y q a b last formed
+      (in_range job y (Node (2 * n)) a board (omega arith, omega arith) left)
+      (in_range job y (Node (2 * n + 1)) b board (omega arith, omega arith) right) h)) (λ h.
       let to = way_inside y w n q a b low l in
       stands_ask w (way_down y w n q a b) q worker to.0 to.1))))))
 

@@ -15,7 +15,7 @@ use Rattle.walkx.specs.Doing as doing
 use Rattle.walkx.specs.Scripts.{asks, ends}
 use Rattle.walkx.specs.Walk.{begins, turns, enters, worked, after_part, block_script, has_rank}
 use Rattle.walkx.specs.Walk.{IsWide, leaf_script, marks_node, part_script, processor_at, stands_at}
-use Rattle.walkx.specs.Walk.{turn_script, way_down}
+use Rattle.walkx.specs.Walk.{block_mark, empty_mark, inner_mark, turn_script, way_down}
 use Rattle.walkx.specs.declared.memo.Memo.{Memo}
 use Rattle.walkx.specs.Memory.{at_start, memo_of}
 use Rattle.pram_words.specs.declared.layout.Form.TheVariants.{Compact}
@@ -23,6 +23,7 @@ use Rattle.walkx.proofs.BoundWeight.{count, low_of, later_weight, parts_left, ph
 use Rattle.walkx.proofs.BoundWeight.{turn_ops, turns_left}
 use Rattle.walkx.proofs.Forms.{form_both, form_cases, form_compact, form_wide_of}
 use Rattle.walkx.proofs.Firsts.{rank_parts}
+use Rattle.walkx.proofs.Marks.{block_marks, empty_marks, inner_least}
 use Rattle.walkx.proofs.BoundTurns.{Grown, marked_less, up_less, down_less, enters_less, next_less}
 use Rattle.walkx.proofs.BoundTurns.{last_less}
 use Rattle.walkx.proofs.BoundPasses.{compact_within, form_within}
@@ -60,16 +61,18 @@ next_to job y before history n q leaves done =
 
 -- ---- a node is marked
 
-marks_leads : (job : JobData) (y : LayoutData) (w : ℕ) (before : List (Op × ℕ)) (n q : ℕ) →
-    1 ≤ n → n < 2 * y.leaves → 1 ≤ q → q ≤ 3 * job.steps → Formed y q → low_of y before n < q →
-    LeadsOn job y w (To job y (turn_weight job y before n q)) before 1 (marks_node y n q)
-marks_leads job y w before n q some inside first last formed unmarked = λ history grown. (
+marks_leads : (job : JobData) (y : LayoutData) (w : ℕ) (before : List (Op × ℕ)) (n m q : ℕ) →
+    1 ≤ n → n < 2 * y.leaves → 1 ≤ q → q ≤ 3 * job.steps → Formed y q → q ≤ m →
+    low_of y before n < q →
+    LeadsOn job y w (To job y (turn_weight job y before n q)) before 1 (marks_node y n m q)
+marks_leads job y w before n m q some inside first last formed least unmarked = λ history grown. (
   omega arith,
   λ found may.
-      let longer = grown_more before history (Max (number_of y (Node n)) q) found grown in
-      let less = marked_less y before ((Max (number_of y (Node n)) q, found) ∷ history) q
-      n longer some inside unmarked (low_raised history (number_of y (Node n)) q found) in
-      turn_to job y before ((Max (number_of y (Node n)) q, found) ∷ history)
+      let longer = grown_more before history (Max (number_of y (Node n)) m) found grown in
+      let less = marked_less y before ((Max (number_of y (Node n)) m, found) ∷ history) q
+      n longer some inside unmarked
+      (le_trans least (low_raised history (number_of y (Node n)) m found)) in
+      turn_to job y before ((Max (number_of y (Node n)) m, found) ∷ history)
       n n q some inside first last formed less,
 )
 
@@ -78,14 +81,14 @@ marks_leads job y w before n q some inside first last formed unmarked = λ histo
 -- the task at one in the compact form, and its mark
 whole_leads : (job : JobData) (y : LayoutData) (w : ℕ) (before : List (Op × ℕ))
     (n q most : ℕ) → y.form ≡ Compact →
-    LeadsOn job y w (To job y most) before 1 (marks_node y n q) →
+    LeadsOn job y w (To job y most) before 1 (marks_node y n q q) →
     LeadsOn job y w (To job y most) before 12 (part_script job y n q 0 at_start)
 unfolding part_script
 whole_leads job y w before n q most compact marked =
     let is = leads_on_within job y w (To job y most) before in
     compact_within (LeadsOn job y w (To job y most) before) is y 1 y.form job.rule (kind_at q) job
     (step_at q) (processor_at y n 0) at_start (after_part y n q 0) compact
-    (rw (form_compact y.form (marks_node y n q) (ends (worked n q 0 at_start)) compact) marked)
+    (rw (form_compact y.form (marks_node y n q q) (ends (worked n q 0 at_start)) compact) marked)
 
 leaf_leads : (job : JobData) (y : LayoutData) (w : ℕ) (before : List (Op × ℕ)) (n q : ℕ) →
     1 ≤ n → y.leaves ≤ n → n < 2 * y.leaves → 1 ≤ q → q ≤ 3 * job.steps → Formed y q →
@@ -96,17 +99,20 @@ unfolding turn_weight later_weight
 leaf_leads job y w before n q some leaf inside first last formed unmarked =
     let to = To job y (turn_weight job y before n q) in
     let is = leads_on_within job y w to before in
-    let marked = marks_leads job y w before n q some inside first last formed unmarked in
+    let empty = empty_marks job.steps y q last formed in
     cond_both (has_rank y n 0) _ _ (λ script. LeadsOn job y w to before (turn_ops y - 1) script)
     (λ e. form_cases y.form (part_script job y n q 0 at_start) (ends (enters n q))
     (λ script. LeadsOn job y w to before (turn_ops y - 1) script)
     (λ compact. let ops : turn_ops y ≡ 16 = form_compact y.form 16 4 compact in
     is.more (turn_ops y - 1) 12 _ (omega arith)
-    (whole_leads job y w before n q (turn_weight job y before n q) compact marked))
+    (whole_leads job y w before n q (turn_weight job y before n q) compact
+    (marks_leads job y w before n q q some inside first last formed (omega arith) unmarked)))
     (λ wide history grown. entered job y before history n q grown some leaf inside first last
     formed unmarked wide))
-    (λ e. is.more (turn_ops y - 1) 1 (marks_node y n q)
-    (form_both y.form 16 4 (λ u. 1 ≤ u - 1) (omega arith) (omega arith)) marked)
+    (λ e. is.more (turn_ops y - 1) 1 (marks_node y n (empty_mark y q) q)
+    (form_both y.form 16 4 (λ u. 1 ≤ u - 1) (omega arith) (omega arith))
+    (marks_leads job y w before n (empty_mark y q) q some inside first last formed empty.least
+    unmarked))
   where
     entered : (job : JobData) (y : LayoutData) (before history : List (Op × ℕ)) (n q : ℕ) →
         Grown before history → 1 ≤ n → y.leaves ≤ n → n < 2 * y.leaves → 1 ≤ q →
@@ -142,15 +148,16 @@ block_leads job y w n q rank memory before at =
     (λ there. form_within (LeadsOn job y w to before) is y 0 y.form job.rule (kind_at q) job
     (step_at q) (processor_at y n rank) (memo_of memory (processor_at y n rank))
     (after_part y n q rank)
-    (λ m. rw (form_wide_of y.form (marks_node y n q) (ends (worked n q rank m)) at.wide)
+    (λ m. rw (form_wide_of y.form (marks_node y n q q) (ends (worked n q rank m)) at.wide)
     (λ history grown. done job y before history n q rank grown at there)) before
     (grown_self before))
-    (λ none. (
+    (λ none. let m = block_mark y n q memory in (
       omega arith,
       λ found may. marked job y before
-          ((Max (number_of y (Node n)) q, found) ∷ before) n q rank
-          (grown_more before before (Max (number_of y (Node n)) q) found (grown_self before)) at
-          (low_raised before (number_of y (Node n)) q found),
+          ((Max (number_of y (Node n)) m, found) ∷ before) n q rank
+          (grown_more before before (Max (number_of y (Node n)) m) found (grown_self before)) at
+          (le_trans ((block_marks job.steps y n q memory at.last at.formed).least)
+          (low_raised before (number_of y (Node n)) m found)),
     ))
   where
     done : (job : JobData) (y : LayoutData) (before history : List (Op × ℕ)) (n q rank : ℕ) →
@@ -246,13 +253,15 @@ inner_leads : (job : JobData) (y : LayoutData) (w : ℕ)
     1 ≤ n → n < y.leaves → 1 ≤ q → q ≤ 3 * job.steps → Formed y q → low_of y before n < q →
     low_of y before (2 * n) ≤ l → low_of y before (2 * n + 1) ≤ r →
     Leads job y w (To job y (turn_weight job y before n q))
-    (if nat_le q l && nat_le q r then marks_node y n q else stands_at y w (way_down y w n q l r) q)
-    (turn_ops y - 3) history
+    (if nat_le q l && nat_le q r then marks_node y n (inner_mark y q l r) q
+    else stands_at y w (way_down y w n q l r) q) (turn_ops y - 3) history
 inner_leads job y w before history n q l r grown some inner first last formed unmarked left right =
     let to = To job y (turn_weight job y before n q) in
     cond_both (nat_le q l && nat_le q r) _ _ (λ script. Leads job y w to script (turn_ops y - 3) history)
-    (λ e. leads_more job y w to (marks_node y n q) (turn_ops y - 3) 1 history (ops_some y)
-    (marks_leads job y w before n q some (omega arith) first last formed unmarked history grown))
+    (λ e. let m = inner_mark y q l r in
+    leads_more job y w to (marks_node y n m q) (turn_ops y - 3) 1 history (ops_some y)
+    (marks_leads job y w before n m q some (omega arith) first last formed
+    (inner_least y q l r e) unmarked history grown))
     (λ e. down_leads job y w before history n q l r (way_down y w n q l r) (turn_ops y - 3) grown
     some inner first last formed left right (way_down_is y w n q l r e) (ops_some y))
 
@@ -264,8 +273,8 @@ unfinished_leads : (job : JobData) (y : LayoutData)
     (if nat_le y.leaves n then leaf_script job y n q
     else asks (Load (number_of y (Node (2 * n))))
     (λ l. asks (Load (number_of y (Node (2 * n + 1)))) (λ r.
-    if nat_le q l && nat_le q r then marks_node y n q else stands_at y w (way_down y w n q l r) q)))
-    (turn_ops y - 1) history
+    if nat_le q l && nat_le q r then marks_node y n (inner_mark y q l r) q
+    else stands_at y w (way_down y w n q l r) q))) (turn_ops y - 1) history
 unfinished_leads job y w before history n q grown some inside first last formed unmarked =
     let to = To job y (turn_weight job y before n q) in
     let ops = ops_some y in

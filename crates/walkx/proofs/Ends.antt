@@ -1,5 +1,5 @@
 -- What the scripts end with, and what was heard in them.
-use Rattle.std.proofs.Common.{◌≡◌, ◌≢◌, ℕ, suc, IsTrue, ◌+◌, ◌*◌, ◌%◌, ◌<◌, ◌≤◌, ◌==◌, ◌&&◌}
+use Rattle.std.proofs.Common.{◌≡◌, ◌≢◌, ℕ, IsTrue, ◌+◌, ◌*◌, ◌%◌, ◌<◌, ◌≤◌, ◌==◌, ◌&&◌}
 use Rattle.std.proofs.Common.{nat_le, if◌then◌else◌, List, [], ◌∷◌, ◌++◌, refl, sym, ap, subst}
 use Rattle.std.proofs.Common.{arith, ◌∙◌}
 use Rattle.std.proofs.lemmas.Bool.{cond_both, eqb-true, eqb-false}
@@ -195,7 +195,7 @@ part_ends Q job y n q rank memo history compact wide =
     form_within (λ k script. (longer : List (Op × ℕ)) → AllEnds (λ r h. Q r) script longer)
     (ends_within (λ r h. Q r)) y 0 y.form job.rule
     (kind_at q) job (step_at q) (processor_at y n rank) memo (after_part y n q rank)
-    (λ m longer. form_cases y.form (marks_node y n q) (ends (worked n q rank m))
+    (λ m longer. form_cases y.form (marks_node y n q q) (ends (worked n q rank m))
     (λ s. AllEnds (λ r h. Q r) s longer) (λ is. λ found. compact is) (λ is. wide is m)) history
 
 abbrev pub TurnEnds : LayoutData → ℕ → ℕ → List (Op × ℕ) → Script Then → Type 0

@@ -1,23 +1,16 @@
 -- A task of the compact form asks for something, and what a rank in a block says.
-use Rattle.std.proofs.Common.{◌≡◌, ℕ, ◌%◌, ◌<◌, ◌==◌, nat_lt, IsTrue, true, Some, refl, inl, inr}
-use Rattle.std.proofs.Common.{arith}
-use Rattle.std.specs.Prelude.{not}
-use Rattle.std.proofs.lemmas.Bool.{cases_Bool, cases_eq, eq-eqb, lt-ltb, ltb-true, ne_eqb}
+use Rattle.std.proofs.Common.{◌≡◌, ℕ, ◌<◌, nat_lt, IsTrue, true, Some, refl, inl, inr}
+use Rattle.std.proofs.lemmas.Bool.{cases_Bool, lt-ltb, ltb-true}
 use Rattle.pram_job.specs.Job.{JobData}
 use Rattle.pram_job.specs.declared.instr.Rule.{Rule}
 use Rattle.pram_job.specs.declared.instr.Rule.TheVariants.{Common, Priority, Crew}
 use Rattle.pram_words.specs.declared.phases.Kind.{Kind}
 use Rattle.pram_words.specs.declared.phases.Kind.TheVariants.{Compute, Apply, Verify}
-use Rattle.pram_words.specs.declared.layout.Form.{Form}
-use Rattle.pram_words.specs.declared.layout.Form.TheVariants.{Compact, Wide}
-use Rattle.pram_words.specs.Phases.{step_at, kind_at, has_phase}
 use Rattle.pram_words.specs.Words.{LayoutData, grain}
 use Rattle.walkx.specs.declared.operation.Op.{Op}
 use Rattle.walkx.specs.Scripts.{Script, first_op}
 use Rattle.walkx.specs.Tasks.{compute_task, apply_task, verify_task, claim_task}
 use Rattle.walkx.specs.Tasks.{priority_apply_task, crew_apply_task, crew_verify_task, task_of}
-use Rattle.walkx.specs.Passes.{own_task, own_claim_task, carry_task, crew_carry_task}
-use Rattle.walkx.specs.Passes.{priority_carry_task, wide_task_of, task_in}
 use Rattle.walkx.specs.Walk.{Then, has_rank, marks_node, processor_at}
 
 pub task_first : (rule : Rule) (kind : Kind) (job : JobData) (y : LayoutData) (t i : ℕ)
@@ -34,9 +27,9 @@ task_first Crew Compute job y t i after = (_, refl)
 task_first Crew Apply job y t i after = (_, refl)
 task_first Crew Verify job y t i after = (_, refl)
 
-pub mark_first : (y : LayoutData) (n q : ℕ) →
-    (op : Op) × (first_op (marks_node y n q) ≡ Some op)
-mark_first y n q = (_, refl)
+pub mark_first : (y : LayoutData) (n m q : ℕ) →
+    (op : Op) × (first_op (marks_node y n m q) ≡ Some op)
+mark_first y n m q = (_, refl)
 
 pub rank_parts : (y : LayoutData) (n rank : ℕ) → IsTrue (has_rank y n rank) →
     (rank < grain y) × (processor_at y n rank < y.procs)

@@ -47,4 +47,4 @@ pub mod Memories
 pub mod Nodes
 pub mod PassingOver
 pub mod Loaded
-pub mod Quiet
+pub mod Marks

@@ -1,11 +1,11 @@
 -- Processors of a block that are passed over, and where the worker then stands.
 use Rattle.pram_words.specs.Forms.{by_form}
-use Rattle.std.proofs.Common.{◌≡◌, ℕ, zero, suc, ◌+◌, ◌-◌, ◌*◌, ◌<◌, ◌≤◌, IsTrue, true, false}
-use Rattle.std.proofs.Common.{List, Some, refl, sym, subst, ◌∙◌, inl, inr, arith, true≢false}
+use Rattle.std.proofs.Common.{◌≡◌, ℕ, zero, suc, ◌+◌, ◌*◌, ◌≤◌, IsTrue, true, false}
+use Rattle.std.proofs.Common.{List, Some, refl, sym, subst, inl, inr, arith}
 use Rattle.std.specs.Prelude.{slice_set}
 use Rattle.std.proofs.lemmas.Bool.{cases_Bool}
 use Rattle.pram_job.specs.Job.{JobData}
-use Rattle.pram_words.specs.Phases.{has_phase, kind_at, step_at}
+use Rattle.pram_words.specs.Phases.{kind_at, step_at}
 use Rattle.pram_words.specs.Words.{LayoutData, grain}
 use Rattle.pram_words.specs.declared.layout.Form.{Form}
 use Rattle.pram_words.specs.declared.layout.Form.TheVariants.{Compact, Wide}
@@ -14,8 +14,8 @@ use Rattle.walkx.specs.declared.operation.Op.{Op}
 use Rattle.walkx.specs.Memory.{FitsMemo, FitsMemory, memo_of}
 use Rattle.walkx.specs.Passes.{task_in}
 use Rattle.walkx.specs.Scripts.{Script, asks, ends, first_op}
-use Rattle.walkx.specs.Walk.{marks_node, Then, IsBoard, IsWide, block_script, has_rank, if_ended, part_script}
-use Rattle.walkx.specs.Walk.{after_part, passes_over, processor_at, task_at, worked}
+use Rattle.walkx.specs.Walk.{marks_node, IsBoard, IsWide, block_script, has_rank, if_ended, part_script}
+use Rattle.walkx.specs.Walk.{block_mark, passes_over, processor_at, task_at, worked}
 use Rattle.walkx.proofs.Boards.{step_most}
 use Rattle.walkx.proofs.Firsts.{mark_first, rank_parts}
 use Rattle.walkx.proofs.Idling.{Alike, asks_first, comes_at_once, task_alike}
@@ -38,7 +38,7 @@ part_alike job y n q rank memo wide = by y.form refl wide
     at f = Alike (λ m. ends (worked n q rank m))
         (task_in f job.rule (kind_at q) job y (step_at q) (processor_at y n rank) memo (λ m. ends m))
         (task_in f job.rule (kind_at q) job y (step_at q) (processor_at y n rank) memo
-        (λ m. by_form f (marks_node y n q) (ends (worked n q rank m))))
+        (λ m. by_form f (marks_node y n q q) (ends (worked n q rank m))))
 
     by : (f : Form) → y.form ≡ f → IsWide f → at y.form
     by Compact is w = absurd w
@@ -87,7 +87,7 @@ module _ (job : JobData) (y : LayoutData) (n q : ℕ) (wide : IsWide y.form) whe
   at_end rank memory most none = record {
     later = omega arith;
     within = most;
-    first = rw none (mark_first y n q);
+    first = rw none (mark_first y n (block_mark y n q memory) q);
   }
 
   past_none : (rank : ℕ) → grain y ≤ rank → has_rank y n rank ≡ false

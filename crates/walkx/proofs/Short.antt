@@ -14,6 +14,7 @@ use Rattle.walkx.specs.Scripts.{Script, asks, ends, rest_after, rest, first_op}
 use Rattle.walkx.specs.declared.memo.Memo.{Memo}
 use Rattle.walkx.specs.Memory.{at_start, memo_of}
 use Rattle.walkx.specs.Walk.{Then, IsWide, after_part, begin_script, block_script, enters, has_rank}
+use Rattle.walkx.specs.Walk.{block_mark, empty_mark, inner_mark}
 use Rattle.walkx.specs.Walk.{leaf_script, marks_node, part_script, processor_at, script_by}
 use Rattle.walkx.specs.Walk.{turn_script, worked}
 use Rattle.walkx.proofs.BoundPasses.{compact_within, form_within}
@@ -68,8 +69,8 @@ few_heard s k answers op short is = omega (
 
 -- ---- the scripts of a worker
 
-marks_short : (y : LayoutData) (n q k : ℕ) → 1 ≤ k → Short (marks_node y n q) k
-marks_short y n q k h = (h, λ found. tt)
+marks_short : (y : LayoutData) (n m q k : ℕ) → 1 ≤ k → Short (marks_node y n m q) k
+marks_short y n m q k h = (h, λ found. tt)
 
 -- in the compact form a task and the mark, in the wide form a task alone
 part_compact : (job : JobData) (y : LayoutData) (n q rank : ℕ) (memo : Memo) →
@@ -79,8 +80,8 @@ part_compact job y n q rank memo is =
     compact_within Within short_within y 1 y.form job.rule (kind_at q) job (step_at q)
     (processor_at y n rank) memo (after_part y n q rank) is
     (subst (λ (s : Script Then). Short s 1)
-    (sym (form_compact y.form (marks_node y n q) (ends (worked n q rank memo)) is))
-    (marks_short y n q 1 (omega arith)))
+    (sym (form_compact y.form (marks_node y n q q) (ends (worked n q rank memo)) is))
+    (marks_short y n q q 1 (omega arith)))
 
 part_wide : (job : JobData) (y : LayoutData) (n q rank : ℕ) (memo : Memo) →
     IsWide y.form → Short (part_script job y n q rank memo) 15
@@ -89,7 +90,7 @@ part_wide job y n q rank memo wide =
     form_within Within short_within y 0 y.form job.rule (kind_at q) job (step_at q)
     (processor_at y n rank) memo (after_part y n q rank) (λ m.
     subst (λ (s : Script Then). Short s 0)
-    (sym (form_wide_of y.form (marks_node y n q) (ends (worked n q rank m)) wide)) tt)
+    (sym (form_wide_of y.form (marks_node y n q q) (ends (worked n q rank m)) wide)) tt)
 
 part_short : (job : JobData) (y : LayoutData) (n q rank : ℕ) (memo : Memo) →
     Short (part_script job y n q rank memo) 15
@@ -103,13 +104,13 @@ block_short : (job : JobData) (y : LayoutData) (n q rank : ℕ) (memory : List M
     Short (block_script job y n q rank memory) 15
 block_short job y n q rank memory = cond_both (has_rank y n rank) _ _ (λ s. Short s 15)
     (λ _. part_short job y n q rank (memo_of memory (processor_at y n rank)))
-    (λ _. marks_short y n q 15 (omega arith))
+    (λ _. marks_short y n (block_mark y n q memory) q 15 (omega arith))
 
 leaf_short : (job : JobData) (y : LayoutData) (n q : ℕ) → Short (leaf_script job y n q) 12
 leaf_short job y n q = cond_both (has_rank y n 0) _ _ (λ s. Short s 12)
     (λ _. form_cases y.form (part_script job y n q 0 at_start) (ends (enters n q))
     (λ s. Short s 12) (λ e. part_compact job y n q 0 at_start e) (λ w. tt))
-    (λ _. marks_short y n q 12 (omega arith))
+    (λ _. marks_short y n (empty_mark y q) q 12 (omega arith))
 
 turn_short : (job : JobData) (y : LayoutData) (w n q : ℕ) → Short (turn_script job y w n q) 13
 unfolding turn_script
@@ -123,7 +124,7 @@ turn_short job y w n q = (
         λ l. (
           omega arith,
           λ r. cond_both (nat_le q l && nat_le q r) _ _ (λ s. Short s 10)
-              (λ _. marks_short y n q 10 (omega arith)) (λ _. (omega arith, λ stored. tt)),
+              (λ _. marks_short y n (inner_mark y q l r) q 10 (omega arith)) (λ _. (omega arith, λ stored. tt)),
         ),
       ))),
 )

@@ -1,5 +1,5 @@
 -- What a turn comes to, and a task in a block.
-use Rattle.std.proofs.Common.{◌≡◌, ◌≤◌, ℕ, Option, Some, None, ap, refl, sym, subst, ◌∙◌}
+use Rattle.std.proofs.Common.{◌≡◌, ℕ, Option, Some, None, ap, refl, sym, subst, ◌∙◌}
 use Rattle.pram_words.specs.declared.layout.Form.{Form}
 use Rattle.pram_words.specs.declared.layout.Form.TheVariants.{Compact, Wide}
 use Rattle.walkx.specs.declared.memo.Memo.{Memo}
@@ -21,11 +21,11 @@ pub part_first : (at : PostData) → at.rank ≡ 0 →
 part_first at first = rw first refl
 
 pub compact_does : (at : PostData) → at.layout.form ≡ Compact →
-    part_rest at at_start ≡ does_compact at (then_marks at)
+    part_rest at at_start ≡ does_compact at (then_marks at at.phase)
 unfolding part_script
 compact_does at is = in_compact at at_start (then_next at) at.layout.form is
     ∙ ap (does_compact at)
-    (form_compact at.layout.form (then_marks at) (ends (has_worked at at_start)) is)
+    (form_compact at.layout.form (then_marks at at.phase) (ends (has_worked at at_start)) is)
 
 -- a task in a block
 pub wide_does : (at : PostData) (memo : Memo) (late : Script Then) → IsWide at.layout.form →
@@ -56,6 +56,9 @@ node_is same = ap (λ (p : PostData). p.node) same
 
 pub form_is : {at other : PostData} → at ≡ other → other.layout.form ≡ at.layout.form
 form_is same = sym (ap (λ (p : PostData). p.layout.form) same)
+
+pub phase_is : {at other : PostData} → at ≡ other → at.phase ≡ other.phase
+phase_is same = ap (λ (p : PostData). p.phase) same
 
 pub rank_is : {at other : PostData} → at ≡ other → at.rank ≡ other.rank
 rank_is same = ap (λ (p : PostData). p.rank) same

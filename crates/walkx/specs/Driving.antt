@@ -1,8 +1,5 @@
 -- Where a driver stands in a script that it plays, and what each function of the walk promises.
 use Rattle.std.specs.Prelude.{ℕ, Option, Some, None, Result, Ok, Err, IfOk}
-use Rattle.pram_machine.specs.declared.requests.Request.{Request}
-use Rattle.pram_machine.specs.declared.turn.Turn.{Turn}
-use Rattle.pram_machine.specs.Turns.{request_of}
 use Rattle.walkx.specs.declared.memo.Memo.{Memo}
 use Rattle.walkx.specs.declared.operation.Op.{Op}
 use Rattle.walkx.specs.Scripts.{Script, asks, ends}
@@ -110,8 +107,3 @@ loads (Err why) memo = Err why
 abbrev pub learns_all : Result (Unit {0}) Stopped → Memo → Result Memo Stopped
 learns_all (Ok done) memo = Ok memo
 learns_all (Err why) memo = Err why
-
--- what a turn asks for
-abbrev pub asked_as : Result Turn Left → Result Request Left
-asked_as (Ok turn) = Ok (request_of turn)
-asked_as (Err why) = Err why

@@ -1,6 +1,7 @@
 -- What a worker of the wide form remembers of a processor: what its counter and its registers held
 -- after a step, and the store that it made in it.
 use Rattle.std.specs.Prelude.{◌≡◌, ℕ, zero, suc, ◌+◌, ◌-◌, ◌^◌, ◌<◌, ◌≤◌, nat_lt, if◌then◌else◌}
+use Rattle.std.specs.Prelude.{Bool, ◌&&◌, ◌==◌, is_none}
 use Rattle.std.specs.Prelude.{List, [], ◌∷◌, length, map, slice_get, slice_index, slice_set}
 use Rattle.std.specs.Prelude.{Option, Some, None, IfSome, unwrap_or, replicate}
 use Rattle.std.specs.List.{AllByRecursion}
@@ -27,6 +28,10 @@ blank procs = replicate procs at_start
 -- what is known of processor i
 abbrev pub memo_of : List Memo → ℕ → Memo
 memo_of memory i = unwrap_or (slice_get memory i) at_start
+
+-- it is known after this step, and made no store in it
+abbrev pub has_rested : ℕ → Memo → Bool
+has_rested t memo = (memo.step == t) && is_none memo.store
 
 -- its registers after a request
 abbrev pub registers_after : JobData → ℕ → List ℕ → Option (ℕ × ℕ) → List ℕ

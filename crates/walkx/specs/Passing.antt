@@ -1,16 +1,16 @@
 -- Processors of a block whose task asks nothing, by a post.
 use Rattle.std.specs.Prelude.{◌≡◌, ℕ, Bool, if◌then◌else◌, List, slice_set, Option, Some, None}
-use Rattle.std.specs.Prelude.{IfSome, Result, Ok, Err, true, false, slice_get, suc, ◌<◌, ◌≤◌, length}
+use Rattle.std.specs.Prelude.{IfSome, Result, Ok, Err, true, false, slice_get, zero, suc, ◌&&◌}
 use Rattle.std.specs.Fn.{AnyResult, Shared, always_fn}
 use Rattle.pram_job.specs.declared.instr.Instr.{Instr}
 use Rattle.pram_words.specs.Words.{grain}
 use Rattle.pram_words.specs.Phases.{kind_at}
 use Rattle.pram_words.specs.declared.phases.Kind.{Kind}
 use Rattle.walkx.specs.declared.memo.Memo.{Memo}
-use Rattle.walkx.specs.Inner.Posts.{PostData, at_rank, step_of, processor_of}
+use Rattle.walkx.specs.Inner.Posts.{PostData, step_of, processor_of}
 use Rattle.walkx.specs.declared.left.Stopped.{Stopped}
 use Rattle.walkx.specs.Driving.{Standing, goes, learns_all}
-use Rattle.walkx.specs.Memory.{memo_of}
+use Rattle.walkx.specs.Memory.{has_rested, memo_of}
 use Rattle.walkx.specs.Parts.{does_wide}
 use Rattle.walkx.specs.Passes.{wide_task_of}
 use Rattle.walkx.specs.Scripts.{Script, ends}
@@ -33,17 +33,11 @@ Passes idle old new memo = IfSome idle (λ known. (memo ≡ known) × (new ≡ o
 abbrev pub idle : PostData → Memo → Option Memo
 idle at memo = idle_in (kind_at at.phase) at memo
 
--- so it is with each processor of a block, from that of the post up to this rank, and nothing new is
--- known after it
-abbrev pub AllRest : PostData → ℕ → List Memo → Type 0
-AllRest at len memory = (rank : ℕ) → at.rank ≤ rank → rank < len →
-    idle (at_rank at rank) (memo_of memory (processor_of (at_rank at rank)))
-    ≡ Some (memo_of memory (processor_of (at_rank at rank)))
-
--- all are known after this step, and none stored in it
-abbrev pub NoneStored : List Memo → ℕ → Type 0
-NoneStored memos step = (k : ℕ) → k < length memos →
-    ((memo_of memos k).step ≡ step) × ((memo_of memos k).store ≡ None)
+-- so many processors, from this one on, are known after a step, and none stored in it
+abbrev pub all_rested : ℕ → ℕ → ℕ → List Memo → Bool
+all_rested zero t i memory = true
+all_rested (suc more) t i memory =
+    has_rested t (memo_of memory i) && all_rested more t (suc i) memory
 
 -- a task was done with what was remembered of its processor, and this is remembered now: it played
 -- its script, and where that asks nothing it made no step

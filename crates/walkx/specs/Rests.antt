@@ -17,7 +17,7 @@ use Rattle.walkx.specs.declared.memo.Memo.{Memo}
 use Rattle.walkx.specs.Memory.{at_start}
 use Rattle.walkx.specs.Walk.{Then, begins, turns, enters, worked, stops, back_script, begin_script}
 use Rattle.walkx.specs.Walk.{block_script, leaf_script, part_script, stands_at, turn_script}
-use Rattle.walkx.specs.Walk.{IsWide, way_down}
+use Rattle.walkx.specs.Walk.{IsWide, inner_mark, way_down}
 use Rattle.walkx.specs.Inner.Posts.{PostData, then_marks}
 
 abbrev pub moves : PostData → ℕ → Script Then
@@ -27,7 +27,9 @@ abbrev pub leaf_rest : PostData → Script Then
 leaf_rest at = leaf_script at.job at.layout at.node at.phase
 
 abbrev pub after_children : PostData → ℕ → ℕ → Script Then
-after_children at left right = if nat_le at.phase left && nat_le at.phase right then then_marks at
+after_children at left right =
+    if nat_le at.phase left && nat_le at.phase right
+    then then_marks at (inner_mark at.layout at.phase left right)
     else moves at (way_down at.layout at.worker at.node at.phase left right)
 
 abbrev pub inner_of : PostData → Script Then

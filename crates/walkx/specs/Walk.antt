@@ -1,6 +1,7 @@
 -- The walk: the scripts back, begin and turn, and a worker that goes through them.
 use Rattle.std.specs.Prelude.{◌≡◌, ℕ, ◌+◌, ◌-◌, ◌*◌, ◌/◌, ◌%◌, ◌<◌}
 use Rattle.std.specs.Prelude.{◌≤◌, ◌&&◌, ◌==◌, nat_le, nat_lt, if◌then◌else◌, List, [], ◌∷◌}
+use Rattle.std.specs.Prelude.{true, min}
 use Rattle.std.specs.Prelude.{zero, suc, Bool, IsTrue, ◌++◌, Option, Some, None, IfSome, unwrap_or}
 use Rattle.std.specs.Prelude.{slice_set}
 use Rattle.std.specs.List.{AllByRecursion}
@@ -21,7 +22,7 @@ use Rattle.pram_words.specs.Forms.{by_form}
 use Rattle.pram_words.specs.declared.layout.Form.{Form}
 use Rattle.pram_words.specs.declared.layout.Form.TheVariants.{Compact, Wide}
 use Rattle.walkx.specs.declared.memo.Memo.{Memo}
-use Rattle.walkx.specs.Memory.{FitsMemory, at_start, blank, memo_of}
+use Rattle.walkx.specs.Memory.{FitsMemory, at_start, blank, has_rested, memo_of}
 use Rattle.walkx.specs.Passes.{task_in}
 
 -- ---- the scripts
@@ -63,9 +64,21 @@ abbrev pub stands_at : LayoutData → ℕ → ℕ → ℕ → Script Then
 stands_at layout worker node phase =
     asks (Store (number_of layout (Position worker)) node) (λ stored. ends (turns node phase))
 
-abbrev pub marks_node : LayoutData → ℕ → ℕ → Script Then
-marks_node layout node phase =
-    asks (Max (number_of layout (Node node)) phase) (λ found. ends (turns node phase))
+abbrev pub marks_node : LayoutData → ℕ → ℕ → ℕ → Script Then
+marks_node layout node mark phase =
+    asks (Max (number_of layout (Node node)) mark) (λ found. ends (turns node phase))
+
+-- In the wide form a mark may be above the phase: an inner node's is the lesser one of its
+-- children's.
+abbrev pub inner_mark : LayoutData → ℕ → ℕ → ℕ → ℕ
+inner_mark layout phase left right = by_form layout.form phase (min left right)
+
+-- a leaf's without processors, the last phase of the step
+abbrev pub last_phase : ℕ → ℕ
+last_phase phase = 3 * step_at phase
+
+abbrev pub empty_mark : LayoutData → ℕ → ℕ
+empty_mark layout phase = by_form layout.form phase (last_phase phase)
 
 -- the processor of a rank in the block of leaf n, and whether there is one
 abbrev pub processor_at : LayoutData → ℕ → ℕ → ℕ
@@ -78,7 +91,7 @@ has_rank layout node rank =
 -- in the compact form a leaf has one processor, and is marked after its task
 abbrev pub after_part : LayoutData → ℕ → ℕ → ℕ → Memo → Script Then
 after_part layout node phase rank memo =
-    by_form layout.form (marks_node layout node phase) (ends (worked node phase rank memo))
+    by_form layout.form (marks_node layout node phase phase) (ends (worked node phase rank memo))
 
 -- the task of a processor of which the worker knows this
 abbrev pub task_at : {R : Type 0} → JobData → LayoutData → ℕ → ℕ → ℕ → Memo → (Memo → Script R) →
@@ -91,19 +104,34 @@ unfoldable pub part_script : JobData → LayoutData → ℕ → ℕ → ℕ → 
 part_script job layout node phase rank memo =
     task_at job layout node phase rank memo (after_part layout node phase rank)
 
+-- the processors of a block, from this rank on, are known after the step, and none stored in it
+abbrev pub none_stores : ℕ → LayoutData → ℕ → ℕ → ℕ → List Memo → Bool
+none_stores zero layout node t rank memory = true
+none_stores (suc more) layout node t rank memory =
+    if has_rank layout node rank
+    then has_rested t (memo_of memory (processor_at layout node rank))
+    && none_stores more layout node t (suc rank) memory
+    else true
+
+-- a block's mark: there is nothing to do in the step's last phase where none of it stores
+abbrev pub block_mark : LayoutData → ℕ → ℕ → List Memo → ℕ
+block_mark layout node phase memory =
+    if none_stores (grain layout) layout node (step_at phase) 0 memory then last_phase phase
+    else phase
+
 -- in a block: the task of the processor of this rank, or, after the last one's, the mark
 abbrev pub block_script : JobData → LayoutData → ℕ → ℕ → ℕ → List Memo → Script Then
 block_script job layout node phase rank memory =
     if has_rank layout node rank
     then part_script job layout node phase rank (memo_of memory (processor_at layout node rank))
-    else marks_node layout node phase
+    else marks_node layout node (block_mark layout node phase memory) phase
 
 -- the work at an unfinished leaf; the leaves after those of the processors have none
 abbrev pub leaf_script : JobData → LayoutData → ℕ → ℕ → Script Then
 leaf_script job layout node phase =
     if has_rank layout node 0
     then by_form layout.form (part_script job layout node phase 0 at_start)
-    (ends (enters node phase)) else marks_node layout node phase
+    (ends (enters node phase)) else marks_node layout node (empty_mark layout phase) phase
 
 -- A finished node is left upward, a leaf is worked at and marked, an inner node is marked or left
 -- downward.
@@ -114,7 +142,8 @@ turn_script job layout worker node phase = asks (Load (number_of layout (Node no
     else (if nat_le layout.leaves node then leaf_script job layout node phase
     else asks (Load (number_of layout (Node (2 * node)))) (λ left.
     asks (Load (number_of layout (Node (2 * node + 1)))) (λ right.
-    if nat_le phase left && nat_le phase right then marks_node layout node phase
+    if nat_le phase left && nat_le phase right
+    then marks_node layout node (inner_mark layout phase left right) phase
     else stands_at layout worker (way_down layout worker node phase left right) phase))))
 
 -- ---- a worker

@@ -1,19 +1,20 @@
 //! What a worker remembers.
 ghost use Rattle.std.specs.Prelude.{◌≡◌, ◌==◌, suc, List, slice_get, slice_set, IfOk, IfSome, []};
-ghost use Rattle.std.specs.Prelude.{IsTrue, Some, None, ◌≤◌};
+ghost use Rattle.std.specs.Prelude.{IsTrue, Some, None, ◌-◌, ◌*◌, ◌≤◌};
 ghost use Rattle.pram_machine.specs.Instructions.{goes_to};
 ghost use Rattle.pram_machine.specs.Turns.{request_of};
 ghost use Rattle.walkx.specs.declared.memo.Memo.{Memo};
 ghost use Rattle.walkx.specs.Driving.{IsNextPart};
 ghost use Rattle.pram_words.specs.Phases.{kind_at};
 ghost use Rattle.walkx.specs.Inner.Posts.{processor_of};
-ghost use Rattle.walkx.specs.Memory.{FitsMemo, at_start, blank, memo_of};
+ghost use Rattle.walkx.specs.Memory.{FitsMemo, at_start, blank, has_rested, memo_of};
 ghost use Rattle.walkx.specs.Parts.{does_wide};
-ghost use Rattle.walkx.specs.Passing.{AllRest, IsStand, NoneStored, StandsAt, TakesUp, TakesUpIf};
+ghost use Rattle.walkx.specs.Passing.{IsStand, StandsAt, TakesUp, TakesUpIf, all_rested};
+ghost use Rattle.walkx.specs.Walk.{block_mark};
 ghost use Rattle.walkx.specs.WideParts.{IsShaped, learned};
 
 use crate::left::Stopped;
-use crate::post::Leaf;
+use crate::post::{Leaf, Post};
 use crate::request::fetch;
 use crate::steps::Steps;
 use crate::tasks::{second_pass, wide_task};
@@ -64,6 +65,14 @@ impl Memo {
         ensures { result ≡ (suc self.now.step == t) }
     {
         u64::from(self.step) + 1 == u64::from(t)
+    }
+
+    /// It is known after this step, and made no store in it.
+    #[inline(always)]
+    pub(crate) fn has_rested(&self, t: u32) -> bool
+        ensures { result ≡ has_rested t self.now }
+    {
+        self.step == t && self.store.is_none()
     }
 
     /// What is known after a turn of the leaf's step.
@@ -228,23 +237,35 @@ impl Memory {
         Ok(false)
     }
 
-    /// Whether the tasks of a block's processors, from the leaf's up to this length, ask nothing in
-    /// the second pass: all are known after the step, and none stores.
+    /// The mark of a block at its end: the last phase of the step, where its processors are known
+    /// after it and none stored in it, else the phase.
     #[inline(always)]
-    pub fn rests(&self, leaf: &Leaf, len: u32) -> bool
-        requires { leaf.now.rank ≤ len }
-        ensures { IsTrue result → AllRest leaf.now len self.now }
+    pub fn mark(&self, post: &Post) -> u64
+        requires leaf { post.now.layout.leaves ≤ post.now.node }
+        requires phase { post.now.phase ≤ 3 * post.now.job.steps }
+        ensures { result ≡ block_mark post.now.layout post.now.node post.now.phase self.now }
     {
-        match (&self.memos, leaf.kind()) {
-            (Some(memos), Kind::Verify) => {
-                let first = leaf.processor() as usize;
-                let count = (len - leaf.rank()) as usize;
-                if memos.len() < first || memos.len() - first < count {
-                    return false;
-                }
-                none_stored(&memos.as_slice()[first..first + count], leaf.step())
-            }
-            _ => false,
+        let last = post.last_phase();
+        if post.phase == last {
+            return last;
+        }
+        let first = post.first_processor() as usize;
+        let end = first + post.block_len() as usize;
+        if none_stored(self.memos(), first, end, post.step()) {
+            last
+        } else {
+            post.phase
+        }
+    }
+
+    // What is known of each processor, from the first one on.
+    #[inline(always)]
+    fn memos(&self) -> &[Memo]
+        ensures { result.now ≡ self.now }
+    {
+        match &self.memos {
+            Some(memos) => memos.as_slice(),
+            None => &[],
         }
     }
 
@@ -312,15 +333,28 @@ impl Memory {
     }
 }
 
-// All are known after this step, and none stored in it.
+// The processors from the first one up to this one are known after this step, and none stored in
+// it.
 #[inline(never)]
-fn none_stored(memos: &[Memo], step: u32) -> bool
-    ensures { IsTrue result → NoneStored memos.now step }
+fn none_stored(memos: &[Memo], first: usize, end: usize, step: u32) -> bool
+    requires { first ≤ end }
+    ensures { result ≡ all_rested (end - first) step first memos.now }
 {
-    for memo in memos {
-        if memo.step != step || memo.store.is_some() {
+    for i in first..end {
+        if !has_rested(memos, i, step) {
             return false;
         }
     }
     true
+}
+
+// A processor is known after this step, and did not store in it.
+#[inline(always)]
+fn has_rested(memos: &[Memo], i: usize, step: u32) -> bool
+    ensures { result ≡ has_rested step (memo_of memos.now i) }
+{
+    match memos.get(i) {
+        Some(memo) => memo.has_rested(step),
+        None => Memo::at_start().has_rested(step),
+    }
 }

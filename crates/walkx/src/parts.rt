@@ -2,6 +2,7 @@
 ghost use Rattle.std.specs.Prelude.{◌≡◌, ℕ, ◌+◌, ◌^◌, ◌<◌, ◌≤◌, ◌==◌, IfOk};
 ghost use Rattle.pram_words.specs.Words.{most_asked, places_of};
 ghost use Rattle.walkx.specs.Driving.{IsNextPart, Plays};
+ghost use Rattle.walkx.specs.declared.operation.Op.TheVariants.{Swap};
 ghost use Rattle.walkx.specs.Inner.Posts.{IsPairAt};
 ghost use Rattle.walkx.specs.Parts.{both_of, hears_request, swap_of, writes};
 
@@ -40,8 +41,8 @@ pub(crate) fn hear_both<S: Steps>(
     requires next { IsNextPart (S.stands leaf.now) steps.old (both_of leaf.now place) }
     ensures plays { Plays (S.stands leaf.now) steps.old (both_of leaf.now place) steps.new result }
 {
-    let first = steps.make(Op::Load(word))?;
-    let second = steps.make(Op::Load(word + 1))?;
+    let first = steps.load(word)?;
+    let second = steps.load(word + 1)?;
     Ok((first, second))
 }
 
@@ -63,22 +64,30 @@ pub(crate) fn write_place<S: Steps>(
     if leaf.is_late(first, second) {
         return Ok(());
     }
-    steps.make(older_swap(leaf, word, value, first, second))?;
+    let (at, old, new) = older_swap(leaf, word, value, first, second);
+    steps.swap(at, old, new)?;
     Ok(())
 }
 
-/// The older of the two words is swapped for the value.
+/// How the older of the two words is swapped for the value: that word, what it held, and what it is
+/// to hold.
 #[inline(always)]
-pub(crate) fn older_swap(leaf: &Leaf, word: u32, value: u32, first: u64, second: u64) -> Op
+pub(crate) fn older_swap(
+    leaf: &Leaf,
+    word: u32,
+    value: u32,
+    first: u64,
+    second: u64,
+) -> (u32, u64, u64)
     requires { word + 1 < 2 ^ 32 }
     ensures { (place : ℕ) → IsPairAt leaf.now.layout place word →
-        result ≡ swap_of leaf.now place value first second }
+        Swap result.0 result.1 result.2 ≡ swap_of leaf.now place value first second }
 {
     let new = stamped(leaf.step(), value);
     if stamp(first) <= stamp(second) {
-        Op::Swap(word, first, new)
+        (word, first, new)
     } else {
-        Op::Swap(word + 1, second, new)
+        (word + 1, second, new)
     }
 }
 

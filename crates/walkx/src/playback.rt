@@ -41,6 +41,16 @@ impl<'a> Steps for Playback<'a> {
             Err(Stopped)
         }
     }
+
+    #[inline(always)]
+    fn load(&mut self, word: u32) -> Result<u64, Stopped> {
+        self.make(Op::Load(word))
+    }
+
+    #[inline(always)]
+    fn swap(&mut self, word: u32, old: u64, new: u64) -> Result<u64, Stopped> {
+        self.make(Op::Swap(word, old, new))
+    }
 }
 
 /// What the script of an activity comes to with these answers, or the operation that has none yet.

@@ -13,7 +13,7 @@ ghost use Rattle.walkx.specs.Inner.Posts.{processor_of, step_of};
 ghost use Rattle.walkx.specs.Tasks.{claim_of};
 ghost use Rattle.walkx.specs.Parts.{claim_loaded, claim_raised, differs_from, is_cell_part};
 ghost use Rattle.walkx.specs.Parts.{owner_place, report_made};
-ghost use Rattle.walkx.specs.Walk.{IsBoard, IsLayoutOf, IsWide, has_rank};
+ghost use Rattle.walkx.specs.Walk.{IsBoard, IsLayoutOf, IsWide, has_rank, last_phase, processor_at};
 
 use crate::operation::Op;
 use pram_job::{Job, Rule};
@@ -108,6 +108,35 @@ impl<'a> Post<'a> {
         ensures { result ≡ processor_of (at_rank self.now rank) }
     {
         self.layout.grain() * (self.node - self.layout.leaves()) + rank
+    }
+
+    /// The processor of the first rank, where there is one.
+    #[inline(always)]
+    pub(crate) fn first_processor(&self) -> u32
+        requires { self.now.layout.leaves ≤ self.now.node }
+        ensures { result ≡ processor_at self.now.layout self.now.node 0 }
+    {
+        self.limits_hold();
+        self.layout.grain() * (self.node - self.layout.leaves())
+    }
+
+    /// The step of the phase.
+    #[inline(always)]
+    pub(crate) fn step(&self) -> u32
+        requires { self.now.phase ≤ 3 * self.now.job.steps }
+        ensures { result ≡ step_of self.now }
+    {
+        self.limits_hold();
+        step_of(self.phase)
+    }
+
+    /// The last phase of that step.
+    #[inline(always)]
+    pub(crate) fn last_phase(&self) -> u64
+        requires { self.now.phase ≤ 3 * self.now.job.steps }
+        ensures { result ≡ last_phase self.now.phase }
+    {
+        3 * u64::from(self.step())
     }
 
     /// Says to a proof that the worker is on its board. It does nothing.

@@ -1,6 +1,7 @@
 //! What a walk is played by.
 ghost use Rattle.std.specs.Prelude.{◌≡◌};
 ghost use Rattle.walkx.specs.Inner.Posts.{PostData};
+ghost use Rattle.walkx.specs.declared.operation.Op.TheVariants.{Load, Swap};
 ghost use Rattle.walkx.specs.Driving.{IsNextPart, Makes, Standing, makes};
 
 use crate::left::Stopped;
@@ -16,4 +17,14 @@ pub trait Steps {
     fn make(&mut self, op: Op) -> Result<u64, Stopped>
         requires { (at : PostData) × IsNextPart (stands at) self.old (makes op) }
         ensures { Makes stands self.old op self.new result };
+
+    /// The same, where it is a load: what it found.
+    fn load(&mut self, word: u32) -> Result<u64, Stopped>
+        requires { (at : PostData) × IsNextPart (stands at) self.old (makes (Load word)) }
+        ensures { Makes stands self.old (Load word) self.new result };
+
+    /// The same, where it is a swap.
+    fn swap(&mut self, word: u32, old: u64, new: u64) -> Result<u64, Stopped>
+        requires { (at : PostData) × IsNextPart (stands at) self.old (makes (Swap word old new)) }
+        ensures { Makes stands self.old (Swap word old new) self.new result };
 }

@@ -5,7 +5,7 @@ ghost use Rattle.pram_words.specs.Words.{number_of};
 ghost use Rattle.pram_words.specs.declared.words.Word.TheVariants.{Node, Position};
 ghost use Rattle.walkx.specs.Inner.Posts.{IsLeafPost, IsPost, then_marks};
 ghost use Rattle.walkx.specs.Memory.{FitsMemo, at_start};
-ghost use Rattle.walkx.specs.Walk.{IsWide, has_rank, way_down};
+ghost use Rattle.walkx.specs.Walk.{IsWide, empty_mark, has_rank, inner_mark, way_down};
 ghost use Rattle.walkx.specs.Driving.{IsHere, Leads, Reaches, learns_all, settled_or_late};
 ghost use Rattle.walkx.specs.Rests.{entered, has_worked, inner_of, leads, leaves_up, moves};
 ghost use Rattle.walkx.specs.Rests.{part_rest, turn_of};
@@ -29,14 +29,14 @@ pub enum Turned {
     Enters,
 }
 
-/// The node is raised to the phase.
+/// The node is raised to this mark.
 #[inline(always)]
-pub fn mark<S: Steps>(steps: &mut S, post: &Post) -> Result<Turned, Stopped>
-    requires here { IsHere (S.stands post.now) steps.old (then_marks post.now) }
-    ensures reaches { Reaches (S.stands post.now) steps.old (then_marks post.now) (leads post.now)
-        steps.new result }
+pub fn mark<S: Steps>(steps: &mut S, post: &Post, mark: u64) -> Result<Turned, Stopped>
+    requires here { IsHere (S.stands post.now) steps.old (then_marks post.now mark) }
+    ensures reaches { Reaches (S.stands post.now) steps.old (then_marks post.now mark)
+        (leads post.now) steps.new result }
 {
-    steps.make(marking(post))?;
+    steps.make(marking(post, mark))?;
     Ok(Turned::To(post.node))
 }
 
@@ -61,7 +61,7 @@ fn whole<S: Steps>(steps: &mut S, post: &Post) -> Result<Turned, Stopped>
         (leads post.now) steps.new result }
 {
     settle(compact_task(steps, &post.leaf()))?;
-    mark(steps, post)
+    mark(steps, post, post.phase)
 }
 
 /// The task of a processor of a block, of which this is known: what is then known of it.
@@ -88,7 +88,7 @@ fn inner<S: Steps>(steps: &mut S, post: &Post) -> Result<Turned, Stopped>
     let first = steps.make(looking(post, left(post.node)))?;
     let second = steps.make(looking(post, right(post.node)))?;
     if both_finished(post, first, second) {
-        mark(steps, post)
+        mark(steps, post, inner_mark(post, first, second))
     } else {
         stand(steps, post, down(post, first, second))
     }
@@ -131,7 +131,7 @@ fn enter<S: Steps>(steps: &mut S, post: &Post) -> Result<Option<Turned>, Stopped
             Form::Wide(_) => Some(Turned::Enters),
         })
     } else {
-        Ok(Some(mark(steps, post)?))
+        Ok(Some(mark(steps, post, empty_mark(post))?))
     }
 }
 
@@ -161,13 +161,38 @@ pub(crate) fn settle(done: Result<(), Left>) -> Result<(), Stopped>
     }
 }
 
+// ---- marks
+
+// That of an inner node whose children hold these phases.
+#[inline(always)]
+fn inner_mark(post: &Post, first: u64, second: u64) -> u64
+    ensures { result ≡ inner_mark post.now.layout post.now.phase first second }
+{
+    match post.layout.form() {
+        Form::Compact => post.phase,
+        Form::Wide(_) => first.min(second),
+    }
+}
+
+// That of a leaf without processors.
+#[inline(always)]
+fn empty_mark(post: &Post) -> u64
+    requires { post.now.phase ≤ 3 * post.now.job.steps }
+    ensures { result ≡ empty_mark post.now.layout post.now.phase }
+{
+    match post.layout.form() {
+        Form::Compact => post.phase,
+        Form::Wide(_) => post.last_phase(),
+    }
+}
+
 // ---- operations
 
 #[inline(always)]
-fn marking(post: &Post) -> Op
-    ensures { result ≡ Op.Max (number_of post.now.layout (Node post.now.node)) post.now.phase }
+fn marking(post: &Post, mark: u64) -> Op
+    ensures { result ≡ Op.Max (number_of post.now.layout (Node post.now.node)) mark }
 {
-    Op::Max(post.layout.node_word(post.node), post.phase)
+    Op::Max(post.layout.node_word(post.node), mark)
 }
 
 #[inline(always)]

@@ -9,15 +9,15 @@ ghost use Rattle.walkx.specs.Inner.Posts.{step_of};
 ghost use Rattle.walkx.specs.OwnWrites.{cell_write, own_write};
 ghost use Rattle.walkx.specs.Passing.{Passes, idle_in, if_so};
 ghost use Rattle.walkx.specs.WideParts.{IsPlan, IsShaped, claimed_cell, does_own, does_own_by};
-ghost use Rattle.walkx.specs.WideParts.{makes_own, own_made};
+ghost use Rattle.walkx.specs.WideParts.{makes_own, named_cell, own_made};
 
 use crate::left::Left;
 use crate::memo::Memo;
 use crate::parts::write_place;
 use crate::post::Leaf;
-use crate::request::fetch;
+use crate::request::{fetch, read_place};
 use crate::steps::Steps;
-use crate::wide_request::{ask_by, know, turn_by};
+use crate::wide_request::{know, loaded, turn_by};
 use pram_job::{Instr, Rule};
 use pram_machine::{Put, Request, Turn, cell_named};
 use pram_words::Kind;
@@ -49,8 +49,34 @@ fn make_own<S: Steps>(
             steps.make(leaf.claiming(cell))?;
             Ok(())
         }
-        (None, None) => Ok(()),
-        (None, Some((place, word, value))) => write_place(steps, leaf, place, word, value),
+        (None, write) => write_own(steps, leaf, counter, turn, write),
+    }
+}
+
+// That write of a turn that claims nothing.
+#[inline(always)]
+fn write_own<S: Steps>(
+    steps: &mut S,
+    leaf: &Leaf,
+    counter: u32,
+    turn: Turn,
+    write: Option<(u32, u32, u32)>,
+) -> Result<(), Left>
+    requires claims { claimed_cell leaf.now.job.rule leaf.now.job (request_of turn) ≡ None }
+    requires write { option_map (λ write. (write.0, write.2)) write
+        ≡ own_write leaf.now.job (processor_of leaf.now) counter (request_of turn) }
+    requires pair { IfSome write (λ write. IsPairAt leaf.now.layout write.0 write.1) }
+    requires next { IsNextPart (S.stands leaf.now) steps.old
+        (own_made leaf.now.job.rule leaf.now counter (request_of turn)) }
+    ensures none { makes_own leaf.now.job.rule leaf.now counter (request_of turn) ≡ false →
+        (result ≡ Ok tt) × (steps.new ≡ steps.old) }
+    ensures plays { Plays (S.stands leaf.now) steps.old
+        (own_made leaf.now.job.rule leaf.now counter (request_of turn)) steps.new result }
+{
+    let _ = (counter, turn);
+    match write {
+        None => Ok(()),
+        Some((place, word, value)) => write_place(steps, leaf, place, word, value),
     }
 }
 
@@ -72,14 +98,65 @@ pub(crate) fn own_by<S: Steps>(
     ensures plays { Plays (S.stands leaf.now) steps.old (does_own_by leaf.now memo.old instr.now)
         steps.new (learns result memo.new) }
 {
-    let turn = match ask_by(steps, leaf, memo, instr) {
-        Ok(turn) => turn,
+    match cell_named(leaf.job(), instr, &memo.registers) {
+        Some(cell) => own_loaded(steps, leaf, memo, instr, cell),
+        None => own_decided(steps, leaf, memo, instr),
+    }
+}
+
+// The same, where it reads this cell: what it loads goes into a register, and nothing else is done.
+#[inline(always)]
+fn own_loaded<S: Steps>(
+    steps: &mut S,
+    leaf: &Leaf,
+    memo: &mut Memo,
+    instr: &Instr,
+    cell: u32,
+) -> Result<(), Left>
+    requires counter { memo.old.counter < length leaf.now.job.code }
+    requires instr { IsInstr leaf.now.job.cells (length leaf.now.job.code) instr.now }
+    requires cell { named_cell leaf.now memo.old instr.now ≡ Some cell }
+    requires below { cell < leaf.now.job.cells }
+    requires next { IsNextPart (S.stands leaf.now) steps.old
+        (does_own_by leaf.now memo.old instr.now) }
+    ensures plays { Plays (S.stands leaf.now) steps.old (does_own_by leaf.now memo.old instr.now)
+        steps.new (learns result memo.new) }
+{
+    let value = match read_place(steps, leaf, cell, leaf.cell_word(cell)) {
+        Ok(value) => value,
         Err(why) => {
             memo.forget();
             return Err(why);
         }
     };
     let counter = memo.counter;
+    let turn = loaded(leaf, memo, instr, cell, value);
+    let write = own_write(leaf, counter, turn);
+    memo.take_up(leaf, turn);
+    write_own(steps, leaf, counter, turn, write)
+}
+
+// The same, where it reads no cell.
+#[inline(always)]
+fn own_decided<S: Steps>(
+    steps: &mut S,
+    leaf: &Leaf,
+    memo: &mut Memo,
+    instr: &Instr,
+) -> Result<(), Left>
+    requires counter { memo.old.counter < length leaf.now.job.code }
+    requires instr { IsInstr leaf.now.job.cells (length leaf.now.job.code) instr.now }
+    requires none { named_cell leaf.now memo.old instr.now ≡ None }
+    requires next { IsNextPart (S.stands leaf.now) steps.old
+        (does_own_by leaf.now memo.old instr.now) }
+    ensures idle { suc memo.old.step ≡ step_of leaf.now →
+        slice_get leaf.now.job.code memo.old.counter ≡ Some instr.now →
+        Passes (idle_in Kind.Compute leaf.now memo.old) steps.old steps.new memo.new }
+    ensures plays { Plays (S.stands leaf.now) steps.old (does_own_by leaf.now memo.old instr.now)
+        steps.new (learns result memo.new) }
+{
+    let counter = memo.counter;
+    let turn = turn_by(leaf, memo, instr, 0);
     let plan = plan(leaf, counter, turn);
     memo.take_up(leaf, turn);
     make_own(steps, leaf, counter, turn, plan)

@@ -4,9 +4,9 @@ ghost use Rattle.std.specs.Prelude.{◌≡◌, suc, ◌<◌, length, IfOk, None,
 ghost use Rattle.pram_job.specs.Job.{IsInstr};
 ghost use Rattle.pram_machine.specs.Turns.{request_of};
 ghost use Rattle.walkx.specs.Counters.{advanced};
-ghost use Rattle.walkx.specs.Driving.{IsNextPart, Plays, asked_as, loads};
+ghost use Rattle.walkx.specs.Driving.{IsNextPart, Plays, loads};
 ghost use Rattle.walkx.specs.Inner.Posts.{step_of};
-ghost use Rattle.walkx.specs.WideParts.{IsShaped, asked_with, asks_by, named_cell};
+ghost use Rattle.walkx.specs.WideParts.{IsShaped, asked_with, claimed_cell, named_cell};
 ghost use Rattle.walkx.specs.WideParts.{counter_told, counts, memo_known, memo_loaded, reads_all};
 
 use crate::left::Left;
@@ -108,41 +108,15 @@ pub(crate) fn know<S: Steps>(steps: &mut S, leaf: &Leaf, memo: &mut Memo) -> Res
     Ok(())
 }
 
-/// What the processor asks for by the instruction at its counter.
+/// What it asks for, this cell having held this. Of a load the operands are not looked at again.
 #[inline(always)]
-pub(crate) fn ask_by<S: Steps>(
-    steps: &mut S,
-    leaf: &Leaf,
-    known: &Memo,
-    instr: &Instr,
-) -> Result<Turn, Left>
-    requires counter { known.now.counter < length leaf.now.job.code }
-    requires instr { IsInstr leaf.now.job.cells (length leaf.now.job.code) instr.now }
-    requires next { IsNextPart (S.stands leaf.now) steps.old
-        (asks_by leaf.now known.now (Some instr.now)) }
-    ensures shape { IfOk result (IsShaped leaf.now) }
-    ensures none { named_cell leaf.now known.now instr.now ≡ None → (steps.new ≡ steps.old)
-        × (asked_as result ≡ Ok (asked_with leaf.now known.now instr.now 0)) }
-    ensures plays { Plays (S.stands leaf.now) steps.old
-        (asks_by leaf.now known.now (Some instr.now)) steps.new (asked_as result) }
-{
-    match cell_named(leaf.job(), instr, &known.registers) {
-        Some(cell) => {
-            let value = read_place(steps, leaf, cell, leaf.cell_word(cell))?;
-            Ok(loaded(leaf, known, instr, cell, value))
-        }
-        None => Ok(turn_by(leaf, known, instr, 0)),
-    }
-}
-
-// What it asks for, this cell having held this. Of a load the operands are not looked at again.
-#[inline(always)]
-fn loaded(leaf: &Leaf, known: &Memo, instr: &Instr, cell: u32, value: u32) -> Turn
+pub(crate) fn loaded(leaf: &Leaf, known: &Memo, instr: &Instr, cell: u32, value: u32) -> Turn
     requires counter { known.now.counter < length leaf.now.job.code }
     requires instr { IsInstr leaf.now.job.cells (length leaf.now.job.code) instr.now }
     requires cell { named_cell leaf.now known.now instr.now ≡ Some cell }
     ensures value { request_of result ≡ asked_with leaf.now known.now instr.now value }
     ensures shape { IsShaped leaf.now result }
+    ensures claims { claimed_cell leaf.now.job.rule leaf.now.job (request_of result) ≡ None }
 {
     let _ = cell;
     match *instr {

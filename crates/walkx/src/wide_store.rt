@@ -111,7 +111,8 @@ pub(crate) fn swap<S: Steps>(
     if leaf.is_late(first, second) {
         return Ok(either_differs(leaf, value, first, second));
     }
-    let found = steps.make(older_swap(leaf, word, value, first, second))?;
+    let (at, old, new) = older_swap(leaf, word, value, first, second);
+    let found = steps.swap(at, old, new)?;
     Ok(leaf.differs(value, found))
 }
 

@@ -67,8 +67,8 @@ pub record IsLeafOf (at : PostData) (t : ℕ) (kind : Kind) (i : ℕ) (words : O
       number_of at.layout (Stored cell 0) ≡ first_cell + 2 * cell
 
 -- the node is marked; what comes after a processor's task
-abbrev pub then_marks : PostData → Script Then
-then_marks at = marks_node at.layout at.node at.phase
+abbrev pub then_marks : PostData → ℕ → Script Then
+then_marks at mark = marks_node at.layout at.node mark at.phase
 
 abbrev pub then_next : PostData → Memo → Script Then
 then_next at memo = after_part at.layout at.node at.phase at.rank memo

@@ -1,7 +1,9 @@
-use Rattle.std.proofs.Common.{◌≡◌, ℕ, None, ◌<◌}
-use Rattle.walkx.specs.Memory.{memo_of}
+use Rattle.std.proofs.Common.{◌≡◌, ◌-◌}
+use Rattle.walkx.specs.Passing.{all_rested}
 use Rattle.walkx.proofs.memo.none_stored.Given as goal
 
-abbrev pub invariant-loop-memo : goal.invariant-loop-memo
-invariant-loop-memo l = (k : ℕ) → k < l.memo-index →
-    ((memo_of l.memos k).step ≡ l.step) × ((memo_of l.memos k).store ≡ None)
+-- what holds of the processors from this one on holds of all
+abbrev pub invariant-loop-i : goal.invariant-loop-i
+invariant-loop-i l =
+    all_rested (l.end - l.i) l.step l.i l.memos
+    ≡ all_rested (l.end - l.first) l.step l.first l.memos

@@ -5,8 +5,8 @@ use Rattle.walkx.specs.declared.operation.Op.TheVariants.{Load}
 use Rattle.walkx.specs.Scripts.{asks}
 use Rattle.walkx.proofs.parts.hear_both.Goals as goal
 
-pub make-requires : goal.make-requires
-make-requires g c =
+pub load-requires : goal.load-requires
+load-requires g c =
     let at = c.args.leaf.now in
     let r = c.requires.next in
     rw c.requires.word.first (
@@ -19,8 +19,8 @@ make-requires g c =
       },
     )
 
-pub make-requires-2 : goal.make-requires-2
-make-requires-2 g c =
+pub load-requires-2 : goal.load-requires-2
+load-requires-2 g c =
     let at = c.args.leaf.now in
     let r = c.requires.next in
     let first = rw c.requires.word.first at (c.in_ok-first.ensures.on at r.from

@@ -32,25 +32,25 @@ returns-then-is_late g c = record {
   };
 }
 
-pub make-requires : goal.make-requires
-make-requires g c =
+pub swap-requires : goal.swap-requires
+swap-requires g c =
     let at = c.args.leaf.now in
     let r = c.requires.next in
     let loads = rw (sym c.is_late.ensures ∙ c.if-is_late.false) at (c.in_ok-first.ensures.plays.on
     r.from r.after (writes_after at c.args.place c.args.value (r.next tt)) r.here) in
-    rw (c.older_swap.ensures c.args.place c.requires.word)
+    rw (c.older_swap-at.ensures c.args.place c.requires.word)
     (at, record { from = r.from; after = r.after; next = λ found. r.next tt; here = loads })
 
-pub returns-in_err-make : goal.returns-in_err-make
-returns-in_err-make g c =
+pub returns-in_err-swap : goal.returns-in_err-swap
+returns-in_err-swap g c =
     let at = c.args.leaf.now in
-    rw (passed c.from_residual-in_err-make.result _ c.from_residual-in_err-make.ensures.1) (record {
+    rw (passed c.from_residual-in_err-swap.result _ c.from_residual-in_err-swap.ensures.1) (record {
       plays = record {
         on = λ from after next here.
             let loads = rw (sym c.is_late.ensures ∙ c.if-is_late.false) at
             (c.in_ok-first.ensures.plays.on from after
             (writes_after at c.args.place c.args.value (next tt)) here) in
-            rw (c.older_swap.ensures c.args.place c.requires.word) at (c.in_err-make.ensures.on at from (λ found. next tt)) loads;
+            rw (c.older_swap-at.ensures c.args.place c.requires.word) at (c.in_err-swap.ensures.on at from (λ found. next tt)) loads;
       };
     })
 
@@ -63,6 +63,6 @@ returns g c =
             let loads = rw (sym c.is_late.ensures ∙ c.if-is_late.false) at
             (c.in_ok-first.ensures.plays.on from after
             (writes_after at c.args.place c.args.value (next tt)) here) in
-            rw (c.older_swap.ensures c.args.place c.requires.word) at (c.in_ok-make.ensures.on at from (λ found. next tt)) loads;
+            rw (c.older_swap-at.ensures c.args.place c.requires.word) at (c.in_ok-swap.ensures.on at from (λ found. next tt)) loads;
       };
     }

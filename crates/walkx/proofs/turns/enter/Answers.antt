@@ -3,7 +3,6 @@ use Rattle.walkx.specs.Scripts.{ends}
 use Rattle.walkx.specs.Walk.{turn_script, turns}
 use Rattle.walkx.specs.Rests.{after_node}
 use Rattle.walkx.proofs.Passing.{passed}
-use Rattle.std.proofs.Common.{refl}
 use Rattle.walkx.specs.Memory.{at_start}
 use Rattle.walkx.specs.Walk.{enters, part_script}
 use Rattle.walkx.proofs.Forms.{form_compact, form_wide_of}
@@ -104,7 +103,16 @@ mark-requires g c =
     let r = c.requires.here in
     let node = rw (c.looking.ensures, node_is c.post.view_is) at
     (c.in_ok-found.ensures.on at r.from (after_node at)) r.here in
-    record { here = record { from = r.from; here = rw (sym c.is_finished.ensures ∙ c.if-is_finished.false, sym c.is_leaf.ensures ∙ c.if-not-is_leaf.false, sym c.has_rank.ensures.value ∙ c.if-has_rank.false) at node } }
+    rw c.empty_mark.ensures (record {
+      here = record {
+        from = r.from;
+        here = rw (
+          sym c.is_finished.ensures ∙ c.if-is_finished.false,
+          sym c.is_leaf.ensures ∙ c.if-not-is_leaf.false,
+          sym c.has_rank.ensures.value ∙ c.if-has_rank.false,
+        ) at node;
+      };
+    })
 
 pub returns-in_err-mark-clause-leads : goal.returns-in_err-mark-clause-leads
 unfolding turn_script
@@ -114,7 +122,11 @@ returns-in_err-mark-clause-leads g c =
       on = λ from here.
           let node = rw (c.looking.ensures, node_is c.post.view_is) at
           (c.in_ok-found.ensures.on at from (after_node at)) here in
-          c.in_err-mark.ensures.reaches.on from (rw (sym c.is_finished.ensures ∙ c.if-is_finished.false, sym c.is_leaf.ensures ∙ c.if-not-is_leaf.false, sym c.has_rank.ensures.value ∙ c.if-has_rank.false) at node);
+          rw c.empty_mark.ensures at (c.in_err-mark.ensures.reaches.on from) (rw (
+            sym c.is_finished.ensures ∙ c.if-is_finished.false,
+            sym c.is_leaf.ensures ∙ c.if-not-is_leaf.false,
+            sym c.has_rank.ensures.value ∙ c.if-has_rank.false,
+          ) at node);
     })
 
 pub returns-in_ok-mark-clause-leads : goal.returns-in_ok-mark-clause-leads
@@ -125,7 +137,11 @@ returns-in_ok-mark-clause-leads g c =
       on = λ from here.
           let node = rw (c.looking.ensures, node_is c.post.view_is) at
           (c.in_ok-found.ensures.on at from (after_node at)) here in
-          c.in_ok-mark.ensures.reaches.on from (rw (sym c.is_finished.ensures ∙ c.if-is_finished.false, sym c.is_leaf.ensures ∙ c.if-not-is_leaf.false, sym c.has_rank.ensures.value ∙ c.if-has_rank.false) at node);
+          rw c.empty_mark.ensures at (c.in_ok-mark.ensures.reaches.on from) (rw (
+            sym c.is_finished.ensures ∙ c.if-is_finished.false,
+            sym c.is_leaf.ensures ∙ c.if-not-is_leaf.false,
+            sym c.has_rank.ensures.value ∙ c.if-has_rank.false,
+          ) at node);
     })
 
 pub returns-in-Compact-clause-leads : goal.returns-in-Compact-clause-leads

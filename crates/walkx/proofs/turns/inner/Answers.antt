@@ -67,12 +67,12 @@ mark-requires g c =
     r.here in
     let second = rw (c.looking-2.ensures, c.right.ensures, node_is c.post.view_is) at
     (c.in_ok-second.ensures.on at r.from (after_children at c.in_ok-first.first)) first in
-    record {
+    rw c.inner_mark.ensures (record {
       here = record {
         from = r.from;
         here = rw (sym c.both_finished.ensures ∙ c.if-both_finished.true) at second;
       };
-    }
+    })
 
 pub stand-requires : goal.stand-requires
 stand-requires g c =
@@ -102,7 +102,7 @@ returns-then-both_finished g c =
             (number_of at.layout (Node (2 * at.node + 1)))) (λ r. after_children at l r))) here in
             let second = rw (c.looking-2.ensures, c.right.ensures, node_is c.post.view_is) at
             (c.in_ok-second.ensures.on at from (after_children at c.in_ok-first.first)) first in
-            c.mark.ensures.reaches.on from
+            rw c.inner_mark.ensures at (c.mark.ensures.reaches.on from)
             (rw (sym c.both_finished.ensures ∙ c.if-both_finished.true) at second);
       };
     }

@@ -2,7 +2,7 @@ use Rattle.std.proofs.Common.{sym, ◌∙◌}
 use Rattle.walkx.specs.Inner.Posts.{then_marks}
 use Rattle.walkx.proofs.Passing.{passed}
 use Rattle.walkx.proofs.Settling.{settled_err, settled_ok}
-use Rattle.walkx.proofs.Turning.{comes_to, compact_does, moved}
+use Rattle.walkx.proofs.Turning.{comes_to, compact_does, moved, phase_is}
 use Rattle.walkx.proofs.turns.whole.Goals as goal
 
 pub compact_task-requires : goal.compact_task-requires
@@ -12,7 +12,7 @@ compact_task-requires g c =
     rw c.leaf.ensures (record {
       due = record {
         from = r.from;
-        after = then_marks at;
+        after = then_marks at at.phase;
         here = moved (g.S.Steps.stands at) r.from _ _ _ (compact_does at c.requires.compact) r.here;
       };
     })
@@ -23,8 +23,9 @@ returns-in_err-settle g c =
     rw (passed c.from_residual.result _ c.from_residual.ensures.1) (record {
       reaches = record {
         on = λ from here. comes_to (g.S.Steps.stands at) from _ _ _ (settled_err
-            c.compact_task.result (then_marks at) _ (sym c.settle.ensures ∙ c.in_err-settle.was))
-            (rw c.leaf.ensures at (c.compact_task.ensures.ends.on from (then_marks at))
+            c.compact_task.result (then_marks at at.phase) _
+            (sym c.settle.ensures ∙ c.in_err-settle.was))
+            (rw c.leaf.ensures at (c.compact_task.ensures.ends.on from (then_marks at at.phase))
             (moved (g.S.Steps.stands at) from _ _ _ (compact_does at c.requires.compact) here));
       };
     })
@@ -33,27 +34,27 @@ pub mark-requires : goal.mark-requires
 mark-requires g c =
     let at = c.args.post.now in
     let r = c.requires.here in
-    record {
+    rw (phase_is c.post.view_is) (record {
       here = record {
         from = r.from;
         here = comes_to (g.S.Steps.stands at) r.from _ _ _
-            (settled_ok c.compact_task.result (then_marks at) _
+            (settled_ok c.compact_task.result (then_marks at at.phase) _
             (sym c.settle.ensures ∙ c.in_ok-settle.was))
-            (rw c.leaf.ensures at (c.compact_task.ensures.ends.on r.from (then_marks at))
+            (rw c.leaf.ensures at (c.compact_task.ensures.ends.on r.from (then_marks at at.phase))
             (moved (g.S.Steps.stands at) r.from _ _ _ (compact_does at c.requires.compact) r.here));
       };
-    }
+    })
 
 pub returns : goal.returns
 returns g c =
     let at = c.args.post.now in
     record {
       reaches = record {
-        on = λ from here. c.mark.ensures.reaches.on from
+        on = λ from here. rw (phase_is c.post.view_is) at (c.mark.ensures.reaches.on from)
             (comes_to (g.S.Steps.stands at) from _ _ _
-            (settled_ok c.compact_task.result (then_marks at) _
+            (settled_ok c.compact_task.result (then_marks at at.phase) _
             (sym c.settle.ensures ∙ c.in_ok-settle.was))
-            (rw c.leaf.ensures at (c.compact_task.ensures.ends.on from (then_marks at))
+            (rw c.leaf.ensures at (c.compact_task.ensures.ends.on from (then_marks at at.phase))
             (moved (g.S.Steps.stands at) from _ _ _ (compact_does at c.requires.compact) here)));
       };
     }

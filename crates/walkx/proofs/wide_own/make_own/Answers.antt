@@ -24,18 +24,5 @@ make-requires g c =
       },
     )
 
-pub write_place-requires-clause-next : goal.write_place-requires-clause-next
-write_place-requires-clause-next g c =
-    let at = c.args.leaf.now in
-    let r = c.requires.next in
-    let plan = c.requires.plan in
-    record {
-      from = r.from;
-      after = r.after;
-      next = r.next;
-      here = rw (sym plan.write
-          ∙ ap (option_map (λ (w : ℕ × ℕ × ℕ). (w.0, w.2))) c.in-None-Some.is-1) at
-          (moved (g.S.Steps.stands at) r.from _ _ _
-          (made_none at c.args.counter _ r.after r.next at.job.rule
-          (sym plan.claim ∙ c.in-None-Some.is-0)) r.here);
-    }
+pub write_own-requires-clause-claims : goal.write_own-requires-clause-claims
+write_own-requires-clause-claims g c = sym c.requires.plan.claim ∙ c.in-None-default.is-0

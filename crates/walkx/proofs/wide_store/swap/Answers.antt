@@ -33,13 +33,13 @@ returns-then-is_late g c = rw c.either_differs.ensures (record {
   };
 })
 
-pub make-requires : goal.make-requires
-make-requires g c =
+pub swap-requires : goal.swap-requires
+swap-requires g c =
     let at = c.args.leaf.now in
     let r = c.requires.next in
     let loads = rw (sym c.is_late.ensures ∙ c.if-is_late.false) at (c.in_ok-first.ensures.plays.on
     r.from r.after (swaps_after at c.args.cell c.args.value r.next) r.here) in
-    rw (c.older_swap.ensures c.args.cell c.cell_word-word.ensures) (
+    rw (c.older_swap-at.ensures c.args.cell c.cell_word-word.ensures) (
       at,
       record {
         from = r.from;
@@ -59,7 +59,7 @@ returns-in_err-found g c =
             let loads = rw (sym c.is_late.ensures ∙ c.if-is_late.false) at
             (c.in_ok-first.ensures.plays.on from after
             (swaps_after at c.args.cell c.args.value next) here) in
-            rw (c.older_swap.ensures c.args.cell c.cell_word-word.ensures) at (c.in_err-found.ensures.on at from
+            rw (c.older_swap-at.ensures c.args.cell c.cell_word-word.ensures) at (c.in_err-found.ensures.on at from
             (λ found. next (differs_from at c.args.value found))) loads;
       };
     })
@@ -73,7 +73,7 @@ returns g c =
             let loads = rw (sym c.is_late.ensures ∙ c.if-is_late.false) at
             (c.in_ok-first.ensures.plays.on from after
             (swaps_after at c.args.cell c.args.value next) here) in
-            rw (c.older_swap.ensures c.args.cell c.cell_word-word.ensures) at (c.in_ok-found.ensures.on at from
+            rw (c.older_swap-at.ensures c.args.cell c.cell_word-word.ensures) at (c.in_ok-found.ensures.on at from
             (λ found. next (differs_from at c.args.value found))) loads;
       };
     })

@@ -1,28 +1,34 @@
 use Rattle.std.proofs.Common.{refl}
-use Rattle.walkx.specs.Inner.Posts.{then_marks}
 use Rattle.pram_board.specs.Inner.Plays.{driving, task_at}
-use Rattle.pram_board.proofs.Blocks.{mark_leads, mark_starts}
+use Rattle.pram_board.proofs.Blocks.{mark_leads, mark_starts, marks_block}
 use Rattle.pram_board.proofs.Working.{sound_at}
 use Rattle.pram_board.proofs.driver.Driver.mark.Goals as goal
+
+pub mark-to-requires : goal.mark-to-requires
+mark-to-requires g c = record {
+  leaf = c.requires.walks.fits.block.0;
+  phase = c.requires.walks.fits.phase.1;
+}
 
 pub mark-requires : goal.mark-requires
 mark-requires g c =
     let at = c.args.post.now in
-    record {
+    rw c.mark-to.ensures (record {
       here = record {
-        from = (c.args.self.now, then_marks at);
+        from = (c.args.self.now, marks_block at c.args.memory.now);
         here = (
           refl,
           mark_starts at c.args.rank c.args.memory.now c.requires.walks.fits.block.2
               c.requires.last (driving c.args.self.now) c.requires.walks,
         );
       };
-    }
+    })
 
 pub unreachable-requires : goal.unreachable-requires
 unreachable-requires g c =
     let at = c.args.post.now in
-    (c.in-Err.ensures.reaches.on (c.args.self.now, then_marks at) (
+    (rw c.mark-to.ensures at
+    (c.in-Err.ensures.reaches.on (c.args.self.now, marks_block at c.args.memory.now)) (
       refl,
       mark_starts at c.args.rank c.args.memory.now c.requires.walks.fits.block.2 c.requires.last
           (driving c.args.self.now) c.requires.walks,
@@ -31,7 +37,8 @@ unreachable-requires g c =
 pub returns-clause-same : goal.returns-clause-same
 returns-clause-same g c =
     let at = c.args.post.now in
-    (c.in-Ok.ensures.reaches.on (c.args.self.now, then_marks at) (
+    (rw c.mark-to.ensures at
+    (c.in-Ok.ensures.reaches.on (c.args.self.now, marks_block at c.args.memory.now)) (
       refl,
       mark_starts at c.args.rank c.args.memory.now c.requires.walks.fits.block.2 c.requires.last
           (driving c.args.self.now) c.requires.walks,
@@ -40,7 +47,8 @@ returns-clause-same g c =
 pub returns-clause-led : goal.returns-clause-led
 returns-clause-led g c =
     let at = c.args.post.now in
-    let done = (c.in-Ok.ensures.reaches.on (c.args.self.now, then_marks at) (
+    let done = (rw c.mark-to.ensures at
+    (c.in-Ok.ensures.reaches.on (c.args.self.now, marks_block at c.args.memory.now)) (
       refl,
       mark_starts at c.args.rank c.args.memory.now c.requires.walks.fits.block.2 c.requires.last
           (driving c.args.self.now) c.requires.walks,

@@ -1,0 +1,9 @@
+use Rattle.std.proofs.Common.{sym, ◌∙◌}
+use Rattle.walkx.proofs.Marks.{one_rested}
+use Rattle.walkx.proofs.memo.none_stored.Goals as goal
+
+pub loop-i-preserved : goal.loop-i-preserved
+loop-i-preserved c =
+    one_rested c.args.end c.loop-i.i c.args.step c.args.memos.now c.loop-i-test.true
+    (sym c.has_rested.ensures ∙ c.if-not-has_rested.false)
+    ∙ c.loop-i.invariant
