@@ -95,7 +95,7 @@ over : set, priority -> 30 Over(Done)
 28 1! over : store, priority -> Swap(6, 0, 4294967296) 0, 7 Over(Done)
 19 1! over : store, crew -> Max(18, 4294967297) 0, 16 Over(Done)
 -- the register that each of three processors of a block writes, of which is known what they hold
--- before the first step; the second pass finds nothing to store, or it is known that there is nothing
+-- before the first step; the second pass finds nothing to store, or is left out, since that is known
 $ worker blocks
 13! 50 over : three \
     -> Load(16) 0, Load(0) 0, Load(16) 0, Load(22) 0, Load(23) 0, Swap(22, 0, 4294967303) 0, \
@@ -107,9 +107,7 @@ $ worker blocks
 -- one that comes back begins its block again
 7 at back 1! 3 1! : three -> Part(1, 1), Load(8) 1, Load(22) 4294967303, 
 $ worker remembering
-13 7! over : three \
-    -> Load(16) 1, Load(16) 1, Load(16) 1, Max(16, 3) 1, Load(16) 3, Load(16) 3, Load(0) 0, \
-    0 Over(Done)
+12 1! 3! over : three -> Max(16, 3) 0, Load(16) 3, Load(16) 3, Load(0) 0, 0 Over(Done)
 ";
 
 // A worker that is lost after any number of its steps changes no answer, nor does a twin beside it.
