@@ -81,30 +81,53 @@ module _ (job : JobData) (y : LayoutData) (w q : ℕ) (aim : Aim) (x : ℕ)
     (some : 1 ≤ q) (most : q ≤ 3 * job.steps)
     (step : step_at q ≡ suc x) (P : List ℕ → Type 0) (lasts : Lasts job y P)
     (floor : (words : List ℕ) → P words → Floor job y q x words) where
-  -- both children of an inner node were heard as marked so, or more
-  pub inner_safe : (n m l r : ℕ) (history : List (Op × ℕ)) → 1 ≤ n → n < y.leaves → IsMark y q m →
-      m ≤ l → m ≤ r →
-      Sees job y history (Moment job y (Load (number_of y (Node (2 * n + 1)))) r
-      (Moment job y (Load (number_of y (Node (2 * n)))) l P)) →
+  -- both children of an inner node hold a mark, or more
+  abbrev pub Children : ℕ → ℕ → List ℕ → Type 0
+  Children n m words =
+      P words × (m ≤ held y words (Node (2 * n))) × (m ≤ held y words (Node (2 * n + 1)))
+
+  pub children_last : (n m : ℕ) → 1 ≤ n → n < y.leaves → Lasts job y (Children n m)
+  children_last n m low high = λ words later a b up h. (
+    lasts words later a b up h.0,
+    (let l = h.1 in
+    let u = up (Node (2 * n)) (omega arith, omega arith) in omega (arith, l, u)),
+    (let r = h.2 in
+    let u = up (Node (2 * n + 1)) (omega arith, omega arith) in omega (arith, r, u)),
+  )
+
+  -- they were heard so
+  pub heard_children : (n m l r : ℕ) (history : List (Op × ℕ)) → 1 ≤ n → n < y.leaves → m ≤ l →
+      m ≤ r → Sees job y history (Moment job y (Load (number_of y (Node (2 * n + 1)))) r
+      (Moment job y (Load (number_of y (Node (2 * n)))) l P)) → Sees job y history (Children n m)
+  heard_children n m l r history low high left right sees =
+      so job y history (Moment job y (Load (number_of y (Node (2 * n + 1)))) r
+      (Moment job y (Load (number_of y (Node (2 * n)))) l P)) (Children n m)
+      (λ words stands moment.
+      let first = moment.earlier in
+      let a : l ≡ held y first.words (Node (2 * n)) = first.heard in
+      let b : r ≡ held y moment.words (Node (2 * n + 1)) = moment.heard in
+      let u : held y first.words (Node (2 * n)) ≤ held y moment.words (Node (2 * n)) =
+      first.since (Node (2 * n)) (omega arith, omega arith) in
+      let v : held y moment.words (Node (2 * n)) ≤ held y words (Node (2 * n)) =
+      moment.since (Node (2 * n)) (omega arith, omega arith) in
+      let z : held y moment.words (Node (2 * n + 1)) ≤ held y words (Node (2 * n + 1)) =
+      moment.since (Node (2 * n + 1)) (omega arith, omega arith) in (
+        lasts moment.words words moment.stands stands moment.since
+            (lasts first.words moment.words first.stands moment.stands first.since first.earlier),
+        omega (arith, left, a, u, v),
+        omega (arith, right, b, z),
+      )) sees
+
+  -- the node is marked no higher
+  pub inner_safe : (n m reach : ℕ) (history : List (Op × ℕ)) → 1 ≤ n → n < y.leaves →
+      IsMark y q m → (n ≡ 1 → m ≤ 3 * x + 3) → m ≤ reach → Sees job y history (Children n reach) →
       Safe job y w q aim (marks_node y n m q) history
-  inner_safe n m l r history low high mark left right sees = (
-    so job y history (Moment job y (Load (number_of y (Node (2 * n + 1)))) r
-        (Moment job y (Load (number_of y (Node (2 * n)))) l P))
+  inner_safe n m reach history low high mark top most_so sees = (
+    so job y history (Children n reach)
         (λ words. aim.given words → Goes job y w q (Max (number_of y (Node n)) m) words)
-        (λ words stands moment given.
-        let first = moment.earlier in
-        let a : l ≡ held y first.words (Node (2 * n)) = first.heard in
-        let b : r ≡ held y moment.words (Node (2 * n + 1)) = moment.heard in
-        let u : held y first.words (Node (2 * n)) ≤ held y moment.words (Node (2 * n)) =
-        first.since (Node (2 * n)) (omega arith, omega arith) in
-        let v : held y moment.words (Node (2 * n)) ≤ held y words (Node (2 * n)) =
-        moment.since (Node (2 * n)) (omega arith, omega arith) in
-        let z : held y moment.words (Node (2 * n + 1)) ≤ held y words (Node (2 * n + 1)) =
-        moment.since (Node (2 * n + 1)) (omega arith, omega arith) in
-        let p = lasts moment.words words moment.stands stands moment.since
-        (lasts first.words moment.words first.stands moment.stands first.since first.earlier) in
-        goes_mark job y w q n m words
-        ((writes_keep job y words q x stands some most step (floor words p)).inner n m low high mark
-        (omega (arith, left, a, u, v)) (omega (arith, right, b, z)))) sees,
+        (λ words stands h given. goes_mark job y w q n m words
+        ((writes_keep job y words q x stands some most step (floor words h.0)).inner n m low high
+        mark top (let l = h.1 in omega (arith, most_so, l))
+        (let r = h.2 in omega (arith, most_so, r)))) sees,
     λ found ok. tt,
   )

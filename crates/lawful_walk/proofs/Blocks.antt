@@ -12,11 +12,11 @@ use Rattle.pram_words.specs.Phases.{kind_at, step_at}
 use Rattle.pram_words.specs.Stamps.{stamp_of, payload_of, newer_payload, newer_word}
 use Rattle.pram_words.specs.Words.{LayoutData, IsWord, number_of, places_of}
 use Rattle.pram_words.specs.declared.layout.Form.{Form}
-use Rattle.pram_words.specs.declared.layout.Form.TheVariants.{Compact}
+use Rattle.pram_words.specs.declared.layout.Form.TheVariants.{Compact, Wide}
 use Rattle.pram_words.specs.declared.phases.Kind.TheVariants.{Verify}
 use Rattle.pram_words.specs.declared.words.Word.TheVariants.{Conflict, Node, Asked, Stored}
 use Rattle.walkx.specs.Counters.{worth}
-use Rattle.walkx.specs.Scripts.{Script}
+use Rattle.walkx.specs.Scripts.{Script, asks}
 use Rattle.walkx.specs.Tasks.{is_late, hears_part, reads_place, reports}
 use Rattle.walkx.specs.Walk.{Then, marks_node}
 use Rattle.walkx.specs.declared.operation.Op.{Op}
@@ -27,11 +27,11 @@ use Rattle.lawful_walk.proofs.Effects.{writes_keep}
 use Rattle.lawful_walk.proofs.Facts.{facts}
 use Rattle.lawful_walk.proofs.Growths.{root_up, place_as_heard}
 use Rattle.lawful_walk.proofs.Scripts.{Aim, Safe, load_safe, both_safe, goes_mark, goes_of}
-use Rattle.lawful_walk.proofs.Sees.{Sees, Lasts, so, heard}
+use Rattle.lawful_walk.proofs.Sees.{Sees, Lasts, so, heard, later}
 use Rattle.lawful_walk.proofs.Values.{compact_under_way}
 use Rattle.lawful_walk.specs.Moments.{Moment}
 use Rattle.lawful_walk.specs.Walks.{Goes}
-use Rattle.lawful_walk.specs.Writes.{Floor, IsMark, LeafRests}
+use Rattle.lawful_walk.specs.Writes.{Floor, IsLeafMark, IsMark, MayJump}
 
 module _ (job : JobData) (y : LayoutData) (w q : ℕ) (aim : Aim) (x : ℕ)
     (some : 1 ≤ q) (most : q ≤ 3 * job.steps)
@@ -184,18 +184,39 @@ module _ (job : JobData) (y : LayoutData) (w q : ℕ) (aim : Aim) (x : ℕ)
 
   -- ---- a leaf is marked, and a conflict is reported
 
-  pub marks_safe : (n m : ℕ) → y.leaves ≤ n → n < 2 * y.leaves → IsMark y q m → m ≤ 3 * x + 3 →
-      (q < m → LeafRests job y x n) → (history : List (Op × ℕ)) →
+  pub marks_safe : (n m : ℕ) → y.leaves ≤ n → n < 2 * y.leaves → IsLeafMark job y q x n m →
+      (n ≡ 1 → m ≤ 3 * x + 3) → (history : List (Op × ℕ)) →
       Sees job y history (λ words. P words × (aim.given words → root y words < q →
       LeafDone job y x (kind_at q) n words)) → Safe job y w q aim (marks_node y n m q) history
-  marks_safe n m low high mark last rests history sees = (
+  marks_safe n m low high mark top history sees = (
     so job y history (λ words. P words × (aim.given words → root y words < q →
         LeafDone job y x (kind_at q) n words))
         (λ words. aim.given words → Goes job y w q (Max (number_of y (Node n)) m) words)
         (λ words stands h given. goes_mark job y w q n m words
         ((writes_keep job y words q x stands some most step (floor words h.0)).leaf n m low high
-        mark last (h.1 given) rests)) sees,
+        mark top (h.1 given))) sees,
     λ found ok. tt,
+  )
+
+  -- the root is raised over the end of the step, and what follows is safe whatever came of it
+  pub jumps_safe : (g m : ℕ) → y.form ≡ Wide g → q ≡ 3 * x + 1 → IsMark y q m →
+      m ≤ 3 * job.steps → (next : Script Then) (history : List (Op × ℕ)) → Sees job y history
+      (λ words. P words × (aim.given words → MayJump job y words q x m)) →
+      ((longer : List (Op × ℕ)) → Sees job y longer P → Safe job y w q aim next longer) →
+      Safe job y w q aim (asks (Swap (number_of y (Node 1)) (q - 1) m) (λ found. next)) history
+  jumps_safe g m wide phase mark range next history sees on = (
+    so job y history (λ words. P words × (aim.given words → MayJump job y words q x m))
+        (λ words. aim.given words → Goes job y w q (Swap (number_of y (Node 1)) (q - 1) m) words)
+        (λ words stands h given. subst
+        (λ (old : ℕ). Goes job y w q (Swap (number_of y (Node 1)) old m) words)
+        (let e : 3 * x ≡ q - 1 = omega (arith, phase) in e)
+        (goes_of job y w q (Swap (number_of y (Node 1)) (3 * x) m) words
+        ((writes_keep job y words q x stands some most step (floor words h.0)).jump g m wide phase
+        mark range (h.1 given)))) sees,
+    λ found ok. on ((Swap (number_of y (Node 1)) (q - 1) m, found) ∷ history)
+        (later job y history P (Swap (number_of y (Node 1)) (q - 1) m) found lasts
+        (so job y history (λ words. P words × (aim.given words → MayJump job y words q x m)) P
+        (λ words stands h. h.0) sees)),
   )
 
   pub reports_safe : kind_at q ≡ Verify → (after : Script Then) (history : List (Op × ℕ)) →

@@ -7,7 +7,7 @@ use Rattle.pram_words.specs.Phases.{step_at, kind_at}
 use Rattle.pram_words.specs.declared.phases.Kind.{Kind}
 use Rattle.lawful_walk.proofs.Frames.{only_set}
 use Rattle.lawful_walk.specs.Board.{phase_in}
-use Rattle.lawful_walk.proofs.Raising.{inner_marks, leaf_marks, kind_of}
+use Rattle.lawful_walk.proofs.Raising.{inner_marks, jump_does, kind_of, leaf_marks}
 use Rattle.lawful_walk.proofs.Setting.{conflict_does, claim_does, stored_does, asked_does}
 use Rattle.lawful_walk.proofs.Setting.{store_keeps}
 use Rattle.lawful_walk.specs.WordLaws.{WritesKeepWordsLawful}
@@ -39,6 +39,7 @@ writes_keep job y words q x stands some most step floor = record {
       compact i j proc part (phase_at x q Compute some step kind);
   inner = inner_marks job y words q x stands some most step floor;
   leaf = leaf_marks job y words q x stands some most step floor;
+  jump = jump_does job y words q x stands some most step floor;
   place = λ p i v a b phase lands wins as_heard.
       stored_does job y words q x stands some most step floor p i v phase lands wins a b as_heard;
   conflict = λ kind not. conflict_does job y words q x stands some most step floor kind not

@@ -29,7 +29,7 @@ use Rattle.lawful_walk.specs.Board.{held, root, conflict, leaf, leaf_of, stamp_a
 use Rattle.lawful_walk.specs.Board.{HoldsNew, Raised, Claimed, ClaimStays, phase_in, CarriedCell}
 use Rattle.lawful_walk.specs.Board.{CarriedOwn, CompactDone, DoneIn, IsNew, IsPair, Stays, WideDone}
 use Rattle.lawful_walk.specs.Board.{newer_first, newer_second, new_first, new_second, IsClaimed}
-use Rattle.lawful_walk.specs.Board.{claimed_before, claimed_now, LawfulFor, Stands, StoresNone}
+use Rattle.lawful_walk.specs.Board.{claimed_before, claimed_now, LawfulFor, Stands, StoresNone, WritesNone}
 use Rattle.lawful_walk.proofs.Leaves.{leaf_word}
 use Rattle.lawful_walk.proofs.Values.{IsFin, fin, conflict_is, fin_reached, phase_low, phase_high}
 use Rattle.lawful_walk.proofs.Values.{claim_low, claim_most, tree_below, before_is, before_less}
@@ -116,6 +116,29 @@ rests_done g Crew job y s words i none = (
   inr (λ c v asks cell. absurd (none c v asks cell)),
 )
 
+-- one who writes nothing has nothing to do in any of its phases
+pub stores_none : (form : Form) (job : JobData) (s i : ℕ) → WritesNone form job s i →
+    StoresNone job s i
+stores_none form job s i none c v asks cell = none c v (cell_lands form job s c i v cell asks)
+
+pub none_done : (g : ℕ) (rule : Rule) (kind : Kind) (job : JobData) (y : LayoutData) (s : ℕ)
+    (words : List ℕ) (i : ℕ) → WritesNone y.form job s i →
+    DoneIn (Wide g) rule kind job y s words i
+none_done g Common Compute job y s words i none = λ p v lands own. absurd (none p v lands)
+none_done g Priority Compute job y s words i none = (
+  λ p v lands own. absurd (none p v lands),
+  λ c v asks cell. absurd (stores_none y.form job s i none c v asks cell),
+)
+none_done g Crew Compute job y s words i none = (
+  λ p v lands own. absurd (none p v lands),
+  λ c v asks cell. absurd (stores_none y.form job s i none c v asks cell),
+)
+none_done g Common Apply job y s words i none = tt
+none_done g Priority Apply job y s words i none = tt
+none_done g Crew Apply job y s words i none = tt
+none_done g rule Verify job y s words i none =
+    rests_done g rule job y s words i (stores_none y.form job s i none)
+
 -- the kind of the phase in which claims are made
 pub claim_kind : Form → Kind
 claim_kind Compact = Apply
@@ -152,7 +175,7 @@ module _ (job : JobData) (y : LayoutData) (words : List ℕ) (gone : ℕ) (limit
   place_below p h = let a = same_cells job y board in let b = same_procs job y board in omega arith
 
   pub below : (n : ℕ) → IsWord y (Node n) → root y words ≤ held y words (Node n)
-  below n is = tree_below job y gone words n lawful.tree is
+  below n is = tree_below job y words n lawful.tree is
 
   pub low_leaf : (i : ℕ) → i < y.procs → root y words ≤ leaf y words i
   low_leaf i h = below (leaf_of y i) (leaf_word y i sizes h)

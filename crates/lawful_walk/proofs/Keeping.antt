@@ -28,13 +28,14 @@ use Rattle.lawful_walk.specs.Board.{CompactDone, Done, DoneIn, Stays, WideDone, 
 use Rattle.lawful_walk.specs.Board.{newer_first, newer_second, new_first, new_second, IsClaimed}
 use Rattle.lawful_walk.specs.Board.{claimed_before, claimed_now, LawfulFor, Lawful}
 use Rattle.lawful_walk.proofs.Moments.{stamps_rise}
-use Rattle.lawful_walk.proofs.Values.{fin, claim_most, highest_rises, phase_high}
+use Rattle.lawful_walk.proofs.Values.{fin, claim_most, phase_high}
 use Rattle.lawful_walk.specs.Lands.{IsLanded, landing_before, last_landing, settled, settled_before}
 use Rattle.lawful_walk.specs.Lands.{word_of_step}
 use Rattle.lawful_walk.proofs.Landings.{Left, Set, before_most, landing_cases, last_most, last_new}
 use Rattle.lawful_walk.proofs.Landings.{stamp_step}
 use Rattle.lawful_walk.proofs.Winners.{cell_lands}
 use Rattle.lawful_walk.proofs.Facts.{agrees_by, board, claim_fits, claim_high, late, low_leaf}
+use Rattle.lawful_walk.proofs.Facts.{none_done, stores_none}
 use Rattle.lawful_walk.proofs.Facts.{place_below, raised}
 
 has_claim_words : (rule : Rule) → rule ≢ Common → IsTrue (has_claims rule)
@@ -206,7 +207,7 @@ claimed_up form job f r s c word h (claimed_now e g low) =
 module _ (job : JobData) (y : LayoutData) (words : List ℕ) (f : ℕ) (limits : IsJob job)
     (sizes : IsLayout y) (layout : IsLayoutOf job y) (lawful : LawfulFor job y f words)
     (full : root y words ≡ 3 * f + 3) (none : conflict y words ≡ 0)
-    (flat : (i : ℕ) → i < y.procs → leaf y words i ≤ 3 * f + 3) where
+    (flat : y.form ≡ Compact → (i : ℕ) → i < y.procs → leaf y words i ≤ 3 * f + 3) where
   low : 3 * f ≤ root y words
   low = omega arith
 
@@ -330,14 +331,7 @@ module _ (job : JobData) (y : LayoutData) (words : List ℕ) (f : ℕ) (limits :
   pub root_over : LawfulFor job y (suc f) words
   root_over = record {
     reached = reached_more job f lawful.reached agrees;
-    tree = record {
-      left = lawful.tree.left;
-      right = lawful.tree.right;
-      near = λ n is. let h = lawful.tree.near n is in
-          let more = highest_rises y.form f (suc f) (root y words) (root y words) (omega arith)
-          (omega arith) in omega (arith, h, more);
-      most = lawful.tree.most;
-    };
+    tree = lawful.tree;
     asked = λ compact i j proc part. let a = lawful.asked compact i j proc part in
         let r = raised job y words f limits sizes layout lawful low high compact f i j proc part
         (omega arith) in
@@ -350,22 +344,33 @@ module _ (job : JobData) (y : LayoutData) (words : List ℕ) (f : ℕ) (limits :
         let l = is.1 in omega arith) (λ i v asks. claim_high job y words f limits
         sizes layout lawful low high f c i v is (let h = claim_most y.form f in omega arith) asks)
         (lawful.claimed c is);
-    done = λ i kind proc h. absurd (none_done i kind proc h);
-    ahead = λ i proc h. absurd (let l = flat i proc in let n = next_above y.form (root y words) in
-        let m = n.0 in omega (arith, l, m, h, full));
+    done = λ i kind proc h. next_done y.form refl i kind proc h;
+    ahead = λ i proc before h. stores_none y.form job (suc f) i
+        (lawful.beyond i (suc f) proc (omega arith) (omega (arith, h)));
+    beyond = λ i s proc more h. lawful.beyond i s proc (omega (arith, more)) h;
     named = record { first = λ s e. absurd (omega arith); near = λ s e. absurd (omega arith) };
   }
     where
-      none_done : (i : ℕ) (kind : Kind) → i < y.procs → phase_in (suc f) kind ≤ leaf y words i → ⊥
-      none_done i Compute proc h = let l = flat i proc in omega arith
-      none_done i Apply proc h = let l = flat i proc in omega arith
-      none_done i Verify proc h = let l = flat i proc in omega arith
+      first_low : (kind : Kind) → 3 * suc f + 1 ≤ phase_in (suc f) kind
+      first_low Compute = omega arith
+      first_low Apply = omega arith
+      first_low Verify = omega arith
+
+      next_done : (form : Form) → y.form ≡ form → (i : ℕ) (kind : Kind) → i < y.procs →
+          phase_in (suc f) kind ≤ leaf y words i → Done job.rule kind job y (suc f) words i
+      next_done Compact e i kind proc h = absurd (let l = flat e i proc in let a = first_low kind in
+          omega (arith, a, l, h))
+      next_done (Wide g) e i kind proc h =
+          let a = first_low kind in
+          subst (λ (w : Form). DoneIn w job.rule kind job y (suc f) words i) (sym e)
+          (none_done g job.rule kind job y (suc f) words i
+          (lawful.beyond i (suc f) proc (omega arith) (omega (arith, a, h))))
 
 -- words that are lawful for some number of finished steps are lawful for the one they show
 pub settle : (job : JobData) (y : LayoutData) (words : List ℕ) (f : ℕ) →
     IsJob job → IsLayout y → IsLayoutOf job y → LawfulFor job y f words →
     3 * f ≤ root y words → root y words ≤ 3 * f + 3 →
-    (root y words ≡ 3 * f + 3 → conflict y words ≡ 0 → (i : ℕ) → i < y.procs →
+    (root y words ≡ 3 * f + 3 → conflict y words ≡ 0 → y.form ≡ Compact → (i : ℕ) → i < y.procs →
     leaf y words i ≤ 3 * f + 3) → Lawful job y words
 settle job y words f limits sizes layout lawful low high flat =
     let is = fin (root y words) (conflict y words) in

@@ -1,5 +1,6 @@
 -- A node is raised to a phase.
-use Rattle.std.proofs.Common.{◌≡◌, ◌≢◌, ◌⊎◌, ℕ, suc, ◌+◌, ◌*◌, ◌%◌, ◌<◌, ◌≤◌, IsTrue, List, max, refl}
+use Rattle.std.proofs.Common.{◌≡◌, ◌≢◌, ◌⊎◌, ℕ, suc, ◌+◌, ◌*◌, ◌/◌, ◌%◌, ◌<◌, ◌≤◌, IsTrue, List, max}
+use Rattle.std.proofs.Common.{zero, refl}
 use Rattle.std.proofs.Common.{sym}
 use Rattle.std.specs.Prelude.{slice_set}
 use Rattle.std.proofs.Common.{ap, subst, ◌∙◌, inl, inr, lit<, arith}
@@ -17,23 +18,30 @@ use Rattle.pram_words.specs.declared.words.Word.TheVariants.{Stored, Claim, Spar
 use Rattle.pram_words.specs.Stamps.{stamp_of}
 use Rattle.pram_words.specs.Phases.{kind_at, step_at, has_phase, next_phase}
 use Rattle.pram_words.specs.Words.{LayoutData, IsWord, number_of, places_of}
-use Rattle.pram_words.proofs.NextPhases.{next_is, next_least, next_rises, next_step, next_within}
+use Rattle.pram_words.proofs.NextPhases.{next_above, next_is, next_least, next_rises, next_step}
+use Rattle.pram_words.proofs.NextPhases.{next_within}
 use Rattle.pram_words.proofs.NextPhases.{wide_next_first, wide_next_other}
 use Rattle.walkx.specs.Operations.{words_after}
-use Rattle.walkx.specs.declared.operation.Op.TheVariants.{Max}
+use Rattle.walkx.specs.declared.operation.Op.TheVariants.{Max, Swap}
+use Rattle.walkx.specs.Walk.{IsBoard}
+use Rattle.walkx.proofs.Boards.{same_procs}
+use Rattle.pram_step.specs.Runs.{AgreesAfter, state_after}
+use Rattle.pram_step.proofs.LawPlaces.{writer_is}
 use Rattle.lawful_walk.specs.Board.{held, root, conflict, leaf, leaf_of, stamp_at, finished, Grows}
 use Rattle.lawful_walk.specs.Board.{IsAsked, phase_in, Done, DoneIn, IsTree, IsNamed, IsPair}
 use Rattle.lawful_walk.specs.Board.{IsClaimed, LawfulFor, Lawful, LeafDone, Stands, StoresNone}
-use Rattle.lawful_walk.specs.Board.{highest}
-use Rattle.lawful_walk.proofs.Frames.{Only, does_max, max_less, max_more, only_grows, only_set}
+use Rattle.lawful_walk.specs.Board.{WritesNone}
+use Rattle.lawful_walk.proofs.Frames.{Only, does_max, does_swap, max_less, max_more, only_grows}
+use Rattle.lawful_walk.proofs.Frames.{only_set}
 use Rattle.lawful_walk.proofs.Leaves.{leaf_word}
 use Rattle.lawful_walk.specs.Lands.{last_landing}
 use Rattle.lawful_walk.proofs.Landings.{before_most, last_most}
 use Rattle.lawful_walk.specs.Moments.{IsFixed, Keeps}
-use Rattle.lawful_walk.specs.Writes.{Floor, IsMark, LeafRests, Marks}
-use Rattle.lawful_walk.proofs.Values.{WordIs, highest_most, highest_rises, is_settled, is_before}
-use Rattle.lawful_walk.proofs.Values.{is_new}
-use Rattle.lawful_walk.proofs.Facts.{facts, rests_done, word_is, stamp_settled, stamp_before}
+use Rattle.lawful_walk.specs.Writes.{Does, Floor, IsLeafMark, IsMark, LeafQuiet, LeafRests, Marks}
+use Rattle.lawful_walk.specs.Writes.{MayJump}
+use Rattle.lawful_walk.proofs.Values.{WordIs, is_settled, is_before, is_new}
+use Rattle.lawful_walk.proofs.Facts.{facts, none_done, rests_done, stores_none, word_is}
+use Rattle.lawful_walk.proofs.Facts.{stamp_settled, stamp_before}
 use Rattle.lawful_walk.proofs.Facts.{WordsShow}
 use Rattle.lawful_walk.proofs.Keeping.{done_later, pair_up, claimed_up, settle}
 
@@ -101,6 +109,20 @@ module _ (job : JobData) (y : LayoutData) (words : List ℕ) (q x : ℕ) (stands
   pub next : root y words < q → next_phase y.form (root y words) ≡ q
   next e = next_is y.form (root y words) q floor.is_phase floor.root e
 
+-- the first phase of a step
+pub phase_first : (t : ℕ) (kind : Kind) → 3 * t + 1 ≤ phase_in t kind
+phase_first t Compute = omega arith
+phase_first t Apply = omega arith
+phase_first t Verify = omega arith
+
+-- before it, it is the next one
+next_low : (form : Form) (r f : ℕ) → r < 3 * f + 1 → next_phase form r ≤ 3 * f + 1
+next_low Compact r f less = omega (arith, less)
+next_low (Wide g) r f less = elim (cases_eq (r % 3) 1) [
+  | inl e ↦ (let h = wide_next_first g r e in omega (arith, h, e, less))
+  | inr n ↦ (let h = wide_next_other g r n in omega (arith, h, less))
+]
+
 -- ---- a node is raised: the root to the next phase, another node as high as it may be
 
 module _ (job : JobData) (y : LayoutData) (words : List ℕ) (stands : Stands job y words) where
@@ -111,15 +133,17 @@ module _ (job : JobData) (y : LayoutData) (words : List ℕ) (stands : Stands jo
   root_is = (lit< tt, let l = stands.sizes.leaves in omega arith)
 
   module _ (n m : ℕ) (is : IsWord y (Node n)) (less : held y words (Node n) < m)
-      (range : m ≤ 3 * job.steps) (live : root y words < 3 * finished y words + 3)
-      (high : m ≤ highest y.form (finished y words) (root y words))
+      (range : m ≤ 3 * job.steps) (live : n ≡ 1 → root y words < 3 * finished y words + 3)
+      (high : y.form ≡ Compact → m ≤ root y words + 1)
       (children : n < y.leaves →
       (m ≤ held y words (Node (2 * n))) × (m ≤ held y words (Node (2 * n + 1))))
       (ready : (i : ℕ) (kind : Kind) → i < y.procs → n ≡ leaf_of y i →
       root y words < phase_in (finished y words) kind → phase_in (finished y words) kind ≤ m →
       Done job.rule kind job y (finished y words) words i)
-      (rests : (i : ℕ) → i < y.procs → n ≡ leaf_of y i → next_phase y.form (root y words) < m →
-      StoresNone job (finished y words) i)
+      (rests : (i : ℕ) → i < y.procs → n ≡ leaf_of y i → root y words < 3 * finished y words + 1 →
+      3 * finished y words + 1 < m → StoresNone job (finished y words) i)
+      (quiet : (i t : ℕ) → i < y.procs → n ≡ leaf_of y i → finished y words < t → 3 * t + 1 ≤ m →
+      WritesNone y.form job t i)
       (one : n ≡ 1 → next_phase y.form (root y words) ≡ m)
       (later : List ℕ) (only : Only y (Node n) m words later) where
     up : Grows y words later
@@ -152,12 +176,7 @@ module _ (job : JobData) (y : LayoutData) (words : List ℕ) (stands : Stands jo
     conflict_same : conflict y later ≡ conflict y words
     conflict_same = only.rest Conflict tt (λ e. absurd (cc))
 
-    higher : highest y.form (finished y words) (root y words)
-        ≤ highest y.form (finished y words) (root y later)
-    higher = highest_rises y.form (finished y words) (finished y words) (root y words)
-        (root y later) (omega arith) root_up
-
-    tree : IsTree job y (finished y words) later
+    tree : IsTree job y later
     tree = record {
       left = λ k low most. elim (node_cases k (low, omega arith)) [
         | inl e ↦ (let a = stands.lawful.tree.left k low most in
@@ -176,9 +195,9 @@ module _ (job : JobData) (y : LayoutData) (words : List ℕ) (stands : Stands jo
             subst (λ (l : ℕ). held y later (Node k) ≤ held y later (Node (2 * l + 1)))
             (sym e.0) (omega arith))
       ];
-      near = λ k is_k. let r = higher in elim (node_cases k is_k) [
-        | inl e ↦ (let a = stands.lawful.tree.near k is_k in omega (arith, a, e, r))
-        | inr e ↦ (let h = e.1 in omega (arith, h, high, r))
+      near = λ compact k is_k. let r = root_up in elim (node_cases k is_k) [
+        | inl e ↦ (let a = stands.lawful.tree.near compact k is_k in omega (arith, a, e, r))
+        | inr e ↦ (let h = e.1 in let most = high compact in omega (arith, h, most, r))
       ];
       most = λ k is_k. elim (node_cases k is_k) [
         | inl e ↦ (let a = stands.lawful.tree.most k is_k in omega arith)
@@ -219,14 +238,22 @@ module _ (job : JobData) (y : LayoutData) (words : List ℕ) (stands : Stands jo
       ]
     ]
 
-    ahead : (i : ℕ) → i < y.procs → next_phase y.form (root y later) < leaf y later i →
-        StoresNone job (finished y words) i
-    ahead i proc h =
-        let r = next_rises y.form (root y words) (root y later) root_up in
+    ahead : (i : ℕ) → i < y.procs → root y later < 3 * finished y words + 1 →
+        3 * finished y words + 1 < leaf y later i → StoresNone job (finished y words) i
+    ahead i proc low h =
+        let r = root_up in
         elim (node_cases (leaf_of y i) (leaf_is i proc)) [
-          | inl e ↦ stands.lawful.ahead i proc (omega (arith, r, e, h))
-          | inr e ↦ rests i proc (sym e.0) (let g = e.1 in omega (arith, r, g, h))
+          | inl e ↦ stands.lawful.ahead i proc (omega (arith, r, low)) (omega (arith, e, h))
+          | inr e ↦ rests i proc (sym e.0) (omega (arith, r, low))
+              (let g = e.1 in omega (arith, g, h))
         ]
+
+    beyond : (i t : ℕ) → i < y.procs → finished y words < t → 3 * t + 1 ≤ leaf y later i →
+        WritesNone y.form job t i
+    beyond i t proc more h = elim (node_cases (leaf_of y i) (leaf_is i proc)) [
+      | inl e ↦ stands.lawful.beyond i t proc more (omega (arith, e, h))
+      | inr e ↦ quiet i t proc (sym e.0) more (let g = e.1 in omega (arith, g, h))
+    ]
 
     named : IsNamed y.form job (conflict y later) (root y later)
     named = record {
@@ -242,7 +269,7 @@ module _ (job : JobData) (y : LayoutData) (words : List ℕ) (stands : Stands jo
                   | inl h ↦ inr (g ∙ sym next ∙ h)
                   | inr h ↦ absurd (elim seen.conflict_next [
                     | inl none ↦ omega (arith, none, c)
-                    | inr there ↦ omega (arith, there, c, h, live)
+                    | inr there ↦ (let open_step = live (sym r.0) in omega (arith, there, c, h, open_step))
                   ])
                 ])
           ];
@@ -268,6 +295,7 @@ module _ (job : JobData) (y : LayoutData) (words : List ℕ) (stands : Stands jo
           (sym (claim_same c is_c)) (stands.lawful.claimed c is_c));
       done = done;
       ahead = ahead;
+      beyond = beyond;
       named = named;
     }
 
@@ -275,143 +303,224 @@ module _ (job : JobData) (y : LayoutData) (words : List ℕ) (stands : Stands jo
     node_lawful =
         let r = root_up in
         let low = seen.root_low in
-        let top = highest_most y.form (finished y words) (root y words) live in
         settle job y later (finished y words) stands.limits
         stands.sizes stands.layout lawful_for (omega (arith, r, low))
         (elim (node_cases 1 root_is) [
-          | inl e ↦ omega (arith, e, live)
-          | inr e ↦ (let h = e.1 in omega (arith, h, high, top))
+          | inl e ↦ (let h = seen.root_high in omega (arith, e, h))
+          | inr e ↦ (let h = e.1 in
+              let n = one (sym e.0) in
+              let before = live (sym e.0) in
+              let near = next_within y.form (root y words) (suc (finished y words))
+              (omega (arith, before)) in omega (arith, h, n, near))
         ])
-        (λ full none i proc. elim (node_cases (leaf_of y i) (leaf_is i proc)) [
-          | inl e ↦ (let a = stands.lawful.tree.near (leaf_of y i) (leaf_is i proc) in
-              omega (arith, a, e, top))
-          | inr e ↦ (let h = e.1 in omega (arith, h, high, top))
+        (λ full none compact i proc. let most = high compact in
+        elim (node_cases 1 root_is) [
+          | inl e ↦ absurd (let c = seen.full_root (omega (arith, e, full)) in
+              let u = conflict_same in omega (arith, c, u, none))
+          | inr first ↦ (let before = live (sym first.0) in
+              elim (node_cases (leaf_of y i) (leaf_is i proc)) [
+                | inl e ↦ (let a =
+                    stands.lawful.tree.near compact (leaf_of y i) (leaf_is i proc) in
+                    omega (arith, a, e, before))
+                | inr e ↦ (let h = e.1 in omega (arith, h, most, before))
+              ])
         ])
 
--- ---- the root is raised over a whole step at once, in the wide form
+-- ---- the root is raised over several phases at once, in the wide form: over one after the other
 
-module _ (job : JobData) (y : LayoutData) (words : List ℕ) (stands : Stands job y words)
-    (g m : ℕ) (wide : y.form ≡ Wide g) (start : root y words ≡ 3 * finished y words)
-    (end : m ≡ 3 * finished y words + 3) (range : m ≤ 3 * job.steps)
-    (children : 1 < y.leaves → (m ≤ held y words (Node 2)) × (m ≤ held y words (Node 3)))
-    (ready : (i : ℕ) → i < y.procs → 1 ≡ leaf_of y i →
-    Done job.rule Compute job y (finished y words) words i)
-    (rests : (i : ℕ) → i < y.procs → 1 ≡ leaf_of y i → StoresNone job (finished y words) i) where
-  -- first to the phase between
-  half : ℕ
-  half = 3 * finished y words + 1
+-- what has to be known of words of which the root is raised so high
+record MayClimb (job : JobData) (y : LayoutData) (m : ℕ) (words : List ℕ) : Type 0 where
+  stands : Stands job y words
+  below : root y words < m
+  live : root y words < 3 * finished y words + 3
+  children : 1 < y.leaves → (m ≤ held y words (Node 2)) × (m ≤ held y words (Node 3))
+  ready : (i : ℕ) (kind : Kind) → i < y.procs → 1 ≡ leaf_of y i →
+      root y words < phase_in (finished y words) kind → phase_in (finished y words) kind ≤ m →
+      Done job.rule kind job y (finished y words) words i
+  quiet : (i t : ℕ) → i < y.procs → 1 ≡ leaf_of y i → finished y words < t → 3 * t + 1 ≤ m →
+      WritesNone y.form job t i
+  silent : (i t : ℕ) → i < y.procs → finished y words ≤ t → 3 * t + 3 < m → StoresNone job t i
 
-  next_half : next_phase y.form (root y words) ≡ half
-  unfolding half
-  next_half =
-      let s : root y words + 1 ≡ 3 * finished y words + 1 = omega (arith, start) in
-      subst (λ (f : Form). next_phase f (root y words) ≡ 3 * finished y words + 1) (sym wide)
-      (wide_next_other g (root y words) (λ k. absurd (omega (arith, k, start))) ∙ s)
+-- a step in which nobody stores agrees with the rule
+silent_agrees : (job : JobData) (y : LayoutData) (t : ℕ) → IsBoard job y →
+    ((i : ℕ) → i < y.procs → StoresNone job t i) → AgreesAfter job t
+silent_agrees job y t board none = λ c i j clash.
+    let below = (writer_is job (state_after job t) c i clash.value clash.writes.1).0 in
+    let same = same_procs job y board in
+    none i (omega (arith, below, same)) c clash.value clash.writes.1 clash.writes.0
 
-  half_high : half ≤ highest y.form (finished y words) (root y words)
-  unfolding half
-  half_high = subst (λ (f : Form). 3 * finished y words + 1
-      ≤ highest f (finished y words) (root y words)) (sym wide) (omega arith)
+module _ (job : JobData) (y : LayoutData) (g m : ℕ) (wide : y.form ≡ Wide g)
+    (range : m ≤ 3 * job.steps) (formed : IsTrue (has_phase y.form m)) where
+  -- one phase
+  module _ (words : List ℕ) (may : MayClimb job y m words) where
+    next_upto : (r : ℕ) → r < m → next_phase y.form r ≤ m
+    next_upto r less = next_least y.form r m formed less
 
-  half_lawful : (later : List ℕ) → Only y (Node 1) half words later → Lawful job y later
-  unfolding half
-  half_lawful later only = node_lawful job y words stands 1 half (root_is job y words stands) (omega (arith, start)) (omega (arith, end, range))
-      (omega (arith, start)) half_high
-      (λ inner. let h = children inner in
-      let a = h.0 in let b = h.1 in (omega (arith, end, a), omega (arith, end, b)))
-      half_ready (λ i proc e more. absurd (let n = next_half in omega (arith, n, more)))
-      (λ e. next_half) later only
-    where
-      half_ready : (i : ℕ) (kind : Kind) → i < y.procs → 1 ≡ leaf_of y i →
-          root y words < phase_in (finished y words) kind → phase_in (finished y words) kind ≤ half →
-          Done job.rule kind job y (finished y words) words i
-      half_ready i Compute proc e more most = ready i proc e
-      half_ready i Apply proc e more most = absurd (omega arith)
-      half_ready i Verify proc e more most = absurd (omega arith)
+    to_formed : IsTrue (has_phase y.form (next_phase y.form (root y words)))
+    to_formed = by (root y words) (cases_eq (root y words % 3) 1)
+      where
+        by : (r : ℕ) → (r % 3 ≡ 1) ⊎ (r % 3 ≢ 1) → IsTrue (has_phase y.form (next_phase y.form r))
+        by r (inl e) = subst (λ (f : Form). IsTrue (has_phase f (next_phase f r))) (sym wide)
+            (subst (λ (q : ℕ). IsTrue (has_phase (Wide g) q)) (sym (wide_next_first g r e))
+            (rw (ne_eqb ((r + 2) % 3) 2 (λ h. omega (arith, h, e))) refl))
+        by r (inr n) = subst (λ (f : Form). IsTrue (has_phase f (next_phase f r))) (sym wide)
+            (subst (λ (q : ℕ). IsTrue (has_phase (Wide g) q)) (sym (wide_next_other g r n))
+            (rw (ne_eqb ((r + 1) % 3) 2 (λ h. n (omega (arith, h)))) refl))
 
-  half_phase : IsTrue (has_phase y.form half)
-  unfolding half
-  half_phase = subst (λ (f : Form). IsTrue (has_phase f (3 * finished y words + 1))) (sym wide)
-      (rw (ne_eqb ((3 * finished y words + 1) % 3) 2 (λ e. omega (arith, e))) refl)
+    step_lawful : (later : List ℕ) → Only y (Node 1) (next_phase y.form (root y words)) words later →
+        Lawful job y later
+    step_lawful later only =
+        let above = (next_above y.form (root y words)).0 in
+        let upto = next_upto (root y words) may.below in
+        let near = next_within y.form (root y words) (suc (finished y words))
+        (let l = may.live in omega (arith, l)) in
+        node_lawful job y words may.stands 1 (next_phase y.form (root y words))
+        (root_is job y words may.stands) above (omega (arith, upto, range))
+        (λ first. may.live) (λ compact. absurd (let e : Compact ≡ Wide g = sym compact ∙ wide in cc))
+        (λ inner. let h = may.children inner in let a = h.0 in let b = h.1 in
+        (omega (arith, upto, a), omega (arith, upto, b)))
+        (λ i kind proc leaf more most. may.ready i kind proc leaf more (omega (arith, most, upto)))
+        (λ i proc leaf low more. absurd (first_next low more))
+        (λ i t proc leaf more most. absurd (omega (arith, more, most, near)))
+        (λ e. refl) later only
+      where
+        -- before the first phase of a step the next one is that
+        first_next : root y words < 3 * finished y words + 1 →
+            3 * finished y words + 1 < next_phase y.form (root y words) → ⊥
+        first_next low more =
+            let from = (facts job y words may.stands).root_low in
+            let n = subst (λ (f : Form). next_phase f (root y words) ≡ root y words + 1) (sym wide)
+            (wide_next_other g (root y words) (λ one. absurd (omega (arith, one, low, from)))) in
+            omega (arith, n, low, more)
 
-  between : Keeps job y (Max (number_of y (Node 1)) half) words
-  unfolding half
-  between = (does_max job y (suc (root y words)) (Node 1) half words stands (root_is job y words stands)
-      (omega (arith, end, range), half_phase) (λ h. absurd (omega arith))
-      (λ less. (omega arith, λ later only. half_lawful later only))).keeps
+    climbed : List ℕ
+    climbed = slice_set words (number_of y (Node 1)) (next_phase y.form (root y words))
 
-  halfway : List ℕ
-  halfway = slice_set words (number_of y (Node 1)) half
+    climbed_only : Only y (Node 1) (next_phase y.form (root y words)) words climbed
+    unfolding climbed
+    climbed_only = only_set y (Node 1) (next_phase y.form (root y words)) words may.stands.sizes
+        may.stands.admitted.len (root_is job y words may.stands)
 
-  half_stands : Stands job y halfway
-  unfolding half halfway
-  half_stands = subst (Stands job y) (max_more words (number_of y (Node 1)) half
-      (omega (arith, start))) between.stands
+    climbed_stands : Stands job y climbed
+    unfolding climbed
+    climbed_stands =
+        let above = (next_above y.form (root y words)).0 in
+        let upto = next_upto (root y words) may.below in
+        subst (Stands job y) (max_more words (number_of y (Node 1)) (next_phase y.form (root y words))
+        above) (does_max job y (suc (root y words)) (Node 1) (next_phase y.form (root y words)) words
+        may.stands (root_is job y words may.stands) (omega (arith, upto, range), to_formed)
+        (λ h. absurd (omega (arith, h)))
+        (λ less. (omega (arith, above), λ later only. step_lawful later only))).keeps.stands
 
-  half_only : Only y (Node 1) half words halfway
-  unfolding halfway
-  half_only = only_set y (Node 1) half words stands.sizes stands.admitted.len (root_is job y words stands)
+    climbed_grows : Grows y words climbed
+    climbed_grows =
+        let above = (next_above y.form (root y words)).0 in
+        only_grows y (Node 1) (next_phase y.form (root y words)) words climbed may.stands.sizes
+        (root_is job y words may.stands) (omega (arith, above)) climbed_only
 
-  half_grows : Grows y words halfway
-  unfolding half
-  half_grows = only_grows y (Node 1) half words halfway stands.sizes (root_is job y words stands)
-      (omega (arith, start)) half_only
+    -- the step that is then finished
+    climbed_gone : (finished y climbed ≡ finished y words) ⊎ (finished y climbed ≡ suc (finished y words))
+    climbed_gone =
+        let at = climbed_only.at in
+        let was = facts job y words may.stands in
+        let now = facts job y climbed climbed_stands in
+        let a = was.root_low in
+        let b = now.root_low in
+        let c = now.root_high in
+        let above = (next_above y.form (root y words)).0 in
+        let near = next_within y.form (root y words) (suc (finished y words))
+        (let l = may.live in omega (arith, l)) in
+        elim (cases_eq (finished y climbed) (finished y words)) [
+          | inl e ↦ inl e
+          | inr other ↦ inr (omega (arith, other, at, a, b, c, above, near))
+        ]
 
-  half_gone : finished y halfway ≡ finished y words
-  unfolding half
-  half_gone =
-      let at = half_only.at in
-      let shows = facts job y halfway half_stands in
-      let low = shows.root_low in
-      let high = shows.root_high in
-      omega (arith, at, low, high)
+    climbed_live : root y climbed < m → root y climbed < 3 * finished y climbed + 3
+    climbed_live more =
+        let at = climbed_only.at in
+        let near = next_within y.form (root y words) (suc (finished y words))
+        (let l = may.live in omega (arith, l)) in
+        elim climbed_gone [
+          | inr e ↦ omega (arith, at, near, e)
+          | inl e ↦ elim (cases_eq (root y climbed) (3 * finished y words + 3)) [
+            | inr other ↦ omega (arith, at, near, e, other)
+            | inl full ↦ absurd (
+                let c = (facts job y climbed climbed_stands).full_root (omega (arith, full, e)) in
+                let u = climbed_stands.lawful.named.first (finished y climbed) c in
+                u.1 (silent_agrees job y (finished y climbed) (is_board climbed_stands) (λ i proc.
+                may.silent i (finished y climbed) proc (omega (arith, e)) (omega (arith, full, e, more)))))
+          ]
+        ]
+      where
+        is_board : Stands job y climbed → IsBoard job y
+        is_board st = record { limits = st.limits; layout = st.sizes; is = st.layout }
 
-  half_next : next_phase y.form (root y halfway) ≡ m
-  unfolding half
-  half_next =
-      let at = half_only.at in
-      let s : root y halfway + 2 ≡ m = omega (arith, at, end) in
-      subst (λ (f : Form). next_phase f (root y halfway) ≡ m) (sym wide)
-      (wide_next_first g (root y halfway) (omega (arith, at)) ∙ s)
+    climbed_climbs : root y climbed < m → MayClimb job y m climbed
+    climbed_climbs more = record {
+      stands = climbed_stands;
+      below = more;
+      live = climbed_live more;
+      children = λ inner. let h = may.children inner in
+          let a = h.0 in
+          let b = h.1 in
+          let c = climbed_grows (Node 2) (lit< tt, omega (arith, inner)) in
+          let d = climbed_grows (Node 3) (lit< tt, omega (arith, inner)) in
+          (omega (arith, a, c), omega (arith, b, d));
+      ready = λ i kind proc leaf above most. ready_by climbed_gone i kind proc leaf above most;
+      quiet = λ i t proc leaf late most. may.quiet i t proc leaf (later_than t late) most;
+      silent = λ i t proc late most. may.silent i t proc (not_before t late) most;
+    }
+      where
+        later_than : (t : ℕ) → finished y climbed < t → finished y words < t
+        later_than t late = elim climbed_gone [ inl e ↦ omega (arith, e, late) | inr e ↦ omega (arith, e, late) ]
 
-  half_below : m ≤ highest y.form (finished y halfway) (root y halfway)
-  half_below =
-      let gone = half_gone in
-      subst (λ (f : Form). m ≤ highest f (finished y halfway) (root y halfway)) (sym wide)
-      (omega (arith, gone, end))
+        not_before : (t : ℕ) → finished y climbed ≤ t → finished y words ≤ t
+        not_before t late = elim climbed_gone [ inl e ↦ omega (arith, e, late) | inr e ↦ omega (arith, e, late) ]
 
-  pub jump_lawful : (later : List ℕ) → Only y (Node 1) m words later → Lawful job y later
-  unfolding half
-  jump_lawful later only =
-      let at = half_only.at in
-      let gone = half_gone in
-      node_lawful job y halfway half_stands 1 m (root_is job y words stands) (omega (arith, at, end)) range
-      (omega (arith, at, gone)) half_below
-      (λ inner. let h = children inner in
-      let a = h.0 in let b = h.1 in
-      let c = half_grows (Node 2) (lit< tt, omega (arith, inner)) in
-      let d = half_grows (Node 3) (lit< tt, omega (arith, inner)) in
-      (omega (arith, a, c), omega (arith, b, d)))
-      last_ready (λ i proc e more. absurd (let n = half_next in omega (arith, n, more)))
-      (λ e. half_next) later (record {
-        len = only.len ∙ sym half_only.len;
-        at = only.at;
-        rest = λ b is_b other. only.rest b is_b other ∙ sym (half_only.rest b is_b other);
-      })
-    where
-      last_ready : (i : ℕ) (kind : Kind) → i < y.procs → 1 ≡ leaf_of y i →
-          root y halfway < phase_in (finished y halfway) kind →
-          phase_in (finished y halfway) kind ≤ m →
-          Done job.rule kind job y (finished y halfway) halfway i
-      last_ready i Compute proc e more most = absurd (let at = half_only.at in
-          let gone = half_gone in omega (arith, at, gone, more))
-      last_ready i Apply proc e more most =
-          subst (λ (f : Form). DoneIn f job.rule Apply job y (finished y halfway) halfway i)
-          (sym wide) (no_apply g job y (finished y halfway) halfway i job.rule)
-      last_ready i Verify proc e more most =
-          subst (λ (f : Form). DoneIn f job.rule Verify job y (finished y halfway) halfway i)
-          (sym wide) (rests_done g job.rule job y (finished y halfway) halfway i
-          (subst (λ (s : ℕ). StoresNone job s i) (sym half_gone) (rests i proc e)))
+        ready_by : (finished y climbed ≡ finished y words) ⊎ (finished y climbed ≡ suc (finished y words)) →
+            (i : ℕ) (kind : Kind) → i < y.procs → 1 ≡ leaf_of y i →
+            root y climbed < phase_in (finished y climbed) kind → phase_in (finished y climbed) kind ≤ m →
+            Done job.rule kind job y (finished y climbed) climbed i
+        ready_by (inl e) i kind proc leaf above most =
+            let at = climbed_only.at in
+            let over = (next_above y.form (root y words)).0 in
+            let same : phase_in (finished y climbed) kind ≡ phase_in (finished y words) kind =
+            ap (λ (t : ℕ). phase_in t kind) e in
+            let was = may.ready i kind proc leaf (omega (arith, at, over, same, above))
+            (omega (arith, same, most)) in
+            subst (λ (t : ℕ). Done job.rule kind job y t climbed i) (sym e)
+            (done_later job y words climbed (finished y words) may.stands.limits may.stands.sizes
+            may.stands.layout climbed_grows (λ p place.
+            let a = stamps_most job y climbed climbed_stands p 0 (place, lit< tt) in
+            let b = stamps_most job y climbed climbed_stands p 1 (place, lit< tt) in
+            (omega (arith, a, e), omega (arith, b, e)))
+            kind (λ k c is. climbed_only.rest (Claim c) is (λ k. absurd (cc))) i proc was)
+        ready_by (inr e) i kind proc leaf above most =
+            let low = phase_first (finished y climbed) kind in
+            subst (λ (f : Form). DoneIn f job.rule kind job y (finished y climbed) climbed i) (sym wide)
+            (none_done g job.rule kind job y (finished y climbed) climbed i
+            (may.quiet i (finished y climbed) proc leaf (omega (arith, e)) (omega (arith, low, most))))
+
+  climb : (fuel : ℕ) (words : List ℕ) → MayClimb job y m words → m ≤ root y words + fuel →
+      (later : List ℕ) → Only y (Node 1) m words later → Lawful job y later
+  climb zero words may few later only = absurd (let b = may.below in omega (arith, b, few))
+  climb (suc fuel) words may few later only =
+      elim (cases_eq (next_phase y.form (root y words)) m) [
+        | inl e ↦ step_lawful words may later
+            (subst (λ (k : ℕ). Only y (Node 1) k words later) (sym e) only)
+        | inr other ↦ (
+            let made = climbed_only words may in
+            let at = made.at in
+            let above = (next_above y.form (root y words)).0 in
+            let upto = next_upto words may (root y words) may.below in
+            let less : root y (climbed words may) < m = omega (arith, at, upto, other) in
+            climb fuel (climbed words may) (climbed_climbs words may less) (omega (arith, at, above, few)) later
+            (record {
+              len = only.len ∙ sym made.len;
+              at = only.at;
+              rest = λ b is_b apart. only.rest b is_b apart ∙ sym (made.rest b is_b apart);
+            }))
+      ]
 
 -- ---- a node is marked in a turn of a phase
 
@@ -459,91 +568,59 @@ module _ (job : JobData) (y : LayoutData) (words : List ℕ) (q x : ℕ) (stands
       (only_set y (Node n) (max (held y words (Node n)) m) words stands.sizes stands.admitted.len
       is).rest a is_a (fixed_other g a n fixed)
 
-  module _ (high : held y words (Node n) < m →
-      m ≤ highest y.form (finished y words) (root y words))
+  module _ (top : n ≡ 1 → m ≤ 3 * x + 3)
+      (high : held y words (Node n) < m → y.form ≡ Compact → m ≤ root y words + 1)
       (children : n < y.leaves →
       (m ≤ held y words (Node (2 * n))) × (m ≤ held y words (Node (2 * n + 1))))
       (ready : held y words (Node n) < m → (i : ℕ) (kind : Kind) → i < y.procs → n ≡ leaf_of y i →
       root y words < phase_in (finished y words) kind → phase_in (finished y words) kind ≤ m →
       Done job.rule kind job y (finished y words) words i)
       (rests : held y words (Node n) < m → (i : ℕ) → i < y.procs → n ≡ leaf_of y i →
-      next_phase y.form (root y words) < m → StoresNone job (finished y words) i) where
-    -- the step is under way
-    live_by : (form : Form) → y.form ≡ form → held y words (Node n) < m →
-        root y words < 3 * finished y words + 3
-    live_by Compact e less =
-        let same = mark.compact e in
-        let r = (facts job y words stands).root_below n is in
-        let live : root y words < q = omega (arith, same, r, less) in
-        let gone = alive job y words q x stands some most step floor live in
-        omega (arith, gone, live, step)
-    live_by (Wide g) e less =
-        let r = (facts job y words stands).root_below n is in
-        let h = subst (λ (f : Form). m ≤ highest f (finished y words) (root y words)) e
-        (high less) in
-        omega (arith, r, less, h)
-
-    root_by : (form : Form) → y.form ≡ form → n ≡ 1 → held y words (Node n) < m →
-        (later : List ℕ) → Only y (Node n) m words later → Lawful job y later
-    root_by Compact e first less later only =
-        node_lawful job y words stands n m is less range (live_by Compact e less) (high less) children
-        (ready less) (rests less) (λ one. compact_next e less) later only
-    root_by (Wide g) e first less later only = elim (cases_eq (next_phase y.form (root y words)) m) [
-      | inl next ↦ node_lawful job y words stands n m is less range (live_by (Wide g) e less)
-          (high less) children (ready less) (rests less) (λ one. next) later only
-      | inr other ↦ jump_lawful job y words stands g m e (start other) (end other) range
-          (λ inner. subst (λ (k : ℕ). (m ≤ held y words (Node (2 * k)))
-          × (m ≤ held y words (Node (2 * k + 1)))) first
-          (children (omega (arith, first, inner))))
-          (λ i proc leaf. ready less i Compute proc (first ∙ leaf)
-          (let s = start other in omega (arith, s)) (let d = end other in omega (arith, d)))
-          (λ i proc leaf. rests less i proc (first ∙ leaf) (more other))
-          later (subst (λ (k : ℕ). Only y (Node k) m words later) first only)
-    ]
+      root y words < 3 * finished y words + 1 → 3 * finished y words + 1 < m →
+      StoresNone job (finished y words) i)
+      (quiet : held y words (Node n) < m → (i t : ℕ) → i < y.procs → n ≡ leaf_of y i →
+      finished y words < t → 3 * t + 1 ≤ m → WritesNone y.form job t i) where
+    root_lawful : n ≡ 1 → held y words (Node n) < m → (later : List ℕ) →
+        Only y (Node n) m words later → Lawful job y later
+    root_lawful first less later only = by y.form refl
       where
-        below : root y words < m
-        below = let r = (facts job y words stands).root_below n is in omega (arith, r, less)
+        here : root y words < m
+        here = let r = (facts job y words stands).root_below n is in omega (arith, r, less)
 
-        most_of : m ≤ 3 * finished y words + 3
-        most_of = subst (λ (f : Form). m ≤ highest f (finished y words) (root y words)) e (high less)
+        same : finished y words ≡ x
+        same = early less (top first)
 
-        more : next_phase y.form (root y words) ≢ m → next_phase y.form (root y words) < m
-        more other = let l = next_least y.form (root y words) m mark.is_phase below in
-            omega (arith, l, other)
+        by : (form : Form) → y.form ≡ form → Lawful job y later
+        by Compact e =
+            let next = compact_next e less in
+            node_lawful job y words stands n m is less range
+            (λ one. let t = top first in omega (arith, here, same, t))
+            (high less) children (ready less) (rests less) (quiet less) (λ one. next) later only
+        by (Wide g) e = climb job y g m e range mark.is_phase m words (record {
+          stands = stands;
+          below = here;
+          live = (let t = top first in omega (arith, here, same, t));
+          children = λ inner. subst (λ (k : ℕ). (m ≤ held y words (Node (2 * k)))
+              × (m ≤ held y words (Node (2 * k + 1)))) first
+              (children (omega (arith, first, inner)));
+          ready = λ i kind proc leaf above most. ready less i kind proc (first ∙ leaf) above most;
+          quiet = λ i t proc leaf late most. quiet less i t proc (first ∙ leaf) late most;
+          silent = λ i t proc late most. absurd (let t = top first in
+              omega (arith, t, same, late, most));
+        }) (omega arith) later (subst (λ (k : ℕ). Only y (Node k) m words later) first only)
 
-        start : next_phase y.form (root y words) ≢ m → root y words ≡ 3 * finished y words
-        start other =
-            let low = (facts job y words stands).root_low in
-            let l = more other in
-            let h = most_of in
-            elim (cases_eq (root y words % 3) 1) [
-              | inl one ↦ absurd (let s = subst (λ (f : Form). next_phase f (root y words)
-                  ≡ root y words + 2) (sym e) (wide_next_first g (root y words) one) in
-                  omega (arith, s, one, low, l, h))
-              | inr none ↦ (let s = subst (λ (f : Form). next_phase f (root y words)
-                  ≡ root y words + 1) (sym e) (wide_next_other g (root y words) none) in
-                  omega (arith, s, none, low, l, h))
-            ]
-
-        end : next_phase y.form (root y words) ≢ m → m ≡ 3 * finished y words + 3
-        end other =
-            let s = start other in
-            let h = most_of in
-            let l = more other in
-            let n = subst (λ (f : Form). next_phase f (root y words) ≡ root y words + 1) (sym e)
-            (wide_next_other g (root y words) (λ one. absurd (omega (arith, one, s)))) in
-            let k = next_least y.form (root y words + 1) m mark.is_phase (omega (arith, l, n)) in
-            let t = subst (λ (f : Form). next_phase f (root y words + 1) ≡ root y words + 3) (sym e)
-            (wide_next_first g (root y words + 1) (omega (arith, s))
-            ∙ omega arith) in
-            omega (arith, s, h, k, t)
+    -- a node that is not the root may be as high as it will
+    other_lawful : (n ≡ 1 → ⊥) → held y words (Node n) < m → (later : List ℕ) →
+        Only y (Node n) m words later → Lawful job y later
+    other_lawful other less later only =
+        node_lawful job y words stands n m is less range (λ one. absurd (other one)) (high less)
+        children (ready less) (rests less) (quiet less) (λ one. absurd (other one)) later only
 
     marks_lawful : held y words (Node n) < m → (later : List ℕ) → Only y (Node n) m words later →
         Lawful job y later
     marks_lawful less later only = elim (cases_eq n 1) [
-      | inl first ↦ root_by y.form refl first less later only
-      | inr other ↦ node_lawful job y words stands n m is less range (live_by y.form refl less)
-          (high less) children (ready less) (rests less) (λ one. absurd (other one)) later only
+      | inl first ↦ root_lawful first less later only
+      | inr other ↦ other_lawful other less later only
     ]
 
     pub node_marks : Marks job y q n m words
@@ -558,94 +635,239 @@ module _ (job : JobData) (y : LayoutData) (words : List ℕ) (q x : ℕ) (stands
     (some : 1 ≤ q) (most : q ≤ 3 * job.steps) (step : step_at q ≡ suc x)
     (floor : Floor job y q x words) where
   -- an inner node
-  pub inner_marks : (n m : ℕ) → 1 ≤ n → n < y.leaves → IsMark y q m →
+  pub inner_marks : (n m : ℕ) → 1 ≤ n → n < y.leaves → IsMark y q m → (n ≡ 1 → m ≤ 3 * x + 3) →
       m ≤ held y words (Node (2 * n)) → m ≤ held y words (Node (2 * n + 1)) →
       Marks job y q n m words
-  inner_marks n m low high mark left right =
+  inner_marks n m low high mark top left right =
       let child = stands.lawful.tree in
-      let near = child.near (2 * n) (omega arith, omega arith) in
       let range = child.most (2 * n) (omega arith, omega arith) in
       node_marks job y words q x stands some most step floor n m (low, omega arith) mark
-      (omega (arith, left, range)) (λ less. omega (arith, left, near)) (λ inner. (left, right))
+      (omega (arith, left, range)) top
+      (λ less compact. let near = child.near compact (2 * n) (omega arith, omega arith) in
+      omega (arith, left, near)) (λ inner. (left, right))
       (λ less i kind proc e. absurd (omega (arith, e, high)))
       (λ less i proc e. absurd (omega (arith, e, high)))
+      (λ less i t proc e. absurd (omega (arith, e, high)))
 
   -- a leaf whose processors' work is done
-  module _ (n m : ℕ) (low : y.leaves ≤ n) (top : n < 2 * y.leaves) (mark : IsMark y q m)
-      (last : m ≤ 3 * x + 3) (finish : root y words < q → LeafDone job y x (kind_at q) n words)
-      (rest : q < m → LeafRests job y x n) where
+  module _ (n m : ℕ) (low : y.leaves ≤ n) (below : n < 2 * y.leaves)
+      (leaf_mark : IsLeafMark job y q x n m)
+      (finish : root y words < q → LeafDone job y x (kind_at q) n words) where
+    mark : IsMark y q m
+    mark = leaf_mark.mark
+
+    range : m ≤ 3 * job.steps
+    range = leaf_mark.most
+
+    rest : q < m → q < 3 * x + 3 → LeafRests job y x n
+    rest = leaf_mark.rests
+
+    quiet : (t : ℕ) → x < t → 3 * t + 1 ≤ m → LeafQuiet job y t n
+    quiet = leaf_mark.quiet
+
     is_leaf : IsWord y (Node n)
-    is_leaf = let l = stands.sizes.leaves in (omega arith, top)
+    is_leaf = let l = stands.sizes.leaves in (omega arith, below)
 
-    gone : held y words (Node n) < m → finished y words ≡ x
-    gone less = early job y words q x stands some most step floor n m is_leaf mark
-        (let s = step in omega (arith, last, most, s)) less last
+    from : x ≤ finished y words
+    from = finished_before job y words q x stands some most step floor
 
-    reaches : (form : Form) → y.form ≡ form → held y words (Node n) < m →
-        m ≤ highest form (finished y words) (root y words)
-    reaches Compact e less =
-        let c = compact_next job y words q x stands some most step floor n m is_leaf mark
-        (let s = step in omega (arith, last, most, s)) e less in
+    reaches : held y words (Node n) < m → y.form ≡ Compact → m ≤ root y words + 1
+    reaches less e =
+        let c = compact_next job y words q x stands some most step floor n m is_leaf mark range e
+        less in
         let d = subst (λ (f : Form). next_phase f (root y words) ≡ m) e c in omega (arith, d)
-    reaches (Wide g) e less = let f = gone less in omega (arith, f, last)
+
+    -- of a later step
+    quiet_done : (g : ℕ) → x < finished y words → (i : ℕ) (kind : Kind) → i < y.procs →
+        n ≡ leaf_of y i → phase_in (finished y words) kind ≤ m →
+        DoneIn (Wide g) job.rule kind job y (finished y words) words i
+    quiet_done g late i kind proc leaf upto =
+        let first = phase_first (finished y words) kind in
+        none_done g job.rule kind job y (finished y words) words i
+        (quiet (finished y words) late (omega (arith, first, upto)) i proc (sym leaf))
 
     ready_by : (form : Form) → y.form ≡ form → held y words (Node n) < m → (i : ℕ) (kind : Kind) →
         i < y.procs → n ≡ leaf_of y i → root y words < phase_in (finished y words) kind →
-        phase_in (finished y words) kind ≤ m → DoneIn form job.rule kind job y (finished y words) words i
+        phase_in (finished y words) kind ≤ m →
+        DoneIn form job.rule kind job y (finished y words) words i
     ready_by Compact e less i kind proc leaf more upto =
         let same = mark.compact e in
-        let c = compact_next job y words q x stands some most step floor n m is_leaf mark
-        (let s = step in omega (arith, last, most, s)) e less in
+        let c = compact_next job y words q x stands some most step floor n m is_leaf mark range e
+        less in
         let d = subst (λ (f : Form). next_phase f (root y words) ≡ m) e c in
         let live : root y words < q = omega (arith, d, same) in
+        let gone = alive job y words q x stands some most step floor live in
         let k = kind_of (finished y words) q kind (omega (arith, d, same, more, upto)) in
         subst (λ (f : Form). DoneIn f job.rule kind job y (finished y words) words i) e
         (subst (λ (k : Kind). Done job.rule k job y (finished y words) words i) k
-        (subst (λ (s : ℕ). Done job.rule (kind_at q) job y s words i) (sym (gone less))
+        (subst (λ (s : ℕ). Done job.rule (kind_at q) job y s words i) (sym gone)
         (finish live i proc (sym leaf))))
-    ready_by (Wide g) e less i Apply proc leaf more upto =
-        no_apply g job y (finished y words) words i job.rule
-    ready_by (Wide g) e less i Compute proc leaf more upto =
-        let f = gone less in
-        let r = floor.root in
-        let near = next_within y.form (root y words) (suc (finished y words)) (omega (arith, more)) in
-        let low_root = (facts job y words stands).root_low in
-        let first = subst (λ (f : Form). next_phase f (root y words) ≡ root y words + 1) (sym e)
-        (wide_next_other g (root y words) (λ one. absurd (omega (arith, one, more, low_root)))) in
-        let s = step in
-        let at : phase_in (finished y words) Compute ≡ q =
-        omega (arith, f, r, first, more, low_root, s, some) in
-        let live : root y words < q = omega (arith, at, more) in
-        subst (λ (f : Form). DoneIn f job.rule Compute job y (finished y words) words i) e
-        (subst (λ (k : Kind). Done job.rule k job y (finished y words) words i)
-        (kind_of (finished y words) q Compute at)
-        (subst (λ (s : ℕ). Done job.rule (kind_at q) job y s words i) (sym f)
-        (finish live i proc (sym leaf))))
-    ready_by (Wide g) e less i Verify proc leaf more upto = elim (cases_lt q m) [
-      | inl early ↦ rests_done g job.rule job y (finished y words) words i
-          (subst (λ (s : ℕ). StoresNone job s i) (sym (gone less)) (rest early i proc (sym leaf)))
-      | inr past ↦ (
-          let f = gone less in
-          let at : phase_in (finished y words) Verify ≡ q =
-          (let s = step in let l = mark.low in omega (arith, f, past, l, upto, last)) in
-          let live : root y words < q = omega (arith, at, more) in
-          subst (λ (f : Form). DoneIn f job.rule Verify job y (finished y words) words i) e
-          (subst (λ (k : Kind). Done job.rule k job y (finished y words) words i)
-          (kind_of (finished y words) q Verify at)
-          (subst (λ (s : ℕ). Done job.rule (kind_at q) job y s words i) (sym f)
-          (finish live i proc (sym leaf)))))
+    ready_by (Wide g) e less i kind proc leaf more upto = elim (cases_lt x (finished y words)) [
+      | inl late ↦ quiet_done g late i kind proc leaf upto
+      | inr early ↦ this_step g e (omega (arith, early, from)) i kind proc leaf more upto
     ]
+      where
+        this_step : (g : ℕ) → y.form ≡ Wide g → finished y words ≡ x → (i : ℕ) (kind : Kind) →
+            i < y.procs → n ≡ leaf_of y i → root y words < phase_in (finished y words) kind →
+            phase_in (finished y words) kind ≤ m →
+            DoneIn (Wide g) job.rule kind job y (finished y words) words i
+        this_step g e f i Apply proc leaf more upto =
+            no_apply g job y (finished y words) words i job.rule
+        this_step g e f i Compute proc leaf more upto =
+            let r = floor.root in
+            let low_root = (facts job y words stands).root_low in
+            let first = subst (λ (f : Form). next_phase f (root y words) ≡ root y words + 1) (sym e)
+            (wide_next_other g (root y words) (λ one. absurd (omega (arith, one, more, low_root)))) in
+            let s = step in
+            let at : phase_in (finished y words) Compute ≡ q =
+            omega (arith, f, r, first, more, low_root, s, some) in
+            let live : root y words < q = omega (arith, at, more) in
+            subst (λ (f : Form). DoneIn f job.rule Compute job y (finished y words) words i) e
+            (subst (λ (k : Kind). Done job.rule k job y (finished y words) words i)
+            (kind_of (finished y words) q Compute at)
+            (subst (λ (s : ℕ). Done job.rule (kind_at q) job y s words i) (sym f)
+            (finish live i proc (sym leaf))))
+        this_step g e f i Verify proc leaf more upto = elim (cases_lt q (3 * x + 3)) [
+          | inl early ↦ rests_done g job.rule job y (finished y words) words i
+              (subst (λ (s : ℕ). StoresNone job s i) (sym f)
+              (rest (omega (arith, early, f, upto)) early i proc (sym leaf)))
+          | inr past ↦ (
+              let at : phase_in (finished y words) Verify ≡ q =
+              (let s = step in omega (arith, f, past, s)) in
+              let live : root y words < q = omega (arith, at, more) in
+              subst (λ (f : Form). DoneIn f job.rule Verify job y (finished y words) words i) e
+              (subst (λ (k : Kind). Done job.rule k job y (finished y words) words i)
+              (kind_of (finished y words) q Verify at)
+              (subst (λ (s : ℕ). Done job.rule (kind_at q) job y s words i) (sym f)
+              (finish live i proc (sym leaf)))))
+        ]
 
     rest_by : held y words (Node n) < m → (i : ℕ) → i < y.procs → n ≡ leaf_of y i →
-        next_phase y.form (root y words) < m → StoresNone job (finished y words) i
-    rest_by less i proc leaf more = elim (cases_lt q m) [
-      | inl early ↦ subst (λ (s : ℕ). StoresNone job s i) (sym (gone less))
-          (rest early i proc (sym leaf))
-      | inr past ↦ absurd (let r = floor.root in omega (arith, r, past, more))
+        root y words < 3 * finished y words + 1 → 3 * finished y words + 1 < m →
+        StoresNone job (finished y words) i
+    rest_by less i proc leaf low_root more = elim (cases_lt x (finished y words)) [
+      | inl late ↦ stores_none y.form job (finished y words) i
+          (quiet (finished y words) late (omega (arith, more)) i proc (sym leaf))
+      | inr early ↦ (
+          let f = from in
+          let same : finished y words ≡ x = omega (arith, early, f) in
+          let r = floor.root in
+          let near = next_low y.form (root y words) (finished y words) low_root in
+          let s = step in
+          subst (λ (s : ℕ). StoresNone job s i) (sym same)
+          (rest (omega (arith, same, more, near, r)) (omega (arith, same, near, r)) i proc (sym leaf)))
     ]
 
-    pub leaf_marks : Marks job y q n m words
-    leaf_marks =
-        node_marks job y words q x stands some most step floor n m is_leaf mark
-        (let s = step in omega (arith, last, most, s)) (reaches y.form refl)
-        (λ inner. absurd (omega (arith, inner, low))) (ready_by y.form refl) rest_by
+    quiet_by : held y words (Node n) < m → (i t : ℕ) → i < y.procs → n ≡ leaf_of y i →
+        finished y words < t → 3 * t + 1 ≤ m → WritesNone y.form job t i
+    quiet_by less i t proc leaf late most =
+        quiet t (let f = from in omega (arith, f, late)) most i proc (sym leaf)
+
+    leaf_marks_upto : (n ≡ 1 → m ≤ 3 * x + 3) → Marks job y q n m words
+    leaf_marks_upto top =
+        node_marks job y words q x stands some most step floor n m is_leaf mark range top reaches
+        (λ inner. absurd (omega (arith, inner, low))) (ready_by y.form refl) rest_by quiet_by
+
+  -- ---- the root is raised over the step's end
+
+  -- no node but the root is below a mark that both its children hold
+  children_below : (fuel n m : ℕ) → n ≤ fuel → 2 ≤ n → n < 2 * y.leaves →
+      m ≤ held y words (Node 2) → m ≤ held y words (Node 3) → m ≤ held y words (Node n)
+  children_below zero n m few two high left right = absurd (omega (arith, few, two))
+  children_below (suc fuel) n m few two high left right = elim (cases_eq n 2) [
+    | inl e ↦ subst (λ (k : ℕ). m ≤ held y words (Node k)) (sym e) left
+    | inr other ↦ elim (cases_eq n 3) [
+      | inl e ↦ subst (λ (k : ℕ). m ≤ held y words (Node k)) (sym e) right
+      | inr more ↦ (
+          let up = children_below fuel (n / 2) m (omega (arith, few, two)) (omega (arith, two, other, more))
+          (omega (arith, high)) left right in
+          elim (cases_eq n (2 * (n / 2))) [
+            | inl e ↦ subst (λ (k : ℕ). m ≤ held y words (Node k)) (sym e)
+                (let h = stands.lawful.tree.left (n / 2) (omega (arith, two)) (omega (arith, high)) in
+                omega (arith, up, h))
+            | inr odd ↦ subst (λ (k : ℕ). m ≤ held y words (Node k))
+                (let e : 2 * (n / 2) + 1 ≡ n = omega (arith, odd) in e)
+                (let h = stands.lawful.tree.right (n / 2) (omega (arith, two)) (omega (arith, high)) in
+                omega (arith, up, h))
+          ])
+    ]
+  ]
+
+  pub leaf_marks : (n m : ℕ) → y.leaves ≤ n → n < 2 * y.leaves → IsLeafMark job y q x n m →
+      (n ≡ 1 → m ≤ 3 * x + 3) → (root y words < q → LeafDone job y x (kind_at q) n words) →
+      Marks job y q n m words
+  leaf_marks n m low below leaf_mark top finish =
+      leaf_marks_upto n m low below leaf_mark finish top
+
+  -- From where it stood as the first pass began. Both its children hold the mark, or it is a leaf
+  -- of which the work is done.
+  pub jump_does : (g m : ℕ) → y.form ≡ Wide g → q ≡ 3 * x + 1 → IsMark y q m →
+      m ≤ 3 * job.steps → MayJump job y words q x m →
+      Does job y q (Swap (number_of y (Node 1)) (3 * x) m) words
+  jump_does g m wide phase mark range may =
+      does_swap job y q (Node 1) (3 * x) m words stands root_at (range, mark.is_phase)
+      (λ past e. absurd (omega (arith, past, e, phase)))
+      (λ at. (
+        (let l = mark.low in omega (arith, at, l, phase)),
+        λ later only. climb job y g m wide range mark.is_phase m words (climbs at) (omega arith) later
+            only,
+      ))
+    where
+      root_at : IsWord y (Node 1)
+      root_at = (lit< tt, let l = stands.sizes.leaves in omega arith)
+
+      single : (i : ℕ) → 1 ≡ leaf_of y i → y.leaves ≤ 1
+      single i one = omega (arith, one)
+
+      same : held y words (Node 1) ≡ 3 * x → finished y words ≡ x
+      same at =
+          let f = finished_before job y words q x stands some most step floor in
+          let low = (facts job y words stands).root_low in omega (arith, f, low, at)
+
+      above : held y words (Node 1) ≡ 3 * x → held y words (Node 1) < m
+      above at = let l = mark.low in omega (arith, at, l, phase)
+
+      -- a leaf that is not the root holds the mark
+      high_leaf : (i : ℕ) → i < y.procs → 1 < y.leaves → m ≤ leaf y words i
+      high_leaf i proc inner =
+          let there = leaf_word y i stands.sizes proc in
+          let h = may.children inner in
+          children_below (leaf_of y i) (leaf_of y i) m (omega arith) (omega (arith, inner)) there.1
+          h.0 h.1
+
+      silent_by : held y words (Node 1) ≡ 3 * x → (i t : ℕ) → i < y.procs →
+          finished y words ≤ t → 3 * t + 3 < m → StoresNone job t i
+      silent_by at i t proc late more = elim (cases_lt 1 y.leaves) [
+        | inl inner ↦ (let high = high_leaf i proc inner in
+            elim (cases_eq t (finished y words)) [
+              | inl e ↦ subst (λ (s : ℕ). StoresNone job s i) (sym e)
+                  (stands.lawful.ahead i proc (let f = same at in omega (arith, at, f))
+                  (omega (arith, high, e, more)))
+              | inr other ↦ stores_none y.form job t i (stands.lawful.beyond i t proc
+                  (omega (arith, late, other)) (omega (arith, high, more)))
+            ])
+        | inr lone ↦ (let one : leaf_of y i ≡ 1 = (let there = leaf_word y i stands.sizes proc in
+            let l = stands.sizes.leaves in omega (arith, there.0, there.1, lone)) in
+            let f = same at in
+            elim (cases_eq t x) [
+              | inl e ↦ subst (λ (s : ℕ). StoresNone job s i) (sym e)
+                  ((may.leaf lone).rests (omega (arith, more, e, phase)) (omega (arith, phase))
+                  i proc one)
+              | inr other ↦ stores_none y.form job t i
+                  ((may.leaf lone).quiet t (omega (arith, f, late, other)) (omega (arith, more)) i proc one)
+            ])
+      ]
+
+      climbs : held y words (Node 1) ≡ 3 * x → MayClimb job y m words
+      climbs at = record {
+        stands = stands;
+        below = above at;
+        live = (let f = same at in omega (arith, at, f));
+        children = may.children;
+        ready = λ i kind proc one over upto. let lone = single i one in
+            ready_by 1 m lone (let l = stands.sizes.leaves in omega (arith, l)) (may.leaf lone)
+            (may.done lone) y.form refl (above at) i kind proc one over upto;
+        quiet = λ i t proc one late upto. (may.leaf (single i one)).quiet t
+            (let f = same at in omega (arith, f, late)) upto i proc (sym one);
+        silent = silent_by at;
+      }

@@ -35,7 +35,7 @@ use Rattle.walkx.proofs.Boards.{same_cells, same_procs}
 use Rattle.lawful_walk.specs.Board.{leaf_of, held, root, conflict, leaf, stamp_at, finished, Grows}
 use Rattle.lawful_walk.specs.Board.{IsAsked, phase_in, IsTree, IsNew, IsPair, newer_first}
 use Rattle.lawful_walk.specs.Board.{newer_second, new_first, new_second, IsClaimed, claimed_now}
-use Rattle.lawful_walk.specs.Board.{Done, DoneIn, IsNamed, Lawful, Stands, highest}
+use Rattle.lawful_walk.specs.Board.{Done, DoneIn, IsNamed, Lawful, Stands}
 use Rattle.lawful_walk.proofs.Leaves.{leaf_word}
 use Rattle.lawful_walk.proofs.Frames.{Only, only_grows, same_or_other, does_max, does_swap}
 use Rattle.lawful_walk.proofs.Frames.{keeps_store}
@@ -94,7 +94,7 @@ module _ (job : JobData) (y : LayoutData) (words later : List ℕ) (a : Word)
   leaf_same : (i : ℕ) → i < y.procs → leaf y later i ≡ leaf y words i
   leaf_same i proc = nodes_same (leaf_of y i) (leaf_word y i stands.sizes proc)
 
-  tree_same : IsTree job y (finished y words) later
+  tree_same : IsTree job y later
   tree_same = record {
     left = λ n low high. let a = nodes_same n (low, omega arith) in
         let b = nodes_same (2 * n) (omega arith, omega arith) in
@@ -102,9 +102,9 @@ module _ (job : JobData) (y : LayoutData) (words later : List ℕ) (a : Word)
     right = λ n low high. let a = nodes_same n (low, omega arith) in
         let b = nodes_same (2 * n + 1) (omega arith, omega arith) in
         let h = stands.lawful.tree.right n low high in omega arith;
-    near = λ n is. let a = nodes_same n is in
-        let b = ap (highest y.form (finished y words)) root_same in
-        let h = stands.lawful.tree.near n is in omega arith;
+    near = λ compact n is. let a = nodes_same n is in
+        let b = root_same in
+        let h = stands.lawful.tree.near compact n is in omega (arith, a, b, h);
     most = λ n is. let a = nodes_same n is in
         let h = stands.lawful.tree.most n is in omega arith;
   }
@@ -172,10 +172,13 @@ module _ (job : JobData) (y : LayoutData) (words later : List ℕ) (a : Word)
             λ c is. subst (λ (r : ℕ). IsClaimed y.form job (finished y words) r c
             (held y later (Claim c))) (sym r) (claimed c is);
         done = done_by;
-        ahead = λ i proc h. stands.lawful.ahead i proc (let l = leaf_same i proc in
-            let n = ap (next_phase y.form) r in omega (arith, l, n, h));
+        ahead = λ i proc low_root h. stands.lawful.ahead i proc (omega (arith, r, low_root))
+            (let l = leaf_same i proc in omega (arith, l, h));
+        beyond = λ i s proc more h. stands.lawful.beyond i s proc more
+            (let l = leaf_same i proc in omega (arith, l, h));
         named = subst (IsNamed y.form job (conflict y later)) (sym r) named;
-      }) (omega arith) (omega arith) (λ e none i proc. absurd (full (omega arith) none))
+      }) (omega arith) (omega arith) (λ e none compact i proc.
+      absurd (full (omega arith) none))
     where
       kept : (i : ℕ) (kind : Kind) → i < y.procs → (kind ≡ Verify → ⊥) →
           phase_in (finished y words) kind ≤ leaf y later i →
@@ -349,19 +352,16 @@ module _ (job : JobData) (y : LayoutData) (words : List ℕ) (q x : ℕ) (stands
           i < y.procs → 3 * finished y words + 3 ≤ leaf y words i →
           Done job.rule Verify job y (finished y words) later i
       ahead_done Compact e later live i proc h = absurd (
-          let near = subst (λ (f : Form).
-          leaf y words i ≤ highest f (finished y words) (root y words)) e
-          (stands.lawful.tree.near (leaf_of y i) (leaf_word y i stands.sizes proc)) in
+          let near = stands.lawful.tree.near e (leaf_of y i) (leaf_word y i stands.sizes proc) in
           let come = subst (λ (f : Form). next_phase f (root y words) ≡ q) e (coming live) in
           let claimed = subst (λ (f : Form). q ≡ phase_claimed f x) e phase in
           let l = ahead in omega (arith, near, come, claimed, l, h))
       ahead_done (Wide g) e later live i proc h =
           let claimed = subst (λ (f : Form). q ≡ phase_claimed f x) e phase in
-          let come = coming live in
           let l = ahead in
           subst (λ (f : Form). DoneIn f job.rule Verify job y (finished y words) later i) (sym e)
           (rests_done g job.rule job y (finished y words) later i
-          (stands.lawful.ahead i proc (omega (arith, claimed, come, l, h))))
+          (stands.lawful.ahead i proc (omega (arith, claimed, live, l)) (omega (arith, h))))
 
 -- ---- ranges of what is written
 

@@ -85,7 +85,7 @@ module _ (job : JobData) (form : Form) (workers : ℕ) (limits : IsJob job)
     tree = record {
       left = λ n low high. let a = node_zero n (low, omega arith) in omega arith;
       right = λ n low high. let a = node_zero n (low, omega arith) in omega arith;
-      near = λ n is. let a = node_zero n is in omega arith;
+      near = λ compact n is. let a = node_zero n is in omega arith;
       most = λ n is. let a = node_zero n is in omega arith;
     };
     asked = λ compact i j proc part. let e = value (Asked i j) (proc, part) in
@@ -96,7 +96,8 @@ module _ (job : JobData) (form : Form) (workers : ℕ) (limits : IsJob job)
         claimed_before (let m = last_most form job limits 0 c in omega arith)
         (λ s h. absurd (omega arith));
     done = λ i kind proc h. absurd (none_done i kind proc h);
-    ahead = λ i proc h. absurd (let z = leaf_zero i proc in omega (arith, z, h));
+    ahead = λ i proc low h. absurd (let z = leaf_zero i proc in omega (arith, z, h));
+    beyond = λ i s proc more h. absurd (let z = leaf_zero i proc in omega (arith, z, h));
     named = (let u = value Conflict tt in
         record { first = λ s e. absurd (omega arith); near = λ s e. absurd (omega arith) });
   }

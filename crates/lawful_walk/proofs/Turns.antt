@@ -1,10 +1,17 @@
 -- The task of a phase, the leaf, the turn, and the scripts of a worker: they are safe.
 use Rattle.std.proofs.Common.{◌≡◌, ℕ, zero, suc, ◌+◌, ◌-◌, ◌*◌, ◌/◌, ◌%◌, ◌<◌, ◌≤◌, ◌==◌, ◌&&◌}
 use Rattle.std.proofs.Common.{nat_le, if◌then◌else◌, true, false, true≢false, List, [], ◌∷◌, IsTrue}
+use Rattle.std.proofs.Common.{Bool, length, slice_get}
+use Rattle.std.specs.Prelude.{◌||◌}
+use Rattle.std.proofs.lemmas.Option.{slice_get_past}
+use Rattle.pram_job.specs.Job.{IsJob}
+use Rattle.pram_machine.specs.Machine.{IsStopped, counter}
+use Rattle.pram_step.specs.Runs.{state_after}
+use Rattle.pram_step.proofs.LawCounters.{stopped_processor}
 use Rattle.std.proofs.Common.{refl, sym, ap, subst, ◌∙◌, inl, inr, arith}
 use Rattle.std.proofs.Math.Nat.{div-add-mod}
 use Rattle.std.proofs.lemmas.Bool.{cond_both, cases_Bool, cases_eq, cases_lt, eqb-false, eqb-true}
-use Rattle.std.proofs.lemmas.Bool.{leb-true, leb-false}
+use Rattle.std.proofs.lemmas.Bool.{leb-true, leb-false, ne_eqb}
 use Rattle.std.proofs.lemmas.Option.{none-some}
 use Rattle.std.specs.Prelude.{Option, Some, None, is_none, min}
 use Rattle.std.proofs.lemmas.Nat.{mod_below}
@@ -22,7 +29,8 @@ use Rattle.pram_words.specs.declared.words.Word.TheVariants.{Node}
 use Rattle.walkx.specs.Doing as doing
 use Rattle.walkx.specs.Passes.{task_in}
 use Rattle.walkx.specs.declared.memo.Memo.{Memo}
-use Rattle.walkx.specs.Memory.{IsTrueMemo, IsTrueMemory, at_start, has_rested, memo_of, store_in}
+use Rattle.walkx.specs.Memory.{IsTrueMemo, IsTrueMemory, at_start, has_rested, has_stopped, memo_of}
+use Rattle.walkx.specs.Memory.{store_in}
 use Rattle.walkx.proofs.Beginnings.{start_true}
 use Rattle.walkx.proofs.Boards.{in_range, same_procs}
 use Rattle.walkx.proofs.Nodes.{node_range}
@@ -31,37 +39,41 @@ use Rattle.walkx.specs.Walk.{IsPhase, script_by, begun_phase, part_script, phase
 use Rattle.walkx.specs.Walk.{leaf_script, Then, begins, enters, worked, IsInBlock, IsWide, node_of}
 use Rattle.walkx.specs.Walk.{after_part, task_at}
 use Rattle.walkx.specs.Walk.{has_rank, processor_at, marks_node, stands_at, way_down, IsBoard}
-use Rattle.walkx.specs.Walk.{block_mark, empty_mark, inner_mark, last_phase, none_stores}
+use Rattle.walkx.specs.Walk.{block_all, block_mark, block_reach, bounded_mark, empty_mark}
+use Rattle.walkx.specs.Walk.{inner_mark, jumps, last_phase, marks_block, marks_inner}
 use Rattle.walkx.proofs.Forms.{form_both}
-use Rattle.walkx.proofs.Marks.{block_marks, both_parts, empty_marks, inner_marks}
+use Rattle.walkx.proofs.Marks.{all_at, block_marks, block_reaches, both_parts, empty_marks}
+use Rattle.walkx.proofs.Marks.{inner_marks, inner_reaches, jumps_where}
+use Rattle.walkx.proofs.Marks as marks
 use Rattle.walkx.proofs.Ends.{way_inside}
 use Rattle.walkx.proofs.Firsts.{rank_parts, rank_there}
 use Rattle.walkx.specs.Doing.{Doing}
 use Rattle.walkx.specs.Scripts.{Script, asks, ends}
 use Rattle.walkx.specs.Tasks.{task_of}
 use Rattle.walkx.specs.declared.operation.Op.{Op}
-use Rattle.walkx.specs.declared.operation.Op.TheVariants.{Load}
+use Rattle.walkx.specs.declared.operation.Op.TheVariants.{Load, Swap}
 use Rattle.lawful_walk.specs.Lands.{phase_written, compact_phase_written}
 use Rattle.lawful_walk.proofs.Effects.{phase_at}
 use Rattle.lawful_walk.specs.Board.{leaf_of, phase_in, root, Done, LeafDone, CompactDone, DoneIn}
-use Rattle.lawful_walk.specs.Board.{StoresNone}
-use Rattle.lawful_walk.proofs.OwnPlaces.{asks_cell}
+use Rattle.lawful_walk.specs.Board.{StoresNone, WritesNone, held}
+use Rattle.lawful_walk.proofs.OwnPlaces.{asks_cell, stopped_none}
 use Rattle.lawful_walk.proofs.Applying.{apply_safe, crew_apply_safe, claim_safe}
-use Rattle.lawful_walk.proofs.Begins.{back_safe, begin_safe, stands_safe, inner_safe}
-use Rattle.lawful_walk.proofs.Blocks.{marks_safe}
+use Rattle.lawful_walk.proofs.Begins.{Children, back_safe, begin_safe, children_last}
+use Rattle.lawful_walk.proofs.Begins.{heard_children, inner_safe, stands_safe}
+use Rattle.lawful_walk.proofs.Blocks.{jumps_safe, marks_safe}
 use Rattle.lawful_walk.proofs.Computing.{compute_safe}
 use Rattle.lawful_walk.proofs.Floors.{floor_seen}
 use Rattle.lawful_walk.proofs.Known.{floor_lasts, EndSafe, LearnedSafe}
 use Rattle.lawful_walk.proofs.Moving.{RankSafe, WorkerSafe, aim_at, aim_of, moves}
 use Rattle.lawful_walk.proofs.Scripts.{Aim, Safe, load_safe}
-use Rattle.lawful_walk.proofs.Sees.{Sees, so, heard, later}
+use Rattle.lawful_walk.proofs.Sees.{Lasts, Sees, so, heard, later}
 use Rattle.lawful_walk.proofs.Verifying.{verify_safe, crew_verify_safe}
 use Rattle.lawful_walk.proofs.WideTasks.{wide_task_safe}
 use Rattle.lawful_walk.proofs.Winning.{priority_apply_safe}
 use Rattle.lawful_walk.specs.Moments.{Moment}
 use Rattle.lawful_walk.specs.WalkLaws.{WorkersKeepWordsLawful}
 use Rattle.lawful_walk.specs.Walks.{phase_now}
-use Rattle.lawful_walk.specs.Writes.{Floor, IsMark, LeafRests}
+use Rattle.lawful_walk.specs.Writes.{Floor, IsLeafMark, IsMark, LeafQuiet, LeafRests, MayJump}
 
 claims_are : (job : JobData) (y : LayoutData) (rule : Rule) → IsBoard job y → job.rule ≡ rule →
     IsTrue (has_claims rule) → IsTrue y.claims
@@ -75,17 +87,91 @@ written_in job y x q rule compact is e p =
     subst (λ (f : Form). q ≡ phase_written f job p x) (sym compact)
     (sym e ∙ ap (λ (r : Rule). compact_phase_written r x) (sym is))
 
--- an inner node is marked no higher than either of its children
-inner_both : (y : LayoutData) (q l r : ℕ) → (nat_le q l && nat_le q r) ≡ true →
-    (inner_mark y q l r ≤ l) × (inner_mark y q l r ≤ r)
-inner_both y q l r e =
-    form_both y.form q (min l r) (λ m. (m ≤ l) × (m ≤ r)) (both_true e) (omega arith, omega arith)
-  where
-    both_true : (nat_le q l && nat_le q r) ≡ true → (q ≤ l) × (q ≤ r)
-    both_true e = elim (cases_Bool (nat_le q l)) [
-      | inl a ↦ (let b : nat_le q r ≡ true = rw a at e in (leb-true q l a, leb-true q r b))
-      | inr a ↦ absurd (let b = rw a at e in cc)
+-- a wide form has a grain
+by_wide : {A : Type 0} (form form_of : Form) → form_of ≡ form → IsWide form →
+    ((g : ℕ) → form_of ≡ Wide g → A) → A
+by_wide Compact f is wide each = absurd wide
+by_wide (Wide g) f is wide each = each g is
+
+-- a block that reaches further in the first pass has rested, and one over the step has stopped
+reach_rested : (job : JobData) (y : LayoutData) (n q : ℕ) (memory : List Memo) →
+    q < block_reach job y n q memory → q < last_phase q →
+    block_all (has_rested (step_at q)) y n memory ≡ true
+reach_rested job y n q memory more early =
+    elim (cases_Bool (block_all (has_rested (step_at q)) y n memory)) [
+      | inl rested ↦ rested
+      | inr other ↦ absurd (let h : q < q = rw (ne_eqb q (last_phase q) (λ e. omega (arith, e, early)),
+          other) at more in omega (arith, h))
     ]
+
+reach_stopped : (job : JobData) (y : LayoutData) (n q : ℕ) (memory : List Memo) →
+    last_phase q < block_reach job y n q memory →
+    block_all (has_stopped job (step_at q)) y n memory ≡ true
+reach_stopped job y n q memory more =
+    elim (cases_Bool (block_all (has_stopped job (step_at q)) y n memory)) [
+      | inl stopped ↦ stopped
+      | inr other ↦ absurd (cond_both
+          ((q == last_phase q) || block_all (has_rested (step_at q)) y n memory) (last_phase q) q
+          (λ (m : ℕ). last_phase q < m → ⊥) (λ e h. omega (arith, h)) (λ e h. omega (arith, h))
+          (rw other at more))
+    ]
+
+-- one of which is remembered that it did not store writes no cell
+rested_none : (job : JobData) (i x : ℕ) (memo : Memo) → IsTrueMemo job i memo →
+    has_rested (suc x) memo ≡ true → StoresNone job x i
+rested_none job i x memo is_true rested c v made_so cell =
+    let both = both_parts (memo.step == suc x) (is_none memo.store) rested in
+    let at = eqb-true memo.step (suc x) both.0 in
+    let none = none_is memo.store both.1 in
+    let made : store_in job i memo.step ≡ Some (c, v) =
+    subst (λ (t : ℕ). store_in job i t ≡ Some (c, v)) (sym at) (asks_cell job x i c v cell made_so) in
+    absurd (none-some (c, v) (sym none ∙ is_true.store ∙ made))
+  where
+    none_is : (o : Option (ℕ × ℕ)) → is_none o ≡ true → o ≡ None
+    none_is None e = refl
+    none_is (Some w) e = absurd (cc)
+
+-- one of which is remembered that it has stopped writes nothing in later steps
+stopped_quiet : (g : ℕ) (job : JobData) (i x s : ℕ) (memo : Memo) → IsJob job → i < job.procs →
+    IsTrueMemo job i memo → has_stopped job (suc x) memo ≡ true → x < s →
+    WritesNone (Wide g) job s i
+stopped_quiet g job i x s memo limits proc is_true stopped late p v lands =
+    let both = both_parts (memo.step == suc x) (nat_le (length job.code) memo.counter) stopped in
+    let at = eqb-true memo.step (suc x) both.0 in
+    let past = leb-true (length job.code) memo.counter both.1 in
+    let here = ap (λ (t : ℕ). counter job (state_after job t) i) at in
+    let counts = is_true.counter in
+    let first : IsStopped job (state_after job (suc x)) i = omega (arith, past, counts, here) in
+    let more : suc x + (s - suc x) ≡ s = omega (arith, late) in
+    let same = (stopped_processor job (suc x) (s - suc x) i limits proc first).0 in
+    let there = ap (λ (t : ℕ). counter job (state_after job t) i) more in
+    let gone : length job.code ≤ counter job (state_after job s) i =
+    omega (arith, same, there, first) in
+    stopped_none g job s i p v
+    (slice_get_past job.code (counter job (state_after job s) i) gone) lands
+
+-- a bounded mark is at most the mark, and that of the root the step's last phase
+bounded_upto : (n q m : ℕ) → bounded_mark n q m ≤ m
+bounded_upto n q m = cond_both (n == 1) (min m (last_phase q)) m (λ (k : ℕ). k ≤ m)
+    (λ e. omega arith) (λ e. omega arith)
+
+bounded_top : (n q m : ℕ) → n ≡ 1 → bounded_mark n q m ≤ last_phase q
+bounded_top n q m one = cond_both (n == 1) (min m (last_phase q)) m
+    (λ (k : ℕ). k ≤ last_phase q) (λ e. omega arith) (λ e. absurd (eqb-false n 1 e one))
+
+inner_upto : (y : LayoutData) (n q l r : ℕ) → (nat_le q l && nat_le q r) ≡ true →
+    inner_mark y n q l r ≤ min l r
+inner_upto y n q l r e =
+    let both = both_parts (nat_le q l) (nat_le q r) e in
+    let a = leb-true q l both.0 in
+    let b = leb-true q r both.1 in
+    form_both y.form q (bounded_mark n q (min l r)) (λ (m : ℕ). m ≤ min l r) (omega (arith, a, b))
+    (bounded_upto n q (min l r))
+
+inner_last : (y : LayoutData) (n q l r : ℕ) → n ≡ 1 → inner_mark y n q l r ≤ last_phase q
+inner_last y n q l r one =
+    form_both y.form q (bounded_mark n q (min l r)) (λ (m : ℕ). m ≤ last_phase q) (omega arith)
+    (bounded_top n q (min l r) one)
 
 module _ (job : JobData) (y : LayoutData) (w q : ℕ) (aim : Aim) (x : ℕ)
     (some : 1 ≤ q) (most : q ≤ 3 * job.steps)
@@ -155,38 +241,96 @@ module _ (job : JobData) (y : LayoutData) (w q : ℕ) (aim : Aim) (x : ℕ)
 
   -- ---- the turn
 
+  abbrev Held : ℕ → ℕ → List ℕ → Type 0
+  Held n m = Children job y w q aim x some most step (Floor job y q x) (floor_lasts job y q x)
+      (λ words f. f) n m
+
+  held_last : (n m : ℕ) → 1 ≤ n → n < y.leaves → Lasts job y (Held n m)
+  held_last n m low high = children_last job y w q aim x some most step (Floor job y q x)
+      (floor_lasts job y q x) (λ words f. f) n m low high
+
+  -- a node whose children were heard is marked, the root after a jump, if it makes one
+  inner_marked : (n l r : ℕ) → IsTrue (has_phase y.form q) → 1 ≤ n → n < y.leaves →
+      (nat_le q l && nat_le q r) ≡ true →
+      (l ≤ 3 * job.steps) × IsTrue (has_phase y.form l) →
+      (r ≤ 3 * job.steps) × IsTrue (has_phase y.form r) → (history : List (Op × ℕ)) →
+      Sees job y history (Held n (min l r)) → Safe job y w q aim (marks_inner y n q l r) history
+  inner_marked n l r formed low high e left right history sees =
+      cond_both (jumps y n q (min l r))
+      (asks (Swap (number_of y (Node n)) (q - 1) (min l r)) (λ found. marked)) marked
+      (λ (s : Script Then). Safe job y w q aim s history) (λ jump.
+      let is = jumps_where y n q (min l r) jump in
+      by_wide y.form y.form refl is.wide (λ g wide.
+      subst (λ (k : ℕ). Safe job y w q aim
+      (asks (Swap (number_of y (Node k)) (q - 1) (min l r)) (λ found. marked)) history) (sym is.root)
+      (jumps_safe job y w q aim x some most step (Held n (min l r)) (held_last n (min l r) low high)
+      (λ words h. h.0) g (min l r) wide (let p = is.first in omega (arith, p, step))
+      (reach_mark g wide) reach.most marked history
+      (so job y history (Held n (min l r))
+      (λ words. Held n (min l r) words × (aim.given words → MayJump job y words q x (min l r)))
+      (λ words stands h. (h, λ given. may_jump is.root words h)) sees)
+      (λ longer more. mark_on longer more))))
+      (λ stays. mark_on history sees)
+    where
+      marked : Script Then
+      marked = marks_node y n (inner_mark y n q l r) q
+
+      reach : marks.IsMark job.steps y q (min l r)
+      reach = inner_reaches job.steps y q l r left right e
+
+      reach_mark : (g : ℕ) → y.form ≡ Wide g → IsMark y q (min l r)
+      reach_mark g wide = record {
+        low = reach.least;
+        is_phase = reach.formed;
+        compact = λ c. absurd (let same : Compact ≡ Wide g = sym c ∙ wide in cc);
+      }
+
+      may_jump : n ≡ 1 → (words : List ℕ) → Held n (min l r) words →
+          MayJump job y words q x (min l r)
+      may_jump one words h = record {
+        children = λ inner. subst (λ (k : ℕ). (min l r ≤ held y words (Node (2 * k)))
+            × (min l r ≤ held y words (Node (2 * k + 1)))) one h.1;
+        leaf = λ lone. absurd (omega (arith, lone, low, high));
+        done = λ lone. absurd (omega (arith, lone, low, high));
+      }
+
+      mark_on : (longer : List (Op × ℕ)) → Sees job y longer (Held n (min l r)) →
+          Safe job y w q aim marked longer
+      mark_on longer more =
+          let mark = inner_marks job.steps y n q l r most formed left right e in
+          inner_safe job y w q aim x some most step (Floor job y q x) (floor_lasts job y q x)
+          (λ words f. f) n (inner_mark y n q l r) (min l r) longer low high (record {
+            low = mark.least;
+            is_phase = mark.formed;
+            compact = λ c. ap (λ (f : Form). by_form f q (bounded_mark n q (min l r))) c;
+          }) (λ one. let h = inner_last y n q l r one in omega (arith, h, step)) (inner_upto y n q l r e) more
+
   pub down_safe : (n : ℕ) → IsTrue (has_phase y.form q) → w < y.workers → 1 ≤ n → n < y.leaves →
       (history : List (Op × ℕ)) → Sees job y history (Floor job y q x) →
       Safe job y w q aim (asks (Load (number_of y (Node (2 * n))))
       (λ l. asks (Load (number_of y (Node (2 * n + 1)))) (λ r. if nat_le q l && nat_le q r
-      then marks_node y n (inner_mark y q l r) q else stands_at y w (way_down y w n q l r) q))) history
+      then marks_inner y n q l r else stands_at y w (way_down y w n q l r) q))) history
   down_safe n formed worker low high history sees =
       load_safe job y w q aim (number_of y (Node (2 * n)))
       (λ l. asks (Load (number_of y (Node (2 * n + 1)))) (λ r. if nat_le q l && nat_le q r
-      then marks_node y n (inner_mark y q l r) q else stands_at y w (way_down y w n q l r) q))
+      then marks_inner y n q l r else stands_at y w (way_down y w n q l r) q))
       history (λ l left. load_safe job y w q aim (number_of y (Node (2 * n + 1))) (λ r.
-      if nat_le q l && nat_le q r then marks_node y n (inner_mark y q l r) q
+      if nat_le q l && nat_le q r then marks_inner y n q l r
       else stands_at y w (way_down y w n q l r) q)
       ((Load (number_of y (Node (2 * n))), l) ∷ history) (λ r right.
       let longer : List (Op × ℕ) = (Load (number_of y (Node (2 * n + 1))), r)
       ∷ (Load (number_of y (Node (2 * n))), l) ∷ history in
-      cond_both (nat_le q l && nat_le q r) (marks_node y n (inner_mark y q l r) q)
+      cond_both (nat_le q l && nat_le q r) (marks_inner y n q l r)
       (stands_at y w (way_down y w n q l r) q)
       (λ (s : Script Then). Safe job y w q aim s longer) (λ e.
-      let mark = inner_marks job.steps y q l r most formed
-      (in_range job y (Node (2 * n)) l board (omega arith, omega arith) left)
-      (in_range job y (Node (2 * n + 1)) r board (omega arith, omega arith) right) e in
-      let both = inner_both y q l r e in
-      inner_safe job y w q aim x some most step (Floor job y q x)
-      (floor_lasts job y q x) (λ words f. f) n (inner_mark y q l r) l r longer low high
-      (record {
-        low = mark.least;
-        is_phase = mark.formed;
-        compact = λ c. ap (λ (f : Form). by_form f q (min l r)) c;
-      }) both.0 both.1
+      let at_left = in_range job y (Node (2 * n)) l board (omega arith, omega arith) left in
+      let at_right = in_range job y (Node (2 * n + 1)) r board (omega arith, omega arith) right in
+      inner_marked n l r formed low high e at_left at_right longer
+      (heard_children job y w q aim x some most step (Floor job y q x) (floor_lasts job y q x)
+      (λ words f. f) n (min l r) l r longer low high (omega arith) (omega arith)
       (heard job y ((Load (number_of y (Node (2 * n))), l) ∷ history) (Moment job y (Load
       (number_of y (Node (2 * n)))) l (Floor job y q x)) (Load (number_of y (Node (2 * n + 1)))) r
-      (heard job y history (Floor job y q x) (Load (number_of y (Node (2 * n)))) l sees)))
+      (heard job y history (Floor job y q x) (Load (number_of y (Node (2 * n)))) l sees))))
       (λ e. let way = way_inside y w n q l r low high in
       stands_safe job y w q aim (way_down y w n q l r) longer worker way.0 way.1)))
 
@@ -229,85 +373,80 @@ wide_end : (y : LayoutData) (n q rank g : ℕ) (memo : Memo) → y.form ≡ Wide
     after_part y n q rank memo ≡ ends (worked n q rank memo)
 wide_end y n q rank g memo wide = rw wide refl
 
--- a wide form has a grain
-by_wide : {A : Type 0} (form form_of : Form) → form_of ≡ form → IsWide form →
-    ((g : ℕ) → form_of ≡ Wide g → A) → A
-by_wide Compact f is wide each = absurd wide
-by_wide (Wide g) f is wide each = each g is
-
--- those of a block of which none stored, by what is remembered of them
-rested_at : (y : LayoutData) (n t more rank k : ℕ) (memory : List Memo) → rank ≤ k → k < rank + more →
-    IsTrue (has_rank y n k) → none_stores more y n t rank memory ≡ true →
-    has_rested t (memo_of memory (processor_at y n k)) ≡ true
-rested_at y n t zero rank k memory low high there all = absurd (omega (arith, low, high))
-rested_at y n t (suc more) rank k memory low high there all =
-    let at = rank_parts y n k there in
-    let less = at.0 in
-    let last = at.1 in
-    let here = rank_there y n rank (omega (arith, low, less)) (omega (arith, low, last)) in
-    let both = both_parts (has_rested t (memo_of memory (processor_at y n rank)))
-    (none_stores more y n t (suc rank) memory) (rw here at all) in
-    elim (cases_eq rank k) [
-      | inl same ↦ subst (λ (j : ℕ). has_rested t (memo_of memory (processor_at y n j)) ≡ true) same
-          both.0
-      | inr other ↦ rested_at y n t more (suc rank) k memory (omega (arith, low, other))
-          (omega (arith, high)) there both.1
-    ]
-
--- one of which is remembered that it did not store writes no cell
-rested_none : (job : JobData) (i x : ℕ) (memo : Memo) → IsTrueMemo job i memo →
-    has_rested (suc x) memo ≡ true → StoresNone job x i
-rested_none job i x memo is_true rested c v made_so cell =
-    let both = both_parts (memo.step == suc x) (is_none memo.store) rested in
-    let at = eqb-true memo.step (suc x) both.0 in
-    let none = none_is memo.store both.1 in
-    let made : store_in job i memo.step ≡ Some (c, v) =
-    subst (λ (t : ℕ). store_in job i t ≡ Some (c, v)) (sym at) (asks_cell job x i c v cell made_so) in
-    absurd (none-some (c, v) (sym none ∙ is_true.store ∙ made))
-  where
-    none_is : (o : Option (ℕ × ℕ)) → is_none o ≡ true → o ≡ None
-    none_is None e = refl
-    none_is (Some w) e = absurd (cc)
-
 module _ (job : JobData) (y : LayoutData) (w q x : ℕ) (some : 1 ≤ q) (most : q ≤ 3 * job.steps)
     (step : step_at q ≡ suc x) (board : IsBoard job y) (formed : IsTrue (has_phase y.form q)) where
-  -- the phase itself is a mark, and in the wide form the last one of the step
-  own_mark : IsMark y q q
-  own_mark = record { low = omega arith; is_phase = formed; compact = λ e. refl }
+  -- the phase itself is a mark of each leaf
+  own_mark : (n : ℕ) → IsLeafMark job y q x n q
+  own_mark n = record {
+    mark = record { low = omega arith; is_phase = formed; compact = λ e. refl };
+    most = most;
+    rests = λ more. absurd (omega (arith, more));
+    quiet = λ s late more. absurd (omega (arith, late, more, step));
+  }
 
-  rest_mark : (n : ℕ) (memory : List Memo) → IsWide y.form → IsMark y q (block_mark y n q memory)
-  rest_mark n memory wide =
-      let mark = block_marks job.steps y n q memory most formed in
-      record {
-        low = mark.least;
-        is_phase = mark.formed;
-        compact = λ e. absurd (subst IsWide e wide);
-      }
+  -- what is so with all that are remembered of a block is so with each
+  known_at : (is : Memo → Bool) (n : ℕ) (memory : List Memo) → IsTrueMemory job memory →
+      block_all is y n memory ≡ true → (i : ℕ) → i < y.procs → leaf_of y i ≡ n →
+      IsTrueMemo job i (memo_of memory i) × (is (memo_of memory i) ≡ true)
+  known_at is n memory is_true all i proc leaf =
+      let at = block_at y i n board.layout proc leaf in
+      let same = same_procs job y board in
+      let b = at.0 in
+      let k = all_at is y n (grain y) 0 (i % grain y) memory (omega arith) (omega (arith, b)) at.2 all
+      in (
+        is_true board.limits i (omega (arith, proc, same)),
+        subst (λ (j : ℕ). is (memo_of memory j) ≡ true) (sym at.1) k,
+      )
 
-  block_last : (n : ℕ) (memory : List Memo) → block_mark y n q memory ≤ 3 * x + 3
-  block_last n memory =
-      cond_both (none_stores (grain y) y n (step_at q) 0 memory) (last_phase q) q
-      (λ (m : ℕ). m ≤ 3 * x + 3) (λ e. omega (arith, step)) (λ e. omega (arith, step))
+  module _ (n : ℕ) (memory : List Memo) (is_true : IsTrueMemory job memory) (wide : IsWide y.form)
+      where
+    -- in the first pass a block that reaches further has stored nothing
+    reach_rests : q < block_reach job y n q memory → q < 3 * x + 3 → LeafRests job y x n
+    reach_rests more early i proc leaf =
+        let rested = reach_rested job y n q memory more (omega (arith, early, step)) in
+        let known = known_at (has_rested (step_at q)) n memory is_true rested i proc leaf in
+        rested_none job i x (memo_of memory i) known.0
+        (subst (λ (t : ℕ). has_rested t (memo_of memory i) ≡ true) step known.1)
 
-  -- it is above the phase where none of the block stores
-  block_rests : (n : ℕ) (memory : List Memo) → IsTrueMemory job memory →
-      q < block_mark y n q memory → LeafRests job y x n
-  block_rests n memory is_true less = by less
-    where
-      by : q < block_mark y n q memory → LeafRests job y x n
-      by less i proc leaf = elim (cases_Bool (none_stores (grain y) y n (step_at q) 0 memory)) [
-        | inr some_stores ↦ absurd (let h : q < q = rw some_stores at less in omega (arith, h))
-        | inl none ↦ (
-            let at = block_at y i n board.layout proc leaf in
-            let same = same_procs job y board in
-            let rested = rested_at y n (step_at q) (grain y) 0 (i % grain y) memory (omega arith)
-            (let b = at.0 in omega (arith, b)) at.2 none in
-            let known = subst (λ (k : ℕ). has_rested (step_at q) (memo_of memory k) ≡ true)
-            (sym at.1) rested in
-            rested_none job i x (memo_of memory i)
-            (is_true board.limits i (omega (arith, proc, same)))
-            (subst (λ (t : ℕ). has_rested t (memo_of memory i) ≡ true) step known))
-      ]
+    -- and one that reaches over the step has stopped
+    reach_quiet : (s : ℕ) → x < s → 3 * s + 1 ≤ block_reach job y n q memory → LeafQuiet job y s n
+    reach_quiet s late more i proc leaf =
+        let stopped = reach_stopped job y n q memory (omega (arith, late, more, step)) in
+        let known = known_at (has_stopped job (step_at q)) n memory is_true stopped i proc leaf in
+        let same = same_procs job y board in
+        by_wide y.form y.form refl wide (λ g is.
+        subst (λ (f : Form). WritesNone f job s i) (sym is)
+        (stopped_quiet g job i x s (memo_of memory i) board.limits (omega (arith, proc, same)) known.0
+        (subst (λ (t : ℕ). has_stopped job t (memo_of memory i) ≡ true) step known.1) late))
+
+    reach_mark : IsLeafMark job y q x n (block_reach job y n q memory)
+    reach_mark =
+        let reach = block_reaches job y n q memory most formed in
+        record {
+          mark = record {
+            low = reach.least;
+            is_phase = reach.formed;
+            compact = λ e. absurd (subst IsWide e wide);
+          };
+          most = reach.most;
+          rests = reach_rests;
+          quiet = reach_quiet;
+        }
+
+    block_leaf_mark : IsLeafMark job y q x n (block_mark job y n q memory)
+    block_leaf_mark =
+        let mark = block_marks job y n q memory most formed in
+        let upto = bounded_upto n q (block_reach job y n q memory) in
+        record {
+          mark = record {
+            low = mark.least;
+            is_phase = mark.formed;
+            compact = λ e. absurd (subst IsWide e wide);
+          };
+          most = mark.most;
+          rests = λ more. reach_rests (omega (arith, more, upto));
+          quiet = λ s late more. reach_quiet s late (omega (arith, more, upto));
+        }
 
   end_done : (n rank : ℕ) (words : List ℕ) → has_rank y n rank ≡ false →
       (aim_at job y q n rank).given words → root y words < q → LeafDone job y x (kind_at q) n words
@@ -320,16 +459,62 @@ module _ (job : JobData) (y : LayoutData) (w q x : ℕ) (some : 1 ≤ q) (most :
 
   -- the leaf is marked where those before this rank are done, and it has no others
   mark_safe : (n rank m : ℕ) → y.leaves ≤ n → n < 2 * y.leaves → has_rank y n rank ≡ false →
-      IsMark y q m → m ≤ 3 * x + 3 → (q < m → LeafRests job y x n) →
-      (history : List (Op × ℕ)) → Sees job y history (Floor job y q x) →
+      IsLeafMark job y q x n m → (n ≡ 1 → m ≤ 3 * x + 3) → (history : List (Op × ℕ)) →
+      Sees job y history (Floor job y q x) →
       Safe job y w q (aim_at job y q n rank) (marks_node y n m q) history
-  mark_safe n rank m low high none mark last rests history sees =
+  mark_safe n rank m low high none mark top history sees =
       let aim = aim_at job y q n rank in
       marks_safe job y w q aim x some most step (Floor job y q x)
-      (floor_lasts job y q x) (λ words f. f) n m low high mark last rests history
+      (floor_lasts job y q x) (λ words f. f) n m low high mark top history
       (so job y history (Floor job y q x) (λ words. Floor job y q x words
       × (aim.given words → root y words < q → LeafDone job y x (kind_at q) n words))
       (λ words stands f. (f, end_done n rank words none)) sees)
+
+  -- a block's, which is the root's after a jump, if it makes one
+  block_safe : (n rank : ℕ) (memory : List Memo) → IsWide y.form → IsTrueMemory job memory →
+      y.leaves ≤ n → n < 2 * y.leaves → has_rank y n rank ≡ false → (history : List (Op × ℕ)) →
+      Sees job y history (Floor job y q x) →
+      Safe job y w q (aim_at job y q n rank) (marks_block job y n q memory) history
+  block_safe n rank memory wide is_true low high none history sees =
+      cond_both (jumps y n q reach) (asks (Swap (number_of y (Node n)) (q - 1) reach) (λ found. marked))
+      marked (λ (s : Script Then). Safe job y w q aim s history) (λ jump.
+      let is = jumps_where y n q reach jump in
+      let leaf_mark = reach_mark n memory is_true wide in
+      by_wide y.form y.form refl wide (λ g form_is.
+      subst (λ (k : ℕ). Safe job y w q aim
+      (asks (Swap (number_of y (Node k)) (q - 1) reach) (λ found. marked)) history) (sym is.root)
+      (jumps_safe job y w q aim x some most step (Floor job y q x) (floor_lasts job y q x)
+      (λ words f. f) g reach form_is (let p = is.first in omega (arith, p, step))
+      leaf_mark.mark leaf_mark.most marked history
+      (so job y history (Floor job y q x) (λ words. Floor job y q x words
+      × (aim.given words → MayJump job y words q x reach))
+      (λ words stands f. (f, λ given. may_jump is.root words leaf_mark given)) sees)
+      (λ longer more. mark_on longer more))))
+      (λ stays. mark_on history sees)
+    where
+      aim : Aim
+      aim = aim_at job y q n rank
+
+      reach : ℕ
+      reach = block_reach job y n q memory
+
+      marked : Script Then
+      marked = marks_node y n (block_mark job y n q memory) q
+
+      mark_on : (longer : List (Op × ℕ)) → Sees job y longer (Floor job y q x) →
+          Safe job y w q aim marked longer
+      mark_on longer more = mark_safe n rank (block_mark job y n q memory) low high none
+          (block_leaf_mark n memory is_true wide)
+          (λ one. let h = bounded_top n q reach one in omega (arith, h, step)) longer more
+
+      may_jump : n ≡ 1 → (words : List ℕ) → IsLeafMark job y q x n reach → aim.given words →
+          MayJump job y words q x reach
+      may_jump one words leaf_mark given = record {
+        children = λ inner. absurd (omega (arith, one, low, inner));
+        leaf = λ lone. subst (λ (k : ℕ). IsLeafMark job y q x k reach) one leaf_mark;
+        done = λ lone live. subst (λ (k : ℕ). LeafDone job y x (kind_at q) k words) one
+            (end_done n rank words none given live);
+      }
 
   -- the task of a processor, of which something true is known
   ranked_safe : (aim : Aim) (n rank : ℕ) → IsTrue (has_rank y n rank) → (memo : Memo) →
@@ -386,8 +571,7 @@ module _ (job : JobData) (y : LayoutData) (w q x : ℕ) (some : 1 ≤ q) (most :
       subst (λ (s : Script Then). Safe job y w q aim s longer)
       (sym (compact_end y n q 0 learned compact))
       (marks_safe job y w q aim x some most step (Floor job y q x) (floor_lasts job y q x)
-      (λ words f. f) n q low high own_mark (omega (arith, step)) (λ e. absurd (omega (arith, e)))
-      longer
+      (λ words f. f) n q low high (own_mark n) (λ one. omega (arith, step)) longer
       (so job y longer (λ words. Floor job y q x words × (root y words < q →
       Done job.rule (kind_at q) job y x words i)) (λ words. Floor job y q x words
       × (aim.given words → root y words < q → LeafDone job y x (kind_at q) n words))
@@ -413,25 +597,37 @@ module _ (job : JobData) (y : LayoutData) (w q x : ℕ) (some : 1 ≤ q) (most :
   leaf_safe n low high history sees =
       cond_both (has_rank y n 0)
       (by_form y.form (part_script job y n q 0 at_start) (ends (enters n q)))
-      (marks_node y n (empty_mark y q) q)
+      (marks_node y n (empty_mark job y n q) q)
       (λ (s : Script Then). Safe job y w q (aim_at job y q n 0) s history)
       (λ e. by y.form refl e)
-      (λ e. mark_safe n 0 (empty_mark y q) low high e mark
-      (form_both y.form q (last_phase q) (λ (m : ℕ). m ≤ 3 * x + 3) (omega (arith, step))
-      (omega (arith, step))) (λ less i proc leaf. absurd (true≢false
-      (sym (let at = block_at y i n board.layout proc leaf in
-      let below = (rank_parts y n (i % grain y) at.2).1 in
-      rank_there y n 0 (let some = grain_some y board.layout in omega (arith, some))
-      (omega (arith, below))) ∙ e))) history sees)
+      (λ e. mark_safe n 0 (empty_mark job y n q) low high e (mark e) top history sees)
     where
-      mark : IsMark y q (empty_mark y q)
-      mark =
-          let is = empty_marks job.steps y q most formed in
+      -- no processor stands there
+      nobody : has_rank y n 0 ≡ false → (i : ℕ) → i < y.procs → leaf_of y i ≡ n → ⊥
+      nobody e i proc leaf =
+          let at = block_at y i n board.layout proc leaf in
+          let below = (rank_parts y n (i % grain y) at.2).1 in
+          let some_grain = grain_some y board.layout in
+          true≢false (sym (rank_there y n 0 (omega (arith, some_grain)) (omega (arith, below))) ∙ e)
+
+      mark : has_rank y n 0 ≡ false → IsLeafMark job y q x n (empty_mark job y n q)
+      mark e =
+          let is = empty_marks job y n q most formed in
           record {
-            low = is.least;
-            is_phase = is.formed;
-            compact = λ c. ap (λ (f : Form). by_form f q (last_phase q)) c;
+            mark = record {
+              low = is.least;
+              is_phase = is.formed;
+              compact = λ c. ap (λ (f : Form). by_form f q (bounded_mark n q (3 * job.steps))) c;
+            };
+            most = is.most;
+            rests = λ more early i proc leaf. absurd (nobody e i proc leaf);
+            quiet = λ s late more i proc leaf. absurd (nobody e i proc leaf);
           }
+
+      top : n ≡ 1 → empty_mark job y n q ≤ 3 * x + 3
+      top one = form_both y.form q (bounded_mark n q (3 * job.steps)) (λ (m : ℕ). m ≤ 3 * x + 3)
+          (omega (arith, step))
+          (let h = bounded_top n q (3 * job.steps) one in omega (arith, h, step))
 
       by : (f : Form) → y.form ≡ f → IsTrue (has_rank y n 0) →
           Safe job y w q (aim_at job y q n 0)
@@ -448,7 +644,7 @@ module _ (job : JobData) (y : LayoutData) (w q x : ℕ) (some : 1 ≤ q) (most :
   turn_safe_on n worker low high history sees =
       let down = asks (Load (number_of y (Node (2 * n))))
       (λ l. asks (Load (number_of y (Node (2 * n + 1)))) (λ r. if nat_le q l && nat_le q r
-      then marks_node y n (inner_mark y q l r) q else stands_at y w (way_down y w n q l r) q)) in
+      then marks_inner y n q l r else stands_at y w (way_down y w n q l r) q)) in
       load_safe job y w q (aim_at job y q n 0) (number_of y (Node n))
       (λ found. if nat_le q found then (if n == 1 then ends (begins 1) else stands_at y w (n / 2) q)
       else (if nat_le y.leaves n then leaf_script job y n q else down)) history (λ found ok.
@@ -492,16 +688,13 @@ doing_safe job y board (doing.Part q rank) w n memory worker low high phase bloc
     let i = processor_at y n rank in
     let same = same_procs job y board in
     cond_both (has_rank y n rank) (part_script job y n q rank (memo_of memory i))
-    (marks_node y n (block_mark y n q memory) q)
+    (marks_block job y n q memory)
     (λ (s : Script Then). Safe job y w q (aim_at job y q n rank) s (begun_phase y q))
     (λ there. let proc = (rank_parts y n rank there).1 in
     part_safe job y w q x some phase.1 step board phase.2 n rank block.2 block.0 high there
     (memo_of memory i) (is_true board.limits i (omega (arith, proc, same))) (begun_phase y q) sees)
-    (λ none. mark_safe job y w q x some phase.1 step board phase.2 n rank (block_mark y n q memory)
-    block.0 high none (rest_mark job y w q x some phase.1 step board phase.2 n memory block.2)
-    (block_last job y w q x some phase.1 step board phase.2 n memory)
-    (block_rests job y w q x some phase.1 step board phase.2 n memory is_true)
-    (begun_phase y q) sees)
+    (λ none. block_safe job y w q x some phase.1 step board phase.2 n rank memory block.2 is_true
+    block.0 high none (begun_phase y q) sees)
 doing_safe job y board (doing.Over e) w n memory worker low high phase block is_true =
     begin_safe job y n w 0 (aim_of job y n (doing.Over e)) []
 

@@ -13,10 +13,10 @@ use Rattle.pram_words.specs.declared.words.Word.TheVariants.{Node}
 use Rattle.pram_words.specs.Stamps.{stamp_of, newer_word}
 use Rattle.pram_words.specs.Words.{LayoutData, IsWord}
 use Rattle.pram_words.specs.Phases.{next_phase}
-use Rattle.pram_words.proofs.NextPhases.{next_above, next_step, next_inside, next_within}
+use Rattle.pram_words.proofs.NextPhases.{next_above, next_step, next_inside}
 use Rattle.walkx.specs.Reads.{step_seen}
 use Rattle.lawful_walk.specs.Board.{held, root, IsTree, IsNew, IsPair, newer_first, newer_second}
-use Rattle.lawful_walk.specs.Board.{new_first, new_second, IsNamed, highest}
+use Rattle.lawful_walk.specs.Board.{new_first, new_second, IsNamed}
 use Rattle.lawful_walk.specs.Lands.{IsLanded, last_landing, landing_before, settled, settled_before}
 use Rattle.lawful_walk.specs.Lands.{compact_phase_written, phase_written, phase_claimed}
 use Rattle.lawful_walk.proofs.Landings.{last_most, last_is, last_rises, last_between}
@@ -145,13 +145,13 @@ halves n = elim (cases_lt (2 * (n / 2)) n) [
   | inl e ↦ inr (omega arith)
 ]
 
-below_by : (job : JobData) (y : LayoutData) (f : ℕ) (words : List ℕ) (fuel n : ℕ) →
-    IsTree job y f words → n ≤ fuel → 1 ≤ n → n < 2 * y.leaves → root y words ≤ held y words (Node n)
-below_by job y f words zero n tree less some most = absurd (omega arith)
-below_by job y f words (suc fuel) n tree less some most = elim (cases_eq n 1) [
+below_by : (job : JobData) (y : LayoutData) (words : List ℕ) (fuel n : ℕ) → IsTree job y words →
+    n ≤ fuel → 1 ≤ n → n < 2 * y.leaves → root y words ≤ held y words (Node n)
+below_by job y words zero n tree less some most = absurd (omega arith)
+below_by job y words (suc fuel) n tree less some most = elim (cases_eq n 1) [
   | inl e ↦ subst (λ (m : ℕ). root y words ≤ held y words (Node m)) (sym e) (omega arith)
   | inr other ↦ (let up : root y words ≤ held y words (Node (n / 2)) =
-      below_by job y f words fuel (n / 2) tree (omega arith) (omega arith) (omega arith) in
+      below_by job y words fuel (n / 2) tree (omega arith) (omega arith) (omega arith) in
       elim (halves n) [
         | inl e ↦ subst (λ (m : ℕ). root y words ≤ held y words (Node m)) (sym e)
             (let h = tree.left (n / 2) (omega arith) (omega arith) in omega arith)
@@ -160,24 +160,9 @@ below_by job y f words (suc fuel) n tree less some most = elim (cases_eq n 1) [
       ])
 ]
 
-pub tree_below : (job : JobData) (y : LayoutData) (f : ℕ) (words : List ℕ) (n : ℕ) →
-    IsTree job y f words → IsWord y (Node n) → root y words ≤ held y words (Node n)
-tree_below job y f words n tree is = below_by job y f words n n tree (omega arith) is.0 is.1
-
--- how high a node may be
-
-pub highest_most : (form : Form) (f r : ℕ) → r < 3 * f + 3 → highest form f r ≤ 3 * f + 3
-highest_most Compact f r less = omega arith
-highest_most (Wide g) f r less = omega arith
-
-pub next_highest : (form : Form) (f r : ℕ) → r < 3 * f + 3 → next_phase form r ≤ highest form f r
-next_highest Compact f r less = omega arith
-next_highest (Wide g) f r less =
-    let h = next_within (Wide g) r (suc f) (omega (arith, less)) in omega (arith, h)
-
-pub highest_rises : (form : Form) (f g r s : ℕ) → f ≤ g → r ≤ s → highest form f r ≤ highest form g s
-highest_rises Compact f g r s more up = omega arith
-highest_rises (Wide k) f g r s more up = omega arith
+pub tree_below : (job : JobData) (y : LayoutData) (words : List ℕ) (n : ℕ) → IsTree job y words →
+    IsWord y (Node n) → root y words ≤ held y words (Node n)
+tree_below job y words n tree is = below_by job y words n n tree (omega arith) is.0 is.1
 
 -- ---- landings
 

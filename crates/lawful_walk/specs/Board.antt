@@ -16,7 +16,6 @@ use Rattle.pram_words.specs.Words.{places_of}
 use Rattle.pram_words.specs.declared.layout.Form.{Form}
 use Rattle.pram_words.specs.declared.layout.Form.TheVariants.{Compact, Wide}
 use Rattle.pram_words.specs.Phases.{next_phase}
-use Rattle.pram_words.specs.Forms.{by_form}
 use Rattle.walkx.specs.Tasks.{claim_of}
 use Rattle.walkx.specs.Walk.{IsLayoutOf}
 use Rattle.walkx.specs.Reads.{step_seen}
@@ -141,6 +140,10 @@ Done rule kind job layout = DoneIn layout.form rule kind job layout
 abbrev pub StoresNone : JobData → ℕ → ℕ → Type 0
 StoresNone job t i = (cell value : ℕ) → Asks job t cell i value → cell < job.cells → ⊥
 
+-- nor makes any write that gets a word
+abbrev pub WritesNone : Form → JobData → ℕ → ℕ → Type 0
+WritesNone form job t i = (place value : ℕ) → Lands form job t place i value → ⊥
+
 -- the task of this kind is done for all processors of the block of a leaf
 abbrev pub LeafDone : JobData → LayoutData → ℕ → Kind → ℕ → List ℕ → Type 0
 LeafDone job layout t kind node words =
@@ -154,17 +157,13 @@ phase_in t Verify = 3 * t + 3
 
 -- ---- lawful words: the clauses, after so many finished steps
 
--- how high a node may be: the phase after the root's, in the wide form the last one of the step
-abbrev pub highest : Form → ℕ → ℕ → ℕ
-highest form steps root = by_form form (next_phase form root) (3 * steps + 3)
-
-pub record IsTree (job : JobData) (layout : LayoutData) (steps : ℕ) (words : List ℕ) : Type 0 where
+pub record IsTree (job : JobData) (layout : LayoutData) (words : List ℕ) : Type 0 where
   pub left : (node : ℕ) → 1 ≤ node → node < layout.leaves →
       held layout words (Node node) ≤ held layout words (Node (2 * node))
   pub right : (node : ℕ) → 1 ≤ node → node < layout.leaves →
       held layout words (Node node) ≤ held layout words (Node (2 * node + 1))
-  pub near : (node : ℕ) → IsWord layout (Node node) →
-      held layout words (Node node) ≤ highest layout.form steps (root layout words)
+  pub near : layout.form ≡ Compact → (node : ℕ) → IsWord layout (Node node) →
+      held layout words (Node node) ≤ root layout words + 1
   pub most : (node : ℕ) → IsWord layout (Node node) → held layout words (Node node) ≤ 3 * job.steps
 
 -- a request word of processor i, part j
@@ -218,14 +217,15 @@ pub record IsNamed (form : Form) (job : JobData) (found root : ℕ) : Type 0 whe
   pub near : (t : ℕ) → found ≡ suc t →
       (next_phase form root ≡ 3 * t + 3) ⊎ (root ≡ 3 * t + 3)
 
--- Words with so many finished steps: their state is reached; no node is above its children, nor far
--- above the root; request words, places and claims are of these steps or of the one after them;
--- what the raised leaves stand for is done, and a leaf that is ahead of the phase has no store to be
--- made; word 0 names the first conflict, if any. The wide form has no requests.
+-- Words with so many finished steps: their state is reached; no node is above its children, nor in
+-- the compact form far above the root; request words, places and claims are of these steps or of the
+-- one after them; what the raised leaves stand for is done; where a leaf is ahead of the step's first
+-- phase nothing is stored in it, and where it is ahead of a later step nothing is written in that;
+-- word 0 names the first conflict, if any. The wide form has no requests.
 pub record LawfulFor (job : JobData) (layout : LayoutData) (steps : ℕ)
     (words : List ℕ) : Type 0 where
   pub reached : IsReached job steps
-  pub tree : IsTree job layout steps words
+  pub tree : IsTree job layout words
   pub asked : layout.form ≡ Compact → (i j : ℕ) → i < layout.procs → j < 3 →
       IsAsked job steps i j (held layout words (Asked i j))
   pub stored : (place : ℕ) → place < places_of layout →
@@ -235,8 +235,10 @@ pub record LawfulFor (job : JobData) (layout : LayoutData) (steps : ℕ)
       IsClaimed layout.form job steps (root layout words) cell (held layout words (Claim cell))
   pub done : (i : ℕ) (kind : Kind) → i < layout.procs → phase_in steps kind ≤ leaf layout words i →
       Done job.rule kind job layout steps words i
-  pub ahead : (i : ℕ) → i < layout.procs →
-      next_phase layout.form (root layout words) < leaf layout words i → StoresNone job steps i
+  pub ahead : (i : ℕ) → i < layout.procs → root layout words < 3 * steps + 1 →
+      3 * steps + 1 < leaf layout words i → StoresNone job steps i
+  pub beyond : (i t : ℕ) → i < layout.procs → steps < t → 3 * t + 1 ≤ leaf layout words i →
+      WritesNone layout.form job t i
   pub named : IsNamed layout.form job (conflict layout words) (root layout words)
 
 -- *lawful* words

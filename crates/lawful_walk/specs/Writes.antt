@@ -3,7 +3,7 @@ use Rattle.std.specs.Prelude.{◌≡◌, ◌≢◌, ℕ, suc, ◌+◌, ◌*◌, 
 use Rattle.pram_job.specs.Job.{JobData}
 use Rattle.pram_step.specs.History.{Asks, Wins, part_after}
 use Rattle.pram_step.specs.Runs.{IsReached, AgreesAfter, state_after}
-use Rattle.pram_words.specs.declared.layout.Form.TheVariants.{Compact}
+use Rattle.pram_words.specs.declared.layout.Form.TheVariants.{Compact, Wide}
 use Rattle.pram_words.specs.declared.phases.Kind.TheVariants.{Compute, Verify}
 use Rattle.pram_words.specs.declared.words.Word.{Word}
 use Rattle.pram_words.specs.declared.words.Word.TheVariants.{Conflict, Node, Asked, Position}
@@ -17,6 +17,7 @@ use Rattle.walkx.specs.Operations.{words_after}
 use Rattle.walkx.specs.Tasks.{claim_of}
 use Rattle.walkx.specs.Counters.{worth}
 use Rattle.lawful_walk.specs.Board.{held, leaf_of, root, stamp_at, IsLate, LeafDone, StoresNone}
+use Rattle.lawful_walk.specs.Board.{WritesNone}
 use Rattle.lawful_walk.specs.Lands.{Lands, phase_claimed, phase_written}
 use Rattle.lawful_walk.specs.Moments.{IsFixed, Keeps}
 
@@ -74,8 +75,31 @@ abbrev pub LeafRests : JobData → LayoutData → ℕ → ℕ → Type 0
 LeafRests job layout t node =
     (i : ℕ) → i < layout.procs → leaf_of layout i ≡ node → StoresNone job t i
 
--- A part of a request, in the compact form; a node whose children are marked so, or more; a leaf
--- whose processors' work is done, up to the phase, or the step where none of them stores; a place, by a write that gets a word and wins, in its phase; the step,
+-- nor make any write that gets a word
+abbrev pub LeafQuiet : JobData → LayoutData → ℕ → ℕ → Type 0
+LeafQuiet job layout t node =
+    (i : ℕ) → i < layout.procs → leaf_of layout i ≡ node → WritesNone layout.form job t i
+
+-- A leaf may be marked so: above the phase where its processors store nothing in the step, or have
+-- done it, and above the step where they write nothing in those after it.
+pub record IsLeafMark (job : JobData) (layout : LayoutData) (phase t node mark : ℕ) : Type 0 where
+  pub mark : IsMark layout phase mark
+  pub most : mark ≤ 3 * job.steps
+  pub rests : phase < mark → phase < 3 * t + 3 → LeafRests job layout t node
+  pub quiet : (s : ℕ) → t < s → 3 * s + 1 ≤ mark → LeafQuiet job layout s node
+
+-- the root's children are marked so, or more; or it is a leaf whose processors' work is done
+pub record MayJump (job : JobData) (layout : LayoutData) (words : List ℕ) (phase t mark : ℕ) :
+    Type 0 where
+  pub children : 1 < layout.leaves →
+      (mark ≤ held layout words (Node 2)) × (mark ≤ held layout words (Node 3))
+  pub leaf : layout.leaves ≤ 1 → IsLeafMark job layout phase t 1 mark
+  pub done : layout.leaves ≤ 1 → root layout words < phase →
+      LeafDone job layout t (kind_at phase) 1 words
+
+-- A part of a request, in the compact form; a node whose children are marked so, or more, the root
+-- up to the step's last phase, or in the first pass from where it stood; a leaf whose processors'
+-- work is done, up to the phase, or as far as they write nothing; a place, by a write that gets a word and wins, in its phase; the step,
 -- as a conflict, in its last phase; the claim of a cell that is written, in its phase; a worker's
 -- position, as a node.
 pub record MayWrite (job : JobData) (layout : LayoutData)
@@ -85,12 +109,16 @@ pub record MayWrite (job : JobData) (layout : LayoutData)
       Does job layout phase
       (Max (number_of layout (Asked i j)) (stamped_word (suc t) (part_after job t i j))) words
   pub inner : (node mark : ℕ) → 1 ≤ node → node < layout.leaves → IsMark layout phase mark →
+      (node ≡ 1 → mark ≤ 3 * t + 3) →
       mark ≤ held layout words (Node (2 * node)) → mark ≤ held layout words (Node (2 * node + 1)) →
       Marks job layout phase node mark words
   pub leaf : (node mark : ℕ) → layout.leaves ≤ node → node < 2 * layout.leaves →
-      IsMark layout phase mark → mark ≤ 3 * t + 3 →
+      IsLeafMark job layout phase t node mark → (node ≡ 1 → mark ≤ 3 * t + 3) →
       (root layout words < phase → LeafDone job layout t (kind_at phase) node words) →
-      (phase < mark → LeafRests job layout t node) → Marks job layout phase node mark words
+      Marks job layout phase node mark words
+  pub jump : (grain mark : ℕ) → layout.form ≡ Wide grain → phase ≡ 3 * t + 1 →
+      IsMark layout phase mark → mark ≤ 3 * job.steps → MayJump job layout words phase t mark →
+      Does job layout phase (Swap (number_of layout (Node 1)) (3 * t) mark) words
   pub place : (place i value first second : ℕ) →
       phase ≡ phase_written layout.form job place t → Lands layout.form job t place i value →
       Wins job t place i → PlaceAsHeard job layout t place first second words →

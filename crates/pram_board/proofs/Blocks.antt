@@ -1,5 +1,5 @@
 -- The tasks of a leaf's block, with what is remembered of its processors.
-use Rattle.std.proofs.Common.{◌≡◌, ◌⊎◌, ℕ, zero, suc, ◌+◌, ◌<◌, ◌≤◌, true, false, List, [], ◌∷◌}
+use Rattle.std.proofs.Common.{◌≡◌, ℕ, zero, suc, ◌+◌, ◌<◌, ◌≤◌, true, false, List, [], ◌∷◌, ◌++◌}
 use Rattle.std.proofs.Common.{Option, Some, None, refl, sym, ap, subst, ◌∙◌, inl, inr, arith}
 use Rattle.std.specs.Prelude.{slice_set}
 use Rattle.std.proofs.lemmas.Bool.{cases_Bool, cases_eq}
@@ -10,16 +10,19 @@ use Rattle.pram_words.specs.Words.{LayoutData, grain}
 use Rattle.walkx.specs.declared.memo.Memo.{Memo}
 use Rattle.walkx.specs.declared.operation.Op.{Op}
 use Rattle.walkx.specs.declared.turns.Turned.{Turned}
-use Rattle.walkx.specs.Inner.Posts.{IsLeafPost, PostData, at_rank, processor_of, step_of, then_marks}
+use Rattle.walkx.specs.Inner.Posts.{IsLeafPost, PostData, at_rank, processor_of, step_of}
+use Rattle.walkx.specs.Inner.Posts.{then_raises}
 use Rattle.walkx.specs.Memory.{FitsMemo, FitsMemory, memo_of}
 use Rattle.walkx.specs.Parts.{does_wide}
 use Rattle.walkx.specs.Passes.{wide_task_of}
 use Rattle.walkx.specs.Passing.{Passes, idle}
 use Rattle.walkx.specs.Rests.{block_of, has_worked, leads}
-use Rattle.walkx.specs.Scripts.{Script, asks, ends, first_op, rest, rest_after}
-use Rattle.walkx.specs.Walk.{IsWide, Then, Walking, block_mark, goes_in, has_rank, if_ended}
-use Rattle.walkx.specs.Walk.{passes_over, processor_at, script_of, stands_in, turns, worked}
-use Rattle.walkx.proofs.Firsts.{rank_parts, rank_there}
+use Rattle.walkx.specs.Scripts.{Script, asks, ends, first_op, heard_in, rest}
+use Rattle.walkx.specs.Walk.{IsWide, Then, Walking, block_mark, block_reach, goes_in, has_rank}
+use Rattle.walkx.specs.Walk.{if_ended, passes_over, processor_at, script_of, stands_in, turns}
+use Rattle.walkx.specs.Walk.{worked}
+use Rattle.walkx.proofs.Ends.{AllEnds, ends_after, raise_ends}
+use Rattle.walkx.proofs.Firsts.{raise_first, rank_parts, rank_there}
 use Rattle.walkx.proofs.Idling.{Alike, asks_first, comes_at_once, task_alike}
 use Rattle.walkx.proofs.Memories.{memo_other}
 use Rattle.walkx.proofs.PassingOver.{alone}
@@ -229,26 +232,31 @@ module _ (at : PostData) (leaf : IsLeafPost at) (wide : IsWide at.layout.form)
 
 -- ---- the mark
 
--- a script that asks once comes to one end
-one_end : (op : Op) (r e : Then) (answers : List ℕ) →
-    rest (asks op (λ found. ends r)) answers ≡ ends e → e ≡ r
-one_end op r e answers is = elim (comes answers) [
-  | inl not_yet ↦ absurd (let same : asks op (λ found. ends r) ≡ ends e = sym not_yet ∙ is in cc)
-  | inr over ↦ (let same : ends r ≡ ends e = sym over ∙ is in cc)
-]
-  where
-    comes : (answers : List ℕ) →
-        (rest (asks op (λ found. ends r)) answers ≡ asks op (λ found. ends r))
-        ⊎ (rest (asks op (λ found. ends r)) answers ≡ ends r)
-    comes [] = inl refl
-    comes (found ∷ earlier) = elim (comes earlier) [
-      | inl is ↦ inr (ap (λ (s : Script Then). rest_after s found) is)
-      | inr is ↦ inr (ap (λ (s : Script Then). rest_after s found) is)
-    ]
-
--- its mark
+-- its mark, the swap before it having been made or not
 abbrev pub marks_block : PostData → List Memo → Script Then
-marks_block at memory = then_marks at (block_mark at.layout at.node at.phase memory)
+marks_block at memory = then_raises at (block_reach at.job at.layout at.node at.phase memory)
+
+module _ (at : PostData) (memory : List Memo) where
+  abbrev reach : ℕ
+  reach = block_reach at.job at.layout at.node at.phase memory
+
+  abbrev mark : ℕ
+  mark = block_mark at.job at.layout at.node at.phase memory
+
+  -- it comes to one end
+  one_end : (e : Then) (answers : List ℕ) → rest (marks_block at memory) answers ≡ ends e →
+      e ≡ turns at.node at.phase
+  one_end e answers is =
+      subst (λ (s : Script Then). AllEnds (λ r h. r ≡ turns at.node at.phase) s
+      (heard_in (marks_block at memory) answers ++ [])) is
+      (ends_after (λ r h. r ≡ turns at.node at.phase) (marks_block at memory) [] answers
+      (raise_ends (λ r. r ≡ turns at.node at.phase) at.layout at.node mark reach at.phase [] refl))
+
+  -- and asks something
+  mark_asks : (e : Then) → marks_block at memory ≡ ends e → ⊥
+  mark_asks e is =
+      let first = raise_first at.layout at.node mark reach at.phase in
+      let none : None ≡ Some first.0 = sym (ap first_op is) ∙ first.1 in absurd (cc)
 
 module _ (at : PostData) (rank : ℕ) (memory : List Memo) (wide : IsWide at.layout.form)
     (last : has_rank at.layout at.node rank ≡ false) where
@@ -275,14 +283,13 @@ module _ (at : PostData) (rank : ℕ) (memory : List Memo) (wide : IsWide at.lay
       let end = turns at.node at.phase in
       let script : script_of at.job at.layout w ≡ marks_block at memory = rw last refl in
       let walks_there = subst (λ (v : Walking). IsWalking (task_at at) p v) at_end walks in
-      let is = one_end _ end (leads at turned) drives.plays.answers drives.plays.comes in
+      let is = one_end at memory (leads at turned) drives.plays.answers drives.plays.comes in
       let plays = subst (λ (s : Script Then). PlaysScript (task_at at) s p (ends end) z) (sym script)
       (subst (λ (e : Then). PlaysScript (task_at at) (marks_block at memory) p (ends e) z) is
       drives.plays) in
       subst (λ (v : Walking). Led (task_at at) p v z (turning_at at memory)) (sym at_end)
       (led (task_at at) w p z end (turning_at at memory) refl tt drives.here walks_there.fits
-      walks_there.knows sound (λ e. absurd
-      (let asks_one : marks_block at memory ≡ ends end = sym script ∙ e in cc))
+      walks_there.knows sound (λ e. mark_asks at memory end (sym script ∙ e))
       (λ found earlier. refl) plays)
 
 -- what a task that asks nothing leaves as it was, seen from outside

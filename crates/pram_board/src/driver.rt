@@ -632,8 +632,8 @@ impl<'a, G: Gate> Driver<'a, G> {
         ensures led { Led (task_at post.now) (driving self.old) (in_block post.now rank memory.now)
             (driving self.new) (turning_at post.now memory.now) }
     {
-        let to = memory.mark(post);
-        match mark(self, post, to) {
+        let reach = memory.reach(post);
+        match mark(self, post, reach) {
             Ok(turned) => {
                 self.rest.mark(self.board.task().layout.leaves(), turned);
                 self.seat.facts();

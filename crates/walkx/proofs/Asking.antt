@@ -1,6 +1,7 @@
 -- What a worker that fits asks is on the board, and what it writes is admitted there.
-use Rattle.std.proofs.Common.{◌≡◌, ℕ, ◌+◌, ◌*◌, ◌/◌, ◌%◌, ◌<◌, ◌≤◌}
-use Rattle.std.proofs.Common.{◌==◌, ◌&&◌, nat_le, IsTrue}
+use Rattle.std.proofs.Common.{◌≡◌, ℕ, ◌+◌, ◌-◌, ◌*◌, ◌/◌, ◌%◌, ◌<◌, ◌≤◌}
+use Rattle.std.proofs.Common.{◌==◌, ◌&&◌, nat_le, true, IsTrue}
+use Rattle.std.specs.Prelude.{min}
 use Rattle.std.proofs.Common.{List, [], ◌∷◌, ◌++◌}
 use Rattle.std.proofs.Common.{Some, refl, ap, inl, inr, lit<, arith}
 use Rattle.std.proofs.lemmas.Bool.{cond_both, eqb-false}
@@ -24,16 +25,18 @@ use Rattle.walkx.specs.declared.memo.Memo.{Memo}
 use Rattle.walkx.specs.Memory.{FitsMemo, FitsMemory, at_start}
 use Rattle.walkx.proofs.Forms.{form_both}
 use Rattle.walkx.proofs.Memories.{start_fits}
-use Rattle.walkx.specs.Walk.{block_mark, empty_mark, inner_mark, marks_node}
+use Rattle.walkx.specs.Walk.{block_mark, block_reach, empty_mark, inner_mark, jumps, jumps_first}
+use Rattle.walkx.specs.Walk.{marks_node}
 use Rattle.walkx.specs.Walk.{stands_at, way_down, begin_script, turn_script}
 use Rattle.walkx.proofs.Boards.{admits, in_range}
 use Rattle.walkx.proofs.Boards.{step_most}
 use Rattle.walkx.proofs.Ends.{way_inside}
 use Rattle.walkx.proofs.Firsts.{rank_parts}
 use Rattle.walkx.proofs.Nodes.{node_range}
-use Rattle.walkx.proofs.Marks.{IsMark, block_marks, empty_marks, inner_marks, phase_marks}
+use Rattle.walkx.proofs.Marks.{IsMark, block_marks, block_reaches, empty_marks, inner_marks}
+use Rattle.walkx.proofs.Marks.{inner_reaches, jump_from, jumps_where, phase_marks}
 use Rattle.walkx.proofs.Going.{Asks, asks_of, going_or_over, next_of}
-use Rattle.walkx.proofs.TaskAsking.{AllAsk, ends_of, load_of, max_of}
+use Rattle.walkx.proofs.TaskAsking.{AllAsk, ends_of, load_of, max_of, swap_of}
 use Rattle.walkx.proofs.WideAsking.{form_asks}
 
 -- what a worker learns of a processor fits
@@ -50,6 +53,18 @@ module _ (job : JobData) (y : LayoutData) (board : IsBoard job y) where
   marks_ask n m q low high is =
       max_of job y board (FitsThen job) (Node n) m _ (low, high) (is.most, is.formed)
       (ends_of job y board (FitsThen job) _ tt)
+
+  -- with the swap before it, to a phase that may be above the mark
+  raises_ask : (n m reach q : ℕ) → 1 ≤ n → n < 2 * y.leaves → q ≤ 3 * job.steps →
+      IsMark job.steps y q m → (jumps y n q reach ≡ true → IsMark job.steps y q reach) →
+      AllAsk job y (FitsThen job) (jumps_first y n q reach (marks_node y n m q))
+  raises_ask n m reach q low high last is to =
+      let marked = marks_ask n m q low high is in
+      cond_both (jumps y n q reach) _ _ (AllAsk job y (FitsThen job))
+      (λ e. let reached = to e in
+      swap_of job y board (FitsThen job) (Node n) (q - 1) reach _ (low, high)
+      (jump_from job.steps y n q reach last (jumps_where y n q reach e))
+      (reached.most, reached.formed) marked) (λ e. marked)
 
   stands_ask : (w n q : ℕ) → w < y.workers → 1 ≤ n → n < 2 * y.leaves →
       AllAsk job y (FitsThen job) (stands_at y w n q)
@@ -75,8 +90,9 @@ module _ (job : JobData) (y : LayoutData) (board : IsBoard job y) where
   block_asks n q rank memory low high last formed fits =
       cond_both (has_rank y n rank) _ _ (AllAsk job y (FitsThen job))
       (λ e. part_asks n q rank _ low high last formed e (fits (processor_at y n rank)))
-      (λ e. marks_ask n (block_mark y n q memory) q low high
-      (block_marks job.steps y n q memory last formed))
+      (λ e. raises_ask n (block_mark job y n q memory) (block_reach job y n q memory) q low high
+      last (block_marks job y n q memory last formed)
+      (λ jump. block_reaches job y n q memory last formed))
 
   turn_asks : (w n q : ℕ) → w < y.workers → 1 ≤ n → n < 2 * y.leaves → q ≤ 3 * job.steps →
       InForm q → AllAsk job y (FitsThen job) (turn_script job y w n q)
@@ -91,15 +107,17 @@ module _ (job : JobData) (y : LayoutData) (board : IsBoard job y) where
       (λ h. form_both y.form (part_script job y n q 0 at_start) (ends (enters n q))
       (AllAsk job y (FitsThen job)) (part_asks n q 0 at_start low high last formed h (start_fits job))
       (ends_of job y board (FitsThen job) (enters n q) tt))
-      (λ h. marks_ask n (empty_mark y q) q low high (empty_marks job.steps y q last formed)))
+      (λ h. marks_ask n (empty_mark job y n q) q low high (empty_marks job y n q last formed)))
       (λ g. let l = leb-false y.leaves n g in
       load_of job y board (FitsThen job) (Node (2 * n)) _ (omega arith, omega arith)
       (λ a left. load_of job y board (FitsThen job) (Node (2 * n + 1)) _
       (omega arith, omega arith) (λ b right.
       cond_both (nat_le q a && nat_le q b) _ _ (AllAsk job y (FitsThen job))
-      (λ h. marks_ask n (inner_mark y q a b) q low high (inner_marks job.steps y q a b last formed
-      (in_range job y (Node (2 * n)) a board (omega arith, omega arith) left)
-      (in_range job y (Node (2 * n + 1)) b board (omega arith, omega arith) right) h)) (λ h.
+      (λ h. let in_left = in_range job y (Node (2 * n)) a board (omega arith, omega arith) left in
+      let in_right = in_range job y (Node (2 * n + 1)) b board (omega arith, omega arith) right in
+      raises_ask n (inner_mark y n q a b) (min a b) q low high last
+      (inner_marks job.steps y n q a b last formed in_left in_right h)
+      (λ jump. inner_reaches job.steps y q a b in_left in_right h)) (λ h.
       let to = way_inside y w n q a b low l in
       stands_ask w (way_down y w n q a b) q worker to.0 to.1))))))
 

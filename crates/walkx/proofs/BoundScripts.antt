@@ -1,6 +1,6 @@
 -- What each script of a worker leads to, and that its operations are few.
 use Rattle.std.proofs.Common.{suc, ◌≡◌, ℕ, ◌+◌, ◌-◌, ◌*◌, ◌%◌, ◌<◌, ◌≤◌, ◌==◌, IsTrue, List, ◌∷◌}
-use Rattle.std.proofs.Common.{refl, ap, ◌∙◌, inl, inr, min, add-mul, mul-le-mul_right, arith}
+use Rattle.std.proofs.Common.{refl, inl, inr, add-mul, mul-le-mul_right, arith}
 use Rattle.std.proofs.Math.Nat.{mul-add}
 use Rattle.std.proofs.lemmas.Bool.{cases_lt, cond_both, eq-eqb, eqb-false}
 use Rattle.pram_job.specs.Job.{JobData}
@@ -106,7 +106,7 @@ ops_few y limits =
       | inl e ↦ rw e (omega (arith, few.0, some))
       | inr e ↦
           let wide : IsWide y.form = rw e.1 tt in
-          let ops : turn_ops y ≡ 4 = form_wide_of y.form 16 4 wide in
+          let ops : turn_ops y ≡ 5 = form_wide_of y.form 16 5 wide in
           let each : tasks y ≡ 15 * (count y + 1) =
           form_wide_of y.form 0 (15 * (count y + 1)) wide in
           rw (ops, each) (omega (arith, few.0, few.1, some, spread, split))
@@ -123,7 +123,7 @@ unfolding later_weight
 phase_enters job y history n q a limits h =
     let turns = turns_most y history q n limits.leaves.0 in
     let few = ops_few y limits in
-    let ops : turn_ops y ≤ 16 = form_both y.form 16 4 (λ u. u ≤ 16) (omega arith) (omega arith) in
+    let ops : turn_ops y ≤ 16 = form_both y.form 16 5 (λ u. u ≤ 16) (omega arith) (omega arith) in
     let more = phases_fewer y (3 * job.steps - q + 1) a h in
     omega (arith, add-mul (3 * job.steps - q) 1 (96 * leaves_of y.procs))
 

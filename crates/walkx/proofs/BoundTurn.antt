@@ -2,6 +2,7 @@
 use Rattle.std.proofs.Common.{◌≡◌, ℕ, suc, IsTrue, ◌+◌, ◌-◌, ◌*◌, ◌/◌, ◌<◌, ◌≤◌, ◌⊎◌, true≢false}
 use Rattle.std.proofs.Common.{le_trans, true, false, ◌==◌, ◌&&◌, nat_le, if◌then◌else◌}
 use Rattle.std.proofs.Common.{List, ◌∷◌, refl, sym, ◌∙◌, inl, inr, arith}
+use Rattle.std.specs.Prelude.{min}
 use Rattle.std.proofs.lemmas.Bool.{cases_lt, cond_both, le-leb, lt-leb}
 use Rattle.std.proofs.lemmas.Bool.{eqb-true, eqb-false, leb-true, leb-false}
 use Rattle.pram_job.specs.Job.{JobData}
@@ -10,12 +11,13 @@ use Rattle.pram_words.specs.Ways.{turns_right_in}
 use Rattle.pram_words.specs.Words.{LayoutData, grain, number_of}
 use Rattle.pram_words.specs.declared.words.Word.TheVariants.{Node, Position}
 use Rattle.walkx.specs.declared.operation.Op.{Op}
-use Rattle.walkx.specs.declared.operation.Op.TheVariants.{Load, Store, Max}
+use Rattle.walkx.specs.declared.operation.Op.TheVariants.{Load, Store, Max, Swap}
 use Rattle.walkx.specs.Doing as doing
 use Rattle.walkx.specs.Scripts.{asks, ends}
 use Rattle.walkx.specs.Walk.{begins, turns, enters, worked, after_part, block_script, has_rank}
 use Rattle.walkx.specs.Walk.{IsWide, leaf_script, marks_node, part_script, processor_at, stands_at}
-use Rattle.walkx.specs.Walk.{block_mark, empty_mark, inner_mark, turn_script, way_down}
+use Rattle.walkx.specs.Walk.{Then, block_mark, block_reach, empty_mark, inner_mark, jumps}
+use Rattle.walkx.specs.Walk.{jumps_first, marks_inner, turn_script, way_down}
 use Rattle.walkx.specs.declared.memo.Memo.{Memo}
 use Rattle.walkx.specs.Memory.{at_start, memo_of}
 use Rattle.pram_words.specs.declared.layout.Form.TheVariants.{Compact}
@@ -76,6 +78,23 @@ marks_leads job y w before n m q some inside first last formed least unmarked = 
       n n q some inside first last formed less,
 )
 
+-- with the swap before it, which shows nothing
+raises_leads : (job : JobData) (y : LayoutData) (w : ℕ) (before history : List (Op × ℕ))
+    (to : Then → List (Op × ℕ) → Type 0) (n m reach q k : ℕ) → 2 ≤ k → Grown before history →
+    LeadsOn job y w to before 1 (marks_node y n m q) →
+    Leads job y w to (jumps_first y n q reach (marks_node y n m q)) k history
+raises_leads job y w before history to n m reach q k h grown marked =
+    cond_both (jumps y n q reach) _ _ (λ script. Leads job y w to script k history)
+    (λ e. (
+      omega arith,
+      λ found may.
+          let op = Swap (number_of y (Node n)) (q - 1) reach in
+          leads_more job y w to (marks_node y n m q) (k - 1) 1 ((op, found) ∷ history) (omega arith)
+          (marked ((op, found) ∷ history) (grown_more before history op found grown)),
+    ))
+    (λ e. leads_more job y w to (marks_node y n m q) k 1 history (omega arith)
+    (marked history grown))
+
 -- ---- a leaf
 
 -- the task at one in the compact form, and its mark
@@ -99,19 +118,19 @@ unfolding turn_weight later_weight
 leaf_leads job y w before n q some leaf inside first last formed unmarked =
     let to = To job y (turn_weight job y before n q) in
     let is = leads_on_within job y w to before in
-    let empty = empty_marks job.steps y q last formed in
+    let empty = empty_marks job y n q last formed in
     cond_both (has_rank y n 0) _ _ (λ script. LeadsOn job y w to before (turn_ops y - 1) script)
     (λ e. form_cases y.form (part_script job y n q 0 at_start) (ends (enters n q))
     (λ script. LeadsOn job y w to before (turn_ops y - 1) script)
-    (λ compact. let ops : turn_ops y ≡ 16 = form_compact y.form 16 4 compact in
+    (λ compact. let ops : turn_ops y ≡ 16 = form_compact y.form 16 5 compact in
     is.more (turn_ops y - 1) 12 _ (omega arith)
     (whole_leads job y w before n q (turn_weight job y before n q) compact
     (marks_leads job y w before n q q some inside first last formed (omega arith) unmarked)))
     (λ wide history grown. entered job y before history n q grown some leaf inside first last
     formed unmarked wide))
-    (λ e. is.more (turn_ops y - 1) 1 (marks_node y n (empty_mark y q) q)
-    (form_both y.form 16 4 (λ u. 1 ≤ u - 1) (omega arith) (omega arith))
-    (marks_leads job y w before n (empty_mark y q) q some inside first last formed empty.least
+    (λ e. is.more (turn_ops y - 1) 1 (marks_node y n (empty_mark job y n q) q)
+    (form_both y.form 16 5 (λ u. 1 ≤ u - 1) (omega arith) (omega arith))
+    (marks_leads job y w before n (empty_mark job y n q) q some inside first last formed empty.least
     unmarked))
   where
     entered : (job : JobData) (y : LayoutData) (before history : List (Op × ℕ)) (n q : ℕ) →
@@ -151,14 +170,16 @@ block_leads job y w n q rank memory before at =
     (λ m. rw (form_wide_of y.form (marks_node y n q q) (ends (worked n q rank m)) at.wide)
     (λ history grown. done job y before history n q rank grown at there)) before
     (grown_self before))
-    (λ none. let m = block_mark y n q memory in (
+    (λ none. let m = block_mark job y n q memory in
+    raises_leads job y w before before to n m (block_reach job y n q memory) q 15 (omega arith)
+    (grown_self before) (λ history grown. (
       omega arith,
       λ found may. marked job y before
-          ((Max (number_of y (Node n)) m, found) ∷ before) n q rank
-          (grown_more before before (Max (number_of y (Node n)) m) found (grown_self before)) at
-          (le_trans ((block_marks job.steps y n q memory at.last at.formed).least)
-          (low_raised before (number_of y (Node n)) m found)),
-    ))
+          ((Max (number_of y (Node n)) m, found) ∷ history) n q rank
+          (grown_more before history (Max (number_of y (Node n)) m) found grown) at
+          (le_trans ((block_marks job y n q memory at.last at.formed).least)
+          (low_raised history (number_of y (Node n)) m found)),
+    )))
   where
     done : (job : JobData) (y : LayoutData) (before history : List (Op × ℕ)) (n q rank : ℕ) →
         Grown before history → InBlock job y n q → IsTrue (has_rank y n rank) →
@@ -243,9 +264,9 @@ down_leads job y w before history n q l r child k grown some inner first last fo
 
 -- ---- the turn
 
--- a turn has four operations at least
-ops_some : (y : LayoutData) → 1 ≤ turn_ops y - 3
-ops_some y = form_both y.form 16 4 (λ u. 1 ≤ u - 3) (omega arith) (omega arith)
+-- a turn has five operations at least
+ops_some : (y : LayoutData) → 2 ≤ turn_ops y - 3
+ops_some y = form_both y.form 16 5 (λ u. 2 ≤ u - 3) (omega arith) (omega arith)
 
 -- what an inner node's children lead to, having been heard
 inner_leads : (job : JobData) (y : LayoutData) (w : ℕ)
@@ -253,17 +274,18 @@ inner_leads : (job : JobData) (y : LayoutData) (w : ℕ)
     1 ≤ n → n < y.leaves → 1 ≤ q → q ≤ 3 * job.steps → Formed y q → low_of y before n < q →
     low_of y before (2 * n) ≤ l → low_of y before (2 * n + 1) ≤ r →
     Leads job y w (To job y (turn_weight job y before n q))
-    (if nat_le q l && nat_le q r then marks_node y n (inner_mark y q l r) q
+    (if nat_le q l && nat_le q r then marks_inner y n q l r
     else stands_at y w (way_down y w n q l r) q) (turn_ops y - 3) history
 inner_leads job y w before history n q l r grown some inner first last formed unmarked left right =
     let to = To job y (turn_weight job y before n q) in
     cond_both (nat_le q l && nat_le q r) _ _ (λ script. Leads job y w to script (turn_ops y - 3) history)
-    (λ e. let m = inner_mark y q l r in
-    leads_more job y w to (marks_node y n m q) (turn_ops y - 3) 1 history (ops_some y)
+    (λ e. let m = inner_mark y n q l r in
+    raises_leads job y w before history to n m (min l r) q (turn_ops y - 3) (ops_some y) grown
     (marks_leads job y w before n m q some (omega arith) first last formed
-    (inner_least y q l r e) unmarked history grown))
+    (inner_least y n q l r e) unmarked))
     (λ e. down_leads job y w before history n q l r (way_down y w n q l r) (turn_ops y - 3) grown
-    some inner first last formed left right (way_down_is y w n q l r e) (ops_some y))
+    some inner first last formed left right (way_down_is y w n q l r e)
+    (omega (arith, ops_some y)))
 
 -- what an unfinished node leads to
 unfinished_leads : (job : JobData) (y : LayoutData)
@@ -273,7 +295,7 @@ unfinished_leads : (job : JobData) (y : LayoutData)
     (if nat_le y.leaves n then leaf_script job y n q
     else asks (Load (number_of y (Node (2 * n))))
     (λ l. asks (Load (number_of y (Node (2 * n + 1)))) (λ r.
-    if nat_le q l && nat_le q r then marks_node y n (inner_mark y q l r) q
+    if nat_le q l && nat_le q r then marks_inner y n q l r
     else stands_at y w (way_down y w n q l r) q))) (turn_ops y - 1) history
 unfinished_leads job y w before history n q grown some inside first last formed unmarked =
     let to = To job y (turn_weight job y before n q) in

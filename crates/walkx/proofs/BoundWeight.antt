@@ -30,7 +30,7 @@ count y = min (grain y) y.procs
 -- processor, and marks it. In the wide form tasks and marks are scripts of their own, of at most
 -- fifteen operations.
 abbrev pub turn_ops : LayoutData → ℕ
-turn_ops y = by_form y.form 16 4
+turn_ops y = by_form y.form 16 5
 
 abbrev pub tasks : LayoutData → ℕ
 tasks y = by_form y.form 0 (15 * (count y + 1))

@@ -2,6 +2,7 @@
 use Rattle.std.proofs.Common.{◌≡◌, ◌≢◌, ℕ, IsTrue, ◌+◌, ◌*◌, ◌%◌, ◌<◌, ◌≤◌, ◌==◌, ◌&&◌}
 use Rattle.std.proofs.Common.{nat_le, if◌then◌else◌, List, [], ◌∷◌, ◌++◌, refl, sym, ap, subst}
 use Rattle.std.proofs.Common.{arith, ◌∙◌}
+use Rattle.std.specs.Prelude.{min}
 use Rattle.std.proofs.lemmas.Bool.{cond_both, eqb-true, eqb-false}
 use Rattle.std.proofs.lemmas.Bool.{leb-true, leb-false, eq-eqb, ne_eqb}
 use Rattle.pram_job.specs.Job.{JobData}
@@ -26,7 +27,8 @@ use Rattle.walkx.proofs.Forms.{form_cases, not_both}
 use Rattle.walkx.specs.Walk.{AllAdmitted}
 use Rattle.walkx.specs.Walk.{script_by, script_of, rest_of, node_of, phase_begun, heard_of}
 use Rattle.walkx.specs.Walk.{turn_script, begin_script, part_script, after_part, has_rank}
-use Rattle.walkx.specs.Walk.{begun_phase, processor_at, way_down}
+use Rattle.walkx.specs.Walk.{begun_phase, block_mark, block_reach, inner_mark, jumps, jumps_first}
+use Rattle.walkx.specs.Walk.{processor_at, way_down}
 use Rattle.walkx.proofs.BoundTasks.{IsWithin}
 use Rattle.walkx.proofs.BoundPasses.{form_within}
 
@@ -198,6 +200,13 @@ part_ends Q job y n q rank memo history compact wide =
     (λ m longer. form_cases y.form (marks_node y n q q) (ends (worked n q rank m))
     (λ s. AllEnds (λ r h. Q r) s longer) (λ is. λ found. compact is) (λ is. wide is m)) history
 
+-- what a node's mark comes to, the swap before it having been made or not
+pub raise_ends : (Q : Then → Type 0) (y : LayoutData) (n m reach q : ℕ)
+    (history : List (Op × ℕ)) → Q (turns n q) →
+    AllEnds (λ r h. Q r) (jumps_first y n q reach (marks_node y n m q)) history
+raise_ends Q y n m reach q history is = cond_both (jumps y n q reach) _ _
+    (λ s. AllEnds (λ r h. Q r) s history) (λ _. λ swapped found. is) (λ _. λ found. is)
+
 abbrev pub TurnEnds : LayoutData → ℕ → ℕ → List (Op × ℕ) → Script Then → Type 0
 TurnEnds y n q history script = AllEnds (λ r h. InTurn y n q r) script history
 
@@ -225,7 +234,8 @@ turn_ends job y w n q history = λ found.
       Load (number_of y (Node (2 * n + 1))),
       r,
     ) ∷ (Load (number_of y (Node (2 * n))), l) ∷ (Load (number_of y (Node n)), found) ∷ history))
-    (λ g. λ f. (refl, λ low high. (low, high)))
+    (λ g. raise_ends (InTurn y n q) y n (inner_mark y n q l r) (min l r) q _
+    (refl, λ low high. (low, high)))
     (λ g. λ f. (refl, λ low high. way_inside y w n q l r low (leb-false y.leaves n e)))))
 
 -- ---- the script of any worker
@@ -250,7 +260,8 @@ block_ends job y n q rank memory history wide =
     (λ there. part_ends (InPart y n q rank) job y n q rank _ history
     (λ compact. absurd (not_both y.form compact wide))
     (λ w m. record { node = refl; phase = refl; rank = refl; there = there; wide = w }))
-    (λ none. λ found. (refl, refl))
+    (λ none. raise_ends (InPart y n q rank) y n (block_mark job y n q memory)
+    (block_reach job y n q memory) q history (refl, refl))
 
 pub script_ends : (job : JobData) (y : LayoutData) (number n : ℕ) (memory : List Memo) (d : Doing) →
     IsInBlock y n d →

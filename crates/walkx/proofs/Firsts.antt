@@ -1,6 +1,6 @@
 -- A task of the compact form asks for something, and what a rank in a block says.
 use Rattle.std.proofs.Common.{◌≡◌, ℕ, ◌<◌, nat_lt, IsTrue, true, Some, refl, inl, inr}
-use Rattle.std.proofs.lemmas.Bool.{cases_Bool, lt-ltb, ltb-true}
+use Rattle.std.proofs.lemmas.Bool.{cases_Bool, cond_both, lt-ltb, ltb-true}
 use Rattle.pram_job.specs.Job.{JobData}
 use Rattle.pram_job.specs.declared.instr.Rule.{Rule}
 use Rattle.pram_job.specs.declared.instr.Rule.TheVariants.{Common, Priority, Crew}
@@ -11,7 +11,7 @@ use Rattle.walkx.specs.declared.operation.Op.{Op}
 use Rattle.walkx.specs.Scripts.{Script, first_op}
 use Rattle.walkx.specs.Tasks.{compute_task, apply_task, verify_task, claim_task}
 use Rattle.walkx.specs.Tasks.{priority_apply_task, crew_apply_task, crew_verify_task, task_of}
-use Rattle.walkx.specs.Walk.{Then, has_rank, marks_node, processor_at}
+use Rattle.walkx.specs.Walk.{Then, has_rank, jumps, jumps_first, marks_node, processor_at}
 
 pub task_first : (rule : Rule) (kind : Kind) (job : JobData) (y : LayoutData) (t i : ℕ)
     (after : Script Then) → (op : Op) × (first_op (task_of rule kind job y t i after) ≡ Some op)
@@ -30,6 +30,11 @@ task_first Crew Verify job y t i after = (_, refl)
 pub mark_first : (y : LayoutData) (n m q : ℕ) →
     (op : Op) × (first_op (marks_node y n m q) ≡ Some op)
 mark_first y n m q = (_, refl)
+
+pub raise_first : (y : LayoutData) (n m reach q : ℕ) →
+    (op : Op) × (first_op (jumps_first y n q reach (marks_node y n m q)) ≡ Some op)
+raise_first y n m reach q = cond_both (jumps y n q reach) _ _
+    (λ s. (op : Op) × (first_op s ≡ Some op)) (λ _. (_, refl)) (λ _. mark_first y n m q)
 
 pub rank_parts : (y : LayoutData) (n rank : ℕ) → IsTrue (has_rank y n rank) →
     (rank < grain y) × (processor_at y n rank < y.procs)

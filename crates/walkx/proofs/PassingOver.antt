@@ -15,9 +15,9 @@ use Rattle.walkx.specs.Memory.{FitsMemo, FitsMemory, memo_of}
 use Rattle.walkx.specs.Passes.{task_in}
 use Rattle.walkx.specs.Scripts.{Script, asks, ends, first_op}
 use Rattle.walkx.specs.Walk.{marks_node, IsBoard, IsWide, block_script, has_rank, if_ended, part_script}
-use Rattle.walkx.specs.Walk.{block_mark, passes_over, processor_at, task_at, worked}
+use Rattle.walkx.specs.Walk.{block_mark, block_reach, passes_over, processor_at, task_at, worked}
 use Rattle.walkx.proofs.Boards.{step_most}
-use Rattle.walkx.proofs.Firsts.{mark_first, rank_parts}
+use Rattle.walkx.proofs.Firsts.{raise_first, rank_parts}
 use Rattle.walkx.proofs.Idling.{Alike, asks_first, comes_at_once, task_alike}
 use Rattle.walkx.proofs.Memories.{memory_set}
 use Rattle.walkx.proofs.TaskAsking.{AllAsk}
@@ -87,7 +87,8 @@ module _ (job : JobData) (y : LayoutData) (n q : ℕ) (wide : IsWide y.form) whe
   at_end rank memory most none = record {
     later = omega arith;
     within = most;
-    first = rw none (mark_first y n (block_mark y n q memory) q);
+    first = rw none
+        (raise_first y n (block_mark job y n q memory) (block_reach job y n q memory) q);
   }
 
   past_none : (rank : ℕ) → grain y ≤ rank → has_rank y n rank ≡ false

@@ -1,6 +1,7 @@
 -- A script of a worker has at most fifteen operations.
 use Rattle.std.proofs.Common.{◌≡◌, ℕ, suc, ◌-◌, ◌*◌, ◌%◌, ◌<◌, ◌≤◌, ◌&&◌}
 use Rattle.std.proofs.Common.{◌==◌, nat_le, List, [], ◌∷◌, length, Some, arith, sym, subst, inl, inr}
+use Rattle.std.specs.Prelude.{min}
 use Rattle.std.proofs.lemmas.Bool.{cond_both}
 use Rattle.pram_job.specs.Job.{JobData}
 use Rattle.pram_words.specs.Phases.{step_at, kind_at}
@@ -14,7 +15,7 @@ use Rattle.walkx.specs.Scripts.{Script, asks, ends, rest_after, rest, first_op}
 use Rattle.walkx.specs.declared.memo.Memo.{Memo}
 use Rattle.walkx.specs.Memory.{at_start, memo_of}
 use Rattle.walkx.specs.Walk.{Then, IsWide, after_part, begin_script, block_script, enters, has_rank}
-use Rattle.walkx.specs.Walk.{block_mark, empty_mark, inner_mark}
+use Rattle.walkx.specs.Walk.{block_mark, block_reach, empty_mark, inner_mark, jumps, jumps_first}
 use Rattle.walkx.specs.Walk.{leaf_script, marks_node, part_script, processor_at, script_by}
 use Rattle.walkx.specs.Walk.{turn_script, worked}
 use Rattle.walkx.proofs.BoundPasses.{compact_within, form_within}
@@ -72,6 +73,13 @@ few_heard s k answers op short is = omega (
 marks_short : (y : LayoutData) (n m q k : ℕ) → 1 ≤ k → Short (marks_node y n m q) k
 marks_short y n m q k h = (h, λ found. tt)
 
+-- with the swap before it
+raises_short : (y : LayoutData) (n m reach q k : ℕ) → 2 ≤ k →
+    Short (jumps_first y n q reach (marks_node y n m q)) k
+raises_short y n m reach q k h = cond_both (jumps y n q reach) _ _ (λ s. Short s k)
+    (λ _. (omega arith, λ found. marks_short y n m q (k - 1) (omega arith)))
+    (λ _. marks_short y n m q k (omega arith))
+
 -- in the compact form a task and the mark, in the wide form a task alone
 part_compact : (job : JobData) (y : LayoutData) (n q rank : ℕ) (memo : Memo) →
     y.form ≡ Compact → Short (part_script job y n q rank memo) 12
@@ -104,13 +112,14 @@ block_short : (job : JobData) (y : LayoutData) (n q rank : ℕ) (memory : List M
     Short (block_script job y n q rank memory) 15
 block_short job y n q rank memory = cond_both (has_rank y n rank) _ _ (λ s. Short s 15)
     (λ _. part_short job y n q rank (memo_of memory (processor_at y n rank)))
-    (λ _. marks_short y n (block_mark y n q memory) q 15 (omega arith))
+    (λ _. raises_short y n (block_mark job y n q memory) (block_reach job y n q memory) q 15
+    (omega arith))
 
 leaf_short : (job : JobData) (y : LayoutData) (n q : ℕ) → Short (leaf_script job y n q) 12
 leaf_short job y n q = cond_both (has_rank y n 0) _ _ (λ s. Short s 12)
     (λ _. form_cases y.form (part_script job y n q 0 at_start) (ends (enters n q))
     (λ s. Short s 12) (λ e. part_compact job y n q 0 at_start e) (λ w. tt))
-    (λ _. marks_short y n (empty_mark y q) q 12 (omega arith))
+    (λ _. marks_short y n (empty_mark job y n q) q 12 (omega arith))
 
 turn_short : (job : JobData) (y : LayoutData) (w n q : ℕ) → Short (turn_script job y w n q) 13
 unfolding turn_script
@@ -124,7 +133,8 @@ turn_short job y w n q = (
         λ l. (
           omega arith,
           λ r. cond_both (nat_le q l && nat_le q r) _ _ (λ s. Short s 10)
-              (λ _. marks_short y n (inner_mark y q l r) q 10 (omega arith)) (λ _. (omega arith, λ stored. tt)),
+              (λ _. raises_short y n (inner_mark y n q l r) (min l r) q 10 (omega arith))
+              (λ _. (omega arith, λ stored. tt)),
         ),
       ))),
 )

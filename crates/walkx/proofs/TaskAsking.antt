@@ -165,7 +165,7 @@ module _ {R : Type 0} (job : JobData) (y : LayoutData) (board : IsBoard job y)
   max_of a v after is range late =
       let k = admits job y a v board is range in ((k.0, k), λ found ok. late)
 
-  swap_of : (a : Word) (old new : ℕ) (after : Script R) →
+  pub swap_of : (a : Word) (old new : ℕ) (after : Script R) →
       IsWord y a → IsInRange y job a old → IsInRange y job a new → AllAsk job y E after →
       AllAsk job y E (asks (Swap (number_of y a) old new) (λ found. after))
   unfolding AllAsk

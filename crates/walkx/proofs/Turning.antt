@@ -1,18 +1,23 @@
 -- What a turn comes to, and a task in a block.
-use Rattle.std.proofs.Common.{◌≡◌, ℕ, Option, Some, None, ap, refl, sym, subst, ◌∙◌}
+use Rattle.std.proofs.Common.{◌≡◌, ℕ, ◌-◌, ◌%◌, ◌==◌, ◌&&◌, Bool, true, false, if◌then◌else◌}
+use Rattle.std.proofs.Common.{nat_lt, Option, Some, None, ap, refl, sym, subst, ◌∙◌}
+use Rattle.pram_words.specs.Words.{number_of}
+use Rattle.pram_words.specs.declared.words.Word.TheVariants.{Node}
+use Rattle.walkx.specs.declared.operation.Op.TheVariants.{Swap}
 use Rattle.pram_words.specs.declared.layout.Form.{Form}
 use Rattle.pram_words.specs.declared.layout.Form.TheVariants.{Compact, Wide}
 use Rattle.walkx.specs.declared.memo.Memo.{Memo}
 use Rattle.walkx.specs.declared.turns.Turned.{Turned}
 use Rattle.walkx.specs.Driving.{Standing}
-use Rattle.walkx.specs.Inner.Posts.{PostData, then_marks, then_next}
+use Rattle.walkx.specs.Inner.Posts.{PostData, then_marks, then_next, then_raises}
 use Rattle.walkx.specs.Memory.{at_start}
 use Rattle.walkx.specs.Parts.{does_compact, does_wide}
 use Rattle.walkx.specs.Passes.{task_in}
 use Rattle.walkx.specs.Rests.{entered, has_worked, part_rest}
-use Rattle.walkx.specs.Scripts.{Script, ends}
-use Rattle.walkx.specs.Walk.{Then, IsWide, part_script}
+use Rattle.walkx.specs.Scripts.{Script, asks, ends}
+use Rattle.walkx.specs.Walk.{Then, IsWide, bounded_mark, jumps, last_phase, part_script}
 use Rattle.walkx.proofs.Forms.{form_compact}
+use Rattle.walkx.proofs.Marks.{jumps_wide}
 use Rattle.walkx.proofs.WidePasses.{in_compact}
 
 -- the task of a leaf of the compact form
@@ -26,6 +31,28 @@ unfolding part_script
 compact_does at is = in_compact at at_start (then_next at) at.layout.form is
     ∙ ap (does_compact at)
     (form_compact at.layout.form (then_marks at at.phase) (ends (has_worked at at_start)) is)
+
+-- the mark of a node, the root being raised over the step's end first or not
+pub jumps_is : (at : PostData) (reach : ℕ) (found : Bool) → IsWide at.layout.form →
+    found ≡ ((at.node == 1) && ((at.phase % 3 == 1) && nat_lt (last_phase at.phase) reach)) →
+    jumps at.layout at.node at.phase reach ≡ found
+jumps_is at reach found wide is = jumps_wide at.layout at.node at.phase reach wide ∙ sym is
+
+abbrev jumps_if : PostData → ℕ → Bool → Script Then
+jumps_if at reach first =
+    let marked = then_marks at (bounded_mark at.node at.phase reach) in
+    if first
+    then asks (Swap (number_of at.layout (Node at.node)) (at.phase - 1) reach) (λ found. marked)
+    else marked
+
+pub raises_first : (at : PostData) (reach : ℕ) → jumps at.layout at.node at.phase reach ≡ true →
+    then_raises at reach ≡ asks (Swap (number_of at.layout (Node at.node)) (at.phase - 1) reach)
+    (λ found. then_marks at (bounded_mark at.node at.phase reach))
+raises_first at reach is = ap (jumps_if at reach) is
+
+pub raises_none : (at : PostData) (reach : ℕ) → jumps at.layout at.node at.phase reach ≡ false →
+    then_raises at reach ≡ then_marks at (bounded_mark at.node at.phase reach)
+raises_none at reach is = ap (jumps_if at reach) is
 
 -- a task in a block
 pub wide_does : (at : PostData) (memo : Memo) (late : Script Then) → IsWide at.layout.form →

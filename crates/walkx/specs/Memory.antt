@@ -1,8 +1,8 @@
 -- What a worker of the wide form remembers of a processor: what its counter and its registers held
 -- after a step, and the store that it made in it.
-use Rattle.std.specs.Prelude.{◌≡◌, ℕ, zero, suc, ◌+◌, ◌-◌, ◌^◌, ◌<◌, ◌≤◌, nat_lt, if◌then◌else◌}
-use Rattle.std.specs.Prelude.{Bool, ◌&&◌, ◌==◌, is_none}
-use Rattle.std.specs.Prelude.{List, [], ◌∷◌, length, map, slice_get, slice_index, slice_set}
+use Rattle.std.specs.Prelude.{◌≡◌, ℕ, zero, suc, ◌-◌, ◌^◌, ◌<◌, ◌≤◌, nat_lt, if◌then◌else◌}
+use Rattle.std.specs.Prelude.{Bool, ◌&&◌, ◌==◌, is_none, nat_le}
+use Rattle.std.specs.Prelude.{List, [], ◌∷◌, length, map, slice_get, slice_set}
 use Rattle.std.specs.Prelude.{Option, Some, None, IfSome, unwrap_or, replicate}
 use Rattle.std.specs.List.{AllByRecursion}
 use Rattle.pram_job.specs.Job.{JobData, IsJob}
@@ -32,6 +32,13 @@ memo_of memory i = unwrap_or (slice_get memory i) at_start
 -- it is known after this step, and made no store in it
 abbrev pub has_rested : ℕ → Memo → Bool
 has_rested t memo = (memo.step == t) && is_none memo.store
+
+-- it is known after this step, and has stopped, with so much code
+abbrev pub is_stopped : ℕ → ℕ → Memo → Bool
+is_stopped code_len t memo = (memo.step == t) && nat_le code_len memo.counter
+
+abbrev pub has_stopped : JobData → ℕ → Memo → Bool
+has_stopped job t memo = is_stopped (length job.code) t memo
 
 -- its registers after a request
 abbrev pub registers_after : JobData → ℕ → List ℕ → Option (ℕ × ℕ) → List ℕ

@@ -10,7 +10,7 @@ use Rattle.walkx.specs.declared.memo.Memo.{Memo}
 use Rattle.walkx.specs.Inner.Posts.{PostData, step_of, processor_of}
 use Rattle.walkx.specs.declared.left.Stopped.{Stopped}
 use Rattle.walkx.specs.Driving.{Standing, goes, learns_all}
-use Rattle.walkx.specs.Memory.{has_rested, memo_of}
+use Rattle.walkx.specs.Memory.{memo_of}
 use Rattle.walkx.specs.Parts.{does_wide}
 use Rattle.walkx.specs.Passes.{wide_task_of}
 use Rattle.walkx.specs.Scripts.{Script, ends}
@@ -33,11 +33,10 @@ Passes idle old new memo = IfSome idle (λ known. (memo ≡ known) × (new ≡ o
 abbrev pub idle : PostData → Memo → Option Memo
 idle at memo = idle_in (kind_at at.phase) at memo
 
--- so many processors, from this one on, are known after a step, and none stored in it
-abbrev pub all_rested : ℕ → ℕ → ℕ → List Memo → Bool
-all_rested zero t i memory = true
-all_rested (suc more) t i memory =
-    has_rested t (memo_of memory i) && all_rested more t (suc i) memory
+-- it is so with so many processors, from this one on, by what is known of them
+abbrev pub all_next : (Memo → Bool) → ℕ → ℕ → List Memo → Bool
+all_next is zero i memory = true
+all_next is (suc more) i memory = is (memo_of memory i) && all_next is more (suc i) memory
 
 -- a task was done with what was remembered of its processor, and this is remembered now: it played
 -- its script, and where that asks nothing it made no step

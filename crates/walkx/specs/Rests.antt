@@ -17,8 +17,8 @@ use Rattle.walkx.specs.declared.memo.Memo.{Memo}
 use Rattle.walkx.specs.Memory.{at_start}
 use Rattle.walkx.specs.Walk.{Then, begins, turns, enters, worked, stops, back_script, begin_script}
 use Rattle.walkx.specs.Walk.{block_script, leaf_script, part_script, stands_at, turn_script}
-use Rattle.walkx.specs.Walk.{IsWide, inner_mark, way_down}
-use Rattle.walkx.specs.Inner.Posts.{PostData, then_marks}
+use Rattle.walkx.specs.Walk.{IsWide, marks_inner, way_down}
+use Rattle.walkx.specs.Inner.Posts.{PostData}
 
 abbrev pub moves : PostData → ℕ → Script Then
 moves at to = stands_at at.layout at.worker to at.phase
@@ -26,10 +26,13 @@ moves at to = stands_at at.layout at.worker to at.phase
 abbrev pub leaf_rest : PostData → Script Then
 leaf_rest at = leaf_script at.job at.layout at.node at.phase
 
+abbrev pub inner_marks : PostData → ℕ → ℕ → Script Then
+inner_marks at left right = marks_inner at.layout at.node at.phase left right
+
 abbrev pub after_children : PostData → ℕ → ℕ → Script Then
 after_children at left right =
     if nat_le at.phase left && nat_le at.phase right
-    then then_marks at (inner_mark at.layout at.phase left right)
+    then inner_marks at left right
     else moves at (way_down at.layout at.worker at.node at.phase left right)
 
 abbrev pub inner_of : PostData → Script Then

@@ -1,7 +1,7 @@
 -- The walk: the scripts back, begin and turn, and a worker that goes through them.
 use Rattle.std.specs.Prelude.{◌≡◌, ℕ, ◌+◌, ◌-◌, ◌*◌, ◌/◌, ◌%◌, ◌<◌}
 use Rattle.std.specs.Prelude.{◌≤◌, ◌&&◌, ◌==◌, nat_le, nat_lt, if◌then◌else◌, List, [], ◌∷◌}
-use Rattle.std.specs.Prelude.{true, min}
+use Rattle.std.specs.Prelude.{◌||◌, true, false, min}
 use Rattle.std.specs.Prelude.{zero, suc, Bool, IsTrue, ◌++◌, Option, Some, None, IfSome, unwrap_or}
 use Rattle.std.specs.Prelude.{slice_set}
 use Rattle.std.specs.List.{AllByRecursion}
@@ -22,7 +22,7 @@ use Rattle.pram_words.specs.Forms.{by_form}
 use Rattle.pram_words.specs.declared.layout.Form.{Form}
 use Rattle.pram_words.specs.declared.layout.Form.TheVariants.{Compact, Wide}
 use Rattle.walkx.specs.declared.memo.Memo.{Memo}
-use Rattle.walkx.specs.Memory.{FitsMemory, at_start, blank, has_rested, memo_of}
+use Rattle.walkx.specs.Memory.{FitsMemory, at_start, blank, has_rested, has_stopped, memo_of}
 use Rattle.walkx.specs.Passes.{task_in}
 
 -- ---- the scripts
@@ -68,17 +68,35 @@ abbrev pub marks_node : LayoutData → ℕ → ℕ → ℕ → Script Then
 marks_node layout node mark phase =
     asks (Max (number_of layout (Node node)) mark) (λ found. ends (turns node phase))
 
--- In the wide form a mark may be above the phase: an inner node's is the lesser one of its
--- children's.
-abbrev pub inner_mark : LayoutData → ℕ → ℕ → ℕ → ℕ
-inner_mark layout phase left right = by_form layout.form phase (min left right)
-
--- a leaf's without processors, the last phase of the step
+-- the last phase of the step
 abbrev pub last_phase : ℕ → ℕ
 last_phase phase = 3 * step_at phase
 
-abbrev pub empty_mark : LayoutData → ℕ → ℕ
-empty_mark layout phase = by_form layout.form phase (last_phase phase)
+-- In the wide form a mark may be above the phase. The root's is the step's last phase at most, since
+-- a conflict is looked for there.
+abbrev pub bounded_mark : ℕ → ℕ → ℕ → ℕ
+bounded_mark node phase mark = if node == 1 then min mark (last_phase phase) else mark
+
+-- an inner node's is the lesser one of its children's
+abbrev pub inner_mark : LayoutData → ℕ → ℕ → ℕ → ℕ → ℕ
+inner_mark layout node phase left right =
+    by_form layout.form phase (bounded_mark node phase (min left right))
+
+-- a leaf's without processors, the last phase of all
+abbrev pub empty_mark : JobData → LayoutData → ℕ → ℕ → ℕ
+empty_mark job layout node phase =
+    by_form layout.form phase (bounded_mark node phase (3 * job.steps))
+
+-- In the first pass the root is raised over the step's end where it may be: by a swap, which fails
+-- where another phase has begun, before it is marked.
+abbrev pub jumps : LayoutData → ℕ → ℕ → ℕ → Bool
+jumps layout node phase mark =
+    by_form layout.form false ((node == 1) && ((phase % 3 == 1) && nat_lt (last_phase phase) mark))
+
+abbrev pub jumps_first : LayoutData → ℕ → ℕ → ℕ → Script Then → Script Then
+jumps_first layout node phase mark next =
+    if jumps layout node phase mark
+    then asks (Swap (number_of layout (Node node)) (phase - 1) mark) (λ found. next) else next
 
 -- the processor of a rank in the block of leaf n, and whether there is one
 abbrev pub processor_at : LayoutData → ℕ → ℕ → ℕ
@@ -104,34 +122,56 @@ unfoldable pub part_script : JobData → LayoutData → ℕ → ℕ → ℕ → 
 part_script job layout node phase rank memo =
     task_at job layout node phase rank memo (after_part layout node phase rank)
 
--- the processors of a block, from this rank on, are known after the step, and none stored in it
-abbrev pub none_stores : ℕ → LayoutData → ℕ → ℕ → ℕ → List Memo → Bool
-none_stores zero layout node t rank memory = true
-none_stores (suc more) layout node t rank memory =
+-- it is so with all processors of a block, from this rank on, by what is known of them
+abbrev pub all_from : (Memo → Bool) → ℕ → LayoutData → ℕ → ℕ → List Memo → Bool
+all_from is zero layout node rank memory = true
+all_from is (suc more) layout node rank memory =
     if has_rank layout node rank
-    then has_rested t (memo_of memory (processor_at layout node rank))
-    && none_stores more layout node t (suc rank) memory
+    then is (memo_of memory (processor_at layout node rank))
+    && all_from is more layout node (suc rank) memory
     else true
 
--- a block's mark: there is nothing to do in the step's last phase where none of it stores
-abbrev pub block_mark : LayoutData → ℕ → ℕ → List Memo → ℕ
-block_mark layout node phase memory =
-    if none_stores (grain layout) layout node (step_at phase) 0 memory then last_phase phase
+abbrev pub block_all : (Memo → Bool) → LayoutData → ℕ → List Memo → Bool
+block_all is layout node memory = all_from is (grain layout) layout node 0 memory
+
+-- How far a block has nothing to do: in the step's last phase where none of it stores, and in no
+-- later phase where all have stopped.
+abbrev pub block_reach : JobData → LayoutData → ℕ → ℕ → List Memo → ℕ
+block_reach job layout node phase memory =
+    if (phase == last_phase phase) || block_all (has_rested (step_at phase)) layout node memory
+    then (if block_all (has_stopped job (step_at phase)) layout node memory then 3 * job.steps
+    else last_phase phase)
     else phase
+
+-- so it is marked
+abbrev pub block_mark : JobData → LayoutData → ℕ → ℕ → List Memo → ℕ
+block_mark job layout node phase memory =
+    bounded_mark node phase (block_reach job layout node phase memory)
+
+abbrev pub marks_block : JobData → LayoutData → ℕ → ℕ → List Memo → Script Then
+marks_block job layout node phase memory =
+    jumps_first layout node phase (block_reach job layout node phase memory)
+    (marks_node layout node (block_mark job layout node phase memory) phase)
+
+-- and an inner node, its children having been heard
+abbrev pub marks_inner : LayoutData → ℕ → ℕ → ℕ → ℕ → Script Then
+marks_inner layout node phase left right =
+    jumps_first layout node phase (min left right)
+    (marks_node layout node (inner_mark layout node phase left right) phase)
 
 -- in a block: the task of the processor of this rank, or, after the last one's, the mark
 abbrev pub block_script : JobData → LayoutData → ℕ → ℕ → ℕ → List Memo → Script Then
 block_script job layout node phase rank memory =
     if has_rank layout node rank
     then part_script job layout node phase rank (memo_of memory (processor_at layout node rank))
-    else marks_node layout node (block_mark layout node phase memory) phase
+    else marks_block job layout node phase memory
 
 -- the work at an unfinished leaf; the leaves after those of the processors have none
 abbrev pub leaf_script : JobData → LayoutData → ℕ → ℕ → Script Then
 leaf_script job layout node phase =
     if has_rank layout node 0
     then by_form layout.form (part_script job layout node phase 0 at_start)
-    (ends (enters node phase)) else marks_node layout node (empty_mark layout phase) phase
+    (ends (enters node phase)) else marks_node layout node (empty_mark job layout node phase) phase
 
 -- A finished node is left upward, a leaf is worked at and marked, an inner node is marked or left
 -- downward.
@@ -143,7 +183,7 @@ turn_script job layout worker node phase = asks (Load (number_of layout (Node no
     else asks (Load (number_of layout (Node (2 * node)))) (λ left.
     asks (Load (number_of layout (Node (2 * node + 1)))) (λ right.
     if nat_le phase left && nat_le phase right
-    then marks_node layout node (inner_mark layout phase left right) phase
+    then marks_inner layout node phase left right
     else stands_at layout worker (way_down layout worker node phase left right) phase))))
 
 -- ---- a worker

@@ -1,16 +1,17 @@
 //! What a worker remembers.
 ghost use Rattle.std.specs.Prelude.{◌≡◌, ◌==◌, suc, List, slice_get, slice_set, IfOk, IfSome, []};
-ghost use Rattle.std.specs.Prelude.{IsTrue, Some, None, ◌-◌, ◌*◌, ◌≤◌};
+ghost use Rattle.std.specs.Prelude.{IsTrue, Some, None, ◌||◌, ◌-◌, ◌*◌, ◌≤◌};
 ghost use Rattle.pram_machine.specs.Instructions.{goes_to};
 ghost use Rattle.pram_machine.specs.Turns.{request_of};
 ghost use Rattle.walkx.specs.declared.memo.Memo.{Memo};
 ghost use Rattle.walkx.specs.Driving.{IsNextPart};
-ghost use Rattle.pram_words.specs.Phases.{kind_at};
+ghost use Rattle.pram_words.specs.Phases.{kind_at, step_at};
 ghost use Rattle.walkx.specs.Inner.Posts.{processor_of};
-ghost use Rattle.walkx.specs.Memory.{FitsMemo, at_start, blank, has_rested, memo_of};
+ghost use Rattle.walkx.specs.Memory.{FitsMemo, at_start, blank, has_rested, has_stopped};
+ghost use Rattle.walkx.specs.Memory.{is_stopped, memo_of};
 ghost use Rattle.walkx.specs.Parts.{does_wide};
-ghost use Rattle.walkx.specs.Passing.{IsStand, StandsAt, TakesUp, TakesUpIf, all_rested};
-ghost use Rattle.walkx.specs.Walk.{block_mark};
+ghost use Rattle.walkx.specs.Passing.{IsStand, StandsAt, TakesUp, TakesUpIf, all_next};
+ghost use Rattle.walkx.specs.Walk.{block_all, block_reach, last_phase};
 ghost use Rattle.walkx.specs.WideParts.{IsShaped, learned};
 
 use crate::left::Stopped;
@@ -73,6 +74,14 @@ impl Memo {
         ensures { result ≡ has_rested t self.now }
     {
         self.step == t && self.store.is_none()
+    }
+
+    /// It is known after this step, and its counter is past this many instructions.
+    #[inline(always)]
+    pub(crate) fn has_stopped(&self, t: u32, code_len: u32) -> bool
+        ensures { result ≡ is_stopped code_len t self.now }
+    {
+        self.step == t && code_len <= self.counter
     }
 
     /// What is known after a turn of the leaf's step.
@@ -237,25 +246,56 @@ impl Memory {
         Ok(false)
     }
 
-    /// The mark of a block at its end: the last phase of the step, where its processors are known
-    /// after it and none stored in it, else the phase.
+    /// How far a block has nothing to do at its end: in the phase; or in the last one of the step,
+    /// where its processors are known after the step and none stored in it; or, where they have all
+    /// stopped besides, in the last one of all. In the step's last phase it does not matter whether
+    /// they stored.
     #[inline(always)]
-    pub fn mark(&self, post: &Post) -> u64
+    pub fn reach(&self, post: &Post) -> u64
         requires leaf { post.now.layout.leaves ≤ post.now.node }
         requires phase { post.now.phase ≤ 3 * post.now.job.steps }
-        ensures { result ≡ block_mark post.now.layout post.now.node post.now.phase self.now }
+        ensures { result ≡ block_reach post.now.job post.now.layout post.now.node post.now.phase
+            self.now }
     {
-        let last = post.last_phase();
-        if post.phase == last {
-            return last;
+        if !self.step_is_done(post) {
+            post.phase
+        } else if self.has_stopped(post) {
+            3 * u64::from(post.job.steps())
+        } else {
+            post.last_phase()
+        }
+    }
+
+    // Nothing is left to do in the block in the last phase of the step: this is that phase, or the
+    // processors are known after the step, and none stored in it.
+    #[inline(always)]
+    fn step_is_done(&self, post: &Post) -> bool
+        requires leaf { post.now.layout.leaves ≤ post.now.node }
+        requires phase { post.now.phase ≤ 3 * post.now.job.steps }
+        ensures { result ≡ ((post.now.phase == last_phase post.now.phase)
+            || block_all (has_rested (step_at post.now.phase)) post.now.layout post.now.node
+            self.now) }
+    {
+        if post.phase == post.last_phase() {
+            return true;
         }
         let first = post.first_processor() as usize;
         let end = first + post.block_len() as usize;
-        if none_stored(self.memos(), first, end, post.step()) {
-            last
-        } else {
-            post.phase
-        }
+        none_stored(self.memos(), first, end, post.step())
+    }
+
+    // The processors of the block are known after the step, and have all stopped.
+    #[inline(always)]
+    fn has_stopped(&self, post: &Post) -> bool
+        requires leaf { post.now.layout.leaves ≤ post.now.node }
+        requires phase { post.now.phase ≤ 3 * post.now.job.steps }
+        ensures { result ≡ block_all (has_stopped post.now.job (step_at post.now.phase))
+            post.now.layout post.now.node self.now }
+    {
+        let first = post.first_processor() as usize;
+        let end = first + post.block_len() as usize;
+        let code_len = post.job.code().len() as u32;
+        all_stopped(self.memos(), first, end, post.step(), code_len)
     }
 
     // What is known of each processor, from the first one on.
@@ -338,7 +378,7 @@ impl Memory {
 #[inline(never)]
 fn none_stored(memos: &[Memo], first: usize, end: usize, step: u32) -> bool
     requires { first ≤ end }
-    ensures { result ≡ all_rested (end - first) step first memos.now }
+    ensures { result ≡ all_next (has_rested step) (end - first) first memos.now }
 {
     for i in first..end {
         if !has_rested(memos, i, step) {
@@ -356,5 +396,31 @@ fn has_rested(memos: &[Memo], i: usize, step: u32) -> bool
     match memos.get(i) {
         Some(memo) => memo.has_rested(step),
         None => Memo::at_start().has_rested(step),
+    }
+}
+
+// The processors from the first one up to this one are known after this step, and all have stopped,
+// with so much code.
+#[inline(never)]
+fn all_stopped(memos: &[Memo], first: usize, end: usize, step: u32, code_len: u32) -> bool
+    requires { first ≤ end }
+    ensures { result ≡ all_next (is_stopped code_len step) (end - first) first memos.now }
+{
+    for i in first..end {
+        if !has_stopped(memos, i, step, code_len) {
+            return false;
+        }
+    }
+    true
+}
+
+// A processor is known after this step, and has stopped.
+#[inline(always)]
+fn has_stopped(memos: &[Memo], i: usize, step: u32, code_len: u32) -> bool
+    ensures { result ≡ is_stopped code_len step (memo_of memos.now i) }
+{
+    match memos.get(i) {
+        Some(memo) => memo.has_stopped(step, code_len),
+        None => Memo::at_start().has_stopped(step, code_len),
     }
 }

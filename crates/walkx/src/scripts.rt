@@ -51,7 +51,7 @@ fn in_block<S: Steps>(steps: &mut S, post: &Post, memory: &Memory) -> Result<Nex
         part(steps, post, &mut memo)?;
         Ok(Next::Worked(post.node, post.phase, post.rank, memo))
     } else {
-        Ok(after(post, mark(steps, post, memory.mark(post))?))
+        Ok(after(post, mark(steps, post, memory.reach(post))?))
     }
 }
 

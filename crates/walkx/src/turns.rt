@@ -1,14 +1,15 @@
 //! Turns.
-ghost use Rattle.std.specs.Prelude.{◌≡◌, ℕ, ◌+◌, ◌*◌, ◌<◌, ◌≤◌, ◌&&◌, ◌==◌, nat_le};
-ghost use Rattle.std.specs.Prelude.{IfOk, Option, None};
+ghost use Rattle.std.specs.Prelude.{◌≡◌, ℕ, ◌+◌, ◌-◌, ◌*◌, ◌%◌, ◌<◌, ◌≤◌, ◌&&◌, ◌==◌};
+ghost use Rattle.std.specs.Prelude.{nat_le, nat_lt, IfOk, Option, None};
 ghost use Rattle.pram_words.specs.Words.{number_of};
 ghost use Rattle.pram_words.specs.declared.words.Word.TheVariants.{Node, Position};
-ghost use Rattle.walkx.specs.Inner.Posts.{IsLeafPost, IsPost, then_marks};
+ghost use Rattle.walkx.specs.Inner.Posts.{IsLeafPost, IsPost, then_marks, then_raises};
 ghost use Rattle.walkx.specs.Memory.{FitsMemo, at_start};
-ghost use Rattle.walkx.specs.Walk.{IsWide, empty_mark, has_rank, inner_mark, way_down};
+ghost use Rattle.walkx.specs.Walk.{IsWide, bounded_mark, empty_mark, has_rank, last_phase};
+ghost use Rattle.walkx.specs.Walk.{way_down};
 ghost use Rattle.walkx.specs.Driving.{IsHere, Leads, Reaches, learns_all, settled_or_late};
-ghost use Rattle.walkx.specs.Rests.{entered, has_worked, inner_of, leads, leaves_up, moves};
-ghost use Rattle.walkx.specs.Rests.{part_rest, turn_of};
+ghost use Rattle.walkx.specs.Rests.{entered, has_worked, inner_marks, inner_of, leads, leaves_up};
+ghost use Rattle.walkx.specs.Rests.{moves, part_rest, turn_of};
 
 use crate::left::{Left, Stopped};
 use crate::memo::Memo;
@@ -29,9 +30,26 @@ pub enum Turned {
     Enters,
 }
 
-/// The node is raised to this mark.
+/// A node of the wide form is marked, where nothing is left to do up to this phase. The root's mark
+/// is bounded by the end of the step, and before it the root is raised over that end where it may
+/// be, whatever comes of this.
 #[inline(always)]
-pub fn mark<S: Steps>(steps: &mut S, post: &Post, mark: u64) -> Result<Turned, Stopped>
+pub fn mark<S: Steps>(steps: &mut S, post: &Post, reach: u64) -> Result<Turned, Stopped>
+    requires wide { IsWide post.now.layout.form }
+    requires phase { post.now.phase ≤ 3 * post.now.job.steps }
+    requires here { IsHere (S.stands post.now) steps.old (then_raises post.now reach) }
+    ensures reaches { Reaches (S.stands post.now) steps.old (then_raises post.now reach)
+        (leads post.now) steps.new result }
+{
+    if jumps(post, reach) {
+        steps.make(jumping(post, reach))?;
+    }
+    raise(steps, post, bounded(post, reach))
+}
+
+// The node is raised to this mark.
+#[inline(always)]
+fn raise<S: Steps>(steps: &mut S, post: &Post, mark: u64) -> Result<Turned, Stopped>
     requires here { IsHere (S.stands post.now) steps.old (then_marks post.now mark) }
     ensures reaches { Reaches (S.stands post.now) steps.old (then_marks post.now mark)
         (leads post.now) steps.new result }
@@ -61,7 +79,7 @@ fn whole<S: Steps>(steps: &mut S, post: &Post) -> Result<Turned, Stopped>
         (leads post.now) steps.new result }
 {
     settle(compact_task(steps, &post.leaf()))?;
-    mark(steps, post, post.phase)
+    raise(steps, post, post.phase)
 }
 
 /// The task of a processor of a block, of which this is known: what is then known of it.
@@ -81,6 +99,7 @@ pub fn part<S: Steps>(steps: &mut S, post: &Post, memo: &mut Memo) -> Result<(),
 #[inline(always)]
 fn inner<S: Steps>(steps: &mut S, post: &Post) -> Result<Turned, Stopped>
     requires inner { post.now.node < post.now.layout.leaves }
+    requires phase { post.now.phase ≤ 3 * post.now.job.steps }
     requires here { IsHere (S.stands post.now) steps.old (inner_of post.now) }
     ensures reaches { Reaches (S.stands post.now) steps.old (inner_of post.now) (leads post.now)
         steps.new result }
@@ -88,9 +107,28 @@ fn inner<S: Steps>(steps: &mut S, post: &Post) -> Result<Turned, Stopped>
     let first = steps.make(looking(post, left(post.node)))?;
     let second = steps.make(looking(post, right(post.node)))?;
     if both_finished(post, first, second) {
-        mark(steps, post, inner_mark(post, first, second))
+        mark_inner(steps, post, first, second)
     } else {
         stand(steps, post, down(post, first, second))
+    }
+}
+
+// An inner node is marked, whose children hold these phases.
+#[inline(always)]
+fn mark_inner<S: Steps>(
+    steps: &mut S,
+    post: &Post,
+    first: u64,
+    second: u64,
+) -> Result<Turned, Stopped>
+    requires phase { post.now.phase ≤ 3 * post.now.job.steps }
+    requires here { IsHere (S.stands post.now) steps.old (inner_marks post.now first second) }
+    ensures reaches { Reaches (S.stands post.now) steps.old (inner_marks post.now first second)
+        (leads post.now) steps.new result }
+{
+    match post.layout.form() {
+        Form::Compact => raise(steps, post, post.phase),
+        Form::Wide(_) => mark(steps, post, first.min(second)),
     }
 }
 
@@ -131,7 +169,7 @@ fn enter<S: Steps>(steps: &mut S, post: &Post) -> Result<Option<Turned>, Stopped
             Form::Wide(_) => Some(Turned::Enters),
         })
     } else {
-        Ok(Some(mark(steps, post, empty_mark(post))?))
+        Ok(Some(raise(steps, post, empty_mark(post))?))
     }
 }
 
@@ -163,14 +201,16 @@ pub(crate) fn settle(done: Result<(), Left>) -> Result<(), Stopped>
 
 // ---- marks
 
-// That of an inner node whose children hold these phases.
+// This one, but at the root the last phase of the step at most.
 #[inline(always)]
-fn inner_mark(post: &Post, first: u64, second: u64) -> u64
-    ensures { result ≡ inner_mark post.now.layout post.now.phase first second }
+fn bounded(post: &Post, mark: u64) -> u64
+    requires { post.now.phase ≤ 3 * post.now.job.steps }
+    ensures { result ≡ bounded_mark post.now.node post.now.phase mark }
 {
-    match post.layout.form() {
-        Form::Compact => post.phase,
-        Form::Wide(_) => first.min(second),
+    if is_root(post) {
+        mark.min(post.last_phase())
+    } else {
+        mark
     }
 }
 
@@ -178,11 +218,11 @@ fn inner_mark(post: &Post, first: u64, second: u64) -> u64
 #[inline(always)]
 fn empty_mark(post: &Post) -> u64
     requires { post.now.phase ≤ 3 * post.now.job.steps }
-    ensures { result ≡ empty_mark post.now.layout post.now.phase }
+    ensures { result ≡ empty_mark post.now.job post.now.layout post.now.node post.now.phase }
 {
     match post.layout.form() {
         Form::Compact => post.phase,
-        Form::Wide(_) => post.last_phase(),
+        Form::Wide(_) => bounded(post, 3 * u64::from(post.job.steps())),
     }
 }
 
@@ -193,6 +233,15 @@ fn marking(post: &Post, mark: u64) -> Op
     ensures { result ≡ Op.Max (number_of post.now.layout (Node post.now.node)) mark }
 {
     Op::Max(post.layout.node_word(post.node), mark)
+}
+
+#[inline(always)]
+fn jumping(post: &Post, reach: u64) -> Op
+    requires { 1 ≤ post.now.phase }
+    ensures { result ≡ Op.Swap (number_of post.now.layout (Node post.now.node))
+        (post.now.phase - 1) reach }
+{
+    Op::Swap(post.layout.node_word(post.node), post.phase - 1, reach)
 }
 
 #[inline(always)]
@@ -225,6 +274,17 @@ fn both_finished(post: &Post, first: u64, second: u64) -> bool
     ensures { result ≡ (nat_le post.now.phase first && nat_le post.now.phase second) }
 {
     post.phase <= first && post.phase <= second
+}
+
+// Before it is marked the node is raised over the end of the step, as the root is in the first pass
+// of the wide form.
+#[inline(always)]
+fn jumps(post: &Post, reach: u64) -> bool
+    requires { post.now.phase ≤ 3 * post.now.job.steps }
+    ensures { result ≡ ((post.now.node == 1) && ((post.now.phase % 3 == 1)
+        && nat_lt (last_phase post.now.phase) reach)) }
+{
+    is_root(post) && post.phase % 3 == 1 && post.last_phase() < reach
 }
 
 #[inline(always)]

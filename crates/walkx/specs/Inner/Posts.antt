@@ -12,7 +12,7 @@ use Rattle.walkx.specs.declared.operation.Op.{Op}
 use Rattle.walkx.specs.declared.operation.Op.TheVariants.{Max}
 use Rattle.walkx.specs.declared.memo.Memo.{Memo}
 use Rattle.walkx.specs.Scripts.{Script}
-use Rattle.walkx.specs.Walk.{Then, IsBoard, after_part, marks_node}
+use Rattle.walkx.specs.Walk.{Then, IsBoard, after_part, bounded_mark, jumps_first, marks_node}
 use Rattle.walkx.specs.Walk.{processor_at}
 
 -- a worker at a node, in the phase of its turn, at the processor of a rank in the node's block
@@ -72,6 +72,11 @@ then_marks at mark = marks_node at.layout at.node mark at.phase
 
 abbrev pub then_next : PostData → Memo → Script Then
 then_next at memo = after_part at.layout at.node at.phase at.rank memo
+
+-- in the wide form the node is marked, where nothing is left to do up to this phase
+abbrev pub then_raises : PostData → ℕ → Script Then
+then_raises at reach = jumps_first at.layout at.node at.phase reach
+    (then_marks at (bounded_mark at.node at.phase reach))
 
 -- part j of the processor's request is raised to this payload
 abbrev pub part_raised : PostData → ℕ → ℕ → Op

@@ -96,9 +96,9 @@ returns-in_ok-inner-clause-leads g c =
           c.in_ok-inner.ensures.reaches.on from (rw (sym c.is_finished.ensures ∙ c.if-is_finished.false, sym c.is_leaf.ensures ∙ c.if-not-is_leaf.true) at node);
     })
 
-pub mark-requires : goal.mark-requires
+pub raise-requires : goal.raise-requires
 unfolding turn_script
-mark-requires g c =
+raise-requires g c =
     let at = c.args.post.now in
     let r = c.requires.here in
     let node = rw (c.looking.ensures, node_is c.post.view_is) at
@@ -114,30 +114,30 @@ mark-requires g c =
       };
     })
 
-pub returns-in_err-mark-clause-leads : goal.returns-in_err-mark-clause-leads
+pub returns-in_err-raise-clause-leads : goal.returns-in_err-raise-clause-leads
 unfolding turn_script
-returns-in_err-mark-clause-leads g c =
+returns-in_err-raise-clause-leads g c =
     let at = c.args.post.now in
-    rw (passed c.from_residual-in_err-mark.result _ c.from_residual-in_err-mark.ensures.1) (record {
+    rw (passed c.from_residual-in_err-raise.result _ c.from_residual-in_err-raise.ensures.1) (record {
       on = λ from here.
           let node = rw (c.looking.ensures, node_is c.post.view_is) at
           (c.in_ok-found.ensures.on at from (after_node at)) here in
-          rw c.empty_mark.ensures at (c.in_err-mark.ensures.reaches.on from) (rw (
+          rw c.empty_mark.ensures at (c.in_err-raise.ensures.reaches.on from) (rw (
             sym c.is_finished.ensures ∙ c.if-is_finished.false,
             sym c.is_leaf.ensures ∙ c.if-not-is_leaf.false,
             sym c.has_rank.ensures.value ∙ c.if-has_rank.false,
           ) at node);
     })
 
-pub returns-in_ok-mark-clause-leads : goal.returns-in_ok-mark-clause-leads
+pub returns-in_ok-raise-clause-leads : goal.returns-in_ok-raise-clause-leads
 unfolding turn_script
-returns-in_ok-mark-clause-leads g c =
+returns-in_ok-raise-clause-leads g c =
     let at = c.args.post.now in
     (record {
       on = λ from here.
           let node = rw (c.looking.ensures, node_is c.post.view_is) at
           (c.in_ok-found.ensures.on at from (after_node at)) here in
-          rw c.empty_mark.ensures at (c.in_ok-mark.ensures.reaches.on from) (rw (
+          rw c.empty_mark.ensures at (c.in_ok-raise.ensures.reaches.on from) (rw (
             sym c.is_finished.ensures ∙ c.if-is_finished.false,
             sym c.is_leaf.ensures ∙ c.if-not-is_leaf.false,
             sym c.has_rank.ensures.value ∙ c.if-has_rank.false,

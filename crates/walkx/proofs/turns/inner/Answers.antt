@@ -57,8 +57,8 @@ returns-in_err-second g c =
       };
     })
 
-pub mark-requires : goal.mark-requires
-mark-requires g c =
+pub mark_inner-requires-clause-here : goal.mark_inner-requires-clause-here
+mark_inner-requires-clause-here g c =
     let at = c.args.post.now in
     let r = c.requires.here in
     let first = rw (c.looking.ensures, c.left.ensures, node_is c.post.view_is) at
@@ -67,12 +67,10 @@ mark-requires g c =
     r.here in
     let second = rw (c.looking-2.ensures, c.right.ensures, node_is c.post.view_is) at
     (c.in_ok-second.ensures.on at r.from (after_children at c.in_ok-first.first)) first in
-    rw c.inner_mark.ensures (record {
-      here = record {
-        from = r.from;
-        here = rw (sym c.both_finished.ensures ∙ c.if-both_finished.true) at second;
-      };
-    })
+    record {
+      from = r.from;
+      here = rw (sym c.both_finished.ensures ∙ c.if-both_finished.true) at second;
+    }
 
 pub stand-requires : goal.stand-requires
 stand-requires g c =
@@ -102,7 +100,7 @@ returns-then-both_finished g c =
             (number_of at.layout (Node (2 * at.node + 1)))) (λ r. after_children at l r))) here in
             let second = rw (c.looking-2.ensures, c.right.ensures, node_is c.post.view_is) at
             (c.in_ok-second.ensures.on at from (after_children at c.in_ok-first.first)) first in
-            rw c.inner_mark.ensures at (c.mark.ensures.reaches.on from)
+            c.mark_inner.ensures.reaches.on from
             (rw (sym c.both_finished.ensures ∙ c.if-both_finished.true) at second);
       };
     }

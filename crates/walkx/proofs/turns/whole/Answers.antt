@@ -30,8 +30,8 @@ returns-in_err-settle g c =
       };
     })
 
-pub mark-requires : goal.mark-requires
-mark-requires g c =
+pub raise-requires : goal.raise-requires
+raise-requires g c =
     let at = c.args.post.now in
     let r = c.requires.here in
     rw (phase_is c.post.view_is) (record {
@@ -50,7 +50,7 @@ returns g c =
     let at = c.args.post.now in
     record {
       reaches = record {
-        on = λ from here. rw (phase_is c.post.view_is) at (c.mark.ensures.reaches.on from)
+        on = λ from here. rw (phase_is c.post.view_is) at (c.raise.ensures.reaches.on from)
             (comes_to (g.S.Steps.stands at) from _ _ _
             (settled_ok c.compact_task.result (then_marks at at.phase) _
             (sym c.settle.ensures ∙ c.in_ok-settle.was))

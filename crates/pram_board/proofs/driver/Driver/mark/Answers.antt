@@ -4,8 +4,8 @@ use Rattle.pram_board.proofs.Blocks.{mark_leads, mark_starts, marks_block}
 use Rattle.pram_board.proofs.Working.{sound_at}
 use Rattle.pram_board.proofs.driver.Driver.mark.Goals as goal
 
-pub mark-to-requires : goal.mark-to-requires
-mark-to-requires g c = record {
+pub reach-reach-requires : goal.reach-reach-requires
+reach-reach-requires g c = record {
   leaf = c.requires.walks.fits.block.0;
   phase = c.requires.walks.fits.phase.1;
 }
@@ -13,7 +13,9 @@ mark-to-requires g c = record {
 pub mark-requires : goal.mark-requires
 mark-requires g c =
     let at = c.args.post.now in
-    rw c.mark-to.ensures (record {
+    rw c.reach-reach.ensures (record {
+      wide = c.requires.walks.fits.block.2;
+      phase = c.requires.walks.fits.phase.1;
       here = record {
         from = (c.args.self.now, marks_block at c.args.memory.now);
         here = (
@@ -27,7 +29,7 @@ mark-requires g c =
 pub unreachable-requires : goal.unreachable-requires
 unreachable-requires g c =
     let at = c.args.post.now in
-    (rw c.mark-to.ensures at
+    (rw c.reach-reach.ensures at
     (c.in-Err.ensures.reaches.on (c.args.self.now, marks_block at c.args.memory.now)) (
       refl,
       mark_starts at c.args.rank c.args.memory.now c.requires.walks.fits.block.2 c.requires.last
@@ -37,7 +39,7 @@ unreachable-requires g c =
 pub returns-clause-same : goal.returns-clause-same
 returns-clause-same g c =
     let at = c.args.post.now in
-    (rw c.mark-to.ensures at
+    (rw c.reach-reach.ensures at
     (c.in-Ok.ensures.reaches.on (c.args.self.now, marks_block at c.args.memory.now)) (
       refl,
       mark_starts at c.args.rank c.args.memory.now c.requires.walks.fits.block.2 c.requires.last
@@ -47,7 +49,7 @@ returns-clause-same g c =
 pub returns-clause-led : goal.returns-clause-led
 returns-clause-led g c =
     let at = c.args.post.now in
-    let done = (rw c.mark-to.ensures at
+    let done = (rw c.reach-reach.ensures at
     (c.in-Ok.ensures.reaches.on (c.args.self.now, marks_block at c.args.memory.now)) (
       refl,
       mark_starts at c.args.rank c.args.memory.now c.requires.walks.fits.block.2 c.requires.last
