@@ -1,6 +1,6 @@
 -- Blocks of the tasks, by the lemmas on words: a request word is heard, a place is read, a node is
 -- marked. P is what is known; it lasts, and gives the floor.
-use Rattle.std.proofs.Common.{◌≡◌, ◌≢◌, ℕ, zero, suc, ◌+◌, ◌*◌, ◌<◌, ◌≤◌, ◌==◌, nat_le, true, false}
+use Rattle.std.proofs.Common.{◌≡◌, ◌≢◌, ℕ, zero, suc, ◌+◌, ◌-◌, ◌*◌, ◌<◌, ◌≤◌, ◌==◌, nat_le, true, false}
 use Rattle.std.proofs.Common.{List, ◌∷◌, slice_index, refl, sym, ap, subst, ◌∙◌, inl, inr, lit<}
 use Rattle.std.proofs.Common.{arith}
 use Rattle.std.proofs.lemmas.Bool.{cond_both, cases_Bool, eqb-true, eqb-false, leb-true}

@@ -654,7 +654,7 @@ module _ (job : JobData) (y : LayoutData) (words : List ℕ) (q x : ℕ) (stands
       (leaf_mark : IsLeafMark job y q x n m)
       (finish : root y words < q → LeafDone job y x (kind_at q) n words) where
     mark : IsMark y q m
-    mark = leaf_mark.mark
+    mark = leaf_mark.formed
 
     range : m ≤ 3 * job.steps
     range = leaf_mark.most

@@ -289,7 +289,7 @@ module _ (job : JobData) (y : LayoutData) (w q : ℕ) (aim : Aim) (x : ℕ)
           MayJump job y words q x (min l r)
       may_jump one words h = record {
         children = λ inner. subst (λ (k : ℕ). (min l r ≤ held y words (Node (2 * k)))
-            × (min l r ≤ held y words (Node (2 * k + 1)))) one h.1;
+            × (min l r ≤ held y words (Node (2 * k + 1)))) one (h.1, h.2);
         leaf = λ lone. absurd (omega (arith, lone, low, high));
         done = λ lone. absurd (omega (arith, lone, low, high));
       }
@@ -378,7 +378,7 @@ module _ (job : JobData) (y : LayoutData) (w q x : ℕ) (some : 1 ≤ q) (most :
   -- the phase itself is a mark of each leaf
   own_mark : (n : ℕ) → IsLeafMark job y q x n q
   own_mark n = record {
-    mark = record { low = omega arith; is_phase = formed; compact = λ e. refl };
+    formed = record { low = omega arith; is_phase = formed; compact = λ e. refl };
     most = most;
     rests = λ more. absurd (omega (arith, more));
     quiet = λ s late more. absurd (omega (arith, late, more, step));
@@ -423,7 +423,7 @@ module _ (job : JobData) (y : LayoutData) (w q x : ℕ) (some : 1 ≤ q) (most :
     reach_mark =
         let reach = block_reaches job y n q memory most formed in
         record {
-          mark = record {
+          formed = record {
             low = reach.least;
             is_phase = reach.formed;
             compact = λ e. absurd (subst IsWide e wide);
@@ -438,7 +438,7 @@ module _ (job : JobData) (y : LayoutData) (w q x : ℕ) (some : 1 ≤ q) (most :
         let mark = block_marks job y n q memory most formed in
         let upto = bounded_upto n q (block_reach job y n q memory) in
         record {
-          mark = record {
+          formed = record {
             low = mark.least;
             is_phase = mark.formed;
             compact = λ e. absurd (subst IsWide e wide);
@@ -485,7 +485,7 @@ module _ (job : JobData) (y : LayoutData) (w q x : ℕ) (some : 1 ≤ q) (most :
       (asks (Swap (number_of y (Node k)) (q - 1) reach) (λ found. marked)) history) (sym is.root)
       (jumps_safe job y w q aim x some most step (Floor job y q x) (floor_lasts job y q x)
       (λ words f. f) g reach form_is (let p = is.first in omega (arith, p, step))
-      leaf_mark.mark leaf_mark.most marked history
+      leaf_mark.formed leaf_mark.most marked history
       (so job y history (Floor job y q x) (λ words. Floor job y q x words
       × (aim.given words → MayJump job y words q x reach))
       (λ words stands f. (f, λ given. may_jump is.root words leaf_mark given)) sees)
@@ -614,7 +614,7 @@ module _ (job : JobData) (y : LayoutData) (w q x : ℕ) (some : 1 ≤ q) (most :
       mark e =
           let is = empty_marks job y n q most formed in
           record {
-            mark = record {
+            formed = record {
               low = is.least;
               is_phase = is.formed;
               compact = λ c. ap (λ (f : Form). by_form f q (bounded_mark n q (3 * job.steps))) c;

@@ -83,7 +83,7 @@ LeafQuiet job layout t node =
 -- A leaf may be marked so: above the phase where its processors store nothing in the step, or have
 -- done it, and above the step where they write nothing in those after it.
 pub record IsLeafMark (job : JobData) (layout : LayoutData) (phase t node mark : ℕ) : Type 0 where
-  pub mark : IsMark layout phase mark
+  pub formed : IsMark layout phase mark
   pub most : mark ≤ 3 * job.steps
   pub rests : phase < mark → phase < 3 * t + 3 → LeafRests job layout t node
   pub quiet : (s : ℕ) → t < s → 3 * s + 1 ≤ mark → LeafQuiet job layout s node
@@ -99,9 +99,9 @@ pub record MayJump (job : JobData) (layout : LayoutData) (words : List ℕ) (pha
 
 -- A part of a request, in the compact form; a node whose children are marked so, or more, the root
 -- up to the step's last phase, or in the first pass from where it stood; a leaf whose processors'
--- work is done, up to the phase, or as far as they write nothing; a place, by a write that gets a word and wins, in its phase; the step,
--- as a conflict, in its last phase; the claim of a cell that is written, in its phase; a worker's
--- position, as a node.
+-- work is done, up to the phase, or as far as they write nothing; a place, by a write that gets a
+-- word and wins, in its phase; the step, as a conflict, in its last phase; the claim of a cell that
+-- is written, in its phase; a worker's position, as a node.
 pub record MayWrite (job : JobData) (layout : LayoutData)
     (words : List ℕ) (phase t : ℕ) : Type 0 where
   pub request : layout.form ≡ Compact →
