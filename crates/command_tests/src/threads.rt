@@ -104,11 +104,11 @@ fn runs_and_watches_are_answered(rt: HostRuntime) -> Result<(), Fail> {
 // below its two reads. Where all have stopped, no more passes are made.
 const LEFT: &str = "\
 $ pramx run job --workers 1 --plan plan
+pram 1~cells 1~procs 5~steps 1000000~code~set r1 7~st r0 r1~halt~ under 0,go,120~0,stop,0~ \
+    | 0 done steps=1000000~0: 7~
 pram 1~cells 1~procs 1~steps 3~code~set r1 1~sub r2 r0 r1~st r0 r2~ under 0,go,6~0,stop,0~ \
     | 3 unfinished step=0~
 same under 0,go,7~0,stop,0~ | 3 unfinished step=1~
-pram 1~cells 1~procs 5~steps 1000000~code~set r1 7~st r0 r1~halt~ under 0,go,120~0,stop,0~ \
-    | 0 done steps=1000000~0: 7~
 $ pramx watch job --workers 1 --plan plan --cells 0 --rounds 2
 same under 0,go,6~0,stop,0~ | 3 step,cell,value~{2}unfinished step=0~
 same under 0,go,7~0,stop,0~ | 3 step,cell,value~{2}unfinished step=1~
