@@ -90,9 +90,9 @@ module _ (job : JobData) (y : LayoutData) (w q : ℕ) (aim : Aim) (x : ℕ)
   children_last n m low high = λ words later a b up h. (
     lasts words later a b up h.0,
     (let l = h.1 in
-    let u = up (Node (2 * n)) (omega arith, omega arith) in omega (arith, l, u)),
+        let u = up (Node (2 * n)) (omega arith, omega arith) in omega (arith, l, u)),
     (let r = h.2 in
-    let u = up (Node (2 * n + 1)) (omega arith, omega arith) in omega (arith, r, u)),
+        let u = up (Node (2 * n + 1)) (omega arith, omega arith) in omega (arith, r, u)),
   )
 
   -- they were heard so

@@ -100,8 +100,10 @@ reach_rested : (job : JobData) (y : LayoutData) (n q : ℕ) (memory : List Memo)
 reach_rested job y n q memory more early =
     elim (cases_Bool (block_all (has_rested (step_at q)) y n memory)) [
       | inl rested ↦ rested
-      | inr other ↦ absurd (let h : q < q = rw (ne_eqb q (last_phase q) (λ e. omega (arith, e, early)),
-          other) at more in omega (arith, h))
+      | inr other ↦ absurd (let h : q < q = rw (
+        ne_eqb q (last_phase q) (λ e. omega (arith, e, early)),
+        other,
+      ) at more in omega (arith, h))
     ]
 
 reach_stopped : (job : JobData) (y : LayoutData) (n q : ℕ) (memory : List Memo) →
@@ -399,54 +401,54 @@ module _ (job : JobData) (y : LayoutData) (w q x : ℕ) (some : 1 ≤ q) (most :
       )
 
   module _ (n : ℕ) (memory : List Memo) (is_true : IsTrueMemory job memory) (wide : IsWide y.form)
-      where
-    -- in the first pass a block that reaches further has stored nothing
-    reach_rests : q < block_reach job y n q memory → q < 3 * x + 3 → LeafRests job y x n
-    reach_rests more early i proc leaf =
-        let rested = reach_rested job y n q memory more (omega (arith, early, step)) in
-        let known = known_at (has_rested (step_at q)) n memory is_true rested i proc leaf in
-        rested_none job i x (memo_of memory i) known.0
-        (subst (λ (t : ℕ). has_rested t (memo_of memory i) ≡ true) step known.1)
+    where
+      -- in the first pass a block that reaches further has stored nothing
+      reach_rests : q < block_reach job y n q memory → q < 3 * x + 3 → LeafRests job y x n
+      reach_rests more early i proc leaf =
+          let rested = reach_rested job y n q memory more (omega (arith, early, step)) in
+          let known = known_at (has_rested (step_at q)) n memory is_true rested i proc leaf in
+          rested_none job i x (memo_of memory i) known.0
+          (subst (λ (t : ℕ). has_rested t (memo_of memory i) ≡ true) step known.1)
 
-    -- and one that reaches over the step has stopped
-    reach_quiet : (s : ℕ) → x < s → 3 * s + 1 ≤ block_reach job y n q memory → LeafQuiet job y s n
-    reach_quiet s late more i proc leaf =
-        let stopped = reach_stopped job y n q memory (omega (arith, late, more, step)) in
-        let known = known_at (has_stopped job (step_at q)) n memory is_true stopped i proc leaf in
-        let same = same_procs job y board in
-        by_wide y.form y.form refl wide (λ g is.
-        subst (λ (f : Form). WritesNone f job s i) (sym is)
-        (stopped_quiet g job i x s (memo_of memory i) board.limits (omega (arith, proc, same)) known.0
-        (subst (λ (t : ℕ). has_stopped job t (memo_of memory i) ≡ true) step known.1) late))
+      -- and one that reaches over the step has stopped
+      reach_quiet : (s : ℕ) → x < s → 3 * s + 1 ≤ block_reach job y n q memory → LeafQuiet job y s n
+      reach_quiet s late more i proc leaf =
+          let stopped = reach_stopped job y n q memory (omega (arith, late, more, step)) in
+          let known = known_at (has_stopped job (step_at q)) n memory is_true stopped i proc leaf in
+          let same = same_procs job y board in
+          by_wide y.form y.form refl wide (λ g is.
+          subst (λ (f : Form). WritesNone f job s i) (sym is)
+          (stopped_quiet g job i x s (memo_of memory i) board.limits (omega (arith, proc, same)) known.0
+          (subst (λ (t : ℕ). has_stopped job t (memo_of memory i) ≡ true) step known.1) late))
 
-    reach_mark : IsLeafMark job y q x n (block_reach job y n q memory)
-    reach_mark =
-        let reach = block_reaches job y n q memory most formed in
-        record {
-          formed = record {
-            low = reach.least;
-            is_phase = reach.formed;
-            compact = λ e. absurd (subst IsWide e wide);
-          };
-          most = reach.most;
-          rests = reach_rests;
-          quiet = reach_quiet;
-        }
+      reach_mark : IsLeafMark job y q x n (block_reach job y n q memory)
+      reach_mark =
+          let reach = block_reaches job y n q memory most formed in
+          record {
+            formed = record {
+              low = reach.least;
+              is_phase = reach.formed;
+              compact = λ e. absurd (subst IsWide e wide);
+            };
+            most = reach.most;
+            rests = reach_rests;
+            quiet = reach_quiet;
+          }
 
-    block_leaf_mark : IsLeafMark job y q x n (block_mark job y n q memory)
-    block_leaf_mark =
-        let mark = block_marks job y n q memory most formed in
-        let upto = bounded_upto n q (block_reach job y n q memory) in
-        record {
-          formed = record {
-            low = mark.least;
-            is_phase = mark.formed;
-            compact = λ e. absurd (subst IsWide e wide);
-          };
-          most = mark.most;
-          rests = λ more. reach_rests (omega (arith, more, upto));
-          quiet = λ s late more. reach_quiet s late (omega (arith, more, upto));
-        }
+      block_leaf_mark : IsLeafMark job y q x n (block_mark job y n q memory)
+      block_leaf_mark =
+          let mark = block_marks job y n q memory most formed in
+          let upto = bounded_upto n q (block_reach job y n q memory) in
+          record {
+            formed = record {
+              low = mark.least;
+              is_phase = mark.formed;
+              compact = λ e. absurd (subst IsWide e wide);
+            };
+            most = mark.most;
+            rests = λ more. reach_rests (omega (arith, more, upto));
+            quiet = λ s late more. reach_quiet s late (omega (arith, more, upto));
+          }
 
   end_done : (n rank : ℕ) (words : List ℕ) → has_rank y n rank ≡ false →
       (aim_at job y q n rank).given words → root y words < q → LeafDone job y x (kind_at q) n words
