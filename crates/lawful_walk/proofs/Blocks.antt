@@ -184,7 +184,7 @@ module _ (job : JobData) (y : LayoutData) (w q : ℕ) (aim : Aim) (x : ℕ)
 
   -- ---- a leaf is marked, and a conflict is reported
 
-  pub marks_safe : (n m : ℕ) → y.leaves ≤ n → n < 2 * y.leaves → IsLeafMark job y q x n m →
+  pub marks_safe : (n m : ℕ) → y.leaves ≤ n → n < 2 * y.leaves → IsLeafMark job y q n m →
       (n ≡ 1 → m ≤ 3 * x + 3) → (history : List (Op × ℕ)) →
       Sees job y history (λ words. P words × (aim.given words → root y words < q →
       LeafDone job y x (kind_at q) n words)) → Safe job y w q aim (marks_node y n m q) history

@@ -29,7 +29,8 @@ use Rattle.lawful_walk.specs.Board.{held, root, conflict, leaf, leaf_of, stamp_a
 use Rattle.lawful_walk.specs.Board.{HoldsNew, Raised, Claimed, ClaimStays, phase_in, CarriedCell}
 use Rattle.lawful_walk.specs.Board.{CarriedOwn, CompactDone, DoneIn, IsNew, IsPair, Stays, WideDone}
 use Rattle.lawful_walk.specs.Board.{newer_first, newer_second, new_first, new_second, IsClaimed}
-use Rattle.lawful_walk.specs.Board.{claimed_before, claimed_now, LawfulFor, Stands, StoresNone, WritesNone}
+use Rattle.lawful_walk.specs.Board.{claimed_before, claimed_now, LawfulFor, OwnNone, Rests, Stands}
+use Rattle.lawful_walk.specs.Board.{StoresNone}
 use Rattle.lawful_walk.proofs.Leaves.{leaf_word}
 use Rattle.lawful_walk.proofs.Values.{IsFin, fin, conflict_is, fin_reached, phase_low, phase_high}
 use Rattle.lawful_walk.proofs.Values.{claim_low, claim_most, tree_below, before_is, before_less}
@@ -103,41 +104,75 @@ pub done_claim_stays : (form : Form) (job : JobData) (y : LayoutData) (s : ℕ) 
 done_claim_stays Compact job y s words i d = d
 done_claim_stays (Wide g) job y s words i d = d.1
 
--- one who writes no cell has nothing to do in the last phase of the wide form
-pub rests_done : (g : ℕ) (rule : Rule) (job : JobData) (y : LayoutData) (s : ℕ) (words : List ℕ)
-    (i : ℕ) → StoresNone job s i → DoneIn (Wide g) rule Verify job y s words i
-rests_done g Common job y s words i none = (
+-- ---- who rests in a pass
+
+-- it has done all that the pass asks of it
+pub done_of_rests : (g : ℕ) (rule : Rule) (kind : Kind) (job : JobData) (y : LayoutData) (t : ℕ)
+    (words : List ℕ) (i : ℕ) → Rests y.form rule kind job t i →
+    DoneIn (Wide g) rule kind job y t words i
+done_of_rests g Common Compute job y t words i none = λ p v lands own. absurd (none p v lands own)
+done_of_rests g Common Apply job y t words i none = tt
+done_of_rests g Common Verify job y t words i none = (
   λ c v asks cell wins. absurd (none c v asks cell),
   inr (λ c v asks cell. absurd (none c v asks cell)),
 )
-rests_done g Priority job y s words i none = λ c v asks cell wins. absurd (none c v asks cell)
-rests_done g Crew job y s words i none = (
+done_of_rests g Priority Compute job y t words i none = (
+  λ p v lands own. absurd (none.0 p v lands own),
+  λ c v asks cell. absurd (none.1 c v asks cell),
+)
+done_of_rests g Priority Apply job y t words i none = tt
+done_of_rests g Priority Verify job y t words i none =
+    λ c v asks cell wins. absurd (none c v asks cell)
+done_of_rests g Crew Compute job y t words i none = (
+  λ p v lands own. absurd (none.0 p v lands own),
+  λ c v asks cell. absurd (none.1 c v asks cell),
+)
+done_of_rests g Crew Apply job y t words i none = tt
+done_of_rests g Crew Verify job y t words i none = (
   λ c v asks cell wins. absurd (none c v asks cell),
   inr (λ c v asks cell. absurd (none c v asks cell)),
 )
 
--- one who writes nothing has nothing to do in any of its phases
-pub stores_none : (form : Form) (job : JobData) (s i : ℕ) → WritesNone form job s i →
-    StoresNone job s i
-stores_none form job s i none c v asks cell = none c v (cell_lands form job s c i v cell asks)
+-- in the second one everybody rests, and in the last one he who writes no cell
+pub second_rests : (form : Form) (rule : Rule) (job : JobData) (t i : ℕ) →
+    Rests form rule Apply job t i
+second_rests form Common job t i = tt
+second_rests form Priority job t i = tt
+second_rests form Crew job t i = tt
 
-pub none_done : (g : ℕ) (rule : Rule) (kind : Kind) (job : JobData) (y : LayoutData) (s : ℕ)
-    (words : List ℕ) (i : ℕ) → WritesNone y.form job s i →
-    DoneIn (Wide g) rule kind job y s words i
-none_done g Common Compute job y s words i none = λ p v lands own. absurd (none p v lands)
-none_done g Priority Compute job y s words i none = (
-  λ p v lands own. absurd (none p v lands),
-  λ c v asks cell. absurd (stores_none y.form job s i none c v asks cell),
-)
-none_done g Crew Compute job y s words i none = (
-  λ p v lands own. absurd (none p v lands),
-  λ c v asks cell. absurd (stores_none y.form job s i none c v asks cell),
-)
-none_done g Common Apply job y s words i none = tt
-none_done g Priority Apply job y s words i none = tt
-none_done g Crew Apply job y s words i none = tt
-none_done g rule Verify job y s words i none =
-    rests_done g rule job y s words i (stores_none y.form job s i none)
+pub rests_of_stores : (form : Form) (rule : Rule) (job : JobData) (t i : ℕ) → StoresNone job t i →
+    Rests form rule Verify job t i
+rests_of_stores form Common job t i none = none
+rests_of_stores form Priority job t i none = none
+rests_of_stores form Crew job t i none = none
+
+pub stores_of_rests : (form : Form) (rule : Rule) (job : JobData) (t i : ℕ) →
+    Rests form rule Verify job t i → StoresNone job t i
+stores_of_rests form Common job t i none = none
+stores_of_rests form Priority job t i none = none
+stores_of_rests form Crew job t i none = none
+
+-- and one who makes no write that gets a word rests in all of them
+pub rests_of_none : (form : Form) (rule : Rule) (kind : Kind) (job : JobData) (t i : ℕ) →
+    ((place value : ℕ) → Lands form job t place i value → ⊥) → Rests form rule kind job t i
+rests_of_none form rule kind job t i none = by rule kind
+  where
+    own : OwnNone form job t i
+    own p v lands cell = none p v lands
+
+    stores : StoresNone job t i
+    stores c v asks cell = none c v (cell_lands form job t c i v cell asks)
+
+    by : (rule : Rule) (kind : Kind) → Rests form rule kind job t i
+    by Common Compute = own
+    by Common Apply = tt
+    by Common Verify = stores
+    by Priority Compute = (own, stores)
+    by Priority Apply = tt
+    by Priority Verify = stores
+    by Crew Compute = (own, stores)
+    by Crew Apply = tt
+    by Crew Verify = stores
 
 -- the kind of the phase in which claims are made
 pub claim_kind : Form → Kind

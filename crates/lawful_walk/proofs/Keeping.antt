@@ -35,7 +35,6 @@ use Rattle.lawful_walk.proofs.Landings.{Left, Set, before_most, landing_cases, l
 use Rattle.lawful_walk.proofs.Landings.{stamp_step}
 use Rattle.lawful_walk.proofs.Winners.{cell_lands}
 use Rattle.lawful_walk.proofs.Facts.{agrees_by, board, claim_fits, claim_high, late, low_leaf}
-use Rattle.lawful_walk.proofs.Facts.{none_done, stores_none}
 use Rattle.lawful_walk.proofs.Facts.{place_below, raised}
 
 has_claim_words : (rule : Rule) → rule ≢ Common → IsTrue (has_claims rule)
@@ -207,7 +206,8 @@ claimed_up form job f r s c word h (claimed_now e g low) =
 module _ (job : JobData) (y : LayoutData) (words : List ℕ) (f : ℕ) (limits : IsJob job)
     (sizes : IsLayout y) (layout : IsLayoutOf job y) (lawful : LawfulFor job y f words)
     (full : root y words ≡ 3 * f + 3) (none : conflict y words ≡ 0)
-    (flat : y.form ≡ Compact → (i : ℕ) → i < y.procs → leaf y words i ≤ 3 * f + 3) where
+    (begun : (i : ℕ) (kind : Kind) → i < y.procs → phase_in (suc f) kind ≤ leaf y words i →
+    Done job.rule kind job y (suc f) words i) where
   low : 3 * f ≤ root y words
   low = omega arith
 
@@ -344,35 +344,20 @@ module _ (job : JobData) (y : LayoutData) (words : List ℕ) (f : ℕ) (limits :
         let l = is.1 in omega arith) (λ i v asks. claim_high job y words f limits
         sizes layout lawful low high f c i v is (let h = claim_most y.form f in omega arith) asks)
         (lawful.claimed c is);
-    done = λ i kind proc h. next_done y.form refl i kind proc h;
-    ahead = λ i proc before h. stores_none y.form job (suc f) i
-        (lawful.beyond i (suc f) proc (omega arith) (omega (arith, h)));
-    beyond = λ i s proc more h. lawful.beyond i s proc (omega (arith, more)) h;
+    done = begun;
+    ahead = lawful.ahead;
     named = record { first = λ s e. absurd (omega arith); near = λ s e. absurd (omega arith) };
   }
-    where
-      first_low : (kind : Kind) → 3 * suc f + 1 ≤ phase_in (suc f) kind
-      first_low Compute = omega arith
-      first_low Apply = omega arith
-      first_low Verify = omega arith
 
-      next_done : (form : Form) → y.form ≡ form → (i : ℕ) (kind : Kind) → i < y.procs →
-          phase_in (suc f) kind ≤ leaf y words i → Done job.rule kind job y (suc f) words i
-      next_done Compact e i kind proc h = absurd (let l = flat e i proc in let a = first_low kind in
-          omega (arith, a, l, h))
-      next_done (Wide g) e i kind proc h =
-          let a = first_low kind in
-          subst (λ (w : Form). DoneIn w job.rule kind job y (suc f) words i) (sym e)
-          (none_done g job.rule kind job y (suc f) words i
-          (lawful.beyond i (suc f) proc (omega arith) (omega (arith, a, h))))
-
--- words that are lawful for some number of finished steps are lawful for the one they show
+-- words that are lawful for some number of finished steps are lawful for the one they show: where
+-- that is one more, by what is done of the step after it
 pub settle : (job : JobData) (y : LayoutData) (words : List ℕ) (f : ℕ) →
     IsJob job → IsLayout y → IsLayoutOf job y → LawfulFor job y f words →
     3 * f ≤ root y words → root y words ≤ 3 * f + 3 →
-    (root y words ≡ 3 * f + 3 → conflict y words ≡ 0 → y.form ≡ Compact → (i : ℕ) → i < y.procs →
-    leaf y words i ≤ 3 * f + 3) → Lawful job y words
-settle job y words f limits sizes layout lawful low high flat =
+    (root y words ≡ 3 * f + 3 → conflict y words ≡ 0 → (i : ℕ) (kind : Kind) → i < y.procs →
+    phase_in (suc f) kind ≤ leaf y words i → Done job.rule kind job y (suc f) words i) →
+    Lawful job y words
+settle job y words f limits sizes layout lawful low high begun =
     let is = fin (root y words) (conflict y words) in
     let a = is.low in
     let b = is.high in
@@ -392,7 +377,7 @@ settle job y words f limits sizes layout lawful low high flat =
               | inr g ↦ omega arith
             ]) in
             subst (λ (g : ℕ). LawfulFor job y g words) more
-            (root_over job y words f limits sizes layout lawful e none (flat e none)))
+            (root_over job y words f limits sizes layout lawful e none (begun e none)))
       ]
     ]
   where

@@ -18,9 +18,8 @@ use Rattle.pram_words.specs.declared.words.Word.TheVariants.{Stored, Claim, Spar
 use Rattle.pram_words.specs.Stamps.{stamp_of}
 use Rattle.pram_words.specs.Phases.{kind_at, step_at, has_phase, next_phase}
 use Rattle.pram_words.specs.Words.{LayoutData, IsWord, number_of, places_of}
-use Rattle.pram_words.proofs.NextPhases.{next_above, next_is, next_least, next_rises, next_step}
-use Rattle.pram_words.proofs.NextPhases.{next_within}
-use Rattle.pram_words.proofs.NextPhases.{wide_next_first, wide_next_other}
+use Rattle.pram_words.proofs.NextPhases.{has_next, next_above, next_is, next_least, next_rises}
+use Rattle.pram_words.proofs.NextPhases.{next_step, next_within}
 use Rattle.walkx.specs.Operations.{words_after}
 use Rattle.walkx.specs.declared.operation.Op.TheVariants.{Max, Swap}
 use Rattle.walkx.specs.Walk.{IsBoard}
@@ -29,18 +28,17 @@ use Rattle.pram_step.specs.Runs.{AgreesAfter, state_after}
 use Rattle.pram_step.proofs.LawPlaces.{writer_is}
 use Rattle.lawful_walk.specs.Board.{held, root, conflict, leaf, leaf_of, stamp_at, finished, Grows}
 use Rattle.lawful_walk.specs.Board.{IsAsked, phase_in, Done, DoneIn, IsTree, IsNamed, IsPair}
-use Rattle.lawful_walk.specs.Board.{IsClaimed, LawfulFor, Lawful, LeafDone, Stands, StoresNone}
-use Rattle.lawful_walk.specs.Board.{WritesNone}
+use Rattle.lawful_walk.specs.Board.{IsClaimed, LawfulFor, Lawful, LeafDone, Rests, Stands}
+use Rattle.lawful_walk.specs.Board.{StoresNone}
 use Rattle.lawful_walk.proofs.Frames.{Only, does_max, does_swap, max_less, max_more, only_grows}
 use Rattle.lawful_walk.proofs.Frames.{only_set}
 use Rattle.lawful_walk.proofs.Leaves.{leaf_word}
 use Rattle.lawful_walk.specs.Lands.{last_landing}
 use Rattle.lawful_walk.proofs.Landings.{before_most, last_most}
-use Rattle.lawful_walk.specs.Moments.{IsFixed, Keeps}
-use Rattle.lawful_walk.specs.Writes.{Does, Floor, IsLeafMark, IsMark, LeafQuiet, LeafRests, Marks}
-use Rattle.lawful_walk.specs.Writes.{MayJump}
+use Rattle.lawful_walk.specs.Moments.{IsFixed}
+use Rattle.lawful_walk.specs.Writes.{Does, Floor, IsLeafMark, IsMark, MayJump, Marks}
 use Rattle.lawful_walk.proofs.Values.{WordIs, is_settled, is_before, is_new}
-use Rattle.lawful_walk.proofs.Facts.{facts, none_done, rests_done, stores_none, word_is}
+use Rattle.lawful_walk.proofs.Facts.{done_of_rests, facts, stores_of_rests, word_is}
 use Rattle.lawful_walk.proofs.Facts.{stamp_settled, stamp_before}
 use Rattle.lawful_walk.proofs.Facts.{WordsShow}
 use Rattle.lawful_walk.proofs.Keeping.{done_later, pair_up, claimed_up, settle}
@@ -58,12 +56,6 @@ no_apply : (g : ℕ) (job : JobData) (y : LayoutData) (s : ℕ) (words : List �
 no_apply g job y s words i Common = tt
 no_apply g job y s words i Priority = tt
 no_apply g job y s words i Crew = tt
-
--- before the first phase of a step comes that phase
-wide_exact : (g r q f : ℕ) → 3 * f ≤ r → r < 3 * f + 1 → next_phase (Wide g) r ≡ q → 3 * f + 1 ≡ q
-wide_exact g r q f low less e =
-    let first = wide_next_other g r (λ k. absurd (omega (arith, k, low, less))) in
-    omega (arith, first, e, low, less)
 
 -- no stamp of a place is above the step after the finished ones
 pub stamps_most : (job : JobData) (y : LayoutData) (words : List ℕ) → Stands job y words →
@@ -115,13 +107,38 @@ phase_first t Compute = omega arith
 phase_first t Apply = omega arith
 phase_first t Verify = omega arith
 
--- before it, it is the next one
-next_low : (form : Form) (r f : ℕ) → r < 3 * f + 1 → next_phase form r ≤ 3 * f + 1
-next_low Compact r f less = omega (arith, less)
-next_low (Wide g) r f less = elim (cases_eq (r % 3) 1) [
-  | inl e ↦ (let h = wide_next_first g r e in omega (arith, h, e, less))
-  | inr n ↦ (let h = wide_next_other g r n in omega (arith, h, less))
-]
+-- the phases of a step are phases of the form, but for the second one in the wide form
+has_first : (form : Form) (t : ℕ) → IsTrue (has_phase form (phase_in t Compute))
+has_first Compact t = refl
+has_first (Wide g) t =
+    let n : (3 * t + 1) % 3 ≡ 2 → ⊥ = λ e. absurd (omega (arith, e)) in
+    rw (ne_eqb ((3 * t + 1) % 3) 2 n) refl
+
+has_last : (form : Form) (t : ℕ) → IsTrue (has_phase form (phase_in t Verify))
+has_last Compact t = refl
+has_last (Wide g) t =
+    let n : (3 * t + 3) % 3 ≡ 2 → ⊥ = λ e. absurd (omega (arith, e)) in
+    rw (ne_eqb ((3 * t + 3) % 3) 2 n) refl
+
+-- so what is above the root and at most a phase that may come is that, or has nothing to do
+coming_done : (job : JobData) (y : LayoutData) (words : List ℕ) (q : ℕ) (t : ℕ) (kind : Kind)
+    (i : ℕ) → q ≤ next_phase y.form (root y words) → root y words < phase_in t kind →
+    phase_in t kind ≤ q → (phase_in t kind ≡ q → Done job.rule kind job y t words i) →
+    Done job.rule kind job y t words i
+coming_done job y words q t Compute i floor above upto finish = finish
+    (let a = next_least y.form (root y words) (phase_in t Compute) (has_first y.form t) above in
+    omega (arith, a, floor, upto))
+coming_done job y words q t Verify i floor above upto finish = finish
+    (let a = next_least y.form (root y words) (phase_in t Verify) (has_last y.form t) above in
+    omega (arith, a, floor, upto))
+coming_done job y words q t Apply i floor above upto finish = by y.form refl
+  where
+    by : (form : Form) → y.form ≡ form → Done job.rule Apply job y t words i
+    by Compact e = finish
+        (let a = subst (λ (f : Form). q ≤ next_phase f (root y words)) e floor in
+        omega (arith, a, above, upto))
+    by (Wide g) e = subst (λ (f : Form). DoneIn f job.rule Apply job y t words i) (sym e)
+        (no_apply g job y t words i job.rule)
 
 -- ---- a node is raised: the root to the next phase, another node as high as it may be
 
@@ -140,10 +157,9 @@ module _ (job : JobData) (y : LayoutData) (words : List ℕ) (stands : Stands jo
       (ready : (i : ℕ) (kind : Kind) → i < y.procs → n ≡ leaf_of y i →
       root y words < phase_in (finished y words) kind → phase_in (finished y words) kind ≤ m →
       Done job.rule kind job y (finished y words) words i)
-      (rests : (i : ℕ) → i < y.procs → n ≡ leaf_of y i → root y words < 3 * finished y words + 1 →
-      3 * finished y words + 1 < m → StoresNone job (finished y words) i)
-      (quiet : (i t : ℕ) → i < y.procs → n ≡ leaf_of y i → finished y words < t → 3 * t + 1 ≤ m →
-      WritesNone y.form job t i)
+      (rests : (i t : ℕ) (kind : Kind) → i < y.procs → n ≡ leaf_of y i →
+      next_phase y.form (root y words) < phase_in t kind → phase_in t kind ≤ m →
+      Rests y.form job.rule kind job t i)
       (one : n ≡ 1 → next_phase y.form (root y words) ≡ m)
       (later : List ℕ) (only : Only y (Node n) m words later) where
     up : Grows y words later
@@ -238,22 +254,16 @@ module _ (job : JobData) (y : LayoutData) (words : List ℕ) (stands : Stands jo
       ]
     ]
 
-    ahead : (i : ℕ) → i < y.procs → root y later < 3 * finished y words + 1 →
-        3 * finished y words + 1 < leaf y later i → StoresNone job (finished y words) i
-    ahead i proc low h =
-        let r = root_up in
+    ahead : (i t : ℕ) (kind : Kind) → i < y.procs →
+        next_phase y.form (root y later) < phase_in t kind → phase_in t kind ≤ leaf y later i →
+        Rests y.form job.rule kind job t i
+    ahead i t kind proc next h =
+        let r = next_rises y.form (root y words) (root y later) root_up in
         elim (node_cases (leaf_of y i) (leaf_is i proc)) [
-          | inl e ↦ stands.lawful.ahead i proc (omega (arith, r, low)) (omega (arith, e, h))
-          | inr e ↦ rests i proc (sym e.0) (omega (arith, r, low))
+          | inl e ↦ stands.lawful.ahead i t kind proc (omega (arith, r, next)) (omega (arith, e, h))
+          | inr e ↦ rests i t kind proc (sym e.0) (omega (arith, r, next))
               (let g = e.1 in omega (arith, g, h))
         ]
-
-    beyond : (i t : ℕ) → i < y.procs → finished y words < t → 3 * t + 1 ≤ leaf y later i →
-        WritesNone y.form job t i
-    beyond i t proc more h = elim (node_cases (leaf_of y i) (leaf_is i proc)) [
-      | inl e ↦ stands.lawful.beyond i t proc more (omega (arith, e, h))
-      | inr e ↦ quiet i t proc (sym e.0) more (let g = e.1 in omega (arith, g, h))
-    ]
 
     named : IsNamed y.form job (conflict y later) (root y later)
     named = record {
@@ -295,9 +305,41 @@ module _ (job : JobData) (y : LayoutData) (words : List ℕ) (stands : Stands jo
           (sym (claim_same c is_c)) (stands.lawful.claimed c is_c));
       done = done;
       ahead = ahead;
-      beyond = beyond;
       named = named;
     }
+
+    -- where the root comes to the end of the step, what leaves stand for in the next one
+    next_done : root y later ≡ 3 * finished y words + 3 → conflict y later ≡ 0 → (i : ℕ)
+        (kind : Kind) → i < y.procs → phase_in (suc (finished y words)) kind ≤ leaf y later i →
+        Done job.rule kind job y (suc (finished y words)) later i
+    next_done full none i kind proc h = elim (node_cases 1 root_is) [
+      | inl e ↦ absurd (let c = seen.full_root (omega (arith, e, full)) in
+          let u = conflict_same in omega (arith, c, u, none))
+      | inr first ↦ over (sym first.0) first.1
+    ]
+      where
+        over : n ≡ 1 → root y later ≡ m → Done job.rule kind job y (suc (finished y words)) later i
+        over root_raised at = elim (node_cases (leaf_of y i) (leaf_is i proc)) [
+          | inl e ↦ by y.form refl (omega (arith, e, h))
+          | inr e ↦ absurd (let g = e.1 in let f = phase_first (suc (finished y words)) kind in
+              omega (arith, g, f, h, at, full))
+        ]
+          where
+            by : (form : Form) → y.form ≡ form →
+                phase_in (suc (finished y words)) kind ≤ leaf y words i →
+                Done job.rule kind job y (suc (finished y words)) later i
+            by Compact compact l = absurd (
+                let a = stands.lawful.tree.near compact (leaf_of y i) (leaf_is i proc) in
+                let before = live root_raised in
+                let f = phase_first (suc (finished y words)) kind in omega (arith, a, before, f, l))
+            by (Wide g) wide l =
+                let next = one root_raised in
+                let f = phase_first (suc (finished y words)) kind in
+                subst (λ (w : Form).
+                DoneIn w job.rule kind job y (suc (finished y words)) later i) (sym wide)
+                (done_of_rests g job.rule kind job y (suc (finished y words)) later i
+                (stands.lawful.ahead i (suc (finished y words)) kind proc
+                (omega (arith, next, at, full, f)) l))
 
     node_lawful : Lawful job y later
     node_lawful =
@@ -313,18 +355,7 @@ module _ (job : JobData) (y : LayoutData) (words : List ℕ) (stands : Stands jo
               let near = next_within y.form (root y words) (suc (finished y words))
               (omega (arith, before)) in omega (arith, h, n, near))
         ])
-        (λ full none compact i proc. let most = high compact in
-        elim (node_cases 1 root_is) [
-          | inl e ↦ absurd (let c = seen.full_root (omega (arith, e, full)) in
-              let u = conflict_same in omega (arith, c, u, none))
-          | inr first ↦ (let before = live (sym first.0) in
-              elim (node_cases (leaf_of y i) (leaf_is i proc)) [
-                | inl e ↦ (let a =
-                    stands.lawful.tree.near compact (leaf_of y i) (leaf_is i proc) in
-                    omega (arith, a, e, before))
-                | inr e ↦ (let h = e.1 in omega (arith, h, most, before))
-              ])
-        ])
+        next_done
 
 -- ---- the root is raised over several phases at once, in the wide form: over one after the other
 
@@ -337,8 +368,9 @@ record MayClimb (job : JobData) (y : LayoutData) (m : ℕ) (words : List ℕ) : 
   ready : (i : ℕ) (kind : Kind) → i < y.procs → 1 ≡ leaf_of y i →
       root y words < phase_in (finished y words) kind → phase_in (finished y words) kind ≤ m →
       Done job.rule kind job y (finished y words) words i
-  quiet : (i t : ℕ) → i < y.procs → 1 ≡ leaf_of y i → finished y words < t → 3 * t + 1 ≤ m →
-      WritesNone y.form job t i
+  rests : (i t : ℕ) (kind : Kind) → i < y.procs → 1 ≡ leaf_of y i →
+      next_phase y.form (root y words) < phase_in t kind → phase_in t kind ≤ m →
+      Rests y.form job.rule kind job t i
   silent : (i t : ℕ) → i < y.procs → finished y words ≤ t → 3 * t + 3 < m → StoresNone job t i
 
 -- a step in which nobody stores agrees with the rule
@@ -357,15 +389,7 @@ module _ (job : JobData) (y : LayoutData) (g m : ℕ) (wide : y.form ≡ Wide g)
     next_upto r less = next_least y.form r m formed less
 
     to_formed : IsTrue (has_phase y.form (next_phase y.form (root y words)))
-    to_formed = by (root y words) (cases_eq (root y words % 3) 1)
-      where
-        by : (r : ℕ) → (r % 3 ≡ 1) ⊎ (r % 3 ≢ 1) → IsTrue (has_phase y.form (next_phase y.form r))
-        by r (inl e) = subst (λ (f : Form). IsTrue (has_phase f (next_phase f r))) (sym wide)
-            (subst (λ (q : ℕ). IsTrue (has_phase (Wide g) q)) (sym (wide_next_first g r e))
-            (rw (ne_eqb ((r + 2) % 3) 2 (λ h. omega (arith, h, e))) refl))
-        by r (inr n) = subst (λ (f : Form). IsTrue (has_phase f (next_phase f r))) (sym wide)
-            (subst (λ (q : ℕ). IsTrue (has_phase (Wide g) q)) (sym (wide_next_other g r n))
-            (rw (ne_eqb ((r + 1) % 3) 2 (λ h. n (omega (arith, h)))) refl))
+    to_formed = has_next y.form (root y words)
 
     step_lawful : (later : List ℕ) → Only y (Node 1) (next_phase y.form (root y words)) words later →
         Lawful job y later
@@ -380,18 +404,8 @@ module _ (job : JobData) (y : LayoutData) (g m : ℕ) (wide : y.form ≡ Wide g)
         (λ inner. let h = may.children inner in let a = h.0 in let b = h.1 in
         (omega (arith, upto, a), omega (arith, upto, b)))
         (λ i kind proc leaf more most. may.ready i kind proc leaf more (omega (arith, most, upto)))
-        (λ i proc leaf low more. absurd (first_next low more))
-        (λ i t proc leaf more most. absurd (omega (arith, more, most, near)))
+        (λ i t kind proc leaf over more. absurd (omega (arith, over, more)))
         (λ e. refl) later only
-      where
-        -- before the first phase of a step the next one is that
-        first_next : root y words < 3 * finished y words + 1 →
-            3 * finished y words + 1 < next_phase y.form (root y words) → ⊥
-        first_next low more =
-            let from = (facts job y words may.stands).root_low in
-            let n = subst (λ (f : Form). next_phase f (root y words) ≡ root y words + 1) (sym wide)
-            (wide_next_other g (root y words) (λ one. absurd (omega (arith, one, low, from)))) in
-            omega (arith, n, low, more)
 
     climbed : List ℕ
     climbed = slice_set words (number_of y (Node 1)) (next_phase y.form (root y words))
@@ -466,40 +480,20 @@ module _ (job : JobData) (y : LayoutData) (g m : ℕ) (wide : y.form ≡ Wide g)
           let c = climbed_grows (Node 2) (lit< tt, omega (arith, inner)) in
           let d = climbed_grows (Node 3) (lit< tt, omega (arith, inner)) in
           (omega (arith, a, c), omega (arith, b, d));
-      ready = λ i kind proc leaf above most. ready_by climbed_gone i kind proc leaf above most;
-      quiet = λ i t proc leaf late most. may.quiet i t proc leaf (later_than t late) most;
+      ready = λ i kind proc leaf above most. subst
+          (λ (f : Form). DoneIn f job.rule kind job y (finished y climbed) climbed i) (sym wide)
+          (done_of_rests g job.rule kind job y (finished y climbed) climbed i
+          (may.rests i (finished y climbed) kind proc leaf
+          (let at = climbed_only.at in omega (arith, at, above)) most));
+      rests = λ i t kind proc leaf over most.
+          let at = climbed_only.at in
+          let above = (next_above y.form (root y climbed)).0 in
+          may.rests i t kind proc leaf (omega (arith, at, above, over)) most;
       silent = λ i t proc late most. may.silent i t proc (not_before t late) most;
     }
       where
-        later_than : (t : ℕ) → finished y climbed < t → finished y words < t
-        later_than t late = elim climbed_gone [ inl e ↦ omega (arith, e, late) | inr e ↦ omega (arith, e, late) ]
-
         not_before : (t : ℕ) → finished y climbed ≤ t → finished y words ≤ t
         not_before t late = elim climbed_gone [ inl e ↦ omega (arith, e, late) | inr e ↦ omega (arith, e, late) ]
-
-        ready_by : (finished y climbed ≡ finished y words) ⊎ (finished y climbed ≡ suc (finished y words)) →
-            (i : ℕ) (kind : Kind) → i < y.procs → 1 ≡ leaf_of y i →
-            root y climbed < phase_in (finished y climbed) kind → phase_in (finished y climbed) kind ≤ m →
-            Done job.rule kind job y (finished y climbed) climbed i
-        ready_by (inl e) i kind proc leaf above most =
-            let at = climbed_only.at in
-            let over = (next_above y.form (root y words)).0 in
-            let same : phase_in (finished y climbed) kind ≡ phase_in (finished y words) kind =
-            ap (λ (t : ℕ). phase_in t kind) e in
-            let was = may.ready i kind proc leaf (omega (arith, at, over, same, above))
-            (omega (arith, same, most)) in
-            subst (λ (t : ℕ). Done job.rule kind job y t climbed i) (sym e)
-            (done_later job y words climbed (finished y words) may.stands.limits may.stands.sizes
-            may.stands.layout climbed_grows (λ p place.
-            let a = stamps_most job y climbed climbed_stands p 0 (place, lit< tt) in
-            let b = stamps_most job y climbed climbed_stands p 1 (place, lit< tt) in
-            (omega (arith, a, e), omega (arith, b, e)))
-            kind (λ k c is. climbed_only.rest (Claim c) is (λ k. absurd (cc))) i proc was)
-        ready_by (inr e) i kind proc leaf above most =
-            let low = phase_first (finished y climbed) kind in
-            subst (λ (f : Form). DoneIn f job.rule kind job y (finished y climbed) climbed i) (sym wide)
-            (none_done g job.rule kind job y (finished y climbed) climbed i
-            (may.quiet i (finished y climbed) proc leaf (omega (arith, e)) (omega (arith, low, most))))
 
   climb : (fuel : ℕ) (words : List ℕ) → MayClimb job y m words → m ≤ root y words + fuel →
       (later : List ℕ) → Only y (Node 1) m words later → Lawful job y later
@@ -575,11 +569,9 @@ module _ (job : JobData) (y : LayoutData) (words : List ℕ) (q x : ℕ) (stands
       (ready : held y words (Node n) < m → (i : ℕ) (kind : Kind) → i < y.procs → n ≡ leaf_of y i →
       root y words < phase_in (finished y words) kind → phase_in (finished y words) kind ≤ m →
       Done job.rule kind job y (finished y words) words i)
-      (rests : held y words (Node n) < m → (i : ℕ) → i < y.procs → n ≡ leaf_of y i →
-      root y words < 3 * finished y words + 1 → 3 * finished y words + 1 < m →
-      StoresNone job (finished y words) i)
-      (quiet : held y words (Node n) < m → (i t : ℕ) → i < y.procs → n ≡ leaf_of y i →
-      finished y words < t → 3 * t + 1 ≤ m → WritesNone y.form job t i) where
+      (rests : (i t : ℕ) (kind : Kind) → i < y.procs → n ≡ leaf_of y i →
+      next_phase y.form (root y words) < phase_in t kind → phase_in t kind ≤ m →
+      Rests y.form job.rule kind job t i) where
     root_lawful : n ≡ 1 → held y words (Node n) < m → (later : List ℕ) →
         Only y (Node n) m words later → Lawful job y later
     root_lawful first less later only = by y.form refl
@@ -595,7 +587,7 @@ module _ (job : JobData) (y : LayoutData) (words : List ℕ) (q x : ℕ) (stands
             let next = compact_next e less in
             node_lawful job y words stands n m is less range
             (λ one. let t = top first in omega (arith, here, same, t))
-            (high less) children (ready less) (rests less) (quiet less) (λ one. next) later only
+            (high less) children (ready less) rests (λ one. next) later only
         by (Wide g) e = climb job y g m e range mark.is_phase m words (record {
           stands = stands;
           below = here;
@@ -604,7 +596,7 @@ module _ (job : JobData) (y : LayoutData) (words : List ℕ) (q x : ℕ) (stands
               × (m ≤ held y words (Node (2 * k + 1)))) first
               (children (omega (arith, first, inner)));
           ready = λ i kind proc leaf above most. ready less i kind proc (first ∙ leaf) above most;
-          quiet = λ i t proc leaf late most. quiet less i t proc (first ∙ leaf) late most;
+          rests = λ i t kind proc leaf over upto. rests i t kind proc (first ∙ leaf) over upto;
           silent = λ i t proc late most. absurd (let t = top first in
               omega (arith, t, same, late, most));
         }) (omega arith) later (subst (λ (k : ℕ). Only y (Node k) m words later) first only)
@@ -614,7 +606,7 @@ module _ (job : JobData) (y : LayoutData) (words : List ℕ) (q x : ℕ) (stands
         Only y (Node n) m words later → Lawful job y later
     other_lawful other less later only =
         node_lawful job y words stands n m is less range (λ one. absurd (other one)) (high less)
-        children (ready less) (rests less) (quiet less) (λ one. absurd (other one)) later only
+        children (ready less) rests (λ one. absurd (other one)) later only
 
     marks_lawful : held y words (Node n) < m → (later : List ℕ) → Only y (Node n) m words later →
         Lawful job y later
@@ -646,12 +638,11 @@ module _ (job : JobData) (y : LayoutData) (words : List ℕ) (q x : ℕ) (stands
       (λ less compact. let near = child.near compact (2 * n) (omega arith, omega arith) in
       omega (arith, left, near)) (λ inner. (left, right))
       (λ less i kind proc e. absurd (omega (arith, e, high)))
-      (λ less i proc e. absurd (omega (arith, e, high)))
-      (λ less i t proc e. absurd (omega (arith, e, high)))
+      (λ i t kind proc e. absurd (omega (arith, e, high)))
 
   -- a leaf whose processors' work is done
   module _ (n m : ℕ) (low : y.leaves ≤ n) (below : n < 2 * y.leaves)
-      (leaf_mark : IsLeafMark job y q x n m)
+      (leaf_mark : IsLeafMark job y q n m)
       (finish : root y words < q → LeafDone job y x (kind_at q) n words) where
     mark : IsMark y q m
     mark = leaf_mark.formed
@@ -659,17 +650,8 @@ module _ (job : JobData) (y : LayoutData) (words : List ℕ) (q x : ℕ) (stands
     range : m ≤ 3 * job.steps
     range = leaf_mark.most
 
-    rest : q < m → q < 3 * x + 3 → LeafRests job y x n
-    rest = leaf_mark.rests
-
-    quiet : (t : ℕ) → x < t → 3 * t + 1 ≤ m → LeafQuiet job y t n
-    quiet = leaf_mark.quiet
-
     is_leaf : IsWord y (Node n)
     is_leaf = let l = stands.sizes.leaves in (omega arith, below)
-
-    from : x ≤ finished y words
-    from = finished_before job y words q x stands some most step floor
 
     reaches : held y words (Node n) < m → y.form ≡ Compact → m ≤ root y words + 1
     reaches less e =
@@ -677,96 +659,45 @@ module _ (job : JobData) (y : LayoutData) (words : List ℕ) (q x : ℕ) (stands
         less in
         let d = subst (λ (f : Form). next_phase f (root y words) ≡ m) e c in omega (arith, d)
 
-    -- of a later step
-    quiet_done : (g : ℕ) → x < finished y words → (i : ℕ) (kind : Kind) → i < y.procs →
-        n ≡ leaf_of y i → phase_in (finished y words) kind ≤ m →
-        DoneIn (Wide g) job.rule kind job y (finished y words) words i
-    quiet_done g late i kind proc leaf upto =
-        let first = phase_first (finished y words) kind in
-        none_done g job.rule kind job y (finished y words) words i
-        (quiet (finished y words) late (omega (arith, first, upto)) i proc (sym leaf))
+    rests_by : (i t : ℕ) (kind : Kind) → i < y.procs → n ≡ leaf_of y i →
+        next_phase y.form (root y words) < phase_in t kind → phase_in t kind ≤ m →
+        Rests y.form job.rule kind job t i
+    rests_by i t kind proc leaf over upto = leaf_mark.rests i t kind proc (sym leaf)
+        (let r = floor.root in omega (arith, r, over)) upto
 
-    ready_by : (form : Form) → y.form ≡ form → held y words (Node n) < m → (i : ℕ) (kind : Kind) →
-        i < y.procs → n ≡ leaf_of y i → root y words < phase_in (finished y words) kind →
-        phase_in (finished y words) kind ≤ m →
-        DoneIn form job.rule kind job y (finished y words) words i
-    ready_by Compact e less i kind proc leaf more upto =
-        let same = mark.compact e in
-        let c = compact_next job y words q x stands some most step floor n m is_leaf mark range e
-        less in
-        let d = subst (λ (f : Form). next_phase f (root y words) ≡ m) e c in
-        let live : root y words < q = omega (arith, d, same) in
-        let gone = alive job y words q x stands some most step floor live in
-        let k = kind_of (finished y words) q kind (omega (arith, d, same, more, upto)) in
-        subst (λ (f : Form). DoneIn f job.rule kind job y (finished y words) words i) e
-        (subst (λ (k : Kind). Done job.rule k job y (finished y words) words i) k
-        (subst (λ (s : ℕ). Done job.rule (kind_at q) job y s words i) (sym gone)
-        (finish live i proc (sym leaf))))
-    ready_by (Wide g) e less i kind proc leaf more upto = elim (cases_lt x (finished y words)) [
-      | inl late ↦ quiet_done g late i kind proc leaf upto
-      | inr early ↦ this_step g e (omega (arith, early, from)) i kind proc leaf more upto
+    -- above the phase they rest, and up to it they have done their work
+    ready_by : (i : ℕ) (kind : Kind) → i < y.procs → n ≡ leaf_of y i →
+        root y words < phase_in (finished y words) kind → phase_in (finished y words) kind ≤ m →
+        Done job.rule kind job y (finished y words) words i
+    ready_by i kind proc leaf above upto = elim (cases_lt q (phase_in (finished y words) kind)) [
+      | inl over ↦ resting y.form refl over
+      | inr under ↦ coming_done job y words q (finished y words) kind i floor.root above under
+          working
     ]
       where
-        this_step : (g : ℕ) → y.form ≡ Wide g → finished y words ≡ x → (i : ℕ) (kind : Kind) →
-            i < y.procs → n ≡ leaf_of y i → root y words < phase_in (finished y words) kind →
-            phase_in (finished y words) kind ≤ m →
-            DoneIn (Wide g) job.rule kind job y (finished y words) words i
-        this_step g e f i Apply proc leaf more upto =
-            no_apply g job y (finished y words) words i job.rule
-        this_step g e f i Compute proc leaf more upto =
-            let r = floor.root in
-            let low_root = (facts job y words stands).root_low in
-            let first = subst (λ (f : Form). next_phase f (root y words) ≡ root y words + 1) (sym e)
-            (wide_next_other g (root y words) (λ one. absurd (omega (arith, one, more, low_root)))) in
-            let s = step in
-            let at : phase_in (finished y words) Compute ≡ q =
-            omega (arith, f, r, first, more, low_root, s, some) in
-            let live : root y words < q = omega (arith, at, more) in
-            subst (λ (f : Form). DoneIn f job.rule Compute job y (finished y words) words i) e
-            (subst (λ (k : Kind). Done job.rule k job y (finished y words) words i)
-            (kind_of (finished y words) q Compute at)
-            (subst (λ (s : ℕ). Done job.rule (kind_at q) job y s words i) (sym f)
-            (finish live i proc (sym leaf))))
-        this_step g e f i Verify proc leaf more upto = elim (cases_lt q (3 * x + 3)) [
-          | inl early ↦ rests_done g job.rule job y (finished y words) words i
-              (subst (λ (s : ℕ). StoresNone job s i) (sym f)
-              (rest (omega (arith, early, f, upto)) early i proc (sym leaf)))
-          | inr past ↦ (
-              let at : phase_in (finished y words) Verify ≡ q =
-              (let s = step in omega (arith, f, past, s)) in
-              let live : root y words < q = omega (arith, at, more) in
-              subst (λ (f : Form). DoneIn f job.rule Verify job y (finished y words) words i) e
-              (subst (λ (k : Kind). Done job.rule k job y (finished y words) words i)
-              (kind_of (finished y words) q Verify at)
-              (subst (λ (s : ℕ). Done job.rule (kind_at q) job y s words i) (sym f)
-              (finish live i proc (sym leaf)))))
-        ]
+        resting : (form : Form) → y.form ≡ form → q < phase_in (finished y words) kind →
+            Done job.rule kind job y (finished y words) words i
+        resting Compact e over = absurd (let same = mark.compact e in
+            omega (arith, same, over, upto))
+        resting (Wide g) e over =
+            subst (λ (f : Form). DoneIn f job.rule kind job y (finished y words) words i) (sym e)
+            (done_of_rests g job.rule kind job y (finished y words) words i
+            (leaf_mark.rests i (finished y words) kind proc (sym leaf) over upto))
 
-    rest_by : held y words (Node n) < m → (i : ℕ) → i < y.procs → n ≡ leaf_of y i →
-        root y words < 3 * finished y words + 1 → 3 * finished y words + 1 < m →
-        StoresNone job (finished y words) i
-    rest_by less i proc leaf low_root more = elim (cases_lt x (finished y words)) [
-      | inl late ↦ stores_none y.form job (finished y words) i
-          (quiet (finished y words) late (omega (arith, more)) i proc (sym leaf))
-      | inr early ↦ (
-          let f = from in
-          let same : finished y words ≡ x = omega (arith, early, f) in
-          let r = floor.root in
-          let near = next_low y.form (root y words) (finished y words) low_root in
-          let s = step in
-          subst (λ (s : ℕ). StoresNone job s i) (sym same)
-          (rest (omega (arith, same, more, near, r)) (omega (arith, same, near, r)) i proc (sym leaf)))
-    ]
-
-    quiet_by : held y words (Node n) < m → (i t : ℕ) → i < y.procs → n ≡ leaf_of y i →
-        finished y words < t → 3 * t + 1 ≤ m → WritesNone y.form job t i
-    quiet_by less i t proc leaf late most =
-        quiet t (let f = from in omega (arith, f, late)) most i proc (sym leaf)
+        working : phase_in (finished y words) kind ≡ q →
+            Done job.rule kind job y (finished y words) words i
+        working at =
+            let live : root y words < q = omega (arith, at, above) in
+            subst (λ (k : Kind). Done job.rule k job y (finished y words) words i)
+            (kind_of (finished y words) q kind at)
+            (subst (λ (s : ℕ). Done job.rule (kind_at q) job y s words i)
+            (sym (alive job y words q x stands some most step floor live))
+            (finish live i proc (sym leaf)))
 
     leaf_marks_upto : (n ≡ 1 → m ≤ 3 * x + 3) → Marks job y q n m words
     leaf_marks_upto top =
         node_marks job y words q x stands some most step floor n m is_leaf mark range top reaches
-        (λ inner. absurd (omega (arith, inner, low))) (ready_by y.form refl) rest_by quiet_by
+        (λ inner. absurd (omega (arith, inner, low))) (λ less. ready_by) rests_by
 
   -- ---- the root is raised over the step's end
 
@@ -793,7 +724,7 @@ module _ (job : JobData) (y : LayoutData) (words : List ℕ) (q x : ℕ) (stands
     ]
   ]
 
-  pub leaf_marks : (n m : ℕ) → y.leaves ≤ n → n < 2 * y.leaves → IsLeafMark job y q x n m →
+  pub leaf_marks : (n m : ℕ) → y.leaves ≤ n → n < 2 * y.leaves → IsLeafMark job y q n m →
       (n ≡ 1 → m ≤ 3 * x + 3) → (root y words < q → LeafDone job y x (kind_at q) n words) →
       Marks job y q n m words
   leaf_marks n m low below leaf_mark top finish =
@@ -837,26 +768,19 @@ module _ (job : JobData) (y : LayoutData) (words : List ℕ) (q x : ℕ) (stands
 
       silent_by : held y words (Node 1) ≡ 3 * x → (i t : ℕ) → i < y.procs →
           finished y words ≤ t → 3 * t + 3 < m → StoresNone job t i
-      silent_by at i t proc late more = elim (cases_lt 1 y.leaves) [
-        | inl inner ↦ (let high = high_leaf i proc inner in
-            elim (cases_eq t (finished y words)) [
-              | inl e ↦ subst (λ (s : ℕ). StoresNone job s i) (sym e)
-                  (stands.lawful.ahead i proc (let f = same at in omega (arith, at, f))
-                  (omega (arith, high, e, more)))
-              | inr other ↦ stores_none y.form job t i (stands.lawful.beyond i t proc
-                  (omega (arith, late, other)) (omega (arith, high, more)))
-            ])
-        | inr lone ↦ (let one : leaf_of y i ≡ 1 = (let there = leaf_word y i stands.sizes proc in
-            let l = stands.sizes.leaves in omega (arith, there.0, there.1, lone)) in
-            let f = same at in
-            elim (cases_eq t x) [
-              | inl e ↦ subst (λ (s : ℕ). StoresNone job s i) (sym e)
-                  ((may.leaf lone).rests (omega (arith, more, e, phase)) (omega (arith, phase))
-                  i proc one)
-              | inr other ↦ stores_none y.form job t i
-                  ((may.leaf lone).quiet t (omega (arith, f, late, other)) (omega (arith, more)) i proc one)
-            ])
-      ]
+      silent_by at i t proc late more =
+          let f = same at in
+          stores_of_rests y.form job.rule job t i (elim (cases_lt 1 y.leaves) [
+            | inl inner ↦ (let h = high_leaf i proc inner in
+                let near = (next_above y.form (root y words)).1 in
+                stands.lawful.ahead i t Verify proc (omega (arith, near, at, f, late))
+                (omega (arith, h, more)))
+            | inr lone ↦ (let there = leaf_word y i stands.sizes proc in
+                let l = stands.sizes.leaves in
+                let one : leaf_of y i ≡ 1 = omega (arith, there.0, there.1, lone, l) in
+                (may.leaf lone).rests i t Verify proc one (omega (arith, phase, f, late))
+                (omega (arith, more)))
+          ])
 
       climbs : held y words (Node 1) ≡ 3 * x → MayClimb job y m words
       climbs at = record {
@@ -866,8 +790,8 @@ module _ (job : JobData) (y : LayoutData) (words : List ℕ) (q x : ℕ) (stands
         children = may.children;
         ready = λ i kind proc one over upto. let lone = single i one in
             ready_by 1 m lone (let l = stands.sizes.leaves in omega (arith, l)) (may.leaf lone)
-            (may.done lone) y.form refl (above at) i kind proc one over upto;
-        quiet = λ i t proc one late upto. (may.leaf (single i one)).quiet t
-            (let f = same at in omega (arith, f, late)) upto i proc (sym one);
+            (may.done lone) i kind proc one over upto;
+        rests = λ i t kind proc one over upto. let r = floor.root in
+            (may.leaf (single i one)).rests i t kind proc (sym one) (omega (arith, r, over)) upto;
         silent = silent_by at;
       }

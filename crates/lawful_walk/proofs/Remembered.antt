@@ -1,6 +1,6 @@
 -- What a worker remembers of a processor is so in the machine's run, whatever the board's words.
-use Rattle.std.proofs.Common.{◌≡◌, ℕ, zero, suc, ◌+◌, ◌-◌, ◌*◌, ◌<◌, ◌≤◌, List, [], ◌∷◌, length}
-use Rattle.std.proofs.Common.{map, slice_index, get_or, get_or-set_same, Option, Some, None}
+use Rattle.std.proofs.Common.{◌≡◌, ℕ, zero, suc, ◌-◌, ◌<◌, ◌≤◌, List, [], ◌∷◌, length}
+use Rattle.std.proofs.Common.{map, slice_index, get_or-set_same, Option, Some, None}
 use Rattle.std.proofs.Common.{refl, sym, ap, subst, ◌∙◌, inl, inr, lit<, arith}
 use Rattle.lawful_walk.proofs.OwnPlaces.{cell_asks}
 use Rattle.std.specs.Prelude.{IfSome, slice_set, ◌^◌}
@@ -10,9 +10,8 @@ use Rattle.std.proofs.lemmas.List.{ext_get_or, get_or-set_other, length-set}
 use Rattle.std.proofs.lemmas.Option.{none-some, some_pair_parts}
 use Rattle.pram_job.specs.Job.{JobData, IsJob}
 use Rattle.pram_job.specs.declared.instr.Instr.{Instr}
-use Rattle.pram_machine.specs.declared.requests.Request.{Request}
 use Rattle.pram_machine.specs.Instructions.{request_in, sources_of, operand_in, operand_held}
-use Rattle.pram_machine.specs.Machine.{State, counter, counter_place, register, register_place}
+use Rattle.pram_machine.specs.Machine.{counter, register, register_place}
 use Rattle.pram_machine.proofs.Shapes.{asks, place_fits, request_place}
 use Rattle.pram_step.specs.History.{Asks}
 use Rattle.pram_step.specs.Runs.{state_after}
@@ -23,7 +22,7 @@ use Rattle.pram_step.proofs.Past.{asks_fit}
 use Rattle.pram_step.proofs.LawFixed.{length-state_after}
 use Rattle.pram_step.proofs.LawNext.{after_first, after_none}
 use Rattle.pram_step.proofs.LawPlaces.{one_writer_value, writer_is, writes_place}
-use Rattle.pram_step.proofs.LawWriters.{HasFirst, HasNone, writer_cases}
+use Rattle.pram_step.proofs.LawWriters.{writer_cases}
 use Rattle.pram_step.proofs.RequestList.{written_cases, written_of_put}
 use Rattle.walkx.specs.Memory.{FitsMemo, IsTrueMemo, all_registers, memo_after, registers_after}
 use Rattle.walkx.specs.Memory.{store_in}

@@ -45,7 +45,8 @@ use Rattle.lawful_walk.proofs.Landings.{before_most, last_least, last_most, stam
 use Rattle.lawful_walk.specs.Writes.{PlaceAsHeard, Floor, Does}
 use Rattle.lawful_walk.specs.Moments.{Keeps}
 use Rattle.lawful_walk.proofs.Values.{before_less, claim_most}
-use Rattle.lawful_walk.proofs.Facts.{facts, board, late_of, claim_fits, rests_done, WordsShow}
+use Rattle.lawful_walk.proofs.Facts.{facts, board, late_of, claim_fits, done_of_rests}
+use Rattle.lawful_walk.proofs.Facts.{WordsShow}
 use Rattle.lawful_walk.proofs.Keeping.{done_later, settle}
 use Rattle.lawful_walk.proofs.Raising.{finished_before, alive, next}
 
@@ -172,13 +173,11 @@ module _ (job : JobData) (y : LayoutData) (words later : List ℕ) (a : Word)
             λ c is. subst (λ (r : ℕ). IsClaimed y.form job (finished y words) r c
             (held y later (Claim c))) (sym r) (claimed c is);
         done = done_by;
-        ahead = λ i proc low_root h. stands.lawful.ahead i proc (omega (arith, r, low_root))
-            (let l = leaf_same i proc in omega (arith, l, h));
-        beyond = λ i s proc more h. stands.lawful.beyond i s proc more
-            (let l = leaf_same i proc in omega (arith, l, h));
+        ahead = λ i t kind proc next h. let l = leaf_same i proc in
+            let e = ap (next_phase y.form) r in
+            stands.lawful.ahead i t kind proc (omega (arith, e, next)) (omega (arith, l, h));
         named = subst (IsNamed y.form job (conflict y later)) (sym r) named;
-      }) (omega arith) (omega arith) (λ e none compact i proc.
-      absurd (full (omega arith) none))
+      }) (omega arith) (omega arith) (λ e none i kind proc. absurd (full (omega arith) none))
     where
       kept : (i : ℕ) (kind : Kind) → i < y.procs → (kind ≡ Verify → ⊥) →
           phase_in (finished y words) kind ≤ leaf y later i →
@@ -359,9 +358,10 @@ module _ (job : JobData) (y : LayoutData) (words : List ℕ) (q x : ℕ) (stands
       ahead_done (Wide g) e later live i proc h =
           let claimed = subst (λ (f : Form). q ≡ phase_claimed f x) e phase in
           let l = ahead in
+          let c = coming live in
           subst (λ (f : Form). DoneIn f job.rule Verify job y (finished y words) later i) (sym e)
-          (rests_done g job.rule job y (finished y words) later i
-          (stands.lawful.ahead i proc (omega (arith, claimed, live, l)) (omega (arith, h))))
+          (done_of_rests g job.rule Verify job y (finished y words) later i
+          (stands.lawful.ahead i (finished y words) Verify proc (omega (arith, claimed, c, l)) h))
 
 -- ---- ranges of what is written
 

@@ -96,8 +96,7 @@ module _ (job : JobData) (form : Form) (workers : ℕ) (limits : IsJob job)
         claimed_before (let m = last_most form job limits 0 c in omega arith)
         (λ s h. absurd (omega arith));
     done = λ i kind proc h. absurd (none_done i kind proc h);
-    ahead = λ i proc low h. absurd (let z = leaf_zero i proc in omega (arith, z, h));
-    beyond = λ i s proc more h. absurd (let z = leaf_zero i proc in omega (arith, z, h));
+    ahead = λ i t kind proc low h. absurd (let z = leaf_zero i proc in omega (arith, z, low, h));
     named = (let u = value Conflict tt in
         record { first = λ s e. absurd (omega arith); near = λ s e. absurd (omega arith) });
   }
@@ -112,5 +111,5 @@ module _ (job : JobData) (form : Form) (workers : ℕ) (limits : IsJob job)
     admitted = starts.admitted;
     lawful = settle job y words 0 limits sizes refl lawful
         (omega arith) (let z = root_zero in omega arith)
-        (λ e none i proc. absurd (let z = root_zero in omega arith));
+        (λ e none i kind proc. absurd (let z = root_zero in omega arith));
   }

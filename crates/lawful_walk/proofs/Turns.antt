@@ -1,7 +1,7 @@
 -- The task of a phase, the leaf, the turn, and the scripts of a worker: they are safe.
-use Rattle.std.proofs.Common.{◌≡◌, ℕ, zero, suc, ◌+◌, ◌-◌, ◌*◌, ◌/◌, ◌%◌, ◌<◌, ◌≤◌, ◌==◌, ◌&&◌}
+use Rattle.std.proofs.Common.{◌≡◌, ℕ, suc, ◌+◌, ◌-◌, ◌*◌, ◌/◌, ◌%◌, ◌<◌, ◌≤◌, ◌==◌, ◌&&◌}
 use Rattle.std.proofs.Common.{nat_le, if◌then◌else◌, true, false, true≢false, List, [], ◌∷◌, IsTrue}
-use Rattle.std.proofs.Common.{Bool, length, slice_get}
+use Rattle.std.proofs.Common.{Bool, length}
 use Rattle.std.specs.Prelude.{◌||◌}
 use Rattle.std.proofs.lemmas.Option.{slice_get_past}
 use Rattle.pram_job.specs.Job.{IsJob}
@@ -10,7 +10,7 @@ use Rattle.pram_step.specs.Runs.{state_after}
 use Rattle.pram_step.proofs.LawCounters.{stopped_processor}
 use Rattle.std.proofs.Common.{refl, sym, ap, subst, ◌∙◌, inl, inr, arith}
 use Rattle.std.proofs.Math.Nat.{div-add-mod}
-use Rattle.std.proofs.lemmas.Bool.{cond_both, cases_Bool, cases_eq, cases_lt, eqb-false, eqb-true}
+use Rattle.std.proofs.lemmas.Bool.{cond_both, cases_Bool, cases_lt, eqb-false, eqb-true}
 use Rattle.std.proofs.lemmas.Bool.{leb-true, leb-false, ne_eqb}
 use Rattle.std.proofs.lemmas.Option.{none-some}
 use Rattle.std.specs.Prelude.{Option, Some, None, is_none, min}
@@ -55,7 +55,7 @@ use Rattle.walkx.specs.declared.operation.Op.TheVariants.{Load, Swap}
 use Rattle.lawful_walk.specs.Lands.{phase_written, compact_phase_written}
 use Rattle.lawful_walk.proofs.Effects.{phase_at}
 use Rattle.lawful_walk.specs.Board.{leaf_of, phase_in, root, Done, LeafDone, CompactDone, DoneIn}
-use Rattle.lawful_walk.specs.Board.{StoresNone, WritesNone, held}
+use Rattle.lawful_walk.specs.Board.{Rests, StoresNone, held}
 use Rattle.lawful_walk.proofs.OwnPlaces.{asks_cell, stopped_none}
 use Rattle.lawful_walk.proofs.Applying.{apply_safe, crew_apply_safe, claim_safe}
 use Rattle.lawful_walk.proofs.Begins.{Children, back_safe, begin_safe, children_last}
@@ -63,6 +63,8 @@ use Rattle.lawful_walk.proofs.Begins.{heard_children, inner_safe, stands_safe}
 use Rattle.lawful_walk.proofs.Blocks.{jumps_safe, marks_safe}
 use Rattle.lawful_walk.proofs.Computing.{compute_safe}
 use Rattle.lawful_walk.proofs.Floors.{floor_seen}
+use Rattle.lawful_walk.proofs.Facts.{rests_of_none, rests_of_stores, second_rests}
+use Rattle.lawful_walk.proofs.Raising.{phase_first}
 use Rattle.lawful_walk.proofs.Known.{floor_lasts, EndSafe, LearnedSafe}
 use Rattle.lawful_walk.proofs.Moving.{RankSafe, WorkerSafe, aim_at, aim_of, moves}
 use Rattle.lawful_walk.proofs.Scripts.{Aim, Safe, load_safe}
@@ -73,7 +75,7 @@ use Rattle.lawful_walk.proofs.Winning.{priority_apply_safe}
 use Rattle.lawful_walk.specs.Moments.{Moment}
 use Rattle.lawful_walk.specs.WalkLaws.{WorkersKeepWordsLawful}
 use Rattle.lawful_walk.specs.Walks.{phase_now}
-use Rattle.lawful_walk.specs.Writes.{Floor, IsLeafMark, IsMark, LeafQuiet, LeafRests, MayJump}
+use Rattle.lawful_walk.specs.Writes.{Floor, IsLeafMark, IsMark, MayJump}
 
 claims_are : (job : JobData) (y : LayoutData) (rule : Rule) → IsBoard job y → job.rule ≡ rule →
     IsTrue (has_claims rule) → IsTrue y.claims
@@ -133,11 +135,11 @@ rested_none job i x memo is_true rested c v made_so cell =
     none_is None e = refl
     none_is (Some w) e = absurd (cc)
 
--- one of which is remembered that it has stopped writes nothing in later steps
-stopped_quiet : (g : ℕ) (job : JobData) (i x s : ℕ) (memo : Memo) → IsJob job → i < job.procs →
-    IsTrueMemo job i memo → has_stopped job (suc x) memo ≡ true → x < s →
-    WritesNone (Wide g) job s i
-stopped_quiet g job i x s memo limits proc is_true stopped late p v lands =
+-- one of which is remembered that it has stopped rests in later steps
+stopped_rests : (g : ℕ) (job : JobData) (i x s : ℕ) (kind : Kind) (memo : Memo) → IsJob job →
+    i < job.procs → IsTrueMemo job i memo → has_stopped job (suc x) memo ≡ true → x < s →
+    Rests (Wide g) job.rule kind job s i
+stopped_rests g job i x s kind memo limits proc is_true stopped late =
     let both = both_parts (memo.step == suc x) (nat_le (length job.code) memo.counter) stopped in
     let at = eqb-true memo.step (suc x) both.0 in
     let past = leb-true (length job.code) memo.counter both.1 in
@@ -149,8 +151,8 @@ stopped_quiet g job i x s memo limits proc is_true stopped late p v lands =
     let there = ap (λ (t : ℕ). counter job (state_after job t) i) more in
     let gone : length job.code ≤ counter job (state_after job s) i =
     omega (arith, same, there, first) in
-    stopped_none g job s i p v
-    (slice_get_past job.code (counter job (state_after job s) i) gone) lands
+    rests_of_none (Wide g) job.rule kind job s i (λ p v lands. stopped_none g job s i p v
+    (slice_get_past job.code (counter job (state_after job s) i) gone) lands)
 
 -- a bounded mark is at most the mark, and that of the root the step's last phase
 bounded_upto : (n q m : ℕ) → bounded_mark n q m ≤ m
@@ -378,12 +380,11 @@ wide_end y n q rank g memo wide = rw wide refl
 module _ (job : JobData) (y : LayoutData) (w q x : ℕ) (some : 1 ≤ q) (most : q ≤ 3 * job.steps)
     (step : step_at q ≡ suc x) (board : IsBoard job y) (formed : IsTrue (has_phase y.form q)) where
   -- the phase itself is a mark of each leaf
-  own_mark : (n : ℕ) → IsLeafMark job y q x n q
+  own_mark : (n : ℕ) → IsLeafMark job y q n q
   own_mark n = record {
     formed = record { low = omega arith; is_phase = formed; compact = λ e. refl };
     most = most;
-    rests = λ more. absurd (omega (arith, more));
-    quiet = λ s late more. absurd (omega (arith, late, more, step));
+    rests = λ i t kind proc leaf over upto. absurd (omega (arith, over, upto));
   }
 
   -- what is so with all that are remembered of a block is so with each
@@ -400,55 +401,75 @@ module _ (job : JobData) (y : LayoutData) (w q x : ℕ) (some : 1 ≤ q) (most :
         subst (λ (j : ℕ). is (memo_of memory j) ≡ true) (sym at.1) k,
       )
 
-  module _ (n : ℕ) (memory : List Memo) (is_true : IsTrueMemory job memory) (wide : IsWide y.form)
-    where
-      -- in the first pass a block that reaches further has stored nothing
-      reach_rests : q < block_reach job y n q memory → q < 3 * x + 3 → LeafRests job y x n
-      reach_rests more early i proc leaf =
-          let rested = reach_rested job y n q memory more (omega (arith, early, step)) in
-          let known = known_at (has_rested (step_at q)) n memory is_true rested i proc leaf in
-          rested_none job i x (memo_of memory i) known.0
-          (subst (λ (t : ℕ). has_rested t (memo_of memory i) ≡ true) step known.1)
+  module _ (n : ℕ) (memory : List Memo) (is_true : IsTrueMemory job memory)
+      (wide : IsWide y.form) where
+    -- in the first pass a block that reaches further has stored nothing
+    reach_stores : q < block_reach job y n q memory → q < 3 * x + 3 → (i : ℕ) → i < y.procs →
+        leaf_of y i ≡ n → StoresNone job x i
+    reach_stores more early i proc leaf =
+        let rested = reach_rested job y n q memory more (omega (arith, early, step)) in
+        let known = known_at (has_rested (step_at q)) n memory is_true rested i proc leaf in
+        rested_none job i x (memo_of memory i) known.0
+        (subst (λ (t : ℕ). has_rested t (memo_of memory i) ≡ true) step known.1)
 
-      -- and one that reaches over the step has stopped
-      reach_quiet : (s : ℕ) → x < s → 3 * s + 1 ≤ block_reach job y n q memory → LeafQuiet job y s n
-      reach_quiet s late more i proc leaf =
-          let stopped = reach_stopped job y n q memory (omega (arith, late, more, step)) in
-          let known = known_at (has_stopped job (step_at q)) n memory is_true stopped i proc leaf in
-          let same = same_procs job y board in
-          by_wide y.form y.form refl wide (λ g is.
-          subst (λ (f : Form). WritesNone f job s i) (sym is)
-          (stopped_quiet g job i x s (memo_of memory i) board.limits (omega (arith, proc, same)) known.0
-          (subst (λ (t : ℕ). has_stopped job t (memo_of memory i) ≡ true) step known.1) late))
+    -- and one that reaches over the step has stopped
+    reach_stops : (i t : ℕ) (kind : Kind) → i < y.procs → leaf_of y i ≡ n → x < t →
+        3 * t + 1 ≤ block_reach job y n q memory → Rests y.form job.rule kind job t i
+    reach_stops i t kind proc leaf late more =
+        let stopped = reach_stopped job y n q memory (omega (arith, late, more, step)) in
+        let known = known_at (has_stopped job (step_at q)) n memory is_true stopped i proc leaf in
+        let same = same_procs job y board in
+        by_wide y.form y.form refl wide (λ g is.
+        subst (λ (f : Form). Rests f job.rule kind job t i) (sym is)
+        (stopped_rests g job i x t kind (memo_of memory i) board.limits (omega (arith, proc, same))
+        known.0
+        (subst (λ (t : ℕ). has_stopped job t (memo_of memory i) ≡ true) step known.1) late))
 
-      reach_mark : IsLeafMark job y q x n (block_reach job y n q memory)
-      reach_mark =
-          let reach = block_reaches job y n q memory most formed in
-          record {
-            formed = record {
-              low = reach.least;
-              is_phase = reach.formed;
-              compact = λ e. absurd (subst IsWide e wide);
-            };
-            most = reach.most;
-            rests = reach_rests;
-            quiet = reach_quiet;
-          }
+    -- so in the phases above its own, up to the mark, it rests
+    reach_rests : (i t : ℕ) (kind : Kind) → i < y.procs → leaf_of y i ≡ n → q < phase_in t kind →
+        phase_in t kind ≤ block_reach job y n q memory → Rests y.form job.rule kind job t i
+    reach_rests i t kind proc leaf over upto = elim (cases_lt x t) [
+      | inl late ↦ reach_stops i t kind proc leaf late
+          (let f = phase_first t kind in omega (arith, f, upto))
+      | inr early ↦ this kind early over upto
+    ]
+      where
+        this : (kind : Kind) → t ≤ x → q < phase_in t kind →
+            phase_in t kind ≤ block_reach job y n q memory → Rests y.form job.rule kind job t i
+        this Compute early over upto = absurd (omega (arith, over, early, step))
+        this Apply early over upto = second_rests y.form job.rule job t i
+        this Verify early over upto =
+            let same : x ≡ t = omega (arith, over, early, step) in
+            rests_of_stores y.form job.rule job t i (subst (λ (t : ℕ). StoresNone job t i) same
+            (reach_stores (omega (arith, over, upto)) (omega (arith, over, same)) i proc leaf))
 
-      block_leaf_mark : IsLeafMark job y q x n (block_mark job y n q memory)
-      block_leaf_mark =
-          let mark = block_marks job y n q memory most formed in
-          let upto = bounded_upto n q (block_reach job y n q memory) in
-          record {
-            formed = record {
-              low = mark.least;
-              is_phase = mark.formed;
-              compact = λ e. absurd (subst IsWide e wide);
-            };
-            most = mark.most;
-            rests = λ more. reach_rests (omega (arith, more, upto));
-            quiet = λ s late more. reach_quiet s late (omega (arith, more, upto));
-          }
+    reach_mark : IsLeafMark job y q n (block_reach job y n q memory)
+    reach_mark =
+        let reach = block_reaches job y n q memory most formed in
+        record {
+          formed = record {
+            low = reach.least;
+            is_phase = reach.formed;
+            compact = λ e. absurd (subst IsWide e wide);
+          };
+          most = reach.most;
+          rests = reach_rests;
+        }
+
+    block_leaf_mark : IsLeafMark job y q n (block_mark job y n q memory)
+    block_leaf_mark =
+        let mark = block_marks job y n q memory most formed in
+        let upto = bounded_upto n q (block_reach job y n q memory) in
+        record {
+          formed = record {
+            low = mark.least;
+            is_phase = mark.formed;
+            compact = λ e. absurd (subst IsWide e wide);
+          };
+          most = mark.most;
+          rests = λ i t kind proc leaf over most. reach_rests i t kind proc leaf over
+              (omega (arith, most, upto));
+        }
 
   end_done : (n rank : ℕ) (words : List ℕ) → has_rank y n rank ≡ false →
       (aim_at job y q n rank).given words → root y words < q → LeafDone job y x (kind_at q) n words
@@ -461,7 +482,7 @@ module _ (job : JobData) (y : LayoutData) (w q x : ℕ) (some : 1 ≤ q) (most :
 
   -- the leaf is marked where those before this rank are done, and it has no others
   mark_safe : (n rank m : ℕ) → y.leaves ≤ n → n < 2 * y.leaves → has_rank y n rank ≡ false →
-      IsLeafMark job y q x n m → (n ≡ 1 → m ≤ 3 * x + 3) → (history : List (Op × ℕ)) →
+      IsLeafMark job y q n m → (n ≡ 1 → m ≤ 3 * x + 3) → (history : List (Op × ℕ)) →
       Sees job y history (Floor job y q x) →
       Safe job y w q (aim_at job y q n rank) (marks_node y n m q) history
   mark_safe n rank m low high none mark top history sees =
@@ -509,11 +530,11 @@ module _ (job : JobData) (y : LayoutData) (w q x : ℕ) (some : 1 ≤ q) (most :
           (block_leaf_mark n memory is_true wide)
           (λ one. let h = bounded_top n q reach one in omega (arith, h, step)) longer more
 
-      may_jump : n ≡ 1 → (words : List ℕ) → IsLeafMark job y q x n reach → aim.given words →
+      may_jump : n ≡ 1 → (words : List ℕ) → IsLeafMark job y q n reach → aim.given words →
           MayJump job y words q x reach
       may_jump one words leaf_mark given = record {
         children = λ inner. absurd (omega (arith, one, low, inner));
-        leaf = λ lone. subst (λ (k : ℕ). IsLeafMark job y q x k reach) one leaf_mark;
+        leaf = λ lone. subst (λ (k : ℕ). IsLeafMark job y q k reach) one leaf_mark;
         done = λ lone live. subst (λ (k : ℕ). LeafDone job y x (kind_at q) k words) one
             (end_done n rank words none given live);
       }
@@ -612,7 +633,7 @@ module _ (job : JobData) (y : LayoutData) (w q x : ℕ) (some : 1 ≤ q) (most :
           let some_grain = grain_some y board.layout in
           true≢false (sym (rank_there y n 0 (omega (arith, some_grain)) (omega (arith, below))) ∙ e)
 
-      mark : has_rank y n 0 ≡ false → IsLeafMark job y q x n (empty_mark job y n q)
+      mark : has_rank y n 0 ≡ false → IsLeafMark job y q n (empty_mark job y n q)
       mark e =
           let is = empty_marks job y n q most formed in
           record {
@@ -622,8 +643,7 @@ module _ (job : JobData) (y : LayoutData) (w q x : ℕ) (some : 1 ≤ q) (most :
               compact = λ c. ap (λ (f : Form). by_form f q (bounded_mark n q (3 * job.steps))) c;
             };
             most = is.most;
-            rests = λ more early i proc leaf. absurd (nobody e i proc leaf);
-            quiet = λ s late more i proc leaf. absurd (nobody e i proc leaf);
+            rests = λ i t kind proc leaf over upto. absurd (nobody e i proc leaf);
           }
 
       top : n ≡ 1 → empty_mark job y n q ≤ 3 * x + 3

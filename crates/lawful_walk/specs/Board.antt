@@ -140,9 +140,21 @@ Done rule kind job layout = DoneIn layout.form rule kind job layout
 abbrev pub StoresNone : JobData → ℕ → ℕ → Type 0
 StoresNone job t i = (cell value : ℕ) → Asks job t cell i value → cell < job.cells → ⊥
 
--- nor makes any write that gets a word
-abbrev pub WritesNone : Form → JobData → ℕ → ℕ → Type 0
-WritesNone form job t i = (place value : ℕ) → Lands form job t place i value → ⊥
+-- of its own places it makes no write that gets a word
+abbrev pub OwnNone : Form → JobData → ℕ → ℕ → Type 0
+OwnNone form job t i = (place value : ℕ) → Lands form job t place i value → job.cells ≤ place → ⊥
+
+-- in the pass of this kind, in the wide form, it has nothing to do
+abbrev pub Rests : Form → Rule → Kind → JobData → ℕ → ℕ → Type 0
+Rests form Common Compute job t i = OwnNone form job t i
+Rests form Common Apply job t i = Unit {0}
+Rests form Common Verify job t i = StoresNone job t i
+Rests form Priority Compute job t i = OwnNone form job t i × StoresNone job t i
+Rests form Priority Apply job t i = Unit {0}
+Rests form Priority Verify job t i = StoresNone job t i
+Rests form Crew Compute job t i = OwnNone form job t i × StoresNone job t i
+Rests form Crew Apply job t i = Unit {0}
+Rests form Crew Verify job t i = StoresNone job t i
 
 -- the task of this kind is done for all processors of the block of a leaf
 abbrev pub LeafDone : JobData → LayoutData → ℕ → Kind → ℕ → List ℕ → Type 0
@@ -219,9 +231,9 @@ pub record IsNamed (form : Form) (job : JobData) (found root : ℕ) : Type 0 whe
 
 -- Words with so many finished steps: their state is reached; no node is above its children, nor in
 -- the compact form far above the root; request words, places and claims are of these steps or of the
--- one after them; what the raised leaves stand for is done; where a leaf is ahead of the step's first
--- phase nothing is stored in it, and where it is ahead of a later step nothing is written in that;
--- word 0 names the first conflict, if any. The wide form has no requests.
+-- one after them; what the raised leaves stand for is done; of a leaf that is above the phase that
+-- comes next the processors have nothing to do in the phases between; word 0 names the first
+-- conflict, if any. The wide form has no requests.
 pub record LawfulFor (job : JobData) (layout : LayoutData) (steps : ℕ)
     (words : List ℕ) : Type 0 where
   pub reached : IsReached job steps
@@ -235,10 +247,9 @@ pub record LawfulFor (job : JobData) (layout : LayoutData) (steps : ℕ)
       IsClaimed layout.form job steps (root layout words) cell (held layout words (Claim cell))
   pub done : (i : ℕ) (kind : Kind) → i < layout.procs → phase_in steps kind ≤ leaf layout words i →
       Done job.rule kind job layout steps words i
-  pub ahead : (i : ℕ) → i < layout.procs → root layout words < 3 * steps + 1 →
-      3 * steps + 1 < leaf layout words i → StoresNone job steps i
-  pub beyond : (i t : ℕ) → i < layout.procs → steps < t → 3 * t + 1 ≤ leaf layout words i →
-      WritesNone layout.form job t i
+  pub ahead : (i t : ℕ) (kind : Kind) → i < layout.procs →
+      next_phase layout.form (root layout words) < phase_in t kind →
+      phase_in t kind ≤ leaf layout words i → Rests layout.form job.rule kind job t i
   pub named : IsNamed layout.form job (conflict layout words) (root layout words)
 
 -- *lawful* words

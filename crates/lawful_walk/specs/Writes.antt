@@ -4,6 +4,7 @@ use Rattle.pram_job.specs.Job.{JobData}
 use Rattle.pram_step.specs.History.{Asks, Wins, part_after}
 use Rattle.pram_step.specs.Runs.{IsReached, AgreesAfter, state_after}
 use Rattle.pram_words.specs.declared.layout.Form.TheVariants.{Compact, Wide}
+use Rattle.pram_words.specs.declared.phases.Kind.{Kind}
 use Rattle.pram_words.specs.declared.phases.Kind.TheVariants.{Compute, Verify}
 use Rattle.pram_words.specs.declared.words.Word.{Word}
 use Rattle.pram_words.specs.declared.words.Word.TheVariants.{Conflict, Node, Asked, Position}
@@ -16,8 +17,8 @@ use Rattle.walkx.specs.declared.operation.Op.TheVariants.{Store, Max, Swap}
 use Rattle.walkx.specs.Operations.{words_after}
 use Rattle.walkx.specs.Tasks.{claim_of}
 use Rattle.walkx.specs.Counters.{worth}
-use Rattle.lawful_walk.specs.Board.{held, leaf_of, root, stamp_at, IsLate, LeafDone, StoresNone}
-use Rattle.lawful_walk.specs.Board.{WritesNone}
+use Rattle.lawful_walk.specs.Board.{held, leaf_of, phase_in, root, stamp_at, IsLate, LeafDone}
+use Rattle.lawful_walk.specs.Board.{Rests}
 use Rattle.lawful_walk.specs.Lands.{Lands, phase_claimed, phase_written}
 use Rattle.lawful_walk.specs.Moments.{IsFixed, Keeps}
 
@@ -70,38 +71,28 @@ pub record Marks (job : JobData) (layout : LayoutData) (phase node mark : ℕ)
       held layout (words_after words (Max (number_of layout (Node node)) mark)) word
       ≡ held layout words word
 
--- the processors of a leaf write no cell in the step after t steps
-abbrev pub LeafRests : JobData → LayoutData → ℕ → ℕ → Type 0
-LeafRests job layout t node =
-    (i : ℕ) → i < layout.procs → leaf_of layout i ≡ node → StoresNone job t i
-
--- nor make any write that gets a word
-abbrev pub LeafQuiet : JobData → LayoutData → ℕ → ℕ → Type 0
-LeafQuiet job layout t node =
-    (i : ℕ) → i < layout.procs → leaf_of layout i ≡ node → WritesNone layout.form job t i
-
--- A leaf may be marked so: above the phase where its processors store nothing in the step, or have
--- done it, and above the step where they write nothing in those after it.
-pub record IsLeafMark (job : JobData) (layout : LayoutData) (phase t node mark : ℕ) : Type 0 where
+-- A leaf may be marked so in the phase: in the phases above that, up to the mark, its processors
+-- have nothing to do.
+pub record IsLeafMark (job : JobData) (layout : LayoutData) (phase node mark : ℕ) : Type 0 where
   pub formed : IsMark layout phase mark
   pub most : mark ≤ 3 * job.steps
-  pub rests : phase < mark → phase < 3 * t + 3 → LeafRests job layout t node
-  pub quiet : (s : ℕ) → t < s → 3 * s + 1 ≤ mark → LeafQuiet job layout s node
+  pub rests : (i t : ℕ) (kind : Kind) → i < layout.procs → leaf_of layout i ≡ node →
+      phase < phase_in t kind → phase_in t kind ≤ mark → Rests layout.form job.rule kind job t i
 
 -- the root's children are marked so, or more; or it is a leaf whose processors' work is done
 pub record MayJump (job : JobData) (layout : LayoutData) (words : List ℕ) (phase t mark : ℕ) :
     Type 0 where
   pub children : 1 < layout.leaves →
       (mark ≤ held layout words (Node 2)) × (mark ≤ held layout words (Node 3))
-  pub leaf : layout.leaves ≤ 1 → IsLeafMark job layout phase t 1 mark
+  pub leaf : layout.leaves ≤ 1 → IsLeafMark job layout phase 1 mark
   pub done : layout.leaves ≤ 1 → root layout words < phase →
       LeafDone job layout t (kind_at phase) 1 words
 
 -- A part of a request, in the compact form; a node whose children are marked so, or more, the root
 -- up to the step's last phase, or in the first pass from where it stood; a leaf whose processors'
--- work is done, up to the phase, or as far as they write nothing; a place, by a write that gets a
--- word and wins, in its phase; the step, as a conflict, in its last phase; the claim of a cell that
--- is written, in its phase; a worker's position, as a node.
+-- work is done, up to the phase, or as far as they have nothing to do; a place, by a write that
+-- gets a word and wins, in its phase; the step, as a conflict, in its last phase; the claim of a
+-- cell that is written, in its phase; a worker's position, as a node.
 pub record MayWrite (job : JobData) (layout : LayoutData)
     (words : List ℕ) (phase t : ℕ) : Type 0 where
   pub request : layout.form ≡ Compact →
@@ -113,7 +104,7 @@ pub record MayWrite (job : JobData) (layout : LayoutData)
       mark ≤ held layout words (Node (2 * node)) → mark ≤ held layout words (Node (2 * node + 1)) →
       Marks job layout phase node mark words
   pub leaf : (node mark : ℕ) → layout.leaves ≤ node → node < 2 * layout.leaves →
-      IsLeafMark job layout phase t node mark → (node ≡ 1 → mark ≤ 3 * t + 3) →
+      IsLeafMark job layout phase node mark → (node ≡ 1 → mark ≤ 3 * t + 3) →
       (root layout words < phase → LeafDone job layout t (kind_at phase) node words) →
       Marks job layout phase node mark words
   pub jump : (grain mark : ℕ) → layout.form ≡ Wide grain → phase ≡ 3 * t + 1 →
