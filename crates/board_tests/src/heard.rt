@@ -137,7 +137,7 @@ const HEARD: [(&str, &str, Sound); 5] = [
     (
         SWAP,
         "0,stop,0~1,stop,0~2,go,9~2,stop,0~",
-        Sound::Unfinished(0),
+        Sound::Unfinished(3),
     ),
 ];
 

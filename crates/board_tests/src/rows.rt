@@ -94,20 +94,19 @@ over : set, priority -> 30 Over(Done)
 17 1! over : store, priority -> Max(18, 4294967297) 0, 18 Over(Done)
 28 1! over : store, priority -> Swap(6, 0, 4294967296) 0, 7 Over(Done)
 19 1! over : store, crew -> Max(18, 4294967297) 0, 16 Over(Done)
--- the register that each of three processors of a block writes, of which is known what they hold
--- before the first step; the second pass finds nothing to store, or is left out, since that is known
+-- three processors of a block each change a register, in a step in which none of them settles: the \
+    first pass asks nothing, since it is known what they hold before the first step; the second one \
+    loads the places of each, and finds no store, or is left out where that is known
 $ worker blocks
-13! 50 over : three \
-    -> Load(16) 0, Load(0) 0, Load(16) 0, Load(22) 0, Load(23) 0, Swap(22, 0, 4294967303) 0, \
-    Load(38) 0, Load(39) 0, Swap(38, 0, 4294967303) 0, Load(54) 0, Load(55) 0, \
-    Swap(54, 0, 4294967303) 0, Max(16, 1) 0, 0 Over(Done)
-13 13! over : three \
-    -> Load(16) 1, Load(16) 1, Load(16) 1, Load(20) 0, Load(21) 0, Load(36) 0, Load(37) 0, \
-    Load(52) 0, Load(53) 0, Max(16, 3) 1, Load(16) 3, Load(16) 3, Load(0) 0, 0 Over(Done)
+4! 50 over : three -> Load(16) 0, Load(0) 0, Load(16) 0, Max(16, 1) 0, 0 Over(Done)
+4 13! 20 4! over : three \
+    -> Load(16) 1, Load(16) 1, Load(16) 1, Load(20) 0, Load(21) 0, Load(22) 0, Load(23) 0, \
+    Load(24) 0, Load(25) 0, Load(26) 0, Load(27) 0, Load(28) 0, Load(29) 0, Max(16, 3) 1, \
+    Load(16) 3, Load(16) 3, Load(0) 0, 0 Over(Done)
 -- one that comes back begins its block again
-7 at back 1! 3 1! : three -> Part(1, 1), Load(8) 1, Load(22) 4294967303, 
+19 at back 1! 2 1! : three -> Part(3, 1), Load(8) 1, Load(20) 0, 
 $ worker remembering
-12 1! 3! over : three -> Max(16, 3) 0, Load(16) 3, Load(16) 3, Load(0) 0, 0 Over(Done)
+3 1! 3! over : three -> Max(16, 3) 0, Load(16) 3, Load(16) 3, Load(0) 0, 0 Over(Done)
 ";
 
 // A worker that is lost after any number of its steps changes no answer, nor does a twin beside it.

@@ -18,7 +18,7 @@ pram 1~cells 2~procs 2~steps 5~init 0 7~init 1 9~code~pid r0~set r1 1~sub r1 r1 
     st r0 r2~ under 0,go,50~1,back,0~ | 0 done steps=5~0: 9~1: 7~
 pram 1~cells 2~procs 4~steps 4~code~pid r0~set r1 1~and r2 r0 r1~st r2 r0~ \
     | 1 conflict step=4 cell=0 processors=0,2~
-pram 1~cells 1~procs 1~steps 1~code~set r0 7~ under 0,stop,0~1,go,6~1,stop,0~ \
+pram 1~cells 1~procs 1~steps 1~code~set r0 7~ under 0,stop,0~1,go,3~1,stop,0~ \
     | 3 unfinished step=0~
 pram 1~cells 0~ | 2 text line=2 kind=OutOfLimits~
 pram 1~cells 1~procs 1~steps 1~code~set r0 7~ under 4,go,1~ | 2 plan row=2 kind=BadWorker~
@@ -100,18 +100,18 @@ fn runs_and_watches_are_answered(rt: HostRuntime) -> Result<(), Fail> {
     expect(&rt, rt.alloc(), PLACES)
 }
 
-// One worker finishes step 1 with its seventh tick: a run tells that step, and so does a watch
-// below its two reads. Where all have stopped, no more passes are made.
+// One worker finishes step 2 with its fourth tick: a run tells that step, and so does a watch below
+// its two reads. Where all have stopped, no more passes are made.
 const LEFT: &str = "\
 $ pramx run job --workers 1 --plan plan
 pram 1~cells 1~procs 5~steps 1000000~code~set r1 7~st r0 r1~halt~ under 0,go,120~0,stop,0~ \
     | 0 done steps=1000000~0: 7~
-pram 1~cells 1~procs 1~steps 3~code~set r1 1~sub r2 r0 r1~st r0 r2~ under 0,go,6~0,stop,0~ \
+pram 1~cells 1~procs 1~steps 3~code~set r1 1~sub r2 r0 r1~st r0 r2~ under 0,go,3~0,stop,0~ \
     | 3 unfinished step=0~
-same under 0,go,7~0,stop,0~ | 3 unfinished step=1~
+same under 0,go,4~0,stop,0~ | 3 unfinished step=2~
 $ pramx watch job --workers 1 --plan plan --cells 0 --rounds 2
-same under 0,go,6~0,stop,0~ | 3 step,cell,value~{2}unfinished step=0~
-same under 0,go,7~0,stop,0~ | 3 step,cell,value~{2}unfinished step=1~
+same under 0,go,3~0,stop,0~ | 3 step,cell,value~{2}unfinished step=0~
+same under 0,go,4~0,stop,0~ | 3 step,cell,value~{2}unfinished step=2~
 ";
 
 #[test]
@@ -122,7 +122,7 @@ fn an_unfinished_step_is_told(rt: HostRuntime) -> Result<(), Fail> {
 // These ticks finish a step where all processors stand at one leaf, and else they do not.
 const BLOCKS: &str = "\
 $ pramx run job --workers 1 --plan plan --block *
-1 : pram 1~cells 1~procs 8~steps 3~code~set r1 1~set r2 2~set r3 3~ under 0,go,50~0,stop,0~ \
+1 : pram 1~cells 1~procs 8~steps 3~code~set r1 1~ld r2 r0~set r3 3~ under 0,go,50~0,stop,0~ \
     | 3 unfinished step=0~
 8 : same under 0,go,50~0,stop,0~ | 3 unfinished step=1~
 ";

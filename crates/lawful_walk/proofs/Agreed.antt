@@ -14,9 +14,10 @@ use Rattle.walkx.specs.Tasks.{differs}
 use Rattle.walkx.specs.Walk.{IsBoard}
 use Rattle.lawful_walk.specs.Board.{held, root, stamp_at, finished, ClaimsFor, IsClaimed, Stands}
 use Rattle.lawful_walk.specs.Board.{claimed_before, claimed_now}
-use Rattle.lawful_walk.specs.Lands.{landing_before, last_landing, word_of_step}
+use Rattle.lawful_walk.specs.Lands.{Lands, landing_before, last_landing, word_of_step}
 use Rattle.lawful_walk.proofs.Landings.{payload_step, stamp_step}
 use Rattle.lawful_walk.proofs.Facts.{facts, word_is}
+use Rattle.lawful_walk.proofs.Winners.{landed_value}
 use Rattle.lawful_walk.proofs.Values.{WordIs, is_before, is_new, is_settled}
 
 pub differs_is : (t v a : ℕ) → differs t v a ≡ true → (stamp_of a ≡ t) × (payload_of a ≢ v)
@@ -59,13 +60,12 @@ module _ (job : JobData) (x p i v : ℕ) (y : LayoutData) (board : IsBoard job y
       ap payload_of e ∙ payload_step y.form job board.limits t p
       ∙ ap (λ (t : ℕ). slice_index (state_after job t) p) same ∙ step_value
 
-  by_new : (f word j : ℕ) → f ≡ x → Asks job f p j (payload_of word) → payload_of word ≡ v
-  by_new f word j e a =
-      let a_here : Asks job x p j (payload_of word) =
-      subst (λ (s : ℕ). Asks job s p j (payload_of word)) e a in
-      sym (written_value job x p j (payload_of word) board.limits
-      ((asks_fit job x p j (payload_of word) board.limits a_here).0) agrees a_here (wins j))
-      ∙ step_value
+  by_new : (f word j : ℕ) → f ≡ x → Lands y.form job f p j (payload_of word) → payload_of word ≡ v
+  by_new f word j e lands =
+      let here : Lands y.form job x p j (payload_of word) =
+      subst (λ (s : ℕ). Lands y.form job s p j (payload_of word)) e lands in
+      sym (landed_value y.form job x p j (payload_of word) board.limits
+      (asks_fit job x p i v board.limits asked).0 agrees here (wins j)) ∙ step_value
 
   agreed : (f root word : ℕ) → WordIs y.form job f root p word →
       stamp_of word ≡ suc x → payload_of word ≡ v
@@ -73,7 +73,7 @@ module _ (job : JobData) (x p i v : ℕ) (y : LayoutData) (board : IsBoard job y
   agreed f root word (is_before e) s =
       by_step (landing_before y.form job (last_landing y.form job f p) p) word e s
   agreed f root word (is_new n) s =
-      let is = n.stamp in by_new f word n.writer (omega arith) n.lands.asks
+      let is = n.stamp in by_new f word n.writer (omega arith) n.lands
 
   pub agreed_word : (words : List ℕ) (k : ℕ) → Stands job y words → IsWord y (Stored p k) →
       stamp_at y words p k ≡ suc x → payload_of (held y words (Stored p k)) ≡ v

@@ -60,7 +60,7 @@ module _ (job : JobData) (y : LayoutData)
       (part_after job x i 1) (part_after job x i 2) after) history
   carried_safe phase wins after P lasts floor history sees on =
       carries_safe job y w q aim x i (part_after job x i 0)
-      (part_after job x i 1) (part_after job x i 2) some most step compact phase proc_job
+      (part_after job x i 1) (part_after job x i 2) some most step compact phase proc proc_job
       wins P lasts floor (λ words p. (refl, refl, refl)) after history sees on
 
   pub apply_safe : job.rule ≢ Priority → ((p : ℕ) → q ≡ phase_written y.form job p x) →

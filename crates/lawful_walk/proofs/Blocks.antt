@@ -1,6 +1,7 @@
 -- Blocks of the tasks, by the lemmas on words: a request word is heard, a place is read, a node is
 -- marked. P is what is known; it lasts, and gives the floor.
-use Rattle.std.proofs.Common.{◌≡◌, ◌≢◌, ℕ, zero, suc, ◌+◌, ◌-◌, ◌*◌, ◌<◌, ◌≤◌, ◌==◌, nat_le, true, false}
+use Rattle.std.proofs.Common.{◌≡◌, ◌≢◌, ℕ, zero, suc, ◌+◌, ◌-◌, ◌*◌, ◌<◌, ◌≤◌, ◌==◌, nat_le, true}
+use Rattle.std.proofs.Common.{false}
 use Rattle.std.proofs.Common.{List, ◌∷◌, slice_index, refl, sym, ap, subst, ◌∙◌, inl, inr, lit<}
 use Rattle.std.proofs.Common.{arith}
 use Rattle.std.proofs.lemmas.Bool.{cond_both, cases_Bool, eqb-true, eqb-false, leb-true}
@@ -9,13 +10,12 @@ use Rattle.pram_step.specs.History.{part_after}
 use Rattle.pram_step.specs.Runs.{AgreesAfter, state_after}
 use Rattle.pram_words.proofs.NextPhases.{next_inside, next_step}
 use Rattle.pram_words.specs.Phases.{kind_at, step_at}
-use Rattle.pram_words.specs.Stamps.{stamp_of, payload_of, newer_payload, newer_word}
+use Rattle.pram_words.specs.Stamps.{stamp_of, payload_of, newer_payload}
 use Rattle.pram_words.specs.Words.{LayoutData, IsWord, number_of, places_of}
 use Rattle.pram_words.specs.declared.layout.Form.{Form}
 use Rattle.pram_words.specs.declared.layout.Form.TheVariants.{Compact, Wide}
 use Rattle.pram_words.specs.declared.phases.Kind.TheVariants.{Verify}
 use Rattle.pram_words.specs.declared.words.Word.TheVariants.{Conflict, Node, Asked, Stored}
-use Rattle.walkx.specs.Counters.{worth}
 use Rattle.walkx.specs.Scripts.{Script, asks}
 use Rattle.walkx.specs.Tasks.{is_late, hears_part, reads_place, reports}
 use Rattle.walkx.specs.Walk.{Then, marks_node}
@@ -23,6 +23,7 @@ use Rattle.walkx.specs.declared.operation.Op.{Op}
 use Rattle.walkx.specs.declared.operation.Op.TheVariants.{Load, Max, Swap}
 use Rattle.lawful_walk.proofs.Moments.{onward}
 use Rattle.lawful_walk.specs.Board.{held, root, stamp_at, Grows, LeafDone, Stands}
+use Rattle.lawful_walk.specs.Lands.{told_at}
 use Rattle.lawful_walk.proofs.Effects.{writes_keep}
 use Rattle.lawful_walk.proofs.Facts.{facts}
 use Rattle.lawful_walk.proofs.Growths.{root_up, place_as_heard}
@@ -177,8 +178,8 @@ module _ (job : JobData) (y : LayoutData) (w q : ℕ) (aim : Aim) (x : ℕ)
           let first = m.earlier in
           let fl = floor first.words first.earlier in
           let low = begun first.words fl (omega arith) in
-          subst (λ (f : Form). worth f job x p (newer_word a b) ≡ slice_index (state_after job x) p)
-          compact
+          subst (λ (f : Form). newer_payload a b
+          ≡ slice_index (state_after job (told_at f job x p)) p) compact
           (place_as_heard job y x p a b first.words m.words words first.stands m.stands stands
           first.since m.since place fl.reached low first.heard m.heard early).value
 

@@ -52,13 +52,15 @@ module _ (job : JobData) (y : LayoutData) (q g x : ℕ) (wide : y.form ≡ Wide 
 
 -- what i stores is one write
 module _ (job : JobData) (x i : ℕ) where
-  pub one_store : (c v d u : ℕ) → c < job.cells → d < job.cells → Asks job x c i v → Asks job x d i u →
+  pub one_store : (c v d u : ℕ) → c < job.cells → d < job.cells → Asks job x c i v →
+      Asks job x d i u →
       (c ≡ d) × (v ≡ u)
   one_store c v d u cell also a b = some_pair_parts c d v u
       (sym (asks_cell job x i c v cell a) ∙ asks_cell job x i d u also b)
 
 module _ (job : JobData) (y : LayoutData) (x i : ℕ) where
-  pub carried_by : (c v : ℕ) (words : List ℕ) → c < job.cells → Asks job x c i v → IsLate y x c words →
+  pub carried_by : (c v : ℕ) (words : List ℕ) → c < job.cells → Asks job x c i v →
+      IsLate y x c words →
       CarriedCell job y x words i
   carried_by c v words cell asked late d u other also wins =
       subst (λ (d : ℕ). IsLate y x d words) (one_store job x i c v d u cell also asked other).0 late

@@ -26,7 +26,7 @@ use Rattle.walkx.specs.Tasks.{differs, is_late, reports}
 use Rattle.walkx.specs.Walk.{Then, IsBoard}
 use Rattle.walkx.specs.declared.memo.Memo.{Memo}
 use Rattle.walkx.specs.Memory.{IsTrueMemo}
-use Rattle.walkx.specs.Passes.{reports_other, writes_compared, carry_task}
+use Rattle.walkx.specs.Passes.{carried, carry_task, reports_other, writes_compared}
 use Rattle.lawful_walk.specs.Board.{held, root, conflict, stamp_at, finished, IsLate, HoldsNew}
 use Rattle.lawful_walk.specs.Board.{Grows, CarriedCell, Stands}
 use Rattle.lawful_walk.specs.Board.{Stays}
@@ -40,11 +40,12 @@ use Rattle.lawful_walk.specs.Writes.{Floor, PlaceAsHeard}
 use Rattle.lawful_walk.proofs.Effects.{writes_keep}
 use Rattle.lawful_walk.proofs.Facts.{facts}
 use Rattle.lawful_walk.proofs.Growths.{changed, growth_shows, place_as_heard}
-use Rattle.lawful_walk.proofs.Known.{floor_lasts, safe_known, EndSafe}
-use Rattle.lawful_walk.proofs.Owning.{Both, both_floor, both_late}
+use Rattle.lawful_walk.proofs.Known.{floor_lasts, safe_known, EndSafe, LearnedSafe}
+use Rattle.lawful_walk.proofs.Owning.{Both, both_floor, both_late, in_job}
 use Rattle.lawful_walk.proofs.Scripts.{Aim, Safe, both_safe, goes_of}
 use Rattle.lawful_walk.proofs.Sees.{Sees, Lasts, so, heard, later}
 use Rattle.lawful_walk.proofs.Stores.{stores_safe}
+use Rattle.lawful_walk.proofs.TrueMemos.{carried_true}
 use Rattle.lawful_walk.proofs.Writing.{late_later, older_two, set_late}
 use Rattle.lawful_walk.proofs.Agreed.{agreed_word, differs_is, differs_not}
 use Rattle.lawful_walk.proofs.CarryParts.{carried_by, cell_in, none_carried, one_store, reports_end}
@@ -122,7 +123,8 @@ module _ (job : JobData) (y : LayoutData) (w q : ℕ) (aim : Aim) (g x i : ℕ) 
       Safe job y w q aim (reports y (suc x) after) history
   unfolding Late Common_done
   other_safe c v cell asked not after done history sees =
-      reports_end job y w q aim x some most step phase (Late c) (late_lasts c cell) (λ words h. h.0) not after history sees
+      reports_end job y w q aim x some most step phase (Late c) (late_lasts c cell) (λ words h. h.0)
+      not after history sees
       (λ longer more. done longer (so job y longer
       (λ words. Late c words × (root y words < q → conflict y words ≡ suc x))
       (λ words. Floor job y q x words × (root y words < q → Common_done words))
@@ -141,8 +143,10 @@ module _ (job : JobData) (y : LayoutData) (w q : ℕ) (aim : Aim) (g x i : ℕ) 
       (λ words. Floor job y q x words × (root y words < q → Common_done words))
       (λ words stands h. (
         h.0.0,
-        λ live.
-            (carried_by job y x i c v words cell asked h.0.1, stays_by c v words cell asked (h.1 live)),
+        λ live. (
+          carried_by job y x i c v words cell asked h.0.1,
+          stays_by c v words cell asked (h.1 live),
+        ),
       )) sees)
 
   At : ℕ → ℕ → ℕ → List ℕ → Type 0
@@ -244,7 +248,8 @@ module _ (job : JobData) (y : LayoutData) (w q : ℕ) (aim : Aim) (g x i : ℕ) 
       let n = next_inside y.form (root y first.words) x (let f = fl.root in omega arith) in (
         both_floor job y w q aim g x i some most step board proc wide c a b words stands m,
         place_as_heard job y x c a b first.words m.words words first.stands m.stands stands
-            first.since m.since (cell_in job y board c cell) fl.reached (omega arith) first.heard m.heard early,
+            first.since m.since (cell_in job y board c cell) fl.reached (omega arith) first.heard
+            m.heard early,
         older_changed c a b words cell stands m,
       )
 
@@ -289,7 +294,8 @@ module _ (job : JobData) (y : LayoutData) (w q : ℕ) (aim : Aim) (g x i : ℕ) 
       elim (cases_eq (held y m.words (Stored c k)) (older_word a b)) [
         | inl is ↦ (
             let below : number_of y (Stored c k) < length m.words =
-            (let n = (numbering y m.stands.sizes).below (Stored c k) (cell_in job y board c cell, two) in
+            (let n = (numbering y m.stands.sizes).below (Stored c k)
+            (cell_in job y board c cell, two) in
             let l = m.stands.admitted.len in omega arith) in
             let set : held y (words_after m.words (swap c v a b)) (Stored c k) ≡ word =
             subst (λ (l : List ℕ). held y l (Stored c k) ≡ word)
@@ -317,7 +323,8 @@ module _ (job : JobData) (y : LayoutData) (w q : ℕ) (aim : Aim) (g x i : ℕ) 
       let wins = λ (j : ℕ).
       wins_all job x c j (λ e. absurd (let k : Common ≡ Priority = sym rule ∙ e in cc)) in
       d.1 (ap payload_of m.heard ∙ agreed_word job x c i v y board agrees asked wins m.words
-      (older a b) m.stands (cell_in job y board c cell, older_two a b) (sym (ap stamp_of m.heard) ∙ d.0))
+      (older a b) m.stands (cell_in job y board c cell, older_two a b)
+      (sym (ap stamp_of m.heard) ∙ d.0))
 
   compared_safe : (c v : ℕ) → job.rule ≡ Common → c < job.cells → Asks job x c i v →
       (after : Script Then) → EndSafe job y w q aim x Common_done after →
@@ -390,25 +397,28 @@ module _ (job : JobData) (y : LayoutData) (w q : ℕ) (aim : Aim) (g x i : ℕ) 
             so job y longer (Swaps c a b)
                 (λ words. aim.given words → Goes job y w q (swap c v a b) words)
                 (λ words stands h given. goes_of job y w q (swap c v a b) words
-                ((writes_keep job y words q x stands some most step h.0).place c i v a b
+                ((writes_keep job y words q x stands some most step h.0).place c i v a b proc
                 (written job y q g x wide phase c cell) lands wins h.1)) ready,
             λ found ok. found_safe a b found small ((swap c v a b, found) ∷ longer)
                 (heard job y longer (Swaps c a b) (swap c v a b) found ready),
           )
 
   pub carry_task_safe : job.rule ≡ Common → (memo : Memo) → IsTrueMemo job i memo →
-      (then_all : Memo → Script Then) → EndSafe job y w q aim x
-      (λ words. CarriedCell job y x words i × Stays job y x words i) (then_all memo) →
+      (after : Memo → Script Then) → LearnedSafe job y w q aim x i
+      (λ words. CarriedCell job y x words i × Stays job y x words i) after →
       (history : List (Op × ℕ)) → Sees job y history (Floor job y q x) →
-      Safe job y w q aim (carry_task job y (suc x) i memo then_all) history
+      Safe job y w q aim (carry_task job y (suc x) i memo after) history
   unfolding carry_task Common_done
-  carry_task_safe rule memo is_true then_all done history sees =
-      let after : Script Then = then_all memo in
-      stores_safe job y w q aim g x i some most step board proc wide (omega arith) Common_done
-      after done
+  carry_task_safe rule memo is_true after done history sees =
+      let then_all = after (carried (suc x) memo) in
+      let here = in_job job y w q aim g x i some most step board proc wide in
+      stores_safe job y w q aim g x i some most step board proc wide (omega (arith, phase))
+      Common_done (after memo) (done memo is_true)
       (λ none words. (
         none_carried job y w q aim g x i some most step board proc wide none words,
         inr (λ c v asked cell. absurd (none c v cell asked)),
       )) memo is_true
-      (λ c v. writes_compared y (suc x) c v after) history sees (λ longer more c v cell asked.
-      compared_safe c v rule cell asked after done longer more)
+      (λ c v. writes_compared y (suc x) c v then_all) history sees (λ longer more c v cell asked.
+      compared_safe c v rule cell asked then_all
+      (done (carried (suc x) memo) (carried_true job i board.limits here (suc x) memo is_true))
+      longer more)

@@ -1,6 +1,6 @@
 -- A block of the passes that write: a processor's data and its next counter are carried out, where
 -- all its writes win.
-use Rattle.std.proofs.Common.{◌≡◌, ℕ, suc, ◌-◌, ◌*◌, ◌<◌, ◌≤◌, ◌==◌, false, List, refl, sym, subst}
+use Rattle.std.proofs.Common.{◌≡◌, ℕ, suc, ◌-◌, ◌*◌, ◌<◌, ◌≤◌, ◌==◌, false, List, sym, subst}
 use Rattle.std.proofs.Common.{inl, inr, arith}
 use Rattle.std.proofs.lemmas.Bool.{cond_both, eqb-true, eqb-false}
 use Rattle.pram_job.specs.Job.{JobData}
@@ -9,7 +9,6 @@ use Rattle.pram_step.proofs.Past.{counter_write, data_write, each_write, asks_fi
 use Rattle.pram_step.specs.History.{Asks, Wins, part_after}
 use Rattle.pram_words.specs.Phases.{step_at}
 use Rattle.pram_words.specs.Words.{LayoutData, places_of}
-use Rattle.pram_words.specs.declared.layout.Form.{Form}
 use Rattle.pram_words.specs.declared.layout.Form.TheVariants.{Compact}
 use Rattle.walkx.proofs.Boards.{same_cells, same_procs}
 use Rattle.walkx.specs.Scripts.{Script}
@@ -20,25 +19,29 @@ use Rattle.lawful_walk.specs.Lands.{Lands, phase_written}
 use Rattle.lawful_walk.specs.Board.{IsLate, Carried, Stands}
 use Rattle.lawful_walk.proofs.Scripts.{Aim, Safe}
 use Rattle.lawful_walk.proofs.Sees.{Sees, Lasts, so}
+use Rattle.lawful_walk.proofs.Winners.{compact_lands, lands_compact}
 use Rattle.lawful_walk.proofs.Writing.{writes_safe, late_later}
 use Rattle.lawful_walk.specs.Writes.{Floor}
 
 module _ (job : JobData) (y : LayoutData)
     (w q : ℕ) (aim : Aim) (x i place value next : ℕ) (some : 1 ≤ q) (most : q ≤ 3 * job.steps)
     (step : step_at q ≡ suc x) (compact : y.form ≡ Compact)
-    (phase : (p : ℕ) → q ≡ phase_written y.form job p x) (proc : i < job.procs)
+    (phase : (p : ℕ) → q ≡ phase_written y.form job p x) (proc : i < y.procs)
+    (here : i < job.procs)
     (wins : (p v : ℕ) → Asks job x p i v → Wins job x p i) (P : List ℕ → Type 0)
     (lasts : Lasts job y P) (floor : (words : List ℕ) → P words → Floor job y q x words)
     (parts : (words : List ℕ) → P words → (place ≡ part_after job x i 0)
     × (value ≡ part_after job x i 1) × (next ≡ part_after job x i 2)) where
   -- in the compact form each write gets a word
   lands : (p v : ℕ) → Asks job x p i v → Lands y.form job x p i v
-  lands p v asks = subst (λ (f : Form). Lands f job x p i v) (sym compact)
-      (record { asks = asks; told = refl })
+  lands p v asks = compact_lands y.form job x p i v compact asks
+
+  asked_of : (p v : ℕ) → Lands y.form job x p i v → Asks job x p i v
+  asked_of p v lands = lands_compact y.form job x p i v compact lands
 
   ask_next : (words : List ℕ) → P words → Asks job x (counter_place job i) i next
   ask_next words k = subst (λ (v : ℕ). Asks job x (counter_place job i) i v)
-      (sym (parts words k).2) (counter_write job x i proc)
+      (sym (parts words k).2) (counter_write job x i here)
 
   ask_data : (words : List ℕ) → Stands job y words → P words → (place == 0) ≡ false →
       Asks job x (place - 1) i value
@@ -47,7 +50,7 @@ module _ (job : JobData) (y : LayoutData)
       let h = parts words k in
       let g = h.0 in
       subst (λ (v : ℕ). Asks job x (place - 1) i v) (sym h.1)
-      (data_write job x i (place - 1) stands.limits proc (omega arith)).0
+      (data_write job x i (place - 1) stands.limits here (omega arith)).0
 
   place_in : (words : List ℕ) (p v : ℕ) → Stands job y words → Asks job x p i v → p < places_of y
   place_in words p v stands asks =
@@ -60,14 +63,14 @@ module _ (job : JobData) (y : LayoutData)
   -- the counter alone
   all_next : (words : List ℕ) → P words → place ≡ 0 →
       IsLate y x (counter_place job i) words → Carried job y x words i
-  all_next words k none late p v lands = elim (each_write job x p i v lands.asks) [
+  all_next words k none late p v lands = elim (each_write job x p i v (asked_of p v lands)) [
     | inl h ↦ subst (λ (p : ℕ). IsLate y x p words) (sym h.0) late
     | inr h ↦ absurd (let g = (parts words k).0 in let e = h.0 in omega arith)
   ]
 
   all_both : (words : List ℕ) → P words → IsLate y x (place - 1) words →
       IsLate y x (counter_place job i) words → Carried job y x words i
-  all_both words k first late p v lands = elim (each_write job x p i v lands.asks) [
+  all_both words k first late p v lands = elim (each_write job x p i v (asked_of p v lands)) [
     | inl h ↦ subst (λ (p : ℕ). IsLate y x p words) (sym h.0) late
     | inr h ↦ subst (λ (p : ℕ). IsLate y x p words) (let g = (parts words k).0 in
         let e = h.0 in omega arith) first
@@ -98,19 +101,20 @@ module _ (job : JobData) (y : LayoutData)
       (writes_place y (suc x) (place - 1) value
       (writes_place y (suc x) (counter_place job i) next after))
       (λ (s : Script Then). Safe job y w q aim s history) (λ e.
-      writes_safe job y w q aim x (counter_place job i) i next some most step
+      writes_safe job y w q aim x (counter_place job i) i next proc some most step
       (phase (counter_place job i)) P lasts floor
       (λ words k. (lands _ _ (ask_next words k), wins _ _ (ask_next words k))) after history sees
       (λ longer more.
       on longer (so job y longer (λ words. P words × IsLate y x (counter_place job i) words)
       (λ words. P words × Carried job y x words i)
       (λ words stands h. (h.0, all_next words h.0 (eqb-true place 0 e) h.1)) more)))
-      (λ e. writes_safe job y w q aim x (place - 1) i value some most step (phase (place - 1)) Known
+      (λ e. writes_safe job y w q aim x (place - 1) i value proc some most step
+      (phase (place - 1)) Known
       (λ words later a b up h. (lasts words later a b up h.0, b)) (λ words h. floor words h.0)
       (λ words h. let a = ask_data words h.1 h.0 e in
       (lands _ _ a, wins _ _ a)) (writes_place y (suc x) (counter_place job i) next after) history
       (so job y history P Known (λ words stands k. (k, stands)) sees) (λ longer more.
-      writes_safe job y w q aim x (counter_place job i) i next some most step
+      writes_safe job y w q aim x (counter_place job i) i next proc some most step
       (phase (counter_place job i)) Data
       (data_lasts e) (λ words h. floor words h.0)
       (λ words h. (lands _ _ (ask_next words h.0), wins _ _ (ask_next words h.0))) after longer

@@ -1,5 +1,5 @@
--- Carry in the wide form under the rules crew and priority: the claim to a processor's cell is heard,
--- and its store written.
+-- Carry in the wide form under the rules crew and priority: the claim to a processor's cell is
+-- heard, and its store written.
 use Rattle.std.proofs.Common.{◌≡◌, ◌≢◌, ℕ, zero, suc, ◌+◌, ◌*◌, ◌^◌, ◌<◌, ◌≤◌, ◌==◌}
 use Rattle.std.proofs.Common.{nat_lt, true, false, List, ◌∷◌}
 use Rattle.std.proofs.Common.{if◌then◌else◌, IsTrue, refl, sym, ap, subst, ◌∙◌, inl, inr}
@@ -28,7 +28,7 @@ use Rattle.walkx.specs.Walk.{Then, IsBoard}
 use Rattle.walkx.proofs.Boards.{same_cells, same_procs}
 use Rattle.walkx.specs.declared.memo.Memo.{Memo}
 use Rattle.walkx.specs.Memory.{IsTrueMemo}
-use Rattle.walkx.specs.Passes.{reports_other, crew_carry_task}
+use Rattle.walkx.specs.Passes.{carried, crew_carry_task, reports_other}
 use Rattle.walkx.specs.Passes.{priority_carry_task}
 use Rattle.lawful_walk.specs.Board.{held, root, conflict, finished, IsLate}
 use Rattle.lawful_walk.specs.Board.{ClaimStays, ClaimsFor, CarriedCell, IsClaimed, Stands}
@@ -41,11 +41,13 @@ use Rattle.lawful_walk.proofs.Landings.{last_most}
 use Rattle.lawful_walk.specs.Moments.{Moment}
 use Rattle.lawful_walk.specs.Writes.{Floor}
 use Rattle.lawful_walk.proofs.Facts.{facts}
-use Rattle.lawful_walk.proofs.Known.{floor_lasts, safe_known, EndSafe, StaleSafe}
+use Rattle.lawful_walk.proofs.Known.{floor_lasts, safe_known, EndSafe, LearnedSafe, StaleSafe}
 use Rattle.lawful_walk.proofs.Known.{stale_end}
+use Rattle.lawful_walk.proofs.Owning.{in_job}
 use Rattle.lawful_walk.proofs.Scripts.{Aim, Safe, load_safe}
 use Rattle.lawful_walk.proofs.Sees.{Sees, Lasts, so, heard, later}
 use Rattle.lawful_walk.proofs.Stores.{stores_safe}
+use Rattle.lawful_walk.proofs.TrueMemos.{carried_true}
 use Rattle.lawful_walk.proofs.Values.{claim_low}
 use Rattle.lawful_walk.proofs.Writing.{writes_safe}
 use Rattle.lawful_walk.proofs.Agreed.{claimant, differs_is, differs_not}
@@ -175,20 +177,24 @@ module _ (job : JobData) (y : LayoutData) (w q : ℕ) (aim : Aim) (g x i : ℕ) 
   )
 
   pub crew_carry_task_safe : job.rule ≡ Crew → IsTrue y.claims → (memo : Memo) →
-      IsTrueMemo job i memo → (then_all : Memo → Script Then) → EndSafe job y w q aim x
-      (λ words. CarriedCell job y x words i × ClaimStays job y x words i) (then_all memo) →
+      IsTrueMemo job i memo → (then_all : Memo → Script Then) → LearnedSafe job y w q aim x i
+      (λ words. CarriedCell job y x words i × ClaimStays job y x words i) then_all →
       (history : List (Op × ℕ)) → Sees job y history (Floor job y q x) →
       Safe job y w q aim (crew_carry_task job y (suc x) i memo then_all) history
   unfolding crew_carry_task Crew_done Claimed_at Named Kept
   crew_carry_task_safe rule has memo is_true then_all done history sees =
-      let after : Script Then = then_all memo in
+      let then_memo = carried (suc x) memo in
+      let after : Script Then = then_all then_memo in
+      let here = in_job job y w q aim g x i some most step board proc wide in
+      let ended : EndSafe job y w q aim x Crew_done after =
+      done then_memo (carried_true job i board.limits here (suc x) memo is_true) in
       let wins = λ (c : ℕ). wins_all job x c i (λ e. absurd
       (let k : Crew ≡ Priority = sym rule ∙ e in cc)) in
       let writes = λ (c v : ℕ). writes_place y (suc x) c v after in
       let rest = λ (c v found : ℕ).
       reports_other y (suc x) (differs (suc x) (claim_of job i) found) (writes c v) in
-      stores_safe job y w q aim g x i some most step board proc wide (omega arith) Crew_done after
-      done
+      stores_safe job y w q aim g x i some most step board proc wide (omega (arith, phase))
+      Crew_done (then_all memo) (done memo is_true)
       (λ none words. (
         none_carried job y w q aim g x i some most step board proc wide none words,
         inr (λ c v asked cell. absurd (none c v cell asked)),
@@ -206,11 +212,12 @@ module _ (job : JobData) (y : LayoutData) (w q : ℕ) (aim : Aim) (g x i : ℕ) 
       (AgreesAfter job x → ⊥) (so job y heard_too (Claimed_at c found)
       (λ words. AgreesAfter job x → ⊥)
       (λ words stands m. crew_disagrees c v found words rule cell has asked m d) at)
-      (λ not. reports_end job y w q aim x some most step phase (Floor job y q x) (floor_lasts job y q x) (λ words f. f) not (writes c v)
+      (λ not. reports_end job y w q aim x some most step phase (Floor job y q x)
+      (floor_lasts job y q x) (λ words f. f) not (writes c v)
       heard_too (so job y heard_too (Claimed_at c found) (Floor job y q x)
       (λ words stands m. claimed_floor c found words stands m) at) (λ longest reported.
-      named_safe c v cell asked (wins c) after done longest reported)))
-      (λ d. own_safe c v found cell asked (wins c) d after done heard_too at)))
+      named_safe c v cell asked (wins c) after ended longest reported)))
+      (λ d. own_safe c v found cell asked (wins c) d after ended heard_too at)))
     where
       -- the conflict is reported: the cell is written all the same
       named_safe : (c v : ℕ) → c < job.cells → Asks job x c i v → Wins job x c i →
@@ -221,8 +228,11 @@ module _ (job : JobData) (y : LayoutData) (w q : ℕ) (aim : Aim) (g x i : ℕ) 
           Safe job y w q aim (writes_place y (suc x) c v after) longest
       named_safe c v cell asked wins after done longest reported =
           let lands = cell_lands y.form job x c i v cell asked in
-          writes_safe job y w q aim x c i v some most step (written job y q g x wide phase c cell) Named named_lasts
-          (λ words h. h.0) (λ words h. (lands, wins)) after longest reported (λ last known.
+          writes_safe job y w q aim x c i v proc some most step
+          (written job y q g x wide phase c cell) Named named_lasts
+          (λ words h. h.0)
+          (λ words h. (lands, wins)) after longest
+          reported (λ last known.
           done last (so job y last (λ words. Named words × IsLate y x c words)
           (λ words. Floor job y q x words × (root y words < q → Crew_done words))
           (λ words stands h. (
@@ -240,8 +250,10 @@ module _ (job : JobData) (y : LayoutData) (w q : ℕ) (aim : Aim) (g x i : ℕ) 
           Safe job y w q aim (writes_place y (suc x) c v after) longest
       own_safe c v found cell asked wins d after done longest at =
           let lands = cell_lands y.form job x c i v cell asked in
-          writes_safe job y w q aim x c i v some most step (written job y q g x wide phase c cell) (Kept c found)
-          (kept_lasts c found) (λ words h. h.0) (λ words h. (lands, wins)) after longest
+          writes_safe job y w q aim x c i v proc some most step
+          (written job y q g x wide phase c cell) (Kept c found)
+          (kept_lasts c found) (λ words h. h.0)
+          (λ words h. (lands, wins)) after longest
           (so job y longest (Claimed_at c found) (Kept c found)
           (λ words stands m. (claimed_floor c found words stands m, m)) at) (λ last known.
           done last (so job y last (λ words. Kept c found words × IsLate y x c words)
@@ -309,20 +321,27 @@ module _ (job : JobData) (y : LayoutData) (w q : ℕ) (aim : Aim) (g x i : ℕ) 
 
   pub priority_carry_task_safe : job.rule ≡ Priority → IsTrue y.claims → (memo : Memo) →
       IsTrueMemo job i memo → (then_all : Memo → Script Then) →
-      EndSafe job y w q aim x (λ words. CarriedCell job y x words i) (then_all memo) →
+      LearnedSafe job y w q aim x i (λ words. CarriedCell job y x words i) then_all →
       (history : List (Op × ℕ)) → Sees job y history (Floor job y q x) →
       Safe job y w q aim (priority_carry_task job y (suc x) i memo then_all) history
   unfolding priority_carry_task Claimed_at
   priority_carry_task_safe rule has memo is_true then_all done history sees =
-      let after : Script Then = then_all memo in
+      let then_memo = carried (suc x) memo in
+      let late : Script Then = then_all memo in
+      let after : Script Then = then_all then_memo in
+      let here = in_job job y w q aim g x i some most step board proc wide in
       let D = λ (words : List ℕ). CarriedCell job y x words i in
-      let stale : StaleSafe job y w q aim x after = stale_end job y w q aim x D after done in
+      let stale : StaleSafe job y w q aim x late =
+      stale_end job y w q aim x D late (done memo is_true) in
+      let ended : EndSafe job y w q aim x D after =
+      done then_memo (carried_true job i board.limits here (suc x) memo is_true) in
       let writes = λ (c v : ℕ). writes_place y (suc x) c v after in
       let owner = λ (c v found : ℕ).
       if payload_of found == claim_of job i then writes c v else after in
       let rest = λ (c v found : ℕ).
-      if nat_lt (suc x) (stamp_of found) then after else owner c v found in
-      stores_safe job y w q aim g x i some most step board proc wide (omega arith) D after done
+      if nat_lt (suc x) (stamp_of found) then late else owner c v found in
+      stores_safe job y w q aim g x i some most step board proc wide (omega (arith, phase)) D late
+      (done memo is_true)
       (none_carried job y w q aim g x i some most step board proc wide) memo is_true
       (λ c v. asks (Load (number_of y (Claim c))) (rest c v)) history sees
       (λ longer more c v cell asked.
@@ -332,7 +351,7 @@ module _ (job : JobData) (y : LayoutData) (w q : ℕ) (aim : Aim) (g x i : ℕ) 
       heard job y longer (Floor job y q x) (Load (number_of y (Claim c))) found more in
       let floors : Sees job y heard_too (Floor job y q x) = so job y heard_too (Claimed_at c found)
       (Floor job y q x) (λ words stands m. claimed_floor c found words stands m) at in
-      cond_both (nat_lt (suc x) (stamp_of found)) after (owner c v found)
+      cond_both (nat_lt (suc x) (stamp_of found)) late (owner c v found)
       (λ (s : Script Then). Safe job y w q aim s heard_too)
       (λ l. stale heard_too (so job y heard_too (Claimed_at c found)
       (λ words. Floor job y q x words × (q ≤ root y words)) (λ words stands m.
@@ -344,14 +363,15 @@ module _ (job : JobData) (y : LayoutData) (w q : ℕ) (aim : Aim) (g x i : ℕ) 
       cond_both (payload_of found == claim_of job i) (writes c v) after
       (λ (s : Script Then). Safe job y w q aim s heard_too)
       (λ e. won_safe c v cell asked (judge.won (eqb-true (payload_of found) (claim_of job i) e))
-      after done heard_too floors)
-      (λ e. done heard_too (so job y heard_too (Floor job y q x)
+      after ended heard_too floors)
+      (λ e. ended heard_too (so job y heard_too (Floor job y q x)
       (λ words. Floor job y q x words × (root y words < q → CarriedCell job y x words i))
       (λ words stands f. (
         f,
         λ live d u other also wins. absurd
             (judge.lost (eqb-false (payload_of found) (claim_of job i) e)
-            (subst (λ (d : ℕ). Wins job x d i) (one_store job x i d u c v also cell other asked).0 wins)),
+            (subst (λ (d : ℕ). Wins job x d i) (one_store job x i d u c v also cell other asked).0
+            wins)),
       ))
       floors))))))
     where
@@ -362,8 +382,11 @@ module _ (job : JobData) (y : LayoutData) (w q : ℕ) (aim : Aim) (g x i : ℕ) 
           Safe job y w q aim (writes_place y (suc x) c v after) longest
       won_safe c v cell asked wins after done longest more =
           let lands = cell_lands y.form job x c i v cell asked in
-          writes_safe job y w q aim x c i v some most step (written job y q g x wide phase c cell) (Floor job y q x)
-          (floor_lasts job y q x) (λ words f. f) (λ words f. (lands, wins)) after longest more
+          writes_safe job y w q aim x c i v proc some most step
+          (written job y q g x wide phase c cell) (Floor job y q x)
+          (floor_lasts job y q x) (λ words f. f)
+          (λ words f. (lands, wins)) after
+          longest more
           (λ last known. done last (so job y last
           (λ words. Floor job y q x words × IsLate y x c words)
           (λ words. Floor job y q x words × (root y words < q → CarriedCell job y x words i))

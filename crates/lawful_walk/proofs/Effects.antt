@@ -40,8 +40,8 @@ writes_keep job y words q x stands some most step floor = record {
   inner = inner_marks job y words q x stands some most step floor;
   leaf = leaf_marks job y words q x stands some most step floor;
   jump = jump_does job y words q x stands some most step floor;
-  place = λ p i v a b phase lands wins as_heard.
-      stored_does job y words q x stands some most step floor p i v phase lands wins a b as_heard;
+  place = λ p i v a b proc phase lands wins as_heard. stored_does job y words q x stands some most
+      step floor p i v proc phase lands wins a b as_heard;
   conflict = λ kind not. conflict_does job y words q x stands some most step floor kind not
       (phase_at x q Verify some step kind);
   claim = λ c i v is phase asks.

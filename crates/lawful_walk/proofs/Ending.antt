@@ -42,7 +42,8 @@ pub over_heard : (job : JobData) (y : LayoutData) (w : Walking) (e : Ended) → 
 over_heard job y w e well is =
     subst (λ (d : Doing). Brings job y w.number (node_of y w) d (stops e) (heard_of job y w)) is
     (subst (λ (s : Script Then). AllEnds (Brings job y w.number (node_of y w) w.now) s
-    (heard_of job y w)) (over_rest w.now e (rest_of job y w) is well.matches) (worker_ends job y w well.block))
+    (heard_of job y w)) (over_rest w.now e (rest_of job y w) is well.matches)
+    (worker_ends job y w well.block))
 
 -- ---- the end
 

@@ -24,7 +24,6 @@ use Rattle.pram_words.proofs.NextPhases.{next_above}
 use Rattle.walkx.specs.Tasks.{claim_of}
 use Rattle.walkx.specs.Walk.{IsLayoutOf, IsBoard}
 use Rattle.walkx.proofs.Boards.{same_cells, same_procs}
-use Rattle.walkx.specs.Counters.{worth}
 use Rattle.lawful_walk.specs.Board.{held, root, conflict, leaf, leaf_of, stamp_at, finished, IsLate}
 use Rattle.lawful_walk.specs.Board.{HoldsNew, Raised, Claimed, ClaimStays, phase_in, CarriedCell}
 use Rattle.lawful_walk.specs.Board.{CarriedOwn, CompactDone, DoneIn, IsNew, IsPair, Stays, WideDone}
@@ -39,10 +38,11 @@ use Rattle.lawful_walk.proofs.Values.{first_is, second_is, has_settled, newer_is
 use Rattle.lawful_walk.proofs.Values.{newer_is_second}
 use Rattle.lawful_walk.specs.Lands.{IsLanded, Lands, last_landing, landing_before, phase_claimed}
 use Rattle.lawful_walk.specs.Lands.{compact_phase_written, phase_written, settled, settled_before}
-use Rattle.lawful_walk.specs.Lands.{word_of_step}
+use Rattle.lawful_walk.specs.Lands.{told_at, word_of_step}
 use Rattle.lawful_walk.proofs.Landings.{last_most, last_is, last_least, last_between, before_most}
-use Rattle.lawful_walk.proofs.Landings.{stamp_step, settled_worth}
-use Rattle.lawful_walk.proofs.Winners.{Winner, winner, cell_lands, written_of}
+use Rattle.lawful_walk.proofs.Landings.{stamp_step, settled_tells}
+use Rattle.lawful_walk.proofs.Winners.{Winner, winner, cell_lands, lands_cell, lands_writer}
+use Rattle.lawful_walk.proofs.Winners.{written_of}
 
 -- ---- what holds of words that stand
 
@@ -80,9 +80,8 @@ pub record WordsShow (job : JobData) (y : LayoutData) (words : List ℕ) : Type 
   pub conflict_asked : y.form ≡ Compact → (i j : ℕ) → i < y.procs → j < 3 →
       conflict y words ≢ 0 → stamp_of (held y words (Asked i j)) ≡ conflict y words
   pub final_held : (p : ℕ) → p < places_of y → root y words ≡ 3 * job.steps → conflict y words ≡ 0 →
-      worth y.form job job.steps p
-      (newer_word (held y words (Stored p 0)) (held y words (Stored p 1)))
-      ≡ slice_index (state_after job job.steps) p
+      payload_of (newer_word (held y words (Stored p 0)) (held y words (Stored p 1)))
+      ≡ slice_index (state_after job (told_at y.form job job.steps p)) p
   pub claims_high : (x c i v : ℕ) → IsWord y (Claim c) → phase_claimed y.form x ≤ root y words →
       Asks job x c i v → stamped_word (suc x) (claim_of job i) ≤ held y words (Claim c)
 
@@ -292,20 +291,20 @@ module _ (job : JobData) (y : LayoutData) (words : List ℕ) (gone : ℕ) (limit
       let l = gone_low in
       ((a.part x e).0, omega arith)
 
-  claim_step : (x c word : ℕ) → stamp_of word ≡ suc x →
+  claim_step : (x c word : ℕ) → c < job.cells → stamp_of word ≡ suc x →
       IsClaimed y.form job (gone) (root y words) c word → IsReached job x × IsWritten job x c
       × (phase_claimed y.form x ≤ next_phase y.form (root y words))
-  claim_step x c word e (claimed_before is claims) =
+  claim_step x c word cell e (claimed_before is claims) =
       let s : last_landing y.form job (gone) c ≡ suc x = sym is ∙ e in
       let m = last_most y.form job limits (gone) c in
       let l = gone_low in
       let h = claim_most y.form x in
       let n = (next_above y.form (root y words)).0 in (
         reached_down job x (gone) (omega arith) lawful.reached,
-        written_of y.form job x c (last_is y.form job limits (gone) c x s),
+        written_of y.form job x c cell (last_is y.form job limits (gone) c x s),
         omega arith,
       )
-  claim_step x c word e (claimed_now is claims low) =
+  claim_step x c word cell e (claimed_now is claims low) =
       let same : gone ≡ x = omega arith in (
         subst (IsReached job) same lawful.reached,
         subst (λ (s : ℕ). IsWritten job s c) same
@@ -429,14 +428,20 @@ module _ (job : JobData) (y : LayoutData) (words : List ℕ) (gone : ℕ) (limit
       let w = (writer_is job (state_after job s) p i v asks).0 in
       let e = same_procs job y board in omega arith
 
+  landed_below : (form : Form) (s p i v : ℕ) → p < places_of y → Lands form job s p i v →
+      i < y.procs
+  landed_below form s p i v place lands =
+      let w = lands_writer form job s p i v limits (place_below p place) lands in
+      let e = same_procs job y board in omega (arith, w, e)
+
   -- the writes of the step after the finished ones are made, where their phase is over
-  pub late_now : (form : Form) (rule : Rule) → y.form ≡ form → (p : ℕ)
+  pub late_now : (form : Form) (rule : Rule) → y.form ≡ form → (p : ℕ) → p < places_of y →
       (w : Winner form job (gone) p) →
       ((i : ℕ) (kind : Kind) → i < y.procs → phase_in (gone) kind ≤ root y words →
       DoneIn form rule kind job y (gone) words i) →
       (rule ≡ job.rule) → phase_written form job p (gone) ≤ root y words → IsLate y (gone) p words
-  late_now form rule is p w done ruled h =
-      by form rule is (writer_below (gone) p w.writer w.value w.lands.asks) w.lands w.wins
+  late_now form rule is p place w done ruled h =
+      by form rule is (landed_below form (gone) p w.writer w.value place w.lands) w.lands w.wins
       (done w.writer) ruled h
     where
       by : (form : Form) (rule : Rule) → y.form ≡ form → w.writer < y.procs →
@@ -460,7 +465,7 @@ module _ (job : JobData) (y : LayoutData) (words : List ℕ) (gone : ℕ) (limit
       by (Wide g) rule is proc lands wins done ruled h = elim (cases_lt p job.cells) [
         | inl cell ↦ wide_cell rule (done Verify proc
             (let l : 3 * gone + 3 ≤ root y words = rw (lt-ltb p job.cells cell) at h in l))
-            p w.value lands.asks cell wins
+            p w.value (lands_cell (Wide g) job (gone) p w.writer w.value cell lands) cell wins
         | inr own ↦ wide_own rule (done Compute proc
             (let l : 3 * gone + 1 ≤ root y words = rw (le-ltb p job.cells own) at h in l))
             p w.value (subst (λ (f : Form). Lands f job (gone) p w.writer w.value) (sym is) lands)
@@ -486,7 +491,7 @@ module _ (job : JobData) (y : LayoutData) (words : List ℕ) (gone : ℕ) (limit
       let up = root_fin x (omega arith) in
       elim (cases_order x (gone)) [
         | inl e ↦ subst (λ (n : ℕ). IsLate y n p words) (sym e)
-            (late_now y.form job.rule refl p (winner y.form job (gone) p limits
+            (late_now y.form job.rule refl p place (winner y.form job (gone) p limits
             (subst (λ (n : ℕ). IsLanded y.form job n p) e w)) (done_in y.form refl) refl
             (subst (λ (n : ℕ). phase_written y.form job p n ≤ root y words) e h))
         | inr c ↦ elim c [
@@ -595,20 +600,17 @@ module _ (job : JobData) (y : LayoutData) (words : List ℕ) (gone : ℕ) (limit
         ]
       ]
 
-  -- of two words with no new one the newer stands for the value
-  pub newer_worth : (p a b : ℕ) → p < places_of y → stamp_of a ≤ gone → stamp_of b ≤ gone →
+  -- of two words with no new one the newer is the settled one
+  pub newer_settled : (p a b : ℕ) → stamp_of a ≤ gone → stamp_of b ≤ gone →
       IsPair y.form job (gone) (root y words) p a b →
-      worth y.form job (gone) p (newer_word a b) ≡ slice_index (state_after job (gone)) p
-  newer_worth p a b place low also (newer_first e g) =
+      newer_word a b ≡ settled y.form job (gone) p
+  newer_settled p a b low also (newer_first e g) =
       let s : stamp_of a ≡ last_landing y.form job (gone) p =
       ap stamp_of e ∙ stamp_settled (gone) p in
       let o : stamp_of b ≡ landing_before y.form job (last_landing y.form job (gone) p) p =
       ap stamp_of g ∙ stamp_before (gone) p in
-      let v : worth y.form job (gone) p a ≡ slice_index (state_after job (gone)) p =
-      ap (worth y.form job (gone) p) e
-      ∙ settled_worth y.form job limits (gone) p (place_below p place) in
       elim (cases_lt (stamp_of b) (stamp_of a)) [
-        | inl c ↦ ap (worth y.form job (gone) p) (newer_is_first a b c) ∙ v
+        | inl c ↦ newer_is_first a b c ∙ e
         | inr c ↦ (
             let none : last_landing y.form job (gone) p ≡ 0 =
             (elim (cases_lt (last_landing y.form job (gone) p) 1) [
@@ -621,19 +623,25 @@ module _ (job : JobData) (y : LayoutData) (words : List ℕ) (gone : ℕ) (limit
             ≡ last_landing y.form job (gone) p =
             (let m = before_most y.form job limits (last_landing y.form job (gone) p) p in
             omega arith) in
-            let same : b ≡ a = g ∙ ap (λ (n : ℕ). word_of_step job n p) also ∙ sym e in
-            ap (worth y.form job (gone) p) (newer_is_second a b c ∙ same) ∙ v)
+            newer_is_second a b c ∙ g ∙ ap (λ (n : ℕ). word_of_step job n p) also)
       ]
-  newer_worth p a b place low also (newer_second e g some) =
+  newer_settled p a b low also (newer_second e g some) =
       let s : stamp_of b ≡ last_landing y.form job (gone) p =
       ap stamp_of e ∙ stamp_settled (gone) p in
       let o : stamp_of a ≡ landing_before y.form job (last_landing y.form job (gone) p) p =
       ap stamp_of g ∙ stamp_before (gone) p in
       let m = before_most y.form job limits (last_landing y.form job (gone) p) p in
-      ap (worth y.form job (gone) p) (newer_is_second a b (omega arith) ∙ e)
-      ∙ settled_worth y.form job limits (gone) p (place_below p place)
-  newer_worth p a b place low also (new_first n e) = absurd (let s = n.stamp in omega arith)
-  newer_worth p a b place low also (new_second n e some) = absurd (let s = n.stamp in omega arith)
+      newer_is_second a b (omega arith) ∙ e
+  newer_settled p a b low also (new_first n e) = absurd (let s = n.stamp in omega arith)
+  newer_settled p a b low also (new_second n e some) = absurd (let s = n.stamp in omega arith)
+
+  -- and tells the value
+  pub newer_tells : (p a b : ℕ) → p < places_of y → stamp_of a ≤ gone → stamp_of b ≤ gone →
+      IsPair y.form job (gone) (root y words) p a b →
+      payload_of (newer_word a b)
+      ≡ slice_index (state_after job (told_at y.form job (gone) p)) p
+  newer_tells p a b place low also pair = ap payload_of (newer_settled p a b low also pair)
+      ∙ settled_tells y.form job limits (gone) p (place_below p place)
 
 module _ (job : JobData) (y : LayoutData) (words : List ℕ) (stands : Stands job y words) where
   fins : IsFin (root y words) (conflict y words) (finished y words)
@@ -665,9 +673,8 @@ module _ (job : JobData) (y : LayoutData) (words : List ℕ) (stands : Stands jo
       stands.admitted.in_range (Stored p k) is in range.0
 
   final : (p : ℕ) → p < places_of y → root y words ≡ 3 * job.steps → conflict y words ≡ 0 →
-      worth y.form job job.steps p
-      (newer_word (held y words (Stored p 0)) (held y words (Stored p 1)))
-      ≡ slice_index (state_after job job.steps) p
+      payload_of (newer_word (held y words (Stored p 0)) (held y words (Stored p 1)))
+      ≡ slice_index (state_after job (told_at y.form job job.steps p)) p
   final p place full none =
       let low = fins.low in
       let same : finished y words ≡ job.steps =
@@ -678,12 +685,18 @@ module _ (job : JobData) (y : LayoutData) (words : List ℕ) (stands : Stands jo
       ]) in
       let one = low_stamp p 0 (place, lit< tt) in
       let two = low_stamp p 1 (place, lit< tt) in
-      subst (λ (t : ℕ). worth y.form job t p
-      (newer_word (held y words (Stored p 0)) (held y words (Stored p 1)))
-      ≡ slice_index (state_after job t) p) same
-      (newer_worth job y words (finished y words) stands.limits stands.sizes stands.layout
+      subst (λ (t : ℕ).
+      payload_of (newer_word (held y words (Stored p 0)) (held y words (Stored p 1)))
+      ≡ slice_index (state_after job (told_at y.form job t p)) p) same
+      (newer_tells job y words (finished y words) stands.limits stands.sizes stands.layout
       stands.lawful fins.low fins.high p _ _ place (omega arith) (omega arith)
       (stands.lawful.stored p place))
+
+  claim_cell : (c : ℕ) → IsWord y (Claim c) → c < job.cells
+  claim_cell c is =
+      let e = same_cells job y (board job y words (finished y words) stands.limits stands.sizes
+      stands.layout stands.lawful fins.low fins.high) in
+      let l = is.1 in omega (arith, e, l)
 
   -- ---- all of these
 
@@ -709,7 +722,8 @@ module _ (job : JobData) (y : LayoutData) (words : List ℕ) (stands : Stands jo
     asked_from = asked_step job y words (finished y words)
         stands.limits stands.sizes stands.layout stands.lawful fins.low fins.high;
     claim_from = λ x c is e. claim_step job y words (finished y words) stands.limits stands.sizes
-        stands.layout stands.lawful fins.low fins.high x c _ e (stands.lawful.claimed c is);
+        stands.layout stands.lawful fins.low fins.high x c _ (claim_cell c is) e
+        (stands.lawful.claimed c is);
     stored_upto = upto job y words (finished y words)
         stands.limits stands.sizes stands.layout stands.lawful fins.low fins.high;
     stamps_apart = λ p place e. apart_of job y words (finished y words) stands.limits stands.sizes

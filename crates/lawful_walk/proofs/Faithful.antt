@@ -5,8 +5,6 @@ use Rattle.std.proofs.lemmas.Bool.{cases_lt}
 use prog.Atomic.{either}
 use Rattle.pram_job.specs.Job.{JobData}
 use Rattle.pram_step.proofs.LawFixed.{reached_down}
-use Rattle.pram_step.proofs.Past.{written_value}
-use Rattle.pram_step.specs.History.{Asks}
 use Rattle.pram_words.proofs.Numbering.{numbering}
 use Rattle.pram_words.specs.Stamps.{stamp_of, payload_of}
 use Rattle.pram_words.specs.Words.{LayoutData, IsWord, number_of}
@@ -18,8 +16,8 @@ use Rattle.walkx.specs.Records.{Record, empty, after, both}
 use Rattle.walkx.specs.declared.operation.Op.{Op}
 use Rattle.walkx.specs.declared.operation.Op.TheVariants.{Load, Store, Max, Swap, Over}
 use Rattle.lawful_walk.proofs.Landings.{last_most, before_most, stamp_step}
-use Rattle.lawful_walk.proofs.Winners.{winner}
-use Rattle.lawful_walk.specs.Lands.{last_landing, landing_before}
+use Rattle.lawful_walk.proofs.Winners.{landed_value, winner}
+use Rattle.lawful_walk.specs.Lands.{Lands, last_landing, landing_before}
 use Rattle.lawful_walk.proofs.Moments.{stamps_rise, find}
 use Rattle.lawful_walk.specs.Board.{held, root, stamp_at, finished, Grows, Stands}
 use Rattle.lawful_walk.specs.Seen.{Hears}
@@ -83,7 +81,7 @@ module _ (job : JobData) (y : LayoutData) (words : List ℕ) (p k s : ℕ)
     (stands : Stands job y words) (is : IsWord y (Stored p k)) where
   -- its step is finished
   given_before : stamp_at y words p k ≡ suc s → s < finished y words →
-      IsGiven job s p (payload_of (held y words (Stored p k)))
+      IsGiven y.form job s p (payload_of (held y words (Stored p k)))
   given_before e low =
       let f = facts job y words stands in
       let from = f.stored_from s p k is e in
@@ -92,18 +90,19 @@ module _ (job : JobData) (y : LayoutData) (words : List ℕ) (p k s : ℕ)
       stands.sizes stands.layout stands.lawful f.root_low f.root_high p is.0 in
       let value = word_value job y words (suc s) p k stands is e
       (reached_down job (suc s) (finished y words) low stands.lawful.reached) in
-      let writes = written_value job s p win.writer win.value stands.limits below
-      (stands.lawful.reached s low) win.lands.asks win.wins in
+      let writes = landed_value y.form job s p win.writer win.value stands.limits below
+      (stands.lawful.reached s low) win.lands win.wins in
       record {
         reached = from.0;
         writer = win.writer;
-        asks = subst (Asks job s p win.writer) (sym (value ∙ writes)) win.lands.asks;
+        lands = subst (Lands y.form job s p win.writer) (sym (value ∙ writes)) win.lands;
         wins = win.wins;
       }
 
   -- it is not: the word is new
   given_now : (word : ℕ) → stamp_of word ≡ suc s → finished y words ≤ s →
-      WordIs y.form job (finished y words) (root y words) p word → IsGiven job s p (payload_of word)
+      WordIs y.form job (finished y words) (root y words) p word →
+      IsGiven y.form job s p (payload_of word)
   given_now word e high (is_settled w) =
       let f = finished y words in
       let z : stamp_of word ≡ last_landing y.form job (finished y words) p =
@@ -122,16 +121,16 @@ module _ (job : JobData) (y : LayoutData) (words : List ℕ) (p k s : ℕ)
   given_now word e high (is_new n) =
       let z = n.stamp in
       let same : finished y words ≡ s = omega arith in
-      subst (λ (x : ℕ). IsGiven job x p (payload_of word)) same
+      subst (λ (x : ℕ). IsGiven y.form job x p (payload_of word)) same
       (record {
         reached = stands.lawful.reached;
         writer = n.writer;
-        asks =
-            n.lands.asks;
+        lands = n.lands;
         wins = n.wins;
       })
 
-  given : stamp_at y words p k ≡ suc s → IsGiven job s p (payload_of (held y words (Stored p k)))
+  given : stamp_at y words p k ≡ suc s →
+      IsGiven y.form job s p (payload_of (held y words (Stored p k)))
   given e = elim (cases_lt s (finished y words)) [
     | inl c ↦ given_before e c
     | inr c ↦ (let f = facts job y words stands in
@@ -140,7 +139,7 @@ module _ (job : JobData) (y : LayoutData) (words : List ℕ) (p k s : ℕ)
   ]
 
 value_is : (job : JobData) (y : LayoutData) (words : List ℕ) (p k : ℕ) → Stands job y words →
-    IsWord y (Stored p k) → IsValue job p (held y words (Stored p k))
+    IsWord y (Stored p k) → IsValue y.form job p (held y words (Stored p k))
 value_is job y words p k stands is = record {
   start = λ e. word_value job y words 0 p k stands is e (λ s low. absurd (omega arith));
   given = λ s e. given job y words p k s stands is e;
@@ -159,7 +158,8 @@ answer_faithful job y r op found words stands backed heard = record {
       subst (IsPart job i j) (sym (heard ∙ hears_is op (number_of y (Asked i j)) words hears))
       ((stands.lawful.asked compact i j proc part).part);
   stored = λ p k is hears.
-      subst (IsValue job p) (sym (heard ∙ hears_is op (number_of y (Stored p k)) words hears))
+      subst (IsValue y.form job p)
+      (sym (heard ∙ hears_is op (number_of y (Stored p k)) words hears))
       (value_is job y words p k stands is);
 }
 

@@ -9,11 +9,11 @@ use Rattle.pram_words.specs.Stamps.{stamp_of, payload_of, newer_word}
 use Rattle.pram_words.specs.Words.{LayoutData, IsWord, IsStamped, number_of, places_of, most_stored}
 use Rattle.pram_words.specs.declared.layout.Form.TheVariants.{Compact}
 use Rattle.pram_words.specs.declared.words.Word.TheVariants.{Conflict, Asked, Stored}
-use Rattle.walkx.specs.Counters.{worth}
 use Rattle.walkx.specs.Records.{Record, after}
 use Rattle.walkx.specs.Tasks.{is_late}
 use Rattle.walkx.specs.declared.operation.Op.TheVariants.{Load}
 use Rattle.lawful_walk.specs.Board.{held, stamp_at, Stands}
+use Rattle.lawful_walk.specs.Lands.{told_at}
 use Rattle.lawful_walk.specs.Seen.{Heard, KnowsStep}
 use Rattle.lawful_walk.proofs.Facts.{facts}
 use Rattle.lawful_walk.proofs.Growths.{place_as_heard}
@@ -30,14 +30,15 @@ stamps_most job y words p k stands is =
     let range : IsStamped job.steps (most_stored y job p) (held y words (Stored p k)) =
     stands.admitted.in_range (Stored p k) is in range.0
 
--- The two words of a place, loaded one after the other: the newer one has what the place holds in
--- the end.
+-- The two words of a place, loaded one after the other: the newer one has what the place's words
+-- tell in the end.
 pub final_place : (job : JobData) (y : LayoutData) (r : Record) (p a b : ℕ) (words : List ℕ) →
     Stands job y words → KnowsStep y r job.steps → p < places_of y →
     Backed job y
     (after (after r (Load (number_of y (Stored p 0))) a) (Load (number_of y (Stored p 1))) b)
     words →
-    worth y.form job job.steps p (newer_word a b) ≡ slice_index (state_after job job.steps) p
+    payload_of (newer_word a b)
+    ≡ slice_index (state_after job (told_at y.form job job.steps p)) p
 final_place job y r p a b words stands knows place m =
     let first = m.earlier in
     let k = known_now job y r job.steps first.words first.stands first.earlier knows in

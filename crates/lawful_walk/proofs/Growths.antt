@@ -6,20 +6,19 @@ use Rattle.pram_job.specs.Job.{JobData}
 use Rattle.pram_step.specs.Runs.{IsReached, state_after}
 use Rattle.pram_words.specs.declared.layout.Form.TheVariants.{Compact}
 use Rattle.pram_words.specs.declared.words.Word.TheVariants.{Node, Asked, Stored}
-use Rattle.pram_words.specs.Stamps.{stamp_of, first_is_older, older, older_word}
+use Rattle.pram_words.specs.Stamps.{stamp_of, payload_of, first_is_older, older, older_word}
 use Rattle.pram_words.specs.Stamps.{newer_word}
 use Rattle.pram_words.specs.Words.{LayoutData, IsWord, places_of}
 use Rattle.pram_words.specs.Phases.{next_phase}
 use Rattle.pram_words.proofs.NextPhases.{next_step}
 use Rattle.walkx.specs.Tasks.{is_late}
-use Rattle.walkx.specs.Counters.{worth}
 use Rattle.lawful_walk.specs.Board.{Grows, held, root, stamp_at, finished, IsLate, IsPair}
 use Rattle.lawful_walk.specs.Board.{newer_first, newer_second, new_first, new_second, Stands}
 use Rattle.lawful_walk.proofs.Moments.{onward, stamps_rise}
 use Rattle.lawful_walk.specs.Lands.{landing_before, last_landing, settled, settled_before}
-use Rattle.lawful_walk.specs.Lands.{word_of_step}
+use Rattle.lawful_walk.specs.Lands.{told_at, word_of_step}
 use Rattle.lawful_walk.proofs.Landings.{before_most, last_least, last_most, last_rises}
-use Rattle.lawful_walk.proofs.Landings.{settled_worth, stamp_step}
+use Rattle.lawful_walk.proofs.Landings.{settled_tells, stamp_step}
 use Rattle.lawful_walk.specs.Writes.{PlaceAsHeard}
 use Rattle.lawful_walk.proofs.Values.{before_less, before_rises, has_settled, newer_is_first}
 use Rattle.lawful_walk.proofs.Values.{newer_is_second}
@@ -57,7 +56,7 @@ root_up job y words later stands up =
     up (Node 1) (lit< tt, let l = stands.sizes.leaves in omega arith)
 
 -- one of the stamps of a place is at least the last write of any finished step
-top_low : (job : JobData) (y : LayoutData) (words : List ℕ) (x p : ℕ) →
+pub top_low : (job : JobData) (y : LayoutData) (words : List ℕ) (x p : ℕ) →
     Stands job y words → p < places_of y → x ≤ finished y words →
     (last_landing y.form job x p ≤ stamp_at y words p 0) ⊎
     (last_landing y.form job x p ≤ stamp_at y words p 1)
@@ -97,7 +96,7 @@ changed job y words later x p k stands after up is h other = elim (up (Stored p 
 
 module _ (job : JobData) (y : LayoutData) (words later : List ℕ) (stands : Stands job y words)
     (after : Stands job y later) (up : Grows y words later) where
-  fin_up : finished y words ≤ finished y later
+  pub fin_up : finished y words ≤ finished y later
   fin_up =
       let r = root_up job y words later stands up in
       let l = (facts job y words stands).root_low in
@@ -256,8 +255,9 @@ module _ (job : JobData) (y : LayoutData) (x p a b : ℕ) (first second now : Li
   stamp_x_before = stamp_before job y first (finished y first) s1.limits s1.sizes s1.layout
       s1.lawful (facts job y first s1).root_low (facts job y first s1).root_high x p
 
-  worth_x : worth y.form job x p (settled y.form job x p) ≡ slice_index (state_after job x) p
-  worth_x = settled_worth y.form job s1.limits x p (place_below job y first
+  told_x : payload_of (settled y.form job x p)
+      ≡ slice_index (state_after job (told_at y.form job x p)) p
+  told_x = settled_tells y.form job s1.limits x p (place_below job y first
       (finished y first) s1.limits s1.sizes s1.layout s1.lawful (facts job y first s1).root_low
       (facts job y first s1).root_high p place)
 
@@ -356,31 +356,32 @@ module _ (job : JobData) (y : LayoutData) (x p a b : ℕ) (first second now : Li
         let m = before_most y.form job s1.limits (last_landing y.form job x p) p in omega arith)
   ]
 
-  value_by : (w : ℕ) → newer_word a b ≡ w → w ≡ settled y.form job x p →
-      worth y.form job x p (newer_word a b) ≡ slice_index (state_after job x) p
-  value_by w newer is = ap (worth y.form job x p) (newer ∙ is) ∙ worth_x
-
-  value_of : worth y.form job x p (newer_word a b) ≡ slice_index (state_after job x) p
+  -- the newer one is the settled one
+  pub newer_two : newer_word a b ≡ settled y.form job x p
   unfolding Heard
-  value_of = elim heard_a [
+  newer_two = elim heard_a [
     | inl e ↦ elim heard_b [
       | inl g ↦ elim (cases_lt (stamp_of b) (stamp_of a)) [
-        | inl c ↦ value_by a (newer_is_first a b c) e
-        | inr c ↦ value_by b (newer_is_second a b c) g
+        | inl c ↦ newer_is_first a b c ∙ e
+        | inr c ↦ newer_is_second a b c ∙ g
       ]
       | inr g ↦ (let s : stamp_of a ≡ last_landing y.form job x p = ap stamp_of e ∙ stamp_x in
           let o : stamp_of b ≡ landing_before y.form job (last_landing y.form job x p) p =
           ap stamp_of g.0 ∙ stamp_x_before in
           let less = before_less y.form job s1.limits (last_landing y.form job x p) p g.1 in
-          value_by a (newer_is_first a b (omega arith)) e)
+          newer_is_first a b (omega arith) ∙ e)
     ]
     | inr e ↦ elim heard_b [
       | inl g ↦ (let s : stamp_of b ≡ last_landing y.form job x p = ap stamp_of g ∙ stamp_x in
           let m = most_a in
-          value_by b (newer_is_second a b (omega arith)) g)
+          newer_is_second a b (omega arith) ∙ g)
       | inr g ↦ absurd (not_both e.0 e.1 g.0)
     ]
   ]
+
+  value_of : payload_of (newer_word a b)
+      ≡ slice_index (state_after job (told_at y.form job x p)) p
+  value_of = ap payload_of newer_two ∙ told_x
 
   rise_a : stamp_of a ≤ stamp_at y now p 0
   rise_a =

@@ -9,7 +9,7 @@ use Rattle.pram_job.specs.declared.instr.Rule.TheVariants.{Common, Priority, Cre
 use Rattle.pram_step.specs.Runs.{AgreesAfter, state_after}
 use Rattle.pram_step.specs.History.{Asks}
 use Rattle.pram_step.proofs.LawFixed.{reached_more}
-use Rattle.pram_step.proofs.Past.{written_value, asks_fit}
+use Rattle.pram_step.proofs.Past.{asks_fit}
 use Rattle.pram_words.specs.declared.layout.Form.{Form}
 use Rattle.pram_words.specs.declared.layout.Form.TheVariants.{Compact, Wide}
 use Rattle.pram_words.specs.declared.phases.Kind.{Kind}
@@ -29,11 +29,11 @@ use Rattle.lawful_walk.specs.Board.{newer_first, newer_second, new_first, new_se
 use Rattle.lawful_walk.specs.Board.{claimed_before, claimed_now, LawfulFor, Lawful}
 use Rattle.lawful_walk.proofs.Moments.{stamps_rise}
 use Rattle.lawful_walk.proofs.Values.{fin, claim_most, phase_high}
-use Rattle.lawful_walk.specs.Lands.{IsLanded, landing_before, last_landing, settled, settled_before}
-use Rattle.lawful_walk.specs.Lands.{word_of_step}
+use Rattle.lawful_walk.specs.Lands.{IsLanded, Lands, landing_before, last_landing, settled}
+use Rattle.lawful_walk.specs.Lands.{settled_before, word_of_step}
 use Rattle.lawful_walk.proofs.Landings.{Left, Set, before_most, landing_cases, last_most, last_new}
 use Rattle.lawful_walk.proofs.Landings.{stamp_step}
-use Rattle.lawful_walk.proofs.Winners.{cell_lands}
+use Rattle.lawful_walk.proofs.Winners.{cell_lands, landed_value, lands_below, lands_cell}
 use Rattle.lawful_walk.proofs.Facts.{agrees_by, board, claim_fits, claim_high, late, low_leaf}
 use Rattle.lawful_walk.proofs.Facts.{place_below, raised}
 
@@ -56,6 +56,13 @@ module _ (job : JobData) (y : LayoutData) (words later : List ℕ) (s : ℕ)
       let a = (asks_fit job s p i v limits asks).0 in
       let b = same_cells job y is_board in
       let c = same_procs job y is_board in omega arith
+
+  lands_place : (p i v : ℕ) → i < y.procs → Lands y.form job s p i v → p < places_of y
+  lands_place p i v proc lands =
+      let b = same_cells job y is_board in
+      let c = same_procs job y is_board in
+      let a = lands_below y.form job s p i v limits (omega (arith, proc, c)) lands in
+      omega (arith, a, b, c)
 
   raised_later : (i : ℕ) → i < y.procs → Raised job y s words i → Raised job y s later i
   raised_later i proc r j part =
@@ -116,14 +123,16 @@ module _ (job : JobData) (y : LayoutData) (words later : List ℕ) (s : ℕ)
       let cells = same_cells job y is_board in
       ap payload_of (still c (is, omega arith)) ∙ h c v asks cell)
 
-  won_later : (i : ℕ) → CarriedWon job y s words i → CarriedWon job y s later i
-  won_later i h p v lands wins = late_later p (place_of p i v lands.asks) (h p v lands wins)
+  won_later : (i : ℕ) → i < y.procs → CarriedWon job y s words i → CarriedWon job y s later i
+  won_later i proc h p v lands wins =
+      late_later p (lands_place p i v proc lands) (h p v lands wins)
 
-  carried_later : (i : ℕ) → Carried job y s words i → Carried job y s later i
-  carried_later i h p v lands = late_later p (place_of p i v lands.asks) (h p v lands)
+  carried_later : (i : ℕ) → i < y.procs → Carried job y s words i → Carried job y s later i
+  carried_later i proc h p v lands = late_later p (lands_place p i v proc lands) (h p v lands)
 
-  own_later : (i : ℕ) → CarriedOwn job y s words i → CarriedOwn job y s later i
-  own_later i h p v lands own = late_later p (place_of p i v lands.asks) (h p v lands own)
+  own_later : (i : ℕ) → i < y.procs → CarriedOwn job y s words i → CarriedOwn job y s later i
+  own_later i proc h p v lands own =
+      late_later p (lands_place p i v proc lands) (h p v lands own)
 
   cell_later : (i : ℕ) → CarriedCell job y s words i → CarriedCell job y s later i
   cell_later i h p v asks cell wins = late_later p (place_of p i v asks) (h p v asks cell wins)
@@ -134,32 +143,33 @@ module _ (job : JobData) (y : LayoutData) (words later : List ℕ) (s : ℕ)
       (i : ℕ) → i < y.procs → CompactDone rule kind job y s words i →
       CompactDone rule kind job y s later i
   compact_by Common Compute e still i proc d = raised_later i proc d
-  compact_by Common Apply e still i proc d = carried_later i d
+  compact_by Common Apply e still i proc d = carried_later i proc d
   compact_by Common Verify e still i proc d = stays_later i d
   compact_by Priority Compute e still i proc d = raised_later i proc d
   compact_by Priority Apply e still i proc d = claim_later Priority e (λ r. absurd (cc)) i d
-  compact_by Priority Verify e still i proc d = won_later i d
+  compact_by Priority Verify e still i proc d = won_later i proc d
   compact_by Crew Compute e still i proc d = raised_later i proc d
   compact_by Crew Apply e still i proc d =
-      (carried_later i d.0, claim_later Crew e (λ r. absurd (cc)) i d.1)
+      (carried_later i proc d.0, claim_later Crew e (λ r. absurd (cc)) i d.1)
   compact_by Crew Verify e still i proc d =
       claim_stays_later Crew e (λ r. absurd (cc)) (still refl) i d
 
   wide_by : (rule : Rule) (kind : Kind) → job.rule ≡ rule →
       (kind ≡ Verify → (c : ℕ) → IsWord y (Claim c) →
       held y later (Claim c) ≡ held y words (Claim c)) →
-      (i : ℕ) → WideDone rule kind job y s words i → WideDone rule kind job y s later i
-  wide_by Common Compute e still i d = own_later i d
-  wide_by Common Apply e still i d = tt
-  wide_by Common Verify e still i d = (cell_later i d.0, stays_later i d.1)
-  wide_by Priority Compute e still i d =
-      (own_later i d.0, claim_later Priority e (λ r. absurd (cc)) i d.1)
-  wide_by Priority Apply e still i d = tt
-  wide_by Priority Verify e still i d = cell_later i d
-  wide_by Crew Compute e still i d =
-      (own_later i d.0, claim_later Crew e (λ r. absurd (cc)) i d.1)
-  wide_by Crew Apply e still i d = tt
-  wide_by Crew Verify e still i d =
+      (i : ℕ) → i < y.procs → WideDone rule kind job y s words i →
+      WideDone rule kind job y s later i
+  wide_by Common Compute e still i proc d = own_later i proc d
+  wide_by Common Apply e still i proc d = tt
+  wide_by Common Verify e still i proc d = (cell_later i d.0, stays_later i d.1)
+  wide_by Priority Compute e still i proc d =
+      (own_later i proc d.0, claim_later Priority e (λ r. absurd (cc)) i d.1)
+  wide_by Priority Apply e still i proc d = tt
+  wide_by Priority Verify e still i proc d = cell_later i d
+  wide_by Crew Compute e still i proc d =
+      (own_later i proc d.0, claim_later Crew e (λ r. absurd (cc)) i d.1)
+  wide_by Crew Apply e still i proc d = tt
+  wide_by Crew Verify e still i proc d =
       (cell_later i d.0, claim_stays_later Crew e (λ r. absurd (cc)) (still refl) i d.1)
 
   done_by : (form : Form) (kind : Kind) →
@@ -167,7 +177,7 @@ module _ (job : JobData) (y : LayoutData) (words later : List ℕ) (s : ℕ)
       held y later (Claim c) ≡ held y words (Claim c)) → (i : ℕ) → i < y.procs →
       DoneIn form job.rule kind job y s words i → DoneIn form job.rule kind job y s later i
   done_by Compact kind still i proc d = compact_by job.rule kind refl still i proc d
-  done_by (Wide g) kind still i proc d = wide_by job.rule kind refl still i d
+  done_by (Wide g) kind still i proc d = wide_by job.rule kind refl still i proc d
 
   pub done_later : (kind : Kind) →
       (kind ≡ Verify → (c : ℕ) → IsWord y (Claim c) →
@@ -227,9 +237,9 @@ module _ (job : JobData) (y : LayoutData) (words : List ℕ) (f : ℕ) (limits :
       last_new y.form job limits f p
       (record { writer = n.writer; value = payload_of word; lands = n.lands }) in
       let value : slice_index (state_after job (suc f)) p ≡ payload_of word =
-      written_value job f p n.writer (payload_of word) limits
+      landed_value y.form job f p n.writer (payload_of word) limits
       (place_below job y words f limits sizes layout lawful low high p place)
-      agrees n.lands.asks n.wins in
+      agrees n.lands n.wins in
       let e = n.stamp in
       let here : word ≡ word_of_step job (suc f) p = omega arith in
       here ∙ ap (λ (n : ℕ). word_of_step job n p) (sym last)
@@ -308,7 +318,9 @@ module _ (job : JobData) (y : LayoutData) (words : List ℕ) (f : ℕ) (limits :
       elim (landing_cases y.form job limits f c) [
         | inl l ↦ claimed_before (e ∙ sym l.last) g
         | inr w ↦ absurd
-            (let h = high_claims w.written.writer w.written.value w.written.lands.asks in
+            (let asks = lands_cell y.form job f c w.written.writer w.written.value cell
+            w.written.lands in
+            let h = high_claims w.written.writer w.written.value asks in
             let m = last_most y.form job limits f c in omega arith)
       ]
   next_claim c word cell high_claims (claimed_now e g l) =

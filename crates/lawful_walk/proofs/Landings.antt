@@ -1,206 +1,211 @@
--- When a word of a place is written, and what the place's words stand for.
-use Rattle.std.proofs.Common.{◌≡◌, ◌⊎◌, ℕ, zero, suc, ◌+◌, ◌-◌, ◌<◌, ◌≤◌, ◌==◌}
-use Rattle.std.proofs.Common.{true, false, slice_index, Option, Some, None, length}
-use Rattle.std.proofs.Common.{refl, sym, ap, subst, ◌∙◌, inl, inr, arith}
-use Rattle.std.specs.Prelude.{min, not}
+-- Which words the steps write where a processor's own lag, and what the words of a place tell.
+use Rattle.std.proofs.Common.{◌≡◌, ◌⊎◌, ◌↔◌, ℕ, zero, suc, ◌<◌, ◌≤◌, true, false}
+use Rattle.std.proofs.Common.{true≢false, slice_index, refl, sym, ap, subst, ◌∙◌}
+use Rattle.std.proofs.Common.{inl, inr, arith}
+use Rattle.std.specs.Prelude.{is_some, nat_lt}
 use Rattle.std.proofs.lemmas.Bool.{cases_order, cases_lt, cases_Bool, eqb-true, lt-ltb, le-ltb}
+use Rattle.std.proofs.lemmas.Bool.{and_parts, and_cases, or_parts, cond-true, cond-false, not-false}
 use Rattle.pram_job.specs.Job.{JobData, IsJob}
-use Rattle.pram_job.specs.Places.{counters_at}
-use Rattle.pram_machine.specs.Machine.{place_count, counter_place}
-use Rattle.pram_step.specs.History.{Asks, last_by, part_after}
-use Rattle.pram_step.specs.Runs.{state_after, requests_after}
-use Rattle.pram_step.specs.Steps.{first_written}
-use Rattle.pram_step.proofs.LawWriters.{writer_cases}
-use Rattle.pram_step.proofs.LawNext.{after_first, after_none}
+use Rattle.pram_machine.specs.Machine.{place_count}
+use Rattle.pram_step.specs.History.{Asks}
+use Rattle.pram_step.specs.Runs.{requests_after, state_after}
 use Rattle.pram_step.proofs.LawFixed.{length-state_after}
-use Rattle.pram_step.proofs.LawPlaces.{one_write}
-use Rattle.pram_step.proofs.Past.{value_fits, counter_write}
+use Rattle.pram_step.proofs.LawNext.{after_none}
+use Rattle.pram_step.proofs.LawWriters.{writer_cases}
+use Rattle.pram_step.proofs.Past.{value_fits}
 use Rattle.pram_words.specs.declared.layout.Form.{Form}
 use Rattle.pram_words.specs.declared.layout.Form.TheVariants.{Compact, Wide}
 use Rattle.pram_words.specs.Stamps.{stamp_of, payload_of}
-use Rattle.walkx.specs.Counters.{advanced, is_counter, worth, wide_worth}
-use Rattle.lawful_walk.specs.Lands.{IsLanded, is_told, landed, last_landing, landing_before}
-use Rattle.lawful_walk.specs.Lands.{settled, word_of_step}
+use Rattle.walkx.specs.Memory.{settled_at, settles}
+use Rattle.lawful_walk.specs.Lands.{IsShared, Lands, IsLanded, asked, own, is_written, lands}
+use Rattle.lawful_walk.specs.Lands.{landing_before, lands_own, last_landing, owner, settled}
+use Rattle.lawful_walk.specs.Lands.{told_at, word_of_step}
+use Rattle.lawful_walk.proofs.Settles.{settled_most, settled_new, settled_same}
 
--- ---- a counter that goes on by one
+-- ---- places that are shared, and those of a processor's own
 
--- the steps taken together are those taken one after the other
-pub advanced_more : (job : JobData) (n c : ℕ) →
-    advanced job (suc n) c ≡ advanced job 1 (advanced job n c)
-advanced_more job n c = elim (cases_lt c (length job.code)) [
-  | inr past ↦ rw (le-ltb c (length job.code) past, le-ltb c (length job.code) past) refl
-  | inl low ↦ (let m = min (length job.code) (c + n) in
-      elim (cases_lt m (length job.code)) [
-        | inl less ↦ rw (lt-ltb c (length job.code) low, lt-ltb m (length job.code) less)
-            (omega arith)
-        | inr full ↦ rw (lt-ltb c (length job.code) low, le-ltb m (length job.code) full)
-            (omega arith)
-      ])
+module _ (form : Form) (job : JobData) (p : ℕ) where
+  pub shared_cases : IsShared form job p ⊎ (IsShared form job p → ⊥)
+  shared_cases = by form
+    where
+      by : (form : Form) → IsShared form job p ⊎ (IsShared form job p → ⊥)
+      by Compact = inl tt
+      by (Wide g) = elim (cases_lt p job.cells) [
+        | inl low ↦ inl low
+        | inr high ↦ inr (λ low. omega (arith, low, high))
+      ]
+
+pub above_cells : (g : ℕ) (job : JobData) (p : ℕ) → (IsShared (Wide g) job p → ⊥) → job.cells ≤ p
+above_cells g job p apart = elim (cases_lt p job.cells) [
+  | inl low ↦ absurd (apart low)
+  | inr high ↦ high
 ]
 
--- none leaves it as it is
-pub advanced_none : (job : JobData) (c : ℕ) → advanced job 0 c ≡ c
-advanced_none job c = elim (cases_lt c (length job.code)) [
-  | inl low ↦ rw (lt-ltb c (length job.code) low) (omega arith)
-  | inr past ↦ rw (le-ltb c (length job.code) past) refl
+pub above_form : (form : Form) (job : JobData) (p : ℕ) → (IsShared form job p → ⊥) → job.cells ≤ p
+above_form Compact job p apart = absurd (apart tt)
+above_form (Wide g) job p apart = above_cells g job p apart
+
+pub told_shared : (form : Form) (job : JobData) (t p : ℕ) → IsShared form job p →
+    told_at form job t p ≡ t
+told_shared Compact job t p shared = refl
+told_shared (Wide g) job t p shared = rw (lt-ltb p job.cells shared) refl
+
+pub told_own : (form : Form) (job : JobData) (t p : ℕ) → (IsShared form job p → ⊥) →
+    told_at form job t p ≡ settled_at job t (owner job p)
+told_own Compact job t p apart = absurd (apart tt)
+told_own (Wide g) job t p apart = rw (le-ltb p job.cells (above_cells g job p apart)) refl
+
+lands_shared : (form : Form) (job : JobData) (t p : ℕ) → IsShared form job p →
+    lands form job t p ≡ is_written job t p
+lands_shared Compact job t p shared = refl
+lands_shared (Wide g) job t p shared =
+    cond-true (nat_lt p job.cells) _ _ (lt-ltb p job.cells shared)
+
+pub lands_above : (g : ℕ) (job : JobData) (t p : ℕ) → job.cells ≤ p →
+    lands (Wide g) job t p ≡ lands_own job t p
+lands_above g job t p high = cond-false (nat_lt p job.cells) _ _ (le-ltb p job.cells high)
+
+lands_apart : (form : Form) (job : JobData) (t p : ℕ) → (IsShared form job p → ⊥) →
+    lands form job t p ≡ lands_own job t p
+lands_apart Compact job t p apart = absurd (apart tt)
+lands_apart (Wide g) job t p apart = lands_above g job t p (above_cells g job p apart)
+
+pub told_most : (form : Form) (job : JobData) (t p : ℕ) → told_at form job t p ≤ t
+told_most form job t p = elim (shared_cases form job p) [
+  | inl shared ↦ (let e = told_shared form job t p shared in omega (arith, e))
+  | inr apart ↦ (let e = told_own form job t p apart in
+      let m = settled_most job (owner job p) t in omega (arith, e, m))
 ]
 
--- ---- what a word stands for
+-- ---- a word and its writer
 
-counter_worth : (job : JobData) (t p word : ℕ) → is_counter job p ≡ true →
-    wide_worth job t p word ≡ advanced job (t - stamp_of word) (payload_of word)
-counter_worth job t p word is = rw is refl
-
-other_worth : (job : JobData) (t p word : ℕ) → is_counter job p ≡ false →
-    wide_worth job t p word ≡ payload_of word
-other_worth job t p word is = rw is refl
-
--- at the step of its stamp, its payload
-pub worth_at_stamp : (form : Form) (job : JobData) (p word : ℕ) →
-    worth form job (stamp_of word) p word ≡ payload_of word
-worth_at_stamp Compact job p word = refl
-worth_at_stamp (Wide g) job p word = elim (cases_Bool (is_counter job p)) [
-  | inl is ↦ counter_worth job (stamp_of word) p word is
-      ∙ ap (λ (n : ℕ). advanced job n (payload_of word)) (omega arith)
-      ∙ advanced_none job (payload_of word)
-  | inr is ↦ other_worth job (stamp_of word) p word is
+pub asked_written : (job : JobData) (s p i v : ℕ) → Asks job s p i v → is_written job s p ≡ true
+asked_written job s p i v asks = elim (writer_cases job (requests_after job s) p) [
+  | inl n ↦ absurd (n.none i v asks)
+  | inr f ↦ ap is_some f.found
 ]
 
--- ---- step s + 1 has a word of the place, or tells it or leaves it
+-- in a step in which its processor settles
+pub own_settles : (job : JobData) (s p : ℕ) → lands_own job s p ≡ true →
+    settles job s (owner job p) ≡ true
+own_settles job s p does = (and_parts _ _ does).0
 
--- a counter of the machine is some processor's, which writes it in each step
-counter_asked : (job : JobData) (s p : ℕ) → p < place_count job → is_counter job p ≡ true →
-    (i : ℕ) × (v : ℕ) × Asks job s p i v
-counter_asked job s p below is =
-    let c = counters_at job.cells job.procs in
-    let low : c ≤ p = elim (cases_lt p c) [
-      | inr h ↦ h
-      | inl h ↦ absurd (let e : not true ≡ true = rw (lt-ltb p c h) at is in cc)
-    ] in
-    let i = p - c in
-    let place : counter_place job i ≡ p = omega arith in
-    let proc : i < job.procs = omega arith in
-    let asked = counter_write job s i proc in
-    (i, part_after job s i 2, subst (λ (p : ℕ). Asks job s p i (part_after job s i 2)) place asked)
+pub landing_true : (form : Form) (job : JobData) (s p i v : ℕ) → Lands form job s p i v →
+    lands form job s p ≡ true
+landing_true form job s p i v (asked shared asks) =
+    lands_shared form job s p shared ∙ asked_written job s p i v asks
+landing_true form job s p i v (own apart does who what) = lands_apart form job s p apart ∙ does
 
--- the step writes a value that the words stand for already: one step more takes them on to it
-goes_on_told : (form : Form) (job : JobData) (s p v word : ℕ) → is_told form job s p v ≡ true →
-    stamp_of word ≤ s → worth form job s p word ≡ slice_index (state_after job s) p →
-    worth form job (suc s) p word ≡ v
-goes_on_told Compact job s p v word told low e = absurd (cc)
-goes_on_told (Wide g) job s p v word told low e = elim (cases_Bool (is_counter job p)) [
-  | inr is ↦ absurd (let f : false ≡ true = rw is at told in cc)
-  | inl is ↦ (
-      let now = slice_index (state_after job s) p in
-      let next : (v == advanced job 1 now) ≡ true = rw is at told in
-      let n = s - stamp_of word in
-      let there : suc s - stamp_of word ≡ suc n = omega arith in
-      let here : advanced job n (payload_of word) ≡ now =
-      sym (counter_worth job s p word is) ∙ e in
-      counter_worth job (suc s) p word is
-      ∙ ap (λ (n : ℕ). advanced job n (payload_of word)) there
-      ∙ advanced_more job n (payload_of word)
-      ∙ ap (advanced job 1) here ∙ sym (eqb-true v (advanced job 1 now) next))
-]
+module _ (form : Form) (job : JobData) (s p : ℕ) where
+  pub has_landing : lands form job s p ≡ true → IsLanded form job s p
+  has_landing does = elim (shared_cases form job p) [
+    | inl shared ↦ elim (writer_cases job (requests_after job s) p) [
+      | inl n ↦ absurd (true≢false (sym does ∙ lands_shared form job s p shared
+          ∙ ap is_some n.found))
+      | inr f ↦ record { writer = f.writer; value = f.value; lands = asked shared f.first.writes }
+    ]
+    | inr apart ↦ record {
+      writer = owner job p;
+      value = slice_index (state_after job (suc s)) p;
+      lands = own apart (sym (lands_apart form job s p apart) ∙ does) refl refl;
+    }
+  ]
 
--- no word of such a place
-worth_other : (form : Form) (job : JobData) (s t p word : ℕ) →
-    (form ≡ Compact) ⊎ (is_counter job p ≡ false) →
-    worth form job s p word ≡ worth form job t p word
-worth_other Compact job s t p word c = refl
-worth_other (Wide g) job s t p word (inl e) = absurd (cc)
-worth_other (Wide g) job s t p word (inr is) =
-    other_worth job s p word is ∙ sym (other_worth job t p word is)
+  pub landing_iff : IsLanded form job s p ↔ (lands form job s p ≡ true)
+  landing_iff = (λ w. landing_true form job s p w.writer w.value w.lands, has_landing)
+
+  none_from_false : lands form job s p ≡ false → IsLanded form job s p → ⊥
+  none_from_false rests w =
+      true≢false (sym (landing_true form job s p w.writer w.value w.lands) ∙ rests)
+
+  -- ---- step s + 1 has a word of the place, or leaves what they tell
+
+  last_same : lands form job s p ≡ false →
+      last_landing form job (suc s) p ≡ last_landing form job s p
+  unfolding last_landing
+  last_same rests = cond-false (lands form job s p) (suc s) (last_landing form job s p) rests
+
+  last_this : lands form job s p ≡ true → last_landing form job (suc s) p ≡ suc s
+  unfolding last_landing
+  last_this does = cond-true (lands form job s p) (suc s) (last_landing form job s p) does
+
+  abbrev SameTold : Type 0
+  SameTold = slice_index (state_after job (told_at form job (suc s) p)) p
+      ≡ slice_index (state_after job (told_at form job s p)) p
+
+  -- the same step told, or two with one value
+  told_by : (a b : ℕ) → told_at form job (suc s) p ≡ a → told_at form job s p ≡ b →
+      slice_index (state_after job a) p ≡ slice_index (state_after job b) p → SameTold
+  told_by a b new old same = ap (λ (n : ℕ). slice_index (state_after job n) p) new ∙ same
+      ∙ sym (ap (λ (n : ℕ). slice_index (state_after job n) p) old)
+
+  -- nobody writes it
+  kept : IsJob job → p < place_count job → is_written job s p ≡ false →
+      slice_index (state_after job (suc s)) p ≡ slice_index (state_after job s) p
+  unfolding state_after
+  kept is_job below rests = elim (writer_cases job (requests_after job s) p) [
+    | inl n ↦ after_none job (requests_after job s) (state_after job s) p
+        (let l = length-state_after job s is_job in omega (arith, l, below)) n.found
+    | inr f ↦ absurd (true≢false (sym (ap is_some f.found) ∙ rests))
+  ]
+
+  -- its processor does not settle, or it holds what was told
+  stays_own : (IsShared form job p → ⊥) → lands_own job s p ≡ false → SameTold
+  stays_own apart rests =
+      let i = owner job p in
+      let old = told_own form job s p apart in
+      let new = told_own form job (suc s) p apart in
+      elim (cases_Bool (settles job s i)) [
+        | inr away ↦ told_by (settled_at job s i) (settled_at job s i)
+            (new ∙ settled_same job i s away) old refl
+        | inl does ↦ elim (and_cases (settles job s i) _ rests) [
+          | inl away ↦ absurd (true≢false (sym does ∙ away))
+          | inr none ↦ told_by (suc s) (settled_at job s i) (new ∙ settled_new job i s does) old
+              (eqb-true _ _ (not-false _ (or_parts _ _ none).1))
+        ]
+      ]
+
+  left_told : IsJob job → lands form job s p ≡ false → p < place_count job → SameTold
+  left_told is_job rests below = elim (shared_cases form job p) [
+    | inl shared ↦ told_by (suc s) s (told_shared form job (suc s) p shared)
+        (told_shared form job s p shared)
+        (kept is_job below (sym (lands_shared form job s p shared) ∙ rests))
+    | inr apart ↦ stays_own apart (sym (lands_apart form job s p apart) ∙ rests)
+  ]
+
+  -- What lands tells the step.
+  told_new : lands form job s p ≡ true → told_at form job (suc s) p ≡ suc s
+  told_new does = elim (shared_cases form job p) [
+    | inl shared ↦ told_shared form job (suc s) p shared
+    | inr apart ↦ told_own form job (suc s) p apart ∙ settled_new job (owner job p) s
+        (own_settles job s p (sym (lands_apart form job s p apart) ∙ does))
+  ]
 
 pub record Left (form : Form) (job : JobData) (s p : ℕ) : Type 0 where
   pub none : IsLanded form job s p → ⊥
   pub last : last_landing form job (suc s) p ≡ last_landing form job s p
-  pub worth : IsJob job → p < place_count job → (word : ℕ) → stamp_of word ≤ s →
-      worth form job s p word ≡ slice_index (state_after job s) p →
-      worth form job (suc s) p word ≡ slice_index (state_after job (suc s)) p
+  pub told : p < place_count job → slice_index (state_after job (told_at form job (suc s) p)) p
+      ≡ slice_index (state_after job (told_at form job s p)) p
 
 pub record Set (form : Form) (job : JobData) (s p : ℕ) : Type 0 where
   pub written : IsLanded form job s p
   pub last : last_landing form job (suc s) p ≡ suc s
+  pub told : told_at form job (suc s) p ≡ suc s
 
-form_cases : (form : Form) (job : JobData) (p : ℕ) →
-    ((form ≡ Compact) ⊎ (is_counter job p ≡ false)) ⊎ (is_counter job p ≡ true)
-form_cases Compact job p = inl (inl refl)
-form_cases (Wide g) job p = elim (cases_Bool (is_counter job p)) [
-  | inl is ↦ inr is
-  | inr is ↦ inl (inr is)
+pub landing_cases : (form : Form) (job : JobData) → IsJob job → (s p : ℕ) →
+    Left form job s p ⊎ Set form job s p
+landing_cases form job is_job s p = elim (cases_Bool (lands form job s p)) [
+  | inl does ↦ inr (record {
+    written = has_landing form job s p does;
+    last = last_this form job s p does;
+    told = told_new form job s p does;
+  })
+  | inr rests ↦ inl (record {
+    none = none_from_false form job s p rests;
+    last = last_same form job s p rests;
+    told = left_told form job s p is_job rests;
+  })
 ]
-
-counter_above : (job : JobData) (p : ℕ) → is_counter job p ≡ true →
-    counters_at job.cells job.procs ≤ p
-counter_above job p is = elim (cases_lt p (counters_at job.cells job.procs)) [
-  | inr h ↦ h
-  | inl h ↦ absurd (let e : not true ≡ true =
-      rw (lt-ltb p (counters_at job.cells job.procs) h) at is in cc)
-]
-
-told_counter : (form : Form) (job : JobData) (s p v : ℕ) → is_told form job s p v ≡ true →
-    is_counter job p ≡ true
-told_counter Compact job s p v told = absurd (cc)
-told_counter (Wide g) job s p v told = elim (cases_Bool (is_counter job p)) [
-  | inl is ↦ is
-  | inr is ↦ absurd (let f : false ≡ true = rw is at told in cc)
-]
-
-module _ (form : Form) (job : JobData) (is_job : IsJob job) (s p : ℕ) where
-  -- nobody writes it
-  left_none : ((i v : ℕ) → Asks job s p i v → ⊥) →
-      first_written job p 0 (requests_after job s) ≡ None → Left form job s p
-  unfolding last_landing state_after
-  left_none none found = record {
-    none = λ w. none w.writer w.value w.lands.asks;
-    last = ap (λ (o : Option ℕ). last_by (landed form job s p o) s (last_landing form job s p))
-        found;
-    worth = λ is below word low e. elim (form_cases form job p) [
-      | inr counter ↦ absurd (let a = counter_asked job s p below counter in none a.0 a.1 a.2)
-      | inl other ↦ worth_other form job (suc s) s p word other ∙ e
-          ∙ sym (after_none job (requests_after job s) (state_after job s) p
-          (let l = length-state_after job s is in omega (arith, l)) found)
-    ];
-  }
-
-  -- it is a counter that goes on by one
-  left_told : (i v : ℕ) → Asks job s p i v →
-      first_written job p 0 (requests_after job s) ≡ Some v →
-      is_told form job s p v ≡ true → Left form job s p
-  unfolding last_landing state_after
-  left_told i v asks found told = record {
-    none = λ w. (let counter = counter_above job p (told_counter form job s p v told) in
-        let same : w.value ≡ v = (one_write job (state_after job s) p w.writer i w.value v is_job
-        (omega arith) w.lands.asks asks).1 in
-        let f : is_told form job s p v ≡ false =
-        subst (λ (v : ℕ). is_told form job s p v ≡ false) same w.lands.told in
-        absurd (let g : true ≡ false = sym told ∙ f in cc));
-    last = ap (λ (o : Option ℕ). last_by (landed form job s p o) s (last_landing form job s p))
-        found ∙ rw told refl;
-    worth = λ is below word low e. goes_on_told form job s p v word told low e
-        ∙ sym (after_first job (requests_after job s) (state_after job s) p v
-        (let l = length-state_after job s is in omega (arith, l)) found);
-  }
-
-  set_new : (i v : ℕ) → Asks job s p i v →
-      first_written job p 0 (requests_after job s) ≡ Some v →
-      is_told form job s p v ≡ false → Set form job s p
-  unfolding last_landing
-  set_new i v asks found told = record {
-    written = record { writer = i; value = v; lands = record { asks = asks; told = told } };
-    last = ap (λ (o : Option ℕ). last_by (landed form job s p o) s (last_landing form job s p))
-        found ∙ rw told refl;
-  }
-
-  pub landing_cases : Left form job s p ⊎ Set form job s p
-  landing_cases = elim (writer_cases job (requests_after job s) p) [
-    | inl n ↦ inl (left_none n.none n.found)
-    | inr f ↦ elim (cases_Bool (is_told form job s p f.value)) [
-      | inl told ↦ inl (left_told f.writer f.value f.first.writes f.found told)
-      | inr told ↦ inr (set_new f.writer f.value f.first.writes f.found told)
-    ]
-  ]
 
 -- ---- the last landing
 
@@ -254,12 +259,9 @@ module _ (form : Form) (job : JobData) (is_job : IsJob job) where
   before_most zero p = omega arith
   before_most (suc s) p = let m = last_most s p in omega (arith, m)
 
-  -- ---- between two steps
-
   pub last_between : (t f p : ℕ) → t ≤ f → last_landing form job f p ≤ t →
       last_landing form job f p ≡ last_landing form job t p
-  last_between t zero p h low =
-      ap (λ (n : ℕ). last_landing form job n p) (omega arith)
+  last_between t zero p h low = ap (λ (n : ℕ). last_landing form job n p) (omega arith)
   last_between t (suc f) p h low = elim (cases_lt t (suc f)) [
     | inl c ↦ elim (landing_cases form job is_job f p) [
       | inl l ↦ (let e = l.last in e ∙ last_between t f p (omega arith) (omega (arith, e, low)))
@@ -268,22 +270,33 @@ module _ (form : Form) (job : JobData) (is_job : IsJob job) where
     | inr c ↦ ap (λ (n : ℕ). last_landing form job n p) (omega arith)
   ]
 
-  -- A word that stands for the value after t steps goes on to do so while no word lands.
-  pub worth_between : (t u p word : ℕ) → p < place_count job → t ≤ u →
-      last_landing form job u p ≤ t → stamp_of word ≤ t →
-      worth form job t p word ≡ slice_index (state_after job t) p →
-      worth form job u p word ≡ slice_index (state_after job u) p
-  worth_between t zero p word below h low stamp e =
-      subst (λ (n : ℕ). worth form job n p word ≡ slice_index (state_after job n) p)
-      (let z : t ≡ 0 = omega arith in z) e
-  worth_between t (suc u) p word below h low stamp e = elim (cases_lt t (suc u)) [
+  -- ---- what is told
+
+  abbrev Told : ℕ → ℕ → ℕ
+  Told t p = slice_index (state_after job (told_at form job t p)) p
+
+  -- While no word lands, it is the same value.
+  pub told_between : (t u p : ℕ) → p < place_count job → t ≤ u → last_landing form job u p ≤ t →
+      Told u p ≡ Told t p
+  told_between t zero p below h low = ap (λ (n : ℕ). Told n p) (omega arith)
+  told_between t (suc u) p below h low = elim (cases_lt t (suc u)) [
     | inl c ↦ elim (landing_cases form job is_job u p) [
-      | inl l ↦ (let same = l.last in l.worth is_job below word (omega arith)
-          (worth_between t u p word below (omega arith) (omega (arith, same, low)) stamp e))
-      | inr w ↦ absurd (let f = w.last in omega (arith, f, low))
+      | inl l ↦ (let e = l.last in
+          l.told below ∙ told_between t u p below (omega arith) (omega (arith, e, low)))
+      | inr w ↦ absurd (let e = w.last in omega (arith, e, low))
     ]
-    | inr c ↦ subst (λ (n : ℕ). worth form job n p word ≡ slice_index (state_after job n) p)
-        (let z : t ≡ suc u = omega arith in z) e
+    | inr c ↦ ap (λ (n : ℕ). Told n p) (omega arith)
+  ]
+
+  -- It is what the place held after the last landing.
+  pub told_last : (t p : ℕ) → p < place_count job →
+      slice_index (state_after job (last_landing form job t p)) p ≡ Told t p
+  told_last zero p below = ap (λ (n : ℕ). slice_index (state_after job n) p)
+      (let m = last_most 0 p in let k = told_most form job 0 p in omega (arith, m, k))
+  told_last (suc s) p below = elim (landing_cases form job is_job s p) [
+    | inl l ↦ ap (λ (n : ℕ). slice_index (state_after job n) p) l.last ∙ told_last s p below
+        ∙ sym (l.told below)
+    | inr w ↦ ap (λ (n : ℕ). slice_index (state_after job n) p) (w.last ∙ sym w.told)
   ]
 
   -- ---- the words of steps
@@ -295,19 +308,8 @@ module _ (form : Form) (job : JobData) (is_job : IsJob job) where
       payload_of (word_of_step job x p) ≡ slice_index (state_after job x) p
   payload_step x p = let v = value_fits job x p is_job in omega (arith, v)
 
-  -- the word of a step stands for the value after it, while no other lands
-  pub step_worth : (x t p : ℕ) → p < place_count job → x ≤ t → last_landing form job t p ≤ x →
-      worth form job t p (word_of_step job x p) ≡ slice_index (state_after job t) p
-  step_worth x t p below h low =
-      let word = word_of_step job x p in
-      let stamp = stamp_step x p in
-      let at : worth form job x p word ≡ slice_index (state_after job x) p =
-      ap (λ (n : ℕ). worth form job n p word) (sym stamp) ∙ worth_at_stamp form job p word
-      ∙ payload_step x p in
-      worth_between x t p word below h low (omega (arith, stamp)) at
-
-  -- The settled word stands for the value.
-  pub settled_worth : (t p : ℕ) → p < place_count job →
-      worth form job t p (settled form job t p) ≡ slice_index (state_after job t) p
-  settled_worth t p below =
-      step_worth (last_landing form job t p) t p below (last_most t p) (omega arith)
+  -- The settled word tells what the words tell.
+  pub settled_tells : (t p : ℕ) → p < place_count job →
+      payload_of (settled form job t p) ≡ Told t p
+  settled_tells t p below =
+      payload_step (last_landing form job t p) p ∙ told_last t p below

@@ -1,4 +1,8 @@
+pub mod Settles
 pub mod Landings
+pub mod Newest
+pub mod Alone
+pub mod Told
 pub mod OwnPlaces
 pub mod Winners
 pub mod Leaves
@@ -20,7 +24,12 @@ pub mod Scripts
 pub mod Known
 pub mod Writing
 pub mod Owning
-pub mod Remembered
+pub mod OwnNext
+pub mod TrueMemos
+pub mod TrueFits
+pub mod LoadedMemos
+pub mod LandedOwn
+pub mod LandingLists
 pub mod OwnTasks
 pub mod Stores
 pub mod Agreed
@@ -41,6 +50,7 @@ pub mod Admitted
 pub mod Moving
 pub mod Turns
 pub mod Remembering
+pub mod Heard
 pub mod Reading
 pub mod Ending
 pub mod Bounding

@@ -1,6 +1,7 @@
 -- Growth, and records that the words bear out. Nothing here knows the walk.
-use Rattle.std.proofs.Common.{ℕ, zero, suc, ◌≤◌, List, ◌∷◌, refl, sym, subst}
-use Rattle.std.proofs.Common.{◌∙◌, inl, inr, le_refl, le_trans, lit<, arith}
+use Rattle.std.proofs.Common.{◌≡◌, ℕ, zero, suc, ◌+◌, ◌*◌, ◌<◌, ◌≤◌, List, ◌∷◌, refl, sym, ap}
+use Rattle.std.proofs.Common.{subst, ◌∙◌, inl, inr, le_refl, le_trans, lit<, arith}
+use Rattle.std.proofs.lemmas.Bool.{cases_lt}
 use Rattle.pram_job.specs.Job.{JobData}
 use Rattle.pram_words.specs.declared.words.Word.TheVariants.{Conflict, Node, Asked}
 use Rattle.pram_words.specs.declared.words.Word.TheVariants.{Position, Stored, Claim, Spare}
@@ -10,7 +11,7 @@ use Rattle.walkx.specs.declared.operation.Op.{Op}
 use Rattle.walkx.specs.declared.operation.Op.TheVariants.{Load}
 use Rattle.walkx.specs.Operations.{words_after, answer}
 use Rattle.walkx.specs.Records.{Record, empty, after, both, Has}
-use Rattle.lawful_walk.specs.Board.{Stands, Up, Grows, held, stamp_at}
+use Rattle.lawful_walk.specs.Board.{Stands, Up, Grows, IsAhead, held, root, stamp_at}
 use Rattle.lawful_walk.specs.Moments.{Moment, Backed, Keeps}
 
 -- ---- words that grow
@@ -37,18 +38,49 @@ stamps_rise y words later p (suc zero) is up = elim (up (Stored p (suc zero)) is
 ]
 stamps_rise y words later p (suc (suc k)) is up = absurd (let h = is.1 in omega arith)
 
+-- what was ahead of later words was ahead of those before
+ahead_onward : (y : LayoutData) (a b : List ℕ) (p k o l : ℕ) → IsWord y (Stored p k) →
+    IsWord y (Stored p o) → Grows y a b → 1 ≤ y.leaves → stamp_at y b p o < l →
+    (root y b < 3 * l)
+    × (stamp_at y b p o < stamp_at y b p k → root y b + 3 < 3 * l) →
+    (root y a < 3 * l)
+    × (stamp_at y a p o < stamp_at y a p k → root y a + 3 < 3 * l)
+ahead_onward y a b p k o l is other up some low ahead =
+    let r : root y a ≤ root y b = up (Node 1) (lit< tt, omega (arith, some)) in
+    let h = ahead.0 in (
+      omega (arith, r, h),
+      λ newer. elim (cases_lt (stamp_at y b p o) (stamp_at y b p k)) [
+        | inl c ↦ (let m = ahead.1 c in omega (arith, r, m))
+        | inr c ↦ elim (up (Stored p o) other) [
+          | inl e ↦ absurd (let rise = stamps_rise y a b p k is up in
+              let same : stamp_at y a p o ≡ stamp_at y b p o = ap stamp_of e in
+              omega (arith, rise, same, newer, c))
+          | inr more ↦ (let m = (more.2 some).0 in omega (arith, m, low))
+        ]
+      ],
+    )
+
 stored_onward : (y : LayoutData) (a b c : List ℕ) (p k : ℕ) →
     IsWord y (Stored p k) → Grows y a b → Grows y b c →
     Up y a (Stored p k) (held y a (Stored p k)) (held y c (Stored p k))
-stored_onward y a b c p k is up on =
-    let first : stamp_at y a p 0 ≤ stamp_at y b p 0 = stamps_rise y a b p 0 (is.0, lit< tt) up in
-    let second : stamp_at y a p 1 ≤ stamp_at y b p 1 = stamps_rise y a b p 1 (is.0, lit< tt) up in
-    elim (on (Stored p k) is) [
-      | inl e ↦
-          subst (λ (w : ℕ). Up y a (Stored p k) (held y a (Stored p k)) w) e (up (Stored p k) is)
-      | inr more ↦ (let m = more.0 in
-          let n = more.1 in inr (omega arith, omega arith))
-    ]
+stored_onward y a b c p k is up on = elim (on (Stored p k) is) [
+  | inl e ↦ subst (λ (w : ℕ). Up y a (Stored p k) (held y a (Stored p k)) w) e (up (Stored p k) is)
+  | inr more ↦ (let first = stamps_rise y a b p 0 (is.0, lit< tt) up in
+      let second = stamps_rise y a b p 1 (is.0, lit< tt) up in
+      let m = more.0 in
+      let n = more.1 in
+      inr (omega (arith, first, m), omega (arith, second, n), ahead_by k is m n more.2))
+]
+  where
+    ahead_by : (k : ℕ) → IsWord y (Stored p k) →
+        stamp_at y b p 0 < stamp_at y c p k → stamp_at y b p 1 < stamp_at y c p k →
+        (1 ≤ y.leaves → IsAhead y b p k (stamp_at y c p k)) →
+        1 ≤ y.leaves → IsAhead y a p k (stamp_at y c p k)
+    ahead_by zero is m n ahead some =
+        ahead_onward y a b p 0 1 (stamp_at y c p 0) is (is.0, lit< tt) up some n (ahead some)
+    ahead_by (suc zero) is m n ahead some =
+        ahead_onward y a b p 1 0 (stamp_at y c p 1) is (is.0, lit< tt) up some m (ahead some)
+    ahead_by (suc (suc k)) is m n ahead some = absurd (let h = is.1 in omega (arith, h))
 
 pub onward : (y : LayoutData) (a b c : List ℕ) → Grows y a b → Grows y b c → Grows y a c
 onward y a b c up on Conflict is =

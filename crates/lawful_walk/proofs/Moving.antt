@@ -1,5 +1,6 @@
 -- From safe scripts to a worker's step.
-use Rattle.std.proofs.Common.{◌≡◌, ℕ, ◌-◌, ◌*◌, ◌<◌, ◌≤◌, List, [], ◌∷◌, ◌++◌, Option, unwrap_or, IsTrue}
+use Rattle.std.proofs.Common.{◌≡◌, ℕ, ◌-◌, ◌*◌, ◌<◌, ◌≤◌, List, [], ◌∷◌, ◌++◌, Option, unwrap_or}
+use Rattle.std.proofs.Common.{IsTrue}
 use Rattle.std.proofs.Common.{refl, sym, subst, arith}
 use Rattle.pram_job.specs.Job.{JobData}
 use Rattle.pram_words.specs.Phases.{has_phase, kind_at, step_at}
@@ -23,7 +24,7 @@ use Rattle.walkx.specs.Scripts.{Script, asks, ends, heard_in, op_with, rest}
 use Rattle.walkx.specs.declared.operation.Op.{Op}
 use Rattle.walkx.specs.declared.operation.Op.TheVariants.{Over}
 use Rattle.walkx.proofs.Nodes.{node_range}
-use Rattle.lawful_walk.proofs.Remembered.{true_fits}
+use Rattle.lawful_walk.proofs.TrueFits.{true_fits}
 use Rattle.lawful_walk.proofs.Moments.{same, backs}
 use Rattle.lawful_walk.specs.Board.{root, Done, Stands}
 use Rattle.lawful_walk.proofs.Admitted.{answer_admitted}
@@ -99,7 +100,8 @@ module _ (job : JobData) (y : LayoutData) (board : IsBoard job y) (wide : IsWide
     (w n q : ℕ) (words : List ℕ) (safe : RankSafe) (some : 1 ≤ y.leaves) (low : y.leaves ≤ n)
     (high : n < 2 * y.leaves) (first : 1 ≤ q) (last : q ≤ 3 * job.steps)
     (formed : IsTrue (has_phase y.form q)) (stands : Stands job y words) where
-  pub shown_of : (rank : ℕ) → IsTrue (has_rank y n rank) → (memo learned : Memo) (answers : List ℕ) →
+  pub shown_of : (rank : ℕ) → IsTrue (has_rank y n rank) →
+      (memo learned : Memo) (answers : List ℕ) →
       IsTrueMemo job (processor_at y n rank) memo →
       rest (part_script job y n q rank memo) answers ≡ ends (worked n q rank learned) →
       Chain job y (λ words. Unit {0})

@@ -1,82 +1,46 @@
--- A processor's own places in the wide form, which both passes read: either their values before the
--- step, or a word of the step, after which nothing is left to do for it.
-use Rattle.std.proofs.Common.{◌≡◌, ◌⊎◌, ℕ, suc, ◌+◌, ◌-◌, ◌*◌, ◌<◌, ◌≤◌, nat_le, true, false}
-use Rattle.std.proofs.Common.{List, [], ◌∷◌, ◌++◌, map, slice_index, append_assoc, append-nil, refl}
-use Rattle.std.proofs.Common.{sym, ap, subst, ◌∙◌, inl, inr, lit<, arith, if◌then◌else◌}
+-- A processor's own places in the wide form, which both passes read: what is then known of the
+-- processor is true, or the phase is over.
+use Rattle.std.proofs.Common.{◌≡◌, ℕ, zero, suc, ◌+◌, ◌*◌, ◌<◌, ◌≤◌, ◌==◌, nat_le, nat_lt}
+use Rattle.std.proofs.Common.{true, false, List, [], ◌∷◌, ◌++◌, map, append_assoc, append-nil, refl}
+use Rattle.std.proofs.Common.{sym, ap, subst, inl, inr, lit<, arith, if◌then◌else◌}
 use Rattle.std.specs.List.{AllByRecursion}
-use Rattle.std.proofs.lemmas.Bool.{cond_both, cases_Bool, leb-true, lt-ltb}
+use Rattle.std.proofs.lemmas.Bool.{cond_both, cases_Bool, eqb-true, leb-true, ltb-true}
 use Rattle.pram_job.specs.Job.{JobData}
-use Rattle.pram_job.specs.Places.{counters_at}
-use Rattle.pram_machine.specs.Machine.{register, register_place, counter, counter_place}
-use Rattle.pram_step.specs.History.{Asks}
-use Rattle.pram_step.specs.Runs.{state_after}
-use Rattle.pram_step.proofs.LawPlaces.{writes_place}
 use Rattle.pram_words.specs.declared.layout.Form.{Form}
 use Rattle.pram_words.specs.declared.layout.Form.TheVariants.{Wide}
 use Rattle.pram_words.specs.declared.words.Word.TheVariants.{Stored}
 use Rattle.pram_words.specs.Phases.{step_at}
-use Rattle.pram_words.specs.Stamps.{stamp_of, payload_of, newer_word}
+use Rattle.pram_words.specs.Stamps.{stamp_of}
 use Rattle.pram_words.specs.Words.{LayoutData, IsWord, number_of, places_of}
 use Rattle.pram_words.proofs.NextPhases.{next_step}
+use Rattle.walkx.specs.declared.memo.Memo.{Memo}
 use Rattle.walkx.specs.declared.operation.Op.{Op}
 use Rattle.walkx.specs.declared.operation.Op.TheVariants.{Load}
+use Rattle.walkx.specs.Memory.{IsTrueMemo}
+use Rattle.walkx.specs.Passes.{hears_before, hears_words, is_beyond, knows, loaded_memo, loads_memo}
+use Rattle.walkx.specs.Passes.{own_places, word_before}
 use Rattle.walkx.specs.Scripts.{Script}
-use Rattle.walkx.specs.Tasks.{is_late, loads_both, reads_registers}
+use Rattle.walkx.specs.Tasks.{is_late}
 use Rattle.walkx.specs.Walk.{Then, IsBoard}
 use Rattle.walkx.proofs.Boards.{same_cells, same_procs}
-use Rattle.walkx.specs.Counters.{is_counter, wide_worth, worth}
-use Rattle.walkx.specs.Passes.{reads_counter}
-use Rattle.lawful_walk.specs.Board.{root, finished, stamp_at, IsLate, Stands}
-use Rattle.lawful_walk.proofs.Moments.{onward, stamps_rise}
-use Rattle.lawful_walk.specs.Lands.{Lands}
+use Rattle.lawful_walk.specs.Board.{root, stamp_at, IsLate, Stands}
+use Rattle.lawful_walk.specs.Lands.{settled}
 use Rattle.lawful_walk.specs.Moments.{Moment}
 use Rattle.lawful_walk.specs.Writes.{Floor}
 use Rattle.lawful_walk.proofs.Facts.{facts}
-use Rattle.lawful_walk.proofs.Growths.{place_as_heard}
-use Rattle.lawful_walk.proofs.Known.{floor_lasts, safe_known}
-use Rattle.lawful_walk.proofs.Raising.{alive, stamps_most}
+use Rattle.lawful_walk.proofs.Growths.{root_up}
+use Rattle.lawful_walk.proofs.Heard.{heard_settled}
+use Rattle.lawful_walk.proofs.Known.{floor_lasts, safe_known, StaleSafe}
+use Rattle.lawful_walk.proofs.LoadedMemos.{loaded_true}
+use Rattle.lawful_walk.proofs.Moments.{onward, stamps_rise}
+use Rattle.lawful_walk.proofs.Newest.{IsOwn, own_is}
 use Rattle.lawful_walk.proofs.Scripts.{Aim, Safe, both_safe}
 use Rattle.lawful_walk.proofs.Sees.{Sees, so}
-
--- a word of the step after x steps is in the place, and it is i's
-pub record HasOwn (job : JobData) (y : LayoutData) (g x i p : ℕ) (words : List ℕ) : Type 0 where
-  pub value : ℕ
-  pub lands : Lands (Wide g) job x p i value
-  pub late : IsLate y x p words
-
--- the places of processor i alone: its registers and its counter
-pub data IsOwn (job : JobData) (i p : ℕ) : Type 0 where
-  own_register : (r : ℕ) → r < 4 → p ≡ register_place job i r → IsOwn job i p
-  own_counter : p ≡ counter_place job i → IsOwn job i p
-
-own_high : (job : JobData) (i p : ℕ) → IsOwn job i p → job.cells ≤ p
-own_high job i p (own_register r low e) = omega (arith, e)
-own_high job i p (own_counter e) = omega (arith, e)
-
--- nobody else writes them
-own_writer : (job : JobData) (y : LayoutData) (x i p j v : ℕ) → IsBoard job y → i < job.procs →
-    IsOwn job i p → Asks job x p j v → j ≡ i
-own_writer job y x i p j v board proc own asks =
-    let w = writes_place job (state_after job x) p j v board.limits asks in by own w.0 w.1
-  where
-    by : IsOwn job i p → j < job.procs → (p ≡ counter_place job j)
-        ⊎ ((p < job.cells) ⊎ ((register_place job j 0 ≤ p) × (p < register_place job j 4))) → j ≡ i
-    by (own_register r low e) other (inl c) = absurd (omega (arith, e, c, low, proc, other))
-    by (own_register r low e) other (inr (inl c)) = absurd (omega (arith, e, c))
-    by (own_register r low e) other (inr (inr c)) = omega (arith, e, c.0, c.1, low)
-    by (own_counter e) other (inl c) = omega (arith, e, c)
-    by (own_counter e) other (inr (inl c)) = absurd (omega (arith, e, c))
-    by (own_counter e) other (inr (inr c)) = absurd (omega (arith, e, c.1, other, proc))
+use Rattle.lawful_walk.proofs.Values.{phase_low}
 
 module _ (job : JobData) (y : LayoutData) (w q : ℕ) (aim : Aim) (g x i : ℕ) (some : 1 ≤ q)
     (most : q ≤ 3 * job.steps) (step : step_at q ≡ suc x) (board : IsBoard job y)
     (proc : i < y.procs) (wide : y.form ≡ Wide g) where
-  -- what follows is safe where a word of the step is in one of them, if the phase is not over
-  abbrev pub OwnEnd : Script Then → Type 0
-  OwnEnd after = (p : ℕ) → job.cells ≤ p → (longer : List (Op × ℕ)) → Sees job y longer
-      (λ words. Floor job y q x words × (root y words < q → HasOwn job y g x i p words)) →
-      Safe job y w q aim after longer
-
   pub in_job : i < job.procs
   in_job = let c = same_procs job y board in omega arith
 
@@ -111,126 +75,127 @@ module _ (job : JobData) (y : LayoutData) (w q : ℕ) (aim : Aim) (g x i : ℕ) 
             let k = leb-true (suc x) (stamp_of b) l in inr (omega arith))
       ]
 
-  -- while the phase is not over, its word is of this step, and i's
-  has_own : (p : ℕ) (words : List ℕ) → p < places_of y → IsOwn job i p → Stands job y words →
-      Floor job y q x words → IsLate y x p words → root y words < q → HasOwn job y g x i p words
-  has_own p words place own stands floor late live =
-      let gone = alive job y words q x stands some most step floor live in
-      by late (stamps_most job y words stands p 0 (place, lit< tt))
-      (stamps_most job y words stands p 1 (place, lit< tt)) gone
-    where
-      of_word : (k : ℕ) → IsWord y (Stored p k) → stamp_at y words p k ≡ suc x →
-          IsLate y x p words → HasOwn job y g x i p words
-      of_word k is e late =
-          let from = ((facts job y words stands).stored_from x p k is e).1 in
-          let mine = own_writer job y x i p from.writer from.value board in_job own
-          from.lands.asks in
-          record {
-            value = from.value;
-            lands = subst (λ (j : ℕ). Lands (Wide g) job x p j from.value) mine
-                (subst (λ (f : Form). Lands f job x p from.writer from.value) wide from.lands);
-            late = late;
-          }
+  -- a word of a later step: the phase is over
+  beyond_word : (p k s : ℕ) (words now : List ℕ) → IsWord y (Stored p k) → Stands job y words →
+      root y words ≤ root y now → stamp_at y words p k ≡ s → suc x < s → q ≤ root y now
+  beyond_word p k zero words now is stands up e more = absurd (omega arith)
+  beyond_word p k (suc s) words now is stands up e more =
+      let from = ((facts job y words stands).stored_from s p k is e).2 in
+      let first = phase_low y.form job p s in
+      let low = next_step y.form (root y words) s (omega (arith, from, first)) in
+      omega (arith, low, up, more, step)
 
-      by : IsLate y x p words → stamp_at y words p 0 ≤ suc (finished y words) →
-          stamp_at y words p 1 ≤ suc (finished y words) → finished y words ≡ x →
-          HasOwn job y g x i p words
-      by (inl h) one two gone =
-          of_word 0 (place, lit< tt) (omega (arith, h, one, gone)) (inl h)
-      by (inr h) one two gone =
-          of_word 1 (place, lit< tt) (omega (arith, h, two, gone)) (inr h)
-
-  pub both_value : (p a b : ℕ) (words : List ℕ) → p < places_of y → 3 * x + 1 ≤ q →
-      Stands job y words → Both p a b words → is_late (suc x) a b ≡ false →
-      wide_worth job x p (newer_word a b) ≡ slice_index (state_after job x) p
+  beyond_stale : (p a b : ℕ) (words : List ℕ) → p < places_of y → Stands job y words →
+      Both p a b words → is_beyond (suc x) a b ≡ true → q ≤ root y words
   unfolding Both
-  both_value p a b words place begun stands m early =
+  beyond_stale p a b words place stands m late =
       let first = m.earlier in
-      let fl = first.earlier in
-      let low = next_step y.form (root y first.words) x (let f = fl.root in omega arith) in
-      let v = (place_as_heard job y x p a b first.words m.words words first.stands m.stands stands
-      first.since m.since place fl.reached low first.heard m.heard early).value in
-      subst (λ (f : Form). worth f job x p (newer_word a b) ≡ slice_index (state_after job x) p)
-      wide v
+      let up = onward y first.words m.words words first.since m.since in
+      elim (cases_Bool (nat_lt (suc x) (stamp_of a))) [
+        | inl h ↦ beyond_word p 0 (stamp_of a) first.words words (place, lit< tt) first.stands
+            (root_up job y first.words words first.stands up) (sym (ap stamp_of first.heard))
+            (ltb-true (suc x) (stamp_of a) h)
+        | inr h ↦ (let l : nat_lt (suc x) (stamp_of b) ≡ true = rw h at late in
+            beyond_word p 1 (stamp_of b) m.words words (place, lit< tt) m.stands
+            (root_up job y m.words words m.stands m.since) (sym (ap stamp_of m.heard))
+            (ltb-true (suc x) (stamp_of b) l))
+      ]
 
-  -- one place of its own
-  pub own_safe : (p : ℕ) → IsOwn job i p → p < places_of y → 3 * x + 1 ≤ q →
-      (after : Script Then) (next : ℕ → ℕ → Script Then) (history : List (Op × ℕ)) →
-      OwnEnd after → Sees job y history (Floor job y q x) →
-      ((a b : ℕ) (longer : List (Op × ℕ)) →
-      wide_worth job x p (newer_word a b) ≡ slice_index (state_after job x) p →
-      Sees job y longer (Floor job y q x) → Safe job y w q aim (next a b) longer) →
-      Safe job y w q aim
-      (loads_both y p (λ a b. if is_late (suc x) a b then after else next a b)) history
+  -- else its settled word was heard
+  abbrev pub Word : ℕ → ℕ
+  Word p = settled (Wide g) job x p
+
+  both_word : (p a b : ℕ) (words : List ℕ) → p < places_of y → 3 * x + 1 ≤ q →
+      Both p a b words → is_beyond (suc x) a b ≡ false → word_before (suc x) a b ≡ Word p
   unfolding Both
-  own_safe p own place begun after next history ended sees on =
-      both_safe job y w q aim p (λ a b. if is_late (suc x) a b then after else next a b) history
-      (Floor job y q x) sees (λ a b longer moment.
-      cond_both (is_late (suc x) a b) after (next a b)
-      (λ (s : Script Then). Safe job y w q aim s longer)
-      (λ late. ended p (own_high job i p own) longer (so job y longer (Both p a b)
-      (λ words. Floor job y q x words × (root y words < q → HasOwn job y g x i p words))
-      (λ words stands m.
-      let fl = both_floor p a b words stands m in
-      (fl, has_own p words place own stands fl (both_late p a b words place m late))) moment))
-      (λ early. safe_known job y w q aim (next a b) longer
-      (wide_worth job x p (newer_word a b) ≡ slice_index (state_after job x) p)
-      (so job y longer (Both p a b)
-      (λ words. wide_worth job x p (newer_word a b) ≡ slice_index (state_after job x) p)
-      (λ words stands m. both_value p a b words place begun stands m early) moment)
-      (λ value. on a b longer value (so job y longer (Both p a b) (Floor job y q x)
-      (λ words stands m. both_floor p a b words stands m) moment))))
+  both_word p a b words place begun m early =
+      let first = m.earlier in
+      let floor = first.earlier in
+      let low = next_step y.form (root y first.words) x
+      (let f = floor.root in omega (arith, f, begun)) in
+      subst (λ (form : Form). word_before (suc x) a b ≡ settled form job x p) wide
+      (heard_settled job y x p a b first.words m.words first.stands m.stands first.since place
+      floor.reached low first.heard m.heard early)
 
-  place_in : (p : ℕ) → p < job.cells + 5 * job.procs → p < places_of y
-  place_in p h = let b = same_cells job y board in let c = same_procs job y board in omega arith
+  -- one place of its own is heard
+  module _ (begun : 3 * x + 1 ≤ q) (late : Script Then)
+      (stale : StaleSafe job y w q aim x late) where
+    own_heard : (p : ℕ) → IsOwn job i p → (next : ℕ → Script Then) (history : List (Op × ℕ)) →
+        Sees job y history (Floor job y q x) →
+        ((longer : List (Op × ℕ)) → Sees job y longer (Floor job y q x) →
+        Safe job y w q aim (next (Word p)) longer) →
+        Safe job y w q aim (hears_before y (suc x) p late next) history
+    unfolding Both
+    own_heard p mine next history sees on =
+        let below = (own_is job i p in_job mine).below in
+        let place : p < places_of y = (let c = same_procs job y board in
+        let b = same_cells job y board in omega (arith, below, b, c)) in
+        both_safe job y w q aim p
+        (λ a b. if is_beyond (suc x) a b then late else next (word_before (suc x) a b)) history
+        (Floor job y q x) sees (λ a b longer moment.
+        cond_both (is_beyond (suc x) a b) late (next (word_before (suc x) a b))
+        (λ (s : Script Then). Safe job y w q aim s longer)
+        (λ over. stale longer (so job y longer (Both p a b)
+        (λ words. Floor job y q x words × (q ≤ root y words)) (λ words stands m.
+        (both_floor p a b words stands m, beyond_stale p a b words place stands m over)) moment))
+        (λ early. safe_known job y w q aim (next (word_before (suc x) a b)) longer
+        (word_before (suc x) a b ≡ Word p)
+        (so job y longer (Both p a b) (λ words. word_before (suc x) a b ≡ Word p)
+        (λ words stands m. both_word p a b words place begun m early) moment)
+        (λ is. subst (λ (v : ℕ). Safe job y w q aim (next v) longer) (sym is)
+        (on longer (so job y longer (Both p a b) (Floor job y q x)
+        (λ words stands m. both_floor p a b words stands m) moment)))))
 
-  -- ---- the counter
+    -- those of several
+    words_heard : (ps words : List ℕ) → AllByRecursion (IsOwn job i) ps →
+        (next : List ℕ → Script Then) (history : List (Op × ℕ)) →
+        Sees job y history (Floor job y q x) →
+        ((longer : List (Op × ℕ)) → Sees job y longer (Floor job y q x) →
+        Safe job y w q aim (next (words ++ map Word ps)) longer) →
+        Safe job y w q aim (hears_words y (suc x) ps words late next) history
+    words_heard [] words mine next history sees on =
+        subst (λ (ws : List ℕ). Safe job y w q aim (next ws) history) (append-nil words)
+        (on history sees)
+    words_heard (p ∷ ps) words mine next history sees on =
+        own_heard p mine.0
+        (λ word. hears_words y (suc x) ps (words ++ word ∷ []) late next) history sees
+        (λ longer more. words_heard ps (words ++ Word p ∷ []) mine.1 next longer more
+        (λ longest known. subst (λ (ws : List ℕ). Safe job y w q aim (next ws) longest)
+        (sym (append_assoc words (Word p ∷ []) (map Word ps))) (on longest known)))
 
-  pub counter_safe : 3 * x + 1 ≤ q → (after : Script Then) (next : ℕ → Script Then)
-      (history : List (Op × ℕ)) → OwnEnd after → Sees job y history (Floor job y q x) →
-      ((longer : List (Op × ℕ)) → Sees job y longer (Floor job y q x) →
-      Safe job y w q aim (next (counter job (state_after job x) i)) longer) →
-      Safe job y w q aim (reads_counter job y (suc x) i after next) history
-  counter_safe begun after next history ended sees on =
-      let p = counter_place job i in
-      let there : suc x - 1 ≡ x = omega arith in
-      own_safe p (own_counter refl) (place_in p (let l = in_job in omega arith)) begun after
-      (λ a b. next (wide_worth job (suc x - 1) p (newer_word a b))) history ended sees
-      (λ a b longer value more.
-      subst (λ (c : ℕ). Safe job y w q aim (next c) longer)
-      (sym (ap (λ (t : ℕ). wide_worth job t p (newer_word a b)) there ∙ value)) (on longer more))
+    own_mine : AllByRecursion (IsOwn job i) (own_places job i)
+    own_mine = (
+      inr refl,
+      (
+        inl (0, lit< tt, refl),
+        (
+          inl (1, lit< tt, refl),
+          (inl (2, lit< tt, refl), (inl (3, lit< tt, refl), tt)),
+        ),
+      ),
+    )
 
-  -- ---- its registers
+    -- what is known of the processor before the step: remembered, or loaded
+    pub loads_safe : (next : Memo → Script Then) (history : List (Op × ℕ)) →
+        Sees job y history (Floor job y q x) →
+        ((known : Memo) → IsTrueMemo job i known → known.step ≡ x → (longer : List (Op × ℕ)) →
+        Sees job y longer (Floor job y q x) → Safe job y w q aim (next known) longer) →
+        Safe job y w q aim (loads_memo job y (suc x) i late next) history
+    loads_safe next history sees on =
+        words_heard (own_places job i) [] own_mine (λ words. next (loaded_memo job (suc x) i words))
+        history sees
+        (λ longer more. on (loaded_memo job (suc x) i (map Word (own_places job i)))
+        (loaded_true g job x i board.limits in_job (omega (arith, most, step))) (omega arith)
+        longer more)
 
-  register_worth : (r word : ℕ) → r < 4 →
-      wide_worth job x (register_place job i r) word ≡ payload_of word
-  register_worth r word low =
-      let l = in_job in
-      let no : is_counter job (register_place job i r) ≡ false =
-      rw (lt-ltb (register_place job i r) (counters_at job.cells job.procs) (omega arith)) refl in
-      rw no refl
-
-  pub registers_safe : 3 * x + 1 ≤ q → (rs values : List ℕ) (after : Script Then)
-      (next : List ℕ → Script Then) (history : List (Op × ℕ)) → OwnEnd after →
-      AllByRecursion (λ r. r < 4) rs → Sees job y history (Floor job y q x) →
-      ((longer : List (Op × ℕ)) → Sees job y longer (Floor job y q x) → Safe job y w q aim
-      (next (values ++ map (register job (state_after job x) i) rs)) longer) →
-      Safe job y w q aim (reads_registers job y (suc x) i rs values after next) history
-  registers_safe begun [] values after next history ended all sees on =
-      subst (λ (vs : List ℕ). Safe job y w q aim (next vs) history)
-      (append-nil values) (on history sees)
-  registers_safe begun (r ∷ rs) values after next history ended all sees on =
-      let p = register_place job i r in
-      own_safe p (own_register r all.0 refl)
-      (place_in p (let l = in_job in let low = all.0 in omega arith)) begun after
-      (λ a b. reads_registers job y (suc x) i rs (values ++ payload_of (newer_word a b) ∷ []) after
-      next) history ended sees (λ a b longer value more.
-      let is : payload_of (newer_word a b) ≡ register job (state_after job x) i r =
-      sym (register_worth r (newer_word a b) all.0) ∙ value in
-      subst (λ (v : ℕ). Safe job y w q aim
-      (reads_registers job y (suc x) i rs (values ++ v ∷ []) after next) longer) (sym is)
-      (registers_safe begun rs (values ++ register job (state_after job x) i r ∷ []) after next
-      longer ended all.1 more (λ longest known.
-      subst (λ (vs : List ℕ). Safe job y w q aim (next vs) longest)
-      (sym (append_assoc values (register job (state_after job x) i r ∷ [])
-      (map (register job (state_after job x) i) rs))) (on longest known))))
+    pub knows_safe : (memo : Memo) → IsTrueMemo job i memo → (next : Memo → Script Then)
+        (history : List (Op × ℕ)) → Sees job y history (Floor job y q x) →
+        ((known : Memo) → IsTrueMemo job i known → known.step ≡ x → (longer : List (Op × ℕ)) →
+        Sees job y longer (Floor job y q x) → Safe job y w q aim (next known) longer) →
+        Safe job y w q aim (knows job y (suc x) i memo late next) history
+    knows_safe memo is_true next history sees on =
+        cond_both (suc memo.step == suc x) (next memo) (loads_memo job y (suc x) i late next)
+        (λ (s : Script Then). Safe job y w q aim s history)
+        (λ e. let at = eqb-true (suc memo.step) (suc x) e in
+        on memo is_true (omega (arith, at)) history sees)
+        (λ e. loads_safe next history sees on)

@@ -1,22 +1,19 @@
 -- What the two words of a place hold: the values of the steps that their stamps tell.
-use Rattle.std.proofs.Common.{◌≡◌, ℕ, suc, ◌<◌, ◌≤◌, ◌⊎◌, nat_le, false, List, slice_index, refl}
-use Rattle.std.proofs.Common.{sym, ap, ◌∙◌, inl, inr, lit<, arith}
+use Rattle.std.proofs.Common.{◌≡◌, ℕ, zero, suc, ◌<◌, ◌≤◌, ◌⊎◌, nat_le, false, List, slice_index}
+use Rattle.std.proofs.Common.{refl, sym, ap, ◌∙◌, inl, inr, lit<, arith}
 use Rattle.std.proofs.lemmas.Bool.{lt-leb, or_from}
 use Rattle.pram_job.specs.Job.{IsJob, JobData}
 use Rattle.pram_step.proofs.LawFixed.{reached_down}
-use Rattle.pram_step.proofs.Past.{written_value}
 use Rattle.pram_step.specs.Runs.{IsReached, state_after}
 use Rattle.pram_words.specs.Stamps.{stamp_of, payload_of}
 use Rattle.pram_words.specs.Words.{LayoutData, IsWord, places_of}
 use Rattle.pram_words.specs.declared.layout.Form.{Form}
-use Rattle.pram_words.specs.declared.layout.Form.TheVariants.{Compact, Wide}
 use Rattle.pram_words.specs.declared.words.Word.TheVariants.{Stored}
-use Rattle.walkx.specs.Counters.{worth}
 use Rattle.walkx.specs.Tasks.{is_late}
-use Rattle.lawful_walk.proofs.Landings.{last_most, stamp_step, payload_step, worth_at_stamp}
-use Rattle.lawful_walk.proofs.Landings.{worth_between}
-use Rattle.lawful_walk.proofs.Winners.{cell_counter}
-use Rattle.lawful_walk.specs.Lands.{landing_before, last_landing, settled}
+use Rattle.lawful_walk.proofs.Landings.{last_least, last_most, payload_step, stamp_step}
+use Rattle.lawful_walk.proofs.Landings.{told_last, told_shared}
+use Rattle.lawful_walk.proofs.Winners.{cell_shared, landed_value}
+use Rattle.lawful_walk.specs.Lands.{landing_before, last_landing, settled, told_at}
 use Rattle.lawful_walk.proofs.Moments.{same}
 use Rattle.lawful_walk.specs.Board.{held, root, stamp_at, finished, Grows, Stands, IsPair}
 use Rattle.lawful_walk.specs.Board.{newer_first, newer_second, new_first, new_second}
@@ -55,29 +52,47 @@ word_value job y words x p k stands is e reached =
         let below = place_below job y words
         (finished y words) stands.limits stands.sizes stands.layout stands.lawful
         (facts job y words stands).root_low (facts job y words stands).root_high p is.0 in
-        sym (written_value job f p n.writer (payload_of word) stands.limits below
-        (reached f (omega arith)) n.lands.asks n.wins)
+        sym (landed_value y.form job f p n.writer (payload_of word) stands.limits below
+        (reached f (omega arith)) n.lands n.wins)
         ∙ ap (λ (n : ℕ). slice_index (state_after job n) p) z
+
+-- Where no word of the place lands after the word's step, up to x, that is the last one.
+stamp_last : (job : JobData) (y : LayoutData) (words : List ℕ) (x p k : ℕ) →
+    Stands job y words → IsWord y (Stored p k) → stamp_at y words p k ≤ x →
+    last_landing y.form job x p ≤ stamp_at y words p k →
+    last_landing y.form job x p ≡ stamp_at y words p k
+stamp_last job y words x p k stands is low last = by (stamp_at y words p k) refl
+  where
+    by : (z : ℕ) → stamp_at y words p k ≡ z →
+        last_landing y.form job x p ≡ stamp_at y words p k
+    by zero e = omega (arith, e, last)
+    by (suc s) e =
+        let landed = ((facts job y words stands).stored_from s p k is e).1 in
+        let more = last_least y.form job stands.limits x p s (omega (arith, e, low)) landed in
+        omega (arith, e, last, more)
 
 old_value : (job : JobData) (y : LayoutData) (words : List ℕ) (x p k : ℕ) →
     Stands job y words → IsWord y (Stored p k) → x ≤ finished y words →
     stamp_at y words p k ≤ x → last_landing y.form job x p ≤ stamp_at y words p k →
-    worth y.form job x p (held y words (Stored p k)) ≡ slice_index (state_after job x) p
+    payload_of (held y words (Stored p k))
+    ≡ slice_index (state_after job (told_at y.form job x p)) p
 old_value job y words x p k stands is h low last =
     let z = stamp_at y words p k in
-    let word = held y words (Stored p k) in
     let below = place_below job y words (finished y words) stands.limits stands.sizes stands.layout
     stands.lawful (facts job y words stands).root_low (facts job y words stands).root_high p is.0 in
-    let at : worth y.form job z p word ≡ slice_index (state_after job z) p =
-    worth_at_stamp y.form job p word ∙ word_value job y words z p k stands is refl
-    (reached_down job z (finished y words) (omega arith) stands.lawful.reached) in
-    worth_between y.form job stands.limits z x p word below low last (omega arith) at
+    let at : payload_of (held y words (Stored p k)) ≡ slice_index (state_after job z) p =
+    word_value job y words z p k stands is refl
+    (reached_down job z (finished y words) (omega (arith, h, low)) stands.lawful.reached) in
+    at ∙ ap (λ (n : ℕ). slice_index (state_after job n) p)
+    (sym (stamp_last job y words x p k stands is low last))
+    ∙ told_last y.form job stands.limits x p below
 
 -- the first word is older than the step seen, the second one newer; and the other way
 pub first_value : (job : JobData) (y : LayoutData) (words : List ℕ) (x p : ℕ) →
     Stands job y words → p < places_of y → x ≤ finished y words →
     stamp_at y words p 0 ≤ x → x < stamp_at y words p 1 →
-    worth y.form job x p (held y words (Stored p 0)) ≡ slice_index (state_after job x) p
+    payload_of (held y words (Stored p 0))
+    ≡ slice_index (state_after job (told_at y.form job x p)) p
 first_value job y words x p stands place h low high =
     old_value job y words x p 0 stands (place, lit< tt) h low
     ((beside job y words x p _ _ stands (stands.lawful.stored p place) h).0 high)
@@ -85,7 +100,8 @@ first_value job y words x p stands place h low high =
 pub second_value : (job : JobData) (y : LayoutData) (words : List ℕ) (x p : ℕ) →
     Stands job y words → p < places_of y → x ≤ finished y words →
     stamp_at y words p 1 ≤ x → x < stamp_at y words p 0 →
-    worth y.form job x p (held y words (Stored p 1)) ≡ slice_index (state_after job x) p
+    payload_of (held y words (Stored p 1))
+    ≡ slice_index (state_after job (told_at y.form job x p)) p
 second_value job y words x p stands place h low high =
     old_value job y words x p 1 stands (place, lit< tt) h low
     ((beside job y words x p _ _ stands (stands.lawful.stored p place) h).1 high)
@@ -149,8 +165,8 @@ last_held job y words p stands place =
     one_low y.form job (finished y words) (root y words) p _ _ stands.limits
     (stands.lawful.stored p place)
 
--- what a word of a cell stands for is its payload
-pub cell_worth : (form : Form) (job : JobData) (t p word : ℕ) → p < job.cells →
-    worth form job t p word ≡ payload_of word
-cell_worth Compact job t p word cell = refl
-cell_worth (Wide g) job t p word cell = rw (cell_counter job p cell) refl
+-- a cell's words tell what it holds
+pub cell_value : (form : Form) (job : JobData) (t p : ℕ) → p < job.cells →
+    slice_index (state_after job (told_at form job t p)) p ≡ slice_index (state_after job t) p
+cell_value form job t p cell = ap (λ (n : ℕ). slice_index (state_after job n) p)
+    (told_shared form job t p (cell_shared form job p cell))

@@ -7,7 +7,7 @@ use Rattle.pram_job.specs.Job.{JobData}
 use Rattle.pram_step.proofs.LawFixed.{reached_down}
 use Rattle.pram_step.specs.Runs.{IsReached, state_after}
 use Rattle.pram_words.proofs.Numbering.{numbering}
-use Rattle.pram_words.specs.Stamps.{stamp_of, payload_of, newer_payload, newer_word}
+use Rattle.pram_words.specs.Stamps.{stamp_of, payload_of, newer_payload}
 use Rattle.pram_words.specs.Words.{LayoutData, IsWord, number_of, places_of, IsLayout}
 use Rattle.pram_words.specs.declared.words.Word.{Word}
 use Rattle.pram_words.specs.declared.words.Word.TheVariants.{Conflict, Node, Stored}
@@ -30,7 +30,7 @@ use Rattle.lawful_walk.proofs.Growths.{growth_shows, changed, place_as_heard}
 use Rattle.lawful_walk.proofs.Knowing.{root_now, conflict_fin, shown_now, known_now, heard_too}
 use Rattle.lawful_walk.proofs.Knowing.{shows_too, fin_then}
 use Rattle.lawful_walk.proofs.Known.{board_of}
-use Rattle.lawful_walk.proofs.Places.{word_value, first_value, second_value, cell_worth, is_early}
+use Rattle.lawful_walk.proofs.Places.{word_value, first_value, second_value, cell_value, is_early}
 use Rattle.lawful_walk.proofs.Places.{apart_on, apart_back}
 use Rattle.lawful_walk.specs.Moments.{Moment, Backed, afters}
 
@@ -424,9 +424,9 @@ module _ (job : JobData) (y : LayoutData) (before r : Record) (c s : ℕ) (cell 
       let early : is_late (suc s) a b ≡ false = is_early s a b (omega arith) (omega arith) in
       seen_read job y before r (Two a b) c s (newer_payload a b)
       (glance first.words first.stands first.earlier) (extends_two a b stands.sizes) f.0
-      (sym (cell_worth y.form job s c (newer_word a b) (in_job words stands))
-      ∙ (place_as_heard job y s c a b first.words m.words words first.stands m.stands stands
-      first.since m.since place f.0 (let g = f.1 in omega arith) first.heard m.heard early).value)
+      ((place_as_heard job y s c a b first.words m.words words first.stands m.stands stands
+      first.since m.since place f.0 (let g = f.1 in omega arith) first.heard m.heard early).value
+      ∙ cell_value y.form job s c (in_job words stands))
 
   second_old : (a b : ℕ) → s < stamp_of a → stamp_of b ≤ s →
       Reads job y before c (ends (At s (payload_of b))) (Two a b)
@@ -441,8 +441,8 @@ module _ (job : JobData) (y : LayoutData) (before r : Record) (c s : ℕ) (cell 
       seen_read job y before r (Two a b) c s (payload_of b)
       (glance first.words first.stands first.earlier) (extends_two a b stands.sizes) f.0
       (ap payload_of m.heard
-      ∙ sym (cell_worth y.form job s c (held y m.words (Stored c 1)) (in_job words stands))
-      ∙ second_value job y m.words s c m.stands place fin_m (omega arith) (omega arith))
+      ∙ second_value job y m.words s c m.stands place fin_m (omega arith) (omega arith)
+      ∙ cell_value y.form job s c (in_job words stands))
 
   both_new : (a b : ℕ) → s < stamp_of a → s < stamp_of b →
       Reads job y before c (told_at (lesser a b)) (Two a b)
@@ -487,8 +487,8 @@ module _ (job : JobData) (y : LayoutData) (before r : Record) (c s : ℕ) (cell 
       (extends_on y r (Two a b) c 0 again stands.sizes
       (place, lit< tt) (extends_two a b stands.sizes)) f.0
       (ap payload_of (ea ∙ still)
-      ∙ sym (cell_worth y.form job s c (held y m.words (Stored c 0)) (in_job words stands))
-      ∙ first_value job y m.words s c m.stands place fin_m (omega arith) (omega arith))
+      ∙ first_value job y m.words s c m.stands place fin_m (omega arith) (omega arith)
+      ∙ cell_value y.form job s c (in_job words stands))
 
   other_again : (a b again : ℕ) → s < stamp_of b → again ≢ a →
       Reads job y before c (told_at (lesser again b)) (Three a b again)

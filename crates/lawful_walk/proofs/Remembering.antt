@@ -2,7 +2,7 @@
 use Rattle.std.proofs.Common.{◌≡◌, ℕ, zero, suc, ◌*◌, ◌<◌, ◌≤◌, true, List, [], ◌∷◌, ◌++◌}
 use Rattle.std.proofs.Common.{IsTrue, refl, sym, ap, subst, ◌∙◌, inl, inr, arith}
 use Rattle.std.specs.Prelude.{slice_set}
-use Rattle.std.proofs.lemmas.Bool.{cases_Bool}
+use Rattle.std.proofs.lemmas.Bool.{cases_Bool, cond_both}
 use Rattle.pram_job.specs.Job.{JobData}
 use Rattle.pram_words.specs.Phases.{has_phase}
 use Rattle.pram_words.specs.Words.{LayoutData, grain}
@@ -10,12 +10,13 @@ use Rattle.walkx.specs.declared.memo.Memo.{Memo}
 use Rattle.walkx.specs.declared.operation.Op.{Op}
 use Rattle.walkx.specs.Doing.{Doing}
 use Rattle.walkx.specs.Doing as doing
-use Rattle.walkx.specs.Memory.{IsTrueMemo, IsTrueMemory, memo_of}
+use Rattle.walkx.specs.Memory.{IsTrueMemo, IsTrueMemory, gone_on, memo_of}
 use Rattle.walkx.specs.Playing.{hearing}
 use Rattle.walkx.specs.Records.{Has, Knows, Record, after}
 use Rattle.walkx.specs.Scripts.{Script, asks, ends, heard_in, rest, rest_after}
 use Rattle.walkx.specs.Walk.{Fits, IsBoard, IsGoing, IsPhase, IsWide, Then, Walking, ask_of}
-use Rattle.walkx.specs.Walk.{begins, begun_phase, block_script, enters, goes_on, has_rank, heard_of}
+use Rattle.walkx.specs.Walk.{begins, begun_phase, block_gone_on, block_script, ends_block, enters}
+use Rattle.walkx.specs.Walk.{goes_on, has_rank, heard_of}
 use Rattle.walkx.specs.Walk.{if_ended, node_of, part_script, passes_over, phase_begun, processor_at}
 use Rattle.walkx.specs.Walk.{rest_of, script_by, script_of, stops, told, turns, worked, IsInBlock}
 use Rattle.walkx.proofs.Boards.{same_procs}
@@ -23,13 +24,14 @@ use Rattle.walkx.proofs.Ends.{AllEnds, Brings, worker_ends}
 use Rattle.walkx.proofs.Firsts.{rank_parts}
 use Rattle.walkx.proofs.Fitting.{heard_more}
 use Rattle.walkx.proofs.Going.{going_or_over, told_going, told_over}
-use Rattle.walkx.proofs.Idling.{Alike, asks_first, comes_at_once}
+use Rattle.walkx.proofs.Alikes.{Alike, asks_first, comes_at_once}
 use Rattle.walkx.proofs.Knowing.{has_after, same_worked}
 use Rattle.walkx.proofs.Memories.{memo_set}
 use Rattle.walkx.proofs.Nodes.{node_range}
 use Rattle.walkx.proofs.PassingOver.{alone, going_first, part_alike}
 use Rattle.lawful_walk.proofs.Moving.{RankSafe, shown_of}
 use Rattle.lawful_walk.proofs.Sees.{Chain, chain_of_has}
+use Rattle.lawful_walk.proofs.TrueMemos.{gone_on_true}
 use Rattle.lawful_walk.specs.Board.{Stands}
 use Rattle.lawful_walk.specs.Moments.{Backed}
 
@@ -78,6 +80,37 @@ module _ (job : JobData) (y : LayoutData) (board : IsBoard job y) (wide : IsWide
           rw e (next learned (shown_of job y board wide w n q words safe some low high first last
           formed stands rank there memo learned [] known f begun).1)
 
+  -- ---- and go on alone after the last one's task
+
+  gone_true : (more rank : ℕ) (memory : List Memo) → IsTrueMemory job memory →
+      IsTrueMemory job (block_gone_on more job y n rank memory)
+  gone_true zero rank memory is_true = is_true
+  gone_true (suc more) rank memory is_true =
+      let i = processor_at y n rank in
+      let gone = gone_on job i (memo_of memory i) in
+      cond_both (has_rank y n rank)
+      (block_gone_on more job y n (suc rank) (slice_set memory i gone)) memory
+      (IsTrueMemory job)
+      (λ there. let proc = (rank_parts y n rank there).1 in
+      let same = same_procs job y board in
+      let below : i < job.procs = omega (arith, proc, same) in
+      gone_true more (suc rank) (slice_set memory i gone)
+      (true_set job memory i gone is_true (λ low. gone_on_true job i board.limits low
+      (memo_of memory i) (is_true board.limits i low))))
+      (λ none. is_true)
+
+  ended_true : (passed : ℕ × List Memo) → IsTrueMemory job passed.1 →
+      IsTrueMemory job (ends_block job y n passed).1
+  ended_true passed is_true = cond_both (has_rank y n passed.0) passed _
+      (λ (p : ℕ × List Memo). IsTrueMemory job p.1) (λ there. is_true)
+      (λ none. gone_true (grain y) 0 passed.1 is_true)
+
+  -- in a block, from this rank on
+  goes_true : (rank : ℕ) (memory : List Memo) → IsTrueMemory job memory →
+      IsTrueMemory job (ends_block job y n (passes_over (grain y) job y n q rank memory)).1
+  goes_true rank memory is_true = ended_true (passes_over (grain y) job y n q rank memory)
+      (passed_true (grain y) rank memory is_true)
+
 -- ---- what comes of an answer
 
 module _ (job : JobData) (y : LayoutData) (board : IsBoard job y) (safe : RankSafe) (r : Record)
@@ -100,9 +133,9 @@ module _ (job : JobData) (y : LayoutData) (board : IsBoard job y) (safe : RankSa
       (heard_in (script_of job y w) (found ∷ w.heard)) (begun_phase y p)
       (subst (λ (d : Doing). Has r (heard_in (script_of job y w) (found ∷ w.heard)
       ++ phase_begun y d)) e has) in
-      rw (b.1, b.2) (passed_true job y board b.3 w.number n p words safe board.layout.leaves.0 b.0
+      rw (b.1, b.2) (goes_true job y board b.3 w.number n p words safe board.layout.leaves.0 b.0
       at.1 phase.0 phase.1 phase.2 stands
-      (chain_of_has job y r (begun_phase y p) words backed begun) (grain y) 0 w.memory is_true)
+      (chain_of_has job y r (begun_phase y p) words backed begun) 0 w.memory is_true)
 
   -- a task of a block is done
   worked_true : (m q rank : ℕ) (memo : Memo) (d : Doing) → w.now ≡ d →
@@ -140,9 +173,9 @@ module _ (job : JobData) (y : LayoutData) (board : IsBoard job y) (safe : RankSa
       (heard_in (part_script job y n p due known) xs ++ begun_phase y p) words backed heard)).1 in
       let begun = has_after r (heard_in (part_script job y n p due known) xs) (begun_phase y p)
       heard in
-      rw (b.node, b.phase, b.rank) (passed_true job y board b.wide w.number n p words safe
+      rw (b.node, b.phase, b.rank) (goes_true job y board b.wide w.number n p words safe
       board.layout.leaves.0 block.0 at.1 phase.0 phase.1 phase.2 stands
-      (chain_of_has job y r (begun_phase y p) words backed begun) (grain y) (suc due)
+      (chain_of_has job y r (begun_phase y p) words backed begun) (suc due)
       (slice_set w.memory i memo) (true_set job w.memory i memo is_true (λ below. learned)))
 
   on_true : (t : Script Then) → rest_after (rest_of job y w) found ≡ t →

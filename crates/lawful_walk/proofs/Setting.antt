@@ -1,12 +1,14 @@
 -- A word that is no node changes: a position, word 0, a claim word, a word of a place, a request
 -- word.
-use Rattle.std.proofs.Common.{◌≡◌, ◌≢◌, ◌⊎◌, ℕ, zero, suc, ◌+◌, ◌*◌, ◌<◌, ◌≤◌, ◌^◌, List, Option}
-use Rattle.std.proofs.Common.{Some, None, refl, sym, ap, subst, ◌∙◌, inl, inr, lit<, arith}
+use Rattle.std.proofs.Common.{◌≡◌, ◌≢◌, ℕ, zero, suc, ◌+◌, ◌-◌, ◌*◌, ◌<◌, ◌≤◌, ◌^◌, List}
+use Rattle.std.proofs.Common.{Option, slice_index, Some, None, refl, sym, ap, subst, ◌∙◌, inl, inr}
+use Rattle.std.proofs.Common.{lit<, arith}
 use Rattle.std.proofs.lemmas.Bool.{cases_eq, cases_lt, cases_Bool, eq-eqb, leb-true, leb-false}
 use Rattle.std.proofs.lemmas.Bool.{lt-ltb, le-ltb}
 use Rattle.pram_job.specs.Job.{JobData, IsJob}
+use Rattle.pram_job.specs.Places.{counters_at}
 use Rattle.pram_machine.specs.declared.requests.Request.{Request}
-use Rattle.pram_machine.specs.Machine.{counter_place}
+use Rattle.pram_machine.specs.Machine.{counter, counter_place}
 use Rattle.pram_machine.specs.Instructions.{request_in, place_part, value_part, HasShape}
 use Rattle.pram_machine.proofs.Shapes.{request_shape}
 use Rattle.pram_step.specs.Steps.{written}
@@ -35,20 +37,23 @@ use Rattle.walkx.proofs.Boards.{same_cells, same_procs}
 use Rattle.lawful_walk.specs.Board.{leaf_of, held, root, conflict, leaf, stamp_at, finished, Grows}
 use Rattle.lawful_walk.specs.Board.{IsAsked, phase_in, IsTree, IsNew, IsPair, newer_first}
 use Rattle.lawful_walk.specs.Board.{newer_second, new_first, new_second, IsClaimed, claimed_now}
-use Rattle.lawful_walk.specs.Board.{Done, DoneIn, IsNamed, Lawful, Stands}
+use Rattle.lawful_walk.specs.Board.{Done, DoneIn, IsAhead, IsNamed, Lawful, Stands, Up}
 use Rattle.lawful_walk.proofs.Leaves.{leaf_word}
 use Rattle.lawful_walk.proofs.Frames.{Only, only_grows, same_or_other, does_max, does_swap}
 use Rattle.lawful_walk.proofs.Frames.{keeps_store}
-use Rattle.lawful_walk.specs.Lands.{Lands, landing_before, last_landing, phase_claimed}
+use Rattle.lawful_walk.specs.Lands.{IsShared, Lands, landing_before, last_landing}
+use Rattle.lawful_walk.specs.Lands.{phase_claimed}
 use Rattle.lawful_walk.specs.Lands.{phase_written, settled, settled_before, word_of_step}
-use Rattle.lawful_walk.proofs.Landings.{before_most, last_least, last_most, stamp_step}
+use Rattle.lawful_walk.proofs.Landings.{before_most, last_least, last_most, shared_cases}
+use Rattle.lawful_walk.proofs.Landings.{stamp_step}
 use Rattle.lawful_walk.specs.Writes.{PlaceAsHeard, Floor, Does}
 use Rattle.lawful_walk.specs.Moments.{Keeps}
-use Rattle.lawful_walk.proofs.Values.{before_less, claim_most}
+use Rattle.lawful_walk.proofs.Values.{before_less, claim_most, phase_high}
 use Rattle.lawful_walk.proofs.Facts.{facts, board, late_of, claim_fits, done_of_rests}
 use Rattle.lawful_walk.proofs.Facts.{WordsShow}
 use Rattle.lawful_walk.proofs.Keeping.{done_later, settle}
 use Rattle.lawful_walk.proofs.Raising.{finished_before, alive, next}
+use Rattle.lawful_walk.proofs.Winners.{lands_below, lands_fits, lands_shared, lands_value}
 
 settled_stamp : (form : Form) (job : JobData) (t p : ℕ) → IsJob job →
     stamp_of (settled form job t p) ≡ last_landing form job t p
@@ -403,6 +408,36 @@ written_most job y s p i v is asks =
       ])) (omega arith)
     ]
 
+landed_most : (job : JobData) (y : LayoutData) (s p i v : ℕ) → IsBoard job y → i < y.procs →
+    Lands y.form job s p i v → v ≤ most_stored y job p
+landed_most job y s p i v is proc lands = elim (shared_cases y.form job p) [
+  | inl shared ↦ written_most job y s p i v is (lands_shared y.form job s p i v shared lands)
+  | inr apart ↦ above apart
+]
+  where
+    cells : y.cells ≡ job.cells
+    cells = same_cells job y is
+
+    procs : y.procs ≡ job.procs
+    procs = same_procs job y is
+
+    above : (IsShared y.form job p → ⊥) → v ≤ most_stored y job p
+    above apart = elim (cases_lt p (counters_of y)) [
+      | inl low ↦ rw (lt-ltb p (counters_of y) low)
+          (let fits = lands_fits y.form job s p i v is.limits lands in omega (arith, fits))
+      | inr past ↦ rw (le-ltb p (counters_of y) past) (
+          let c = cells in
+          let d = procs in
+          let below = lands_below y.form job s p i v is.limits (omega (arith, proc, d)) lands in
+          let j = p - counters_at job.cells job.procs in
+          let at : counter_place job j ≡ p = omega (arith, past, c, d) in
+          let within = counter_within job (suc s) j is.limits (omega (arith, at, below)) in
+          let value : v ≡ counter job (state_after job (suc s)) j =
+          lands_value y.form job s p i v apart lands
+          ∙ ap (λ (n : ℕ). slice_index (state_after job (suc s)) n) (sym at) in
+          omega (arith, within, value))
+    ]
+
 place_most : (most : ℕ) (o : Option (ℕ × ℕ)) → ((p v : ℕ) → o ≡ Some (p, v) → p < most) →
     elim o [ None ↦ 0 | Some w ↦ w.0 + 1 ] ≤ most
 place_most most None h = omega arith
@@ -487,33 +522,35 @@ module _ (job : JobData) (y : LayoutData) (words : List ℕ) (q x : ℕ) (stands
 
   -- ---- a word of a place
 
-  module _ (p i v : ℕ) (phase : q ≡ phase_written y.form job p x)
+  module _ (p i v : ℕ) (proc : i < y.procs) (phase : q ≡ phase_written y.form job p x)
       (lands : Lands y.form job x p i v) (wins : Wins job x p i) where
-    asks : Asks job x p i v
-    asks = lands.asks
-
     place : p < places_of y
     place =
-        let a = (asks_fit job x p i v stands.limits asks).0 in
         let c = same_cells job y a_board in
-        let d = same_procs job y a_board in omega arith
+        let d = same_procs job y a_board in
+        let a = lands_below y.form job x p i v stands.limits (omega (arith, proc, d)) lands in
+        omega (arith, a, c, d)
+
+    fits : v < 2 ^ 32
+    fits = lands_fits y.form job x p i v stands.limits lands
 
     value : ℕ
     value = stamped_word (suc x) v
 
     value_stamp : stamp_of value ≡ suc x
     unfolding value
-    value_stamp = let fits = (asks_fit job x p i v stands.limits asks).1 in omega arith
+    value_stamp = let low = fits in omega (arith, low)
 
     value_payload : payload_of value ≡ v
     unfolding value
-    value_payload = let fits = (asks_fit job x p i v stands.limits asks).1 in omega arith
+    value_payload = let low = fits in omega (arith, low)
 
     range : IsStamped job.steps (most_stored y job p) value
     range =
         let s = value_stamp in
         let l = value_payload in
-        let m = written_most job y x p i v a_board asks in (omega arith, omega arith)
+        let m = landed_most job y x p i v a_board proc lands in
+        (omega (arith, s, most, step), omega (arith, l, m))
 
     Early : Type 0
     Early = (stamp_at y words p 0 ≤ x) × (stamp_at y words p 1 ≤ x)
@@ -547,6 +584,12 @@ module _ (job : JobData) (y : LayoutData) (words : List ℕ) (q x : ℕ) (stands
           lands = lands;
         })) [ inl l ↦ omega arith | inr l ↦ omega arith ]
 
+    live_of : Early → root y words < q
+    live_of early = elim (cases_lt (root y words) q) [
+      | inl live ↦ live
+      | inr past ↦ absurd (not_early past early)
+    ]
+
     new : finished y words ≡ x → IsNew y.form job (finished y words) (root y words) p value
     new same =
         let s = value_stamp in
@@ -559,21 +602,30 @@ module _ (job : JobData) (y : LayoutData) (words : List ℕ) (q x : ℕ) (stands
           stands = omega arith;
         })
 
+    -- the older word takes it while the phase is not over
+    ahead_of : (k : ℕ) → root y words < q →
+        (stamp_at y words p (1 - k) < stamp_at y words p k → ⊥) → 1 ≤ y.leaves →
+        IsAhead y words p k (stamp_of value)
+    ahead_of k live older some =
+        let s = value_stamp in
+        let h = phase_high y.form job p x in
+        (omega (arith, live, phase, s, h), λ newer. absurd (older newer))
+
     module _ (k : ℕ) (two : k < 2) (early : Early)
+        (ahead : 1 ≤ y.leaves → IsAhead y words p k (stamp_of value))
         (later : List ℕ) (only : Only y (Stored p k) value words later)
         (pair : IsPair y.form job (finished y words) (root y words) p (held y later (Stored p 0))
         (held y later (Stored p 1))) where
-      up_stored : (k : ℕ) → (early : Early) → (held y words (Stored p k) ≡ value)
-          ⊎ ((stamp_at y words p 0 < stamp_of value) × (stamp_at y words p 1 < stamp_of value))
+      up_stored : Up y words (Stored p k) (held y words (Stored p k)) value
       unfolding Early
-      up_stored k early =
+      up_stored =
           let s = value_stamp in
           let e0 = early.0 in
-          let e1 = early.1 in inr (omega arith, omega arith)
+          let e1 = early.1 in inr (omega (arith, s, e0), omega (arith, s, e1), ahead)
 
       grows_stored : Grows y words later
       grows_stored = only_grows y (Stored p k) value words later stands.sizes
-          (place, two) (up_stored k early) only
+          (place, two) up_stored only
 
       each_pair : (r : ℕ) → r < places_of y → IsPair y.form job (finished y words) (root y words) r
           (held y later (Stored r 0)) (held y later (Stored r 1))
@@ -619,9 +671,11 @@ module _ (job : JobData) (y : LayoutData) (words : List ℕ) (q x : ℕ) (stands
         let e0 = early.0 in
         let e1 = early.1 in
         let st = value_stamp in
-        let same = early_now early in (
-          inr (omega arith, omega arith),
-          λ later only. stored_lawful 0 (lit< tt) early later only
+        let same = early_now early in
+        let ahead = ahead_of 0 (live_of early) (λ newer. absurd
+        (let h = s.1 in omega (arith, h, newer))) in (
+          inr (omega (arith, st, e0), omega (arith, st, e1), ahead),
+          λ later only. stored_lawful 0 (lit< tt) early ahead later only
               (subst (λ (w : ℕ). IsPair y.form job (finished y words) (root y words) p w
               (held y later (Stored p 1))) (sym only.at)
               (subst (λ (w : ℕ). IsPair y.form job (finished y words) (root y words) p value w)
@@ -647,9 +701,11 @@ module _ (job : JobData) (y : LayoutData) (words : List ℕ) (q x : ℕ) (stands
         let e0 = early.0 in
         let e1 = early.1 in
         let st = value_stamp in
-        let same = early_now early in (
-          inr (omega arith, omega arith),
-          λ later only. stored_lawful 1 (lit< tt) early later only
+        let same = early_now early in
+        let ahead = ahead_of 1 (live_of early) (λ newer. absurd
+        (let h = s.1 in omega (arith, h, newer))) in (
+          inr (omega (arith, st, e0), omega (arith, st, e1), ahead),
+          λ later only. stored_lawful 1 (lit< tt) early ahead later only
               (subst (λ (w : ℕ). IsPair y.form job (finished y words)
               (root y words) p (held y later (Stored p 0)) w) (sym only.at)
               (subst (λ (w : ℕ). IsPair y.form job (finished y words) (root y words) p w value)

@@ -1,24 +1,16 @@
 -- The task of a phase, the leaf, the turn, and the scripts of a worker: they are safe.
 use Rattle.std.proofs.Common.{◌≡◌, ℕ, suc, ◌+◌, ◌-◌, ◌*◌, ◌/◌, ◌%◌, ◌<◌, ◌≤◌, ◌==◌, ◌&&◌}
 use Rattle.std.proofs.Common.{nat_le, if◌then◌else◌, true, false, true≢false, List, [], ◌∷◌, IsTrue}
-use Rattle.std.proofs.Common.{Bool, length}
-use Rattle.std.specs.Prelude.{◌||◌}
-use Rattle.std.proofs.lemmas.Option.{slice_get_past}
-use Rattle.pram_job.specs.Job.{IsJob}
-use Rattle.pram_machine.specs.Machine.{IsStopped, counter}
-use Rattle.pram_step.specs.Runs.{state_after}
-use Rattle.pram_step.proofs.LawCounters.{stopped_processor}
 use Rattle.std.proofs.Common.{refl, sym, ap, subst, ◌∙◌, inl, inr, arith}
 use Rattle.std.proofs.Math.Nat.{div-add-mod}
-use Rattle.std.proofs.lemmas.Bool.{cond_both, cases_Bool, cases_lt, eqb-false, eqb-true}
-use Rattle.std.proofs.lemmas.Bool.{leb-true, leb-false, ne_eqb}
-use Rattle.std.proofs.lemmas.Option.{none-some}
-use Rattle.std.specs.Prelude.{Option, Some, None, is_none, min}
+use Rattle.std.proofs.lemmas.Bool.{cond_both, cases_Bool, cases_lt, eqb-false}
+use Rattle.std.proofs.lemmas.Bool.{leb-true, leb-false}
+use Rattle.std.specs.Prelude.{min}
 use Rattle.std.proofs.lemmas.Nat.{mod_below}
 use Rattle.pram_job.specs.Job.{JobData}
 use Rattle.pram_job.specs.declared.instr.Rule.{Rule}
 use Rattle.pram_job.specs.declared.instr.Rule.TheVariants.{Common, Priority, Crew}
-use Rattle.pram_words.specs.Phases.{has_phase, kind_at, step_at}
+use Rattle.pram_words.specs.Phases.{has_phase, kind_at, phase_of, step_at}
 use Rattle.pram_words.proofs.Numbering.{grain_some}
 use Rattle.pram_words.specs.Words.{LayoutData, IsLayout, grain, has_claims, number_of}
 use Rattle.pram_words.specs.declared.layout.Form.{Form}
@@ -29,8 +21,7 @@ use Rattle.pram_words.specs.declared.words.Word.TheVariants.{Node}
 use Rattle.walkx.specs.Doing as doing
 use Rattle.walkx.specs.Passes.{task_in}
 use Rattle.walkx.specs.declared.memo.Memo.{Memo}
-use Rattle.walkx.specs.Memory.{IsTrueMemo, IsTrueMemory, at_start, has_rested, has_stopped, memo_of}
-use Rattle.walkx.specs.Memory.{store_in}
+use Rattle.walkx.specs.Memory.{FitsMemory, IsTrueMemo, IsTrueMemory, at_start, memo_of, reach}
 use Rattle.walkx.proofs.Beginnings.{start_true}
 use Rattle.walkx.proofs.Boards.{in_range, same_procs}
 use Rattle.walkx.proofs.Nodes.{node_range}
@@ -39,11 +30,11 @@ use Rattle.walkx.specs.Walk.{IsPhase, script_by, begun_phase, part_script, phase
 use Rattle.walkx.specs.Walk.{leaf_script, Then, begins, enters, worked, IsInBlock, IsWide, node_of}
 use Rattle.walkx.specs.Walk.{after_part, task_at}
 use Rattle.walkx.specs.Walk.{has_rank, processor_at, marks_node, stands_at, way_down, IsBoard}
-use Rattle.walkx.specs.Walk.{block_all, block_mark, block_reach, bounded_mark, empty_mark}
+use Rattle.walkx.specs.Walk.{block_mark, block_reach, bounded_mark, empty_mark}
 use Rattle.walkx.specs.Walk.{inner_mark, jumps, last_phase, marks_block, marks_inner}
 use Rattle.walkx.proofs.Forms.{form_both}
-use Rattle.walkx.proofs.Marks.{all_at, block_marks, block_reaches, both_parts, empty_marks}
-use Rattle.walkx.proofs.Marks.{inner_marks, inner_reaches, jumps_where}
+use Rattle.walkx.proofs.Marks.{block_marks, block_reaches, both_parts, empty_marks}
+use Rattle.walkx.proofs.Marks.{inner_marks, inner_reaches, jumps_where, reach_at}
 use Rattle.walkx.proofs.Marks as marks
 use Rattle.walkx.proofs.Ends.{way_inside}
 use Rattle.walkx.proofs.Firsts.{rank_parts, rank_there}
@@ -55,16 +46,14 @@ use Rattle.walkx.specs.declared.operation.Op.TheVariants.{Load, Swap}
 use Rattle.lawful_walk.specs.Lands.{phase_written, compact_phase_written}
 use Rattle.lawful_walk.proofs.Effects.{phase_at}
 use Rattle.lawful_walk.specs.Board.{leaf_of, phase_in, root, Done, LeafDone, CompactDone, DoneIn}
-use Rattle.lawful_walk.specs.Board.{Rests, StoresNone, held}
-use Rattle.lawful_walk.proofs.OwnPlaces.{asks_cell, stopped_none}
+use Rattle.lawful_walk.specs.Board.{Rests, held}
+use Rattle.lawful_walk.proofs.OwnPlaces.{idle_rests}
 use Rattle.lawful_walk.proofs.Applying.{apply_safe, crew_apply_safe, claim_safe}
 use Rattle.lawful_walk.proofs.Begins.{Children, back_safe, begin_safe, children_last}
 use Rattle.lawful_walk.proofs.Begins.{heard_children, inner_safe, stands_safe}
 use Rattle.lawful_walk.proofs.Blocks.{jumps_safe, marks_safe}
 use Rattle.lawful_walk.proofs.Computing.{compute_safe}
 use Rattle.lawful_walk.proofs.Floors.{floor_seen}
-use Rattle.lawful_walk.proofs.Facts.{rests_of_none, rests_of_stores, second_rests}
-use Rattle.lawful_walk.proofs.Raising.{phase_first}
 use Rattle.lawful_walk.proofs.Known.{floor_lasts, EndSafe, LearnedSafe}
 use Rattle.lawful_walk.proofs.Moving.{RankSafe, WorkerSafe, aim_at, aim_of, moves}
 use Rattle.lawful_walk.proofs.Scripts.{Aim, Safe, load_safe}
@@ -95,64 +84,11 @@ by_wide : {A : Type 0} (form form_of : Form) → form_of ≡ form → IsWide for
 by_wide Compact f is wide each = absurd wide
 by_wide (Wide g) f is wide each = each g is
 
--- a block that reaches further in the first pass has rested, and one over the step has stopped
-reach_rested : (job : JobData) (y : LayoutData) (n q : ℕ) (memory : List Memo) →
-    q < block_reach job y n q memory → q < last_phase q →
-    block_all (has_rested (step_at q)) y n memory ≡ true
-reach_rested job y n q memory more early =
-    elim (cases_Bool (block_all (has_rested (step_at q)) y n memory)) [
-      | inl rested ↦ rested
-      | inr other ↦ absurd (let h : q < q = rw (
-        ne_eqb q (last_phase q) (λ e. omega (arith, e, early)),
-        other,
-      ) at more in omega (arith, h))
-    ]
-
-reach_stopped : (job : JobData) (y : LayoutData) (n q : ℕ) (memory : List Memo) →
-    last_phase q < block_reach job y n q memory →
-    block_all (has_stopped job (step_at q)) y n memory ≡ true
-reach_stopped job y n q memory more =
-    elim (cases_Bool (block_all (has_stopped job (step_at q)) y n memory)) [
-      | inl stopped ↦ stopped
-      | inr other ↦ absurd (cond_both
-          ((q == last_phase q) || block_all (has_rested (step_at q)) y n memory) (last_phase q) q
-          (λ (m : ℕ). last_phase q < m → ⊥) (λ e h. omega (arith, h)) (λ e h. omega (arith, h))
-          (rw other at more))
-    ]
-
--- one of which is remembered that it did not store writes no cell
-rested_none : (job : JobData) (i x : ℕ) (memo : Memo) → IsTrueMemo job i memo →
-    has_rested (suc x) memo ≡ true → StoresNone job x i
-rested_none job i x memo is_true rested c v made_so cell =
-    let both = both_parts (memo.step == suc x) (is_none memo.store) rested in
-    let at = eqb-true memo.step (suc x) both.0 in
-    let none = none_is memo.store both.1 in
-    let made : store_in job i memo.step ≡ Some (c, v) =
-    subst (λ (t : ℕ). store_in job i t ≡ Some (c, v)) (sym at) (asks_cell job x i c v cell made_so) in
-    absurd (none-some (c, v) (sym none ∙ is_true.store ∙ made))
-  where
-    none_is : (o : Option (ℕ × ℕ)) → is_none o ≡ true → o ≡ None
-    none_is None e = refl
-    none_is (Some w) e = absurd (cc)
-
--- one of which is remembered that it has stopped rests in later steps
-stopped_rests : (g : ℕ) (job : JobData) (i x s : ℕ) (kind : Kind) (memo : Memo) → IsJob job →
-    i < job.procs → IsTrueMemo job i memo → has_stopped job (suc x) memo ≡ true → x < s →
-    Rests (Wide g) job.rule kind job s i
-stopped_rests g job i x s kind memo limits proc is_true stopped late =
-    let both = both_parts (memo.step == suc x) (nat_le (length job.code) memo.counter) stopped in
-    let at = eqb-true memo.step (suc x) both.0 in
-    let past = leb-true (length job.code) memo.counter both.1 in
-    let here = ap (λ (t : ℕ). counter job (state_after job t) i) at in
-    let counts = is_true.counter in
-    let first : IsStopped job (state_after job (suc x)) i = omega (arith, past, counts, here) in
-    let more : suc x + (s - suc x) ≡ s = omega (arith, late) in
-    let same = (stopped_processor job (suc x) (s - suc x) i limits proc first).0 in
-    let there = ap (λ (t : ℕ). counter job (state_after job t) i) more in
-    let gone : length job.code ≤ counter job (state_after job s) i =
-    omega (arith, same, there, first) in
-    rests_of_none (Wide g) job.rule kind job s i (λ p v lands. stopped_none g job s i p v
-    (slice_get_past job.code (counter job (state_after job s) i) gone) lands)
+-- a phase is that of the step that is counted from 1
+phase_same : (t : ℕ) (kind : Kind) → phase_in t kind ≡ phase_of (suc t) kind
+phase_same t Compute = omega arith
+phase_same t Apply = omega arith
+phase_same t Verify = omega arith
 
 -- a bounded mark is at most the mark, and that of the root the step's last phase
 bounded_upto : (n q m : ℕ) → bounded_mark n q m ≤ m
@@ -387,65 +323,28 @@ module _ (job : JobData) (y : LayoutData) (w q x : ℕ) (some : 1 ≤ q) (most :
     rests = λ i t kind proc leaf over upto. absurd (omega (arith, over, upto));
   }
 
-  -- what is so with all that are remembered of a block is so with each
-  known_at : (is : Memo → Bool) (n : ℕ) (memory : List Memo) → IsTrueMemory job memory →
-      block_all is y n memory ≡ true → (i : ℕ) → i < y.procs → leaf_of y i ≡ n →
-      IsTrueMemo job i (memo_of memory i) × (is (memo_of memory i) ≡ true)
-  known_at is n memory is_true all i proc leaf =
-      let at = block_at y i n board.layout proc leaf in
-      let same = same_procs job y board in
-      let b = at.0 in
-      let k = all_at is y n (grain y) 0 (i % grain y) memory (omega arith) (omega (arith, b)) at.2 all
-      in (
-        is_true board.limits i (omega (arith, proc, same)),
-        subst (λ (j : ℕ). is (memo_of memory j) ≡ true) (sym at.1) k,
-      )
-
   module _ (n : ℕ) (memory : List Memo) (is_true : IsTrueMemory job memory)
-      (wide : IsWide y.form) where
-    -- in the first pass a block that reaches further has stored nothing
-    reach_stores : q < block_reach job y n q memory → q < 3 * x + 3 → (i : ℕ) → i < y.procs →
-        leaf_of y i ≡ n → StoresNone job x i
-    reach_stores more early i proc leaf =
-        let rested = reach_rested job y n q memory more (omega (arith, early, step)) in
-        let known = known_at (has_rested (step_at q)) n memory is_true rested i proc leaf in
-        rested_none job i x (memo_of memory i) known.0
-        (subst (λ (t : ℕ). has_rested t (memo_of memory i) ≡ true) step known.1)
-
-    -- and one that reaches over the step has stopped
-    reach_stops : (i t : ℕ) (kind : Kind) → i < y.procs → leaf_of y i ≡ n → x < t →
-        3 * t + 1 ≤ block_reach job y n q memory → Rests y.form job.rule kind job t i
-    reach_stops i t kind proc leaf late more =
-        let stopped = reach_stopped job y n q memory (omega (arith, late, more, step)) in
-        let known = known_at (has_stopped job (step_at q)) n memory is_true stopped i proc leaf in
-        let same = same_procs job y board in
-        by_wide y.form y.form refl wide (λ g is.
-        subst (λ (f : Form). Rests f job.rule kind job t i) (sym is)
-        (stopped_rests g job i x t kind (memo_of memory i) board.limits (omega (arith, proc, same))
-        known.0
-        (subst (λ (t : ℕ). has_stopped job t (memo_of memory i) ≡ true) step known.1) late))
-
-    -- so in the phases above its own, up to the mark, it rests
+      (fits : FitsMemory job memory) (wide : IsWide y.form) where
+    -- in the phases above this one, up to where the block reaches, its processors rest
     reach_rests : (i t : ℕ) (kind : Kind) → i < y.procs → leaf_of y i ≡ n → q < phase_in t kind →
         phase_in t kind ≤ block_reach job y n q memory → Rests y.form job.rule kind job t i
-    reach_rests i t kind proc leaf over upto = elim (cases_lt x t) [
-      | inl late ↦ reach_stops i t kind proc leaf late
-          (let f = phase_first t kind in omega (arith, f, upto))
-      | inr early ↦ this kind early over upto
-    ]
-      where
-        this : (kind : Kind) → t ≤ x → q < phase_in t kind →
-            phase_in t kind ≤ block_reach job y n q memory → Rests y.form job.rule kind job t i
-        this Compute early over upto = absurd (omega (arith, over, early, step))
-        this Apply early over upto = second_rests y.form job.rule job t i
-        this Verify early over upto =
-            let same : x ≡ t = omega (arith, over, early, step) in
-            rests_of_stores y.form job.rule job t i (subst (λ (t : ℕ). StoresNone job t i) same
-            (reach_stores (omega (arith, over, upto)) (omega (arith, over, same)) i proc leaf))
+    reach_rests i t kind proc leaf over upto =
+        let at = block_at y i n board.layout proc leaf in
+        let m = block_reach job y n q memory in
+        let reaches = reach_at job y n q (i % grain y) memory at.2 (omega (arith, over, upto)) in
+        let here = subst (λ (k : ℕ). ((memo_of memory k).acted ≤ q)
+        × (m ≤ reach (memo_of memory k))) (sym at.1) reaches in
+        let same = same_procs job y board in
+        let known = is_true board.limits i (omega (arith, proc, same)) in
+        let phase = phase_same t kind in
+        by_wide y.form y.form refl wide (λ g is.
+        subst (λ (f : Form). Rests f job.rule kind job t i) (sym is)
+        (idle_rests g job.rule kind job t i (known.idle t kind
+        (omega (arith, here.0, over, phase)) (omega (arith, here.1, upto, phase)))))
 
     reach_mark : IsLeafMark job y q n (block_reach job y n q memory)
     reach_mark =
-        let reach = block_reaches job y n q memory most formed in
+        let reach = block_reaches job y n q memory most formed fits in
         record {
           formed = record {
             low = reach.least;
@@ -458,7 +357,7 @@ module _ (job : JobData) (y : LayoutData) (w q x : ℕ) (some : 1 ≤ q) (most :
 
     block_leaf_mark : IsLeafMark job y q n (block_mark job y n q memory)
     block_leaf_mark =
-        let mark = block_marks job y n q memory most formed in
+        let mark = block_marks job y n q memory most formed fits in
         let upto = bounded_upto n q (block_reach job y n q memory) in
         record {
           formed = record {
@@ -495,14 +394,15 @@ module _ (job : JobData) (y : LayoutData) (w q x : ℕ) (some : 1 ≤ q) (most :
 
   -- a block's, which is the root's after a jump, if it makes one
   block_safe : (n rank : ℕ) (memory : List Memo) → IsWide y.form → IsTrueMemory job memory →
-      y.leaves ≤ n → n < 2 * y.leaves → has_rank y n rank ≡ false → (history : List (Op × ℕ)) →
+      FitsMemory job memory → y.leaves ≤ n → n < 2 * y.leaves → has_rank y n rank ≡ false →
+      (history : List (Op × ℕ)) →
       Sees job y history (Floor job y q x) →
       Safe job y w q (aim_at job y q n rank) (marks_block job y n q memory) history
-  block_safe n rank memory wide is_true low high none history sees =
+  block_safe n rank memory wide is_true fits low high none history sees =
       cond_both (jumps y n q reach) (asks (Swap (number_of y (Node n)) (q - 1) reach) (λ found. marked))
       marked (λ (s : Script Then). Safe job y w q aim s history) (λ jump.
       let is = jumps_where y n q reach jump in
-      let leaf_mark = reach_mark n memory is_true wide in
+      let leaf_mark = reach_mark n memory is_true fits wide in
       by_wide y.form y.form refl wide (λ g form_is.
       subst (λ (k : ℕ). Safe job y w q aim
       (asks (Swap (number_of y (Node k)) (q - 1) reach) (λ found. marked)) history) (sym is.root)
@@ -527,7 +427,7 @@ module _ (job : JobData) (y : LayoutData) (w q x : ℕ) (some : 1 ≤ q) (most :
       mark_on : (longer : List (Op × ℕ)) → Sees job y longer (Floor job y q x) →
           Safe job y w q aim marked longer
       mark_on longer more = mark_safe n rank (block_mark job y n q memory) low high none
-          (block_leaf_mark n memory is_true wide)
+          (block_leaf_mark n memory is_true fits wide)
           (λ one. let h = bounded_top n q reach one in omega (arith, h, step)) longer more
 
       may_jump : n ≡ 1 → (words : List ℕ) → IsLeafMark job y q n reach → aim.given words →
@@ -690,19 +590,19 @@ module _ (job : JobData) (y : LayoutData) (w q x : ℕ) (some : 1 ≤ q) (most :
 
 doing_safe : (job : JobData) (y : LayoutData) (board : IsBoard job y) (now : Doing) (w n : ℕ)
     (memory : List Memo) → w < y.workers → 1 ≤ n → n < 2 * y.leaves → IsPhase job y now →
-    IsInBlock y n now → IsTrueMemory job memory →
+    IsInBlock y n now → IsTrueMemory job memory → FitsMemory job memory →
     Safe job y w (phase_now now) (aim_of job y n now) (script_by job y w n memory now)
     (phase_begun y now)
-doing_safe job y board doing.Back w n memory worker low high phase block is_true =
+doing_safe job y board doing.Back w n memory worker low high phase block is_true fits =
     back_safe job y w w 0 (aim_of job y n doing.Back) []
-doing_safe job y board doing.Begin w n memory worker low high phase block is_true =
+doing_safe job y board doing.Begin w n memory worker low high phase block is_true fits =
     begin_safe job y n w 0 (aim_of job y n doing.Begin) []
-doing_safe job y board (doing.Turn q) w n memory worker low high phase block is_true =
+doing_safe job y board (doing.Turn q) w n memory worker low high phase block is_true fits =
     let some = phase.0 in
     let step : step_at q ≡ suc (step_at q - 1) = omega arith in
     turn_safe_on job y w q (step_at q - 1) some phase.1 step board phase.2 n worker low high
     (begun_phase y q) (floor_seen job y q (step_at q - 1) some step phase.2)
-doing_safe job y board (doing.Part q rank) w n memory worker low high phase block is_true =
+doing_safe job y board (doing.Part q rank) w n memory worker low high phase block is_true fits =
     let some = phase.0 in
     let x = step_at q - 1 in
     let step : step_at q ≡ suc x = omega arith in
@@ -716,15 +616,15 @@ doing_safe job y board (doing.Part q rank) w n memory worker low high phase bloc
     part_safe job y w q x some phase.1 step board phase.2 n rank block.2 block.0 high there
     (memo_of memory i) (is_true board.limits i (omega (arith, proc, same))) (begun_phase y q) sees)
     (λ none. block_safe job y w q x some phase.1 step board phase.2 n rank memory block.2 is_true
-    block.0 high none (begun_phase y q) sees)
-doing_safe job y board (doing.Over e) w n memory worker low high phase block is_true =
+    fits block.0 high none (begun_phase y q) sees)
+doing_safe job y board (doing.Over e) w n memory worker low high phase block is_true fits =
     begin_safe job y n w 0 (aim_of job y n (doing.Over e)) []
 
 pub worker_safe : WorkerSafe
 worker_safe job y w board fits is_true =
     let is = node_range job y w board.layout.leaves.0 fits in
     doing_safe job y board w.now w.number (node_of y w) w.memory fits.number is.0 is.1 fits.phase
-    fits.block is_true
+    fits.block is_true fits.memory
 
 -- what the task of an earlier processor of a block shows
 pub rank_safe : RankSafe

@@ -25,8 +25,8 @@ use Rattle.walkx.specs.Tasks.{crew_verify_task}
 use Rattle.walkx.specs.Walk.{Then, IsBoard}
 use Rattle.walkx.specs.declared.operation.Op.{Op}
 use Rattle.walkx.specs.declared.operation.Op.TheVariants.{Load}
-use Rattle.lawful_walk.specs.Lands.{phase_written, Lands, compact_phase_written, phase_claimed}
-use Rattle.lawful_walk.proofs.Winners.{wins_all}
+use Rattle.lawful_walk.specs.Lands.{phase_written, compact_phase_written, phase_claimed}
+use Rattle.lawful_walk.proofs.Winners.{compact_lands, wins_all}
 use Rattle.lawful_walk.proofs.Moments.{onward, stamps_rise}
 use Rattle.lawful_walk.specs.Board.{held, root, conflict, stamp_at, finished, HoldsNew, ClaimStays}
 use Rattle.lawful_walk.specs.Board.{Grows, Stays, Stands}
@@ -165,8 +165,7 @@ module _ (job : JobData) (y : LayoutData)
       (record {
         writer = i;
         value = v;
-        lands = subst (λ (f : Form). Lands f job x p i v) (sym compact)
-            (record { asks = asked; told = refl });
+        lands = compact_lands y.form job x p i v compact asked;
       })) [
         | inl late ↦ (
             let s = stays_so p 0 first.words words (place, lit< tt) stands up gone late in

@@ -48,14 +48,16 @@ module _ (job : JobData) (y : LayoutData) (w q : ℕ) (aim : Aim) (g x i : ℕ) 
       Safe job y w q aim (wide_task_of rule kind job y (suc x) i memo after) history
   unfolding wide_task_of
   by_kind Common Compute is phase memo is_true after done history sees =
-      own_task_safe job y w q aim g x i some most step board proc wide phase memo is_true after done
-      history sees
+      own_task_safe job y w q aim g x i some most step board proc wide phase is memo is_true after
+      done history sees
   by_kind Priority Compute is phase memo is_true after done history sees =
       own_claim_task_safe job y w q aim g x i some most step board proc wide phase
-      (claims_are job y Priority board is refl) memo is_true after done history sees
+      (claims_are job y Priority board is refl) Priority is after done
+      (λ words carried claimed. (carried, claimed)) memo is_true history sees
   by_kind Crew Compute is phase memo is_true after done history sees =
       own_claim_task_safe job y w q aim g x i some most step board proc wide phase
-      (claims_are job y Crew board is refl) memo is_true after done history sees
+      (claims_are job y Crew board is refl) Crew is after done
+      (λ words carried claimed. (carried, claimed)) memo is_true history sees
   by_kind Common Apply is phase memo is_true after done history sees =
       nothing_safe (after memo) (done memo is_true) history sees
   by_kind Priority Apply is phase memo is_true after done history sees =
@@ -64,13 +66,13 @@ module _ (job : JobData) (y : LayoutData) (w q : ℕ) (aim : Aim) (g x i : ℕ) 
       nothing_safe (after memo) (done memo is_true) history sees
   by_kind Common Verify is phase memo is_true after done history sees =
       carry_task_safe job y w q aim g x i some most step board proc wide phase is memo is_true after
-      (done memo is_true) history sees
+      done history sees
   by_kind Priority Verify is phase memo is_true after done history sees =
       priority_carry_task_safe job y w q aim g x i some most step board proc wide phase is
-      (claims_are job y Priority board is refl) memo is_true after (done memo is_true) history sees
+      (claims_are job y Priority board is refl) memo is_true after done history sees
   by_kind Crew Verify is phase memo is_true after done history sees =
       crew_carry_task_safe job y w q aim g x i some most step board proc wide phase is
-      (claims_are job y Crew board is refl) memo is_true after (done memo is_true) history sees
+      (claims_are job y Crew board is refl) memo is_true after done history sees
 
   -- The task of each rule and kind.
   pub wide_task_safe : (rule : Rule) (kind : Kind) → job.rule ≡ rule → phase_in x kind ≡ q →

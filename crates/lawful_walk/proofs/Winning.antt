@@ -22,8 +22,9 @@ use Rattle.walkx.specs.Tasks.{carries, claim_of, priority_apply_task}
 use Rattle.walkx.specs.Walk.{Then, IsBoard}
 use Rattle.walkx.specs.declared.operation.Op.{Op}
 use Rattle.walkx.specs.declared.operation.Op.TheVariants.{Load}
-use Rattle.lawful_walk.specs.Lands.{phase_written, Lands, phase_claimed}
-use Rattle.lawful_walk.proofs.Winners.{counts_first, wins_own, wins_least}
+use Rattle.lawful_walk.specs.Lands.{phase_written, phase_claimed}
+use Rattle.lawful_walk.proofs.Winners.{compact_lands, counts_first, lands_compact, wins_lands}
+use Rattle.lawful_walk.proofs.Winners.{wins_least}
 use Rattle.lawful_walk.specs.Board.{held, root, finished, IsLate, Carried, CarriedWon}
 use Rattle.lawful_walk.specs.Board.{Stands}
 use Rattle.lawful_walk.proofs.Agreed.{claimant}
@@ -57,12 +58,13 @@ module _ (job : JobData) (y : LayoutData)
   counts_alone : (words : List ℕ) →
       job.rule ≡ Priority → (Wins job x (part_after job x i 0 - 1) i → ⊥) →
       IsLate y x (counter_place job i) words → CarriedWon job y x words i
-  counts_alone words rule lost late p v lands wins = elim (each_write job x p i v lands.asks) [
-    | inl e ↦ subst (λ (p : ℕ). IsLate y x p words) (sym e.0) late
-    | inr e ↦ absurd (let g = e.0 in
-        let same : p ≡ part_after job x i 0 - 1 = omega arith in
-        lost (subst (λ (p : ℕ). Wins job x p i) same wins))
-  ]
+  counts_alone words rule lost late p v lands wins = elim (each_write job x p i v
+      (lands_compact y.form job x p i v compact lands)) [
+        | inl e ↦ subst (λ (p : ℕ). IsLate y x p words) (sym e.0) late
+        | inr e ↦ absurd (let g = e.0 in
+            let same : p ≡ part_after job x i 0 - 1 = omega arith in
+            lost (subst (λ (p : ℕ). Wins job x p i) same wins))
+      ]
 
   -- the claims of the step are made
   claimed_root : (words : List ℕ) → Floor job y q x words →
@@ -120,7 +122,8 @@ module _ (job : JobData) (y : LayoutData)
       Asks job x p i v → Wins job x p i
   wins_if each p v asked = elim (cases_lt p job.cells) [
     | inl cell ↦ each p v asked cell
-    | inr more ↦ wins_own job y x p i v board more asked
+    | inr more ↦ wins_lands y.form job x p i v board.limits more
+        (compact_lands y.form job x p i v compact asked)
   ]
 
   whole_safe : ((p v : ℕ) → Asks job x p i v → p < job.cells → Wins job x p i) →
@@ -144,13 +147,13 @@ module _ (job : JobData) (y : LayoutData)
   counter_safe lost after done history sees =
       let asked = counter_write job x i (proc_job job y w q aim x i some most step board
       proc compact) in
-      writes_safe job y w q aim x (counter_place job i) i
-      (part_after job x i 2) some most step (written (counter_place job i))
-      (Floor job y q x) (floor_lasts job y q x) (λ words f. f) (λ words f. (
-        subst (λ (f : Form). Lands f job x (counter_place job i) i (part_after job x i 2))
-            (sym compact) (record { asks = asked; told = refl }),
-        wins_own job y x (counter_place job i) i (part_after job x i 2) board (omega arith) asked,
-      )) after history sees (λ longer more. done longer
+      let p = counter_place job i in
+      let v = part_after job x i 2 in
+      let lands = compact_lands y.form job x p i v compact asked in
+      writes_safe job y w q aim x p i v proc some most step (written p)
+      (Floor job y q x) (floor_lasts job y q x) (λ words f. f)
+      (λ words f. (lands, wins_lands y.form job x p i v board.limits (omega arith) lands))
+      after history sees (λ longer more. done longer
       (so job y longer (λ words. Floor job y q x words × IsLate y x (counter_place job i) words)
       (λ words. Floor job y q x words × (root y words < q → CarriedWon job y x words i))
       (λ words stands h. (h.0, λ live. counts_alone words rule lost h.1)) more))

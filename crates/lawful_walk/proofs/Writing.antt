@@ -4,7 +4,6 @@ use Rattle.std.proofs.Common.{length, sym, ap, subst, inl, inr, get_or-set_same,
 use Rattle.std.proofs.lemmas.Bool.{cond_both, cases_eq, cases_Bool, eq-eqb, leb-true}
 use Rattle.std.specs.Prelude.{slice_set}
 use Rattle.pram_job.specs.Job.{JobData}
-use Rattle.pram_step.proofs.Past.{asks_fit}
 use Rattle.pram_step.specs.History.{Wins}
 use Rattle.pram_words.proofs.NextPhases.{next_step}
 use Rattle.pram_words.proofs.Numbering.{numbering}
@@ -30,6 +29,7 @@ use Rattle.lawful_walk.proofs.Values.{phase_low}
 use Rattle.lawful_walk.specs.Moments.{Moment}
 use Rattle.lawful_walk.specs.Walks.{Goes}
 use Rattle.lawful_walk.specs.Writes.{PlaceAsHeard, Floor}
+use Rattle.lawful_walk.proofs.Winners.{lands_below}
 
 pub late_later : (y : LayoutData) (x p : ℕ) (words after : List ℕ) → p < places_of y →
     Grows y words after → IsLate y x p words → IsLate y x p after
@@ -62,7 +62,7 @@ pub older_two : (a b : ℕ) → older a b < 2
 older_two a b = cond_both (first_is_older a b) 0 1 (λ k. k < 2) (λ e. lit< tt) (λ e. lit< tt)
 
 module _ (job : JobData) (y : LayoutData)
-    (w q : ℕ) (aim : Aim) (x p i v : ℕ)
+    (w q : ℕ) (aim : Aim) (x p i v : ℕ) (proc : i < y.procs)
     (some : 1 ≤ q) (most : q ≤ 3 * job.steps) (step : step_at q ≡ suc x)
     (phase : q ≡ phase_written y.form job p x) (P : List ℕ → Type 0) (lasts : Lasts job y P)
     (floor : (words : List ℕ) → P words → Floor job y q x words)
@@ -71,9 +71,11 @@ module _ (job : JobData) (y : LayoutData)
   place_by words stands k =
       let is_board : IsBoard job y =
       record { limits = stands.limits; layout = stands.sizes; is = stands.layout } in
-      let a = (asks_fit job x p i v stands.limits (asked words k).0.asks).0 in
       let b = same_cells job y is_board in
-      let c = same_procs job y is_board in omega arith
+      let c = same_procs job y is_board in
+      let a = lands_below y.form job x p i v stands.limits (omega (arith, proc, c))
+      (asked words k).0 in
+      omega (arith, a, b, c)
 
   Both : ℕ → ℕ → List ℕ → Type 0
   Both a b = Moment job y (Load (number_of y (Stored p 1))) b
@@ -163,7 +165,7 @@ module _ (job : JobData) (y : LayoutData)
             (λ words. aim.given words → Goes job y w q (swap a b) words)
             (λ words stands h given. goes_of job y w q (swap a b) words
             ((writes_keep job y words q x stands some most step (floor words h.0)).place
-            p i v a b phase (asked words h.0).0 (asked words h.0).1 h.1)) pair,
+            p i v a b proc phase (asked words h.0).0 (asked words h.0).1 h.1)) pair,
         λ found ok. next ((swap a b, found) ∷ longer)
             (so job y ((swap a b, found) ∷ longer)
             (Moment job y (swap a b) found (λ words. P words × PlaceAsHeard job y x p a b words))

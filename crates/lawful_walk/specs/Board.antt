@@ -1,5 +1,6 @@
 -- Lawful words, and words that grow.
-use Rattle.std.specs.Prelude.{◌≡◌, ◌≢◌, ◌⊎◌, ℕ, suc, ◌+◌, ◌*◌, ◌/◌, ◌≤◌, ◌<◌, List, slice_index}
+use Rattle.std.specs.Prelude.{◌≡◌, ◌≢◌, ◌⊎◌, ℕ, suc, ◌+◌, ◌-◌, ◌*◌, ◌/◌, ◌≤◌, ◌<◌, List}
+use Rattle.std.specs.Prelude.{slice_index}
 use Rattle.pram_job.specs.Job.{JobData, IsJob}
 use Rattle.pram_job.specs.declared.instr.Rule.{Rule}
 use Rattle.pram_job.specs.declared.instr.Rule.TheVariants.{Common, Priority, Crew}
@@ -230,9 +231,9 @@ pub record IsNamed (form : Form) (job : JobData) (found root : ℕ) : Type 0 whe
       (next_phase form root ≡ 3 * t + 3) ⊎ (root ≡ 3 * t + 3)
 
 -- Words with so many finished steps: their state is reached; no node is above its children, nor in
--- the compact form far above the root; request words, places and claims are of these steps or of the
--- one after them; what the raised leaves stand for is done; of a leaf that is above the phase that
--- comes next the processors have nothing to do in the phases between; word 0 names the first
+-- the compact form far above the root; request words, places and claims are of these steps or of
+-- the one after them; what the raised leaves stand for is done; of a leaf that is above the phase
+-- that comes next the processors have nothing to do in the phases between; word 0 names the first
 -- conflict, if any. The wide form has no requests.
 pub record LawfulFor (job : JobData) (layout : LayoutData) (steps : ℕ)
     (words : List ℕ) : Type 0 where
@@ -266,8 +267,15 @@ pub record Stands (job : JobData) (board : LayoutData) (words : List ℕ) : Type
 
 -- ---- growth
 
+-- A word of a place with this stamp is of a step that was not over, and where it stands for the
+-- newer one of the two, of a later step than that: before it the older one was written.
+abbrev pub IsAhead : LayoutData → List ℕ → ℕ → ℕ → ℕ → Type 0
+IsAhead layout words place which stamp = (root layout words < 3 * stamp)
+    × (stamp_at layout words place (1 - which) < stamp_at layout words place which →
+    root layout words + 3 < 3 * stamp)
+
 -- what may have become of a word: of a place, it is the same or has a stamp above both of the place
--- before
+-- before, and is ahead
 abbrev pub Up : LayoutData → List ℕ → Word → ℕ → ℕ → Type 0
 Up layout words Conflict before later = before ≢ 0 → before ≡ later
 Up layout words (Node node) before later = before ≤ later
@@ -275,7 +283,8 @@ Up layout words (Asked i j) before later = before ≤ later
 Up layout words (Position worker) before later = Unit {0}
 Up layout words (Stored place which) before later = (before ≡ later)
     ⊎ ((stamp_at layout words place 0 < stamp_of later)
-    × (stamp_at layout words place 1 < stamp_of later))
+    × (stamp_at layout words place 1 < stamp_of later)
+    × (1 ≤ layout.leaves → IsAhead layout words place which (stamp_of later)))
 Up layout words (Claim cell) before later = before ≤ later
 Up layout words (Spare number) before later = before ≡ later
 

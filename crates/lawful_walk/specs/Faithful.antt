@@ -2,10 +2,11 @@
 use Rattle.std.specs.Prelude.{◌≡◌, ◌≢◌, ℕ, suc, ◌<◌, ◌≤◌, ◌==◌, max, [], ◌∷◌, List, slice_index}
 use prog.Atomic.{either}
 use Rattle.pram_job.specs.Job.{JobData}
-use Rattle.pram_step.specs.History.{Asks, Wins, part_after}
+use Rattle.pram_step.specs.History.{Wins, part_after}
 use Rattle.pram_step.specs.Runs.{IsReached, state_after}
 use Rattle.pram_words.specs.Stamps.{stamp_of, payload_of}
 use Rattle.pram_words.specs.Words.{LayoutData, IsWord, number_of}
+use Rattle.pram_words.specs.declared.layout.Form.{Form}
 use Rattle.pram_words.specs.declared.layout.Form.TheVariants.{Compact}
 use Rattle.pram_words.specs.declared.words.Word.{Word}
 use Rattle.pram_words.specs.declared.words.Word.TheVariants.{Conflict, Node, Asked, Position}
@@ -14,6 +15,7 @@ use Rattle.walkx.specs.Records.{Record, empty, after, both, Has}
 use Rattle.walkx.specs.declared.operation.Op.{Op}
 use Rattle.walkx.specs.declared.operation.Op.TheVariants.{Load, Store, Max, Swap, Over}
 use Rattle.lawful_walk.specs.Board.{held}
+use Rattle.lawful_walk.specs.Lands.{Lands}
 use Rattle.lawful_walk.specs.Seen.{Hears}
 
 -- ---- an answer against the record before it
@@ -53,17 +55,17 @@ abbrev pub IsPart : JobData → ℕ → ℕ → ℕ → Type 0
 IsPart job i j word = (t : ℕ) → stamp_of word ≡ suc t →
     IsReached job t × (payload_of word ≡ part_after job t i j)
 
--- a writer of the place gives the value in the step after t steps, and its write counts
-pub record IsGiven (job : JobData) (t place value : ℕ) : Type 0 where
+-- a processor gives the place this value in the step after t steps, and its write counts
+pub record IsGiven (form : Form) (job : JobData) (t place value : ℕ) : Type 0 where
   pub reached : IsReached job t
   pub writer : ℕ
-  pub asks : Asks job t place writer value
+  pub lands : Lands form job t place writer value
   pub wins : Wins job t place writer
 
 -- a word of a place with stamp 0 has the start value, with stamp t + 1 one given after t steps
-pub record IsValue (job : JobData) (place word : ℕ) : Type 0 where
+pub record IsValue (form : Form) (job : JobData) (place word : ℕ) : Type 0 where
   pub start : stamp_of word ≡ 0 → payload_of word ≡ slice_index (state_after job 0) place
-  pub given : (t : ℕ) → stamp_of word ≡ suc t → IsGiven job t place (payload_of word)
+  pub given : (t : ℕ) → stamp_of word ≡ suc t → IsGiven form job t place (payload_of word)
 
 -- ---- records
 
@@ -76,7 +78,7 @@ pub record IsFaithful (job : JobData) (layout : LayoutData) (past : Record) (op 
       Hears op (number_of layout (Asked i j)) → IsPart job i j found
   pub stored : (place which : ℕ) →
       IsWord layout (Stored place which) → Hears op (number_of layout (Stored place which)) →
-      IsValue job place found
+      IsValue layout.form job place found
 
 -- each answer against the record before it, part by part
 abbrev pub FaithfulAnswers : JobData → LayoutData → Record → Type 0

@@ -1,30 +1,72 @@
 -- Which of the machine's writes get a word, and what the words of a place are by the machine's
 -- steps. Step t + 1 is the step after t steps.
-use Rattle.std.specs.Prelude.{◌≡◌, ℕ, zero, suc, Bool, false, ◌+◌, ◌*◌, ◌&&◌, ◌==◌}
-use Rattle.std.specs.Prelude.{nat_lt, if◌then◌else◌, slice_index, Option, Some, None}
+use Rattle.std.specs.Prelude.{◌≡◌, ℕ, zero, suc, Bool, not, ◌+◌, ◌-◌, ◌*◌, ◌/◌, ◌<◌, ◌&&◌, ◌||◌}
+use Rattle.std.specs.Prelude.{◌==◌, nat_lt, if◌then◌else◌, is_some, slice_index, true}
 use Rattle.pram_job.specs.declared.instr.Rule.{Rule}
 use Rattle.pram_job.specs.declared.instr.Rule.TheVariants.{Common, Priority, Crew}
 use Rattle.pram_job.specs.Job.{JobData}
-use Rattle.pram_step.specs.History.{Asks, last_by}
+use Rattle.pram_job.specs.Places.{counters_at}
+use Rattle.pram_step.specs.History.{Asks}
 use Rattle.pram_step.specs.Runs.{requests_after, state_after}
 use Rattle.pram_step.specs.Steps.{first_written}
 use Rattle.pram_words.specs.declared.layout.Form.{Form}
+use Rattle.pram_words.specs.declared.layout.Form.TheVariants.{Compact, Wide}
 use Rattle.pram_words.specs.Stamps.{stamped_word}
 use Rattle.pram_words.specs.Forms.{by_form}
-use Rattle.walkx.specs.Counters.{advanced, is_counter}
+use Rattle.walkx.specs.Memory.{cell_next, own_at, settled_at, settles}
 
--- ---- the writes that get a word: in the wide form a counter that goes on by one is not written
+-- ---- places of a processor's own, whose words lag in the wide form
 
--- the value that step t + 1 gives a place is what the place's words stand for already
-abbrev pub is_told : Form → JobData → ℕ → ℕ → ℕ → Bool
-is_told form job t place value =
-    by_form form false
-    (is_counter job place && (value == advanced job 1 (slice_index (state_after job t) place)))
+abbrev pub is_counter : JobData → ℕ → Bool
+is_counter job place = not (nat_lt place (counters_at job.cells job.procs))
 
--- processor i makes this write in step t + 1, and it gets a word
-pub record Lands (form : Form) (job : JobData) (t place i value : ℕ) : Type 0 where
-  pub asks : Asks job t place i value
-  pub told : is_told form job t place value ≡ false
+-- the processor of a register or a counter
+abbrev pub owner : JobData → ℕ → ℕ
+owner job place = if is_counter job place then place - counters_at job.cells job.procs
+    else (place - job.cells) / 4
+
+-- the words of the place are of no processor's own: each write changes them
+abbrev pub IsShared : Form → JobData → ℕ → Type 0
+IsShared Compact job place = Unit {0}
+IsShared (Wide grain) job place = place < job.cells
+
+-- the step after which a place held what its words tell after t steps
+abbrev pub told_at : Form → JobData → ℕ → ℕ → ℕ
+told_at form job t place =
+    by_form form t (if nat_lt place job.cells then t else settled_at job t (owner job place))
+
+-- ---- the writes that get a word
+
+-- step t + 1 writes the place
+abbrev pub is_written : JobData → ℕ → ℕ → Bool
+is_written job t place = is_some (first_written job place 0 (requests_after job t))
+
+-- In each step in which a processor settles a word is written, so that the newest one tells when it
+-- did: the register's that takes what was read, or, where no cell is read, the counter's.
+abbrev pub tells_step : JobData → ℕ → ℕ → Bool
+tells_step job t place = if is_counter job place
+    then not (is_some (cell_next job (own_at job t (owner job place))))
+    else is_some (cell_next job (own_at job t (owner job place))) && is_written job t place
+
+-- a place of its own is no longer what its words tell
+abbrev pub is_changed : JobData → ℕ → ℕ → Bool
+is_changed job t place = not (slice_index (state_after job (suc t)) place
+    == slice_index (state_after job (settled_at job t (owner job place))) place)
+
+abbrev pub lands_own : JobData → ℕ → ℕ → Bool
+lands_own job t place =
+    settles job t (owner job place) && (tells_step job t place || is_changed job t place)
+
+-- step t + 1 has a word of the place
+abbrev pub lands : Form → JobData → ℕ → ℕ → Bool
+lands form job t place = by_form form (is_written job t place)
+    (if nat_lt place job.cells then is_written job t place else lands_own job t place)
+
+-- processor i gives the place this value in step t + 1, and it gets a word
+pub data Lands (form : Form) (job : JobData) (t place i value : ℕ) : Type 0 where
+  asked : IsShared form job place → Asks job t place i value → Lands form job t place i value
+  own : (IsShared form job place → ⊥) → lands_own job t place ≡ true → i ≡ owner job place →
+      value ≡ slice_index (state_after job (suc t)) place → Lands form job t place i value
 
 -- step t + 1 has one of the place
 pub record IsLanded (form : Form) (job : JobData) (t place : ℕ) : Type 0 where
@@ -33,15 +75,10 @@ pub record IsLanded (form : Form) (job : JobData) (t place : ℕ) : Type 0 where
   pub lands : Lands form job t place writer value
 
 -- the last step up to t that has one, or 0
-abbrev pub landed : Form → JobData → ℕ → ℕ → Option ℕ → Option ℕ
-landed form job t place None = None
-landed form job t place (Some value) = if is_told form job t place value then None else Some value
-
 unfoldable pub last_landing : Form → JobData → ℕ → ℕ → ℕ
 last_landing form job zero place = 0
 last_landing form job (suc t) place =
-    last_by (landed form job t place (first_written job place 0 (requests_after job t))) t
-    (last_landing form job t place)
+    if lands form job t place then suc t else last_landing form job t place
 
 -- the last step before step t that has one, or 0
 abbrev pub landing_before : Form → JobData → ℕ → ℕ → ℕ

@@ -20,9 +20,9 @@ use Rattle.walkx.specs.Reads.{step_seen, reader_script}
 use Rattle.walkx.specs.Records.{Record, after, both, Has, Knows}
 use Rattle.walkx.specs.Scripts.{ends, rest, heard_in}
 use Rattle.walkx.specs.Walk.{Walking, Fits, IsBoard, IsGoing, ask_of, told}
-use Rattle.walkx.specs.Counters.{worth}
 use Rattle.lawful_walk.specs.Board.{Stands, Grows, held, root, finished}
 use Rattle.lawful_walk.specs.Moments.{Backed, IsFixed, WasBacked, Sound, afters}
+use Rattle.lawful_walk.specs.Lands.{told_at}
 use Rattle.lawful_walk.specs.Seen.{Heard, KnowsStep}
 use Rattle.lawful_walk.specs.Walks.{Moves, IsLawfulRead, DoneWell, IsConflict, ProgressWell}
 use Rattle.lawful_walk.specs.Walks.{phase_now, steps_heard}
@@ -142,8 +142,8 @@ FinalValuesAreHeld =
     KnowsStep layout past job.steps → place < places_of layout →
     WasBacked job layout (after (after past (Load (number_of layout (Stored place 0))) first)
     (Load (number_of layout (Stored place 1))) second) →
-    worth layout.form job job.steps place (newer_word first second)
-    ≡ slice_index (state_after job job.steps) place
+    payload_of (newer_word first second)
+    ≡ slice_index (state_after job (told_at layout.form job job.steps place)) place
 
 -- a request word of the compact form, word 0 having been heard as t + 1
 abbrev pub ConflictRequestsAreHeld : Type 0

@@ -8,20 +8,21 @@ use Rattle.pram_words.specs.declared.words.Word.TheVariants.{Stored}
 use Rattle.pram_words.specs.Phases.{step_at}
 use Rattle.pram_words.specs.Start.{start_words}
 use Rattle.pram_words.specs.Words.{LayoutData, IsGrain, grain_of, layout_of, places_of}
-use Rattle.pram_words.specs.Stamps.{newer_word}
-use Rattle.walkx.specs.Counters.{worth}
+use Rattle.pram_words.specs.Stamps.{newer_word, payload_of}
 use Rattle.walkx.specs.Records.{Record}
 use Rattle.lawful_walk.specs.Board.{held, stamp_at, finished, Stands}
 use Rattle.lawful_walk.specs.Faithful.{FaithfulAnswers, Faithful}
 use Rattle.lawful_walk.specs.Moments.{Backed, Sound}
 use Rattle.lawful_walk.specs.Writes.{Floor, MayWrite}
-use Rattle.lawful_walk.specs.Lands.{settled}
+use Rattle.lawful_walk.specs.Lands.{settled, told_at}
 
--- the settled word of a place stands for what it holds
+-- The settled word of a place tells what the place holds: of a processor's own place in the wide
+-- form what it held when the processor last settled.
 abbrev pub SettledWordsTell : Type 0
 SettledWordsTell = (form : Form) (job : JobData) (t place : ℕ) → IsJob job →
     place < place_count job →
-    worth form job t place (settled form job t place) ≡ slice_index (state_after job t) place
+    payload_of (settled form job t place)
+    ≡ slice_index (state_after job (told_at form job t place)) place
 
 -- the words that a board starts with stand
 abbrev pub StartWordsAreLawful : Type 0
@@ -36,21 +37,21 @@ WritesKeepWordsLawful = (job : JobData) (layout : LayoutData) (words : List ℕ)
     Stands job layout words → 1 ≤ phase → phase ≤ 3 * job.steps →
     step_at phase ≡ suc t → Floor job layout phase t words → MayWrite job layout words phase t
 
--- Of a place after step t, the newest word that is no newer than t stands for the value, if there
--- is one.
+-- Of a place after step t, the newest word that is no newer than t has the value that is told, if
+-- there is one.
 abbrev pub FinishedStepsAreHeld : Type 0
 FinishedStepsAreHeld = (job : JobData) (layout : LayoutData) (words : List ℕ) (t place : ℕ) →
     Stands job layout words → place < places_of layout → t ≤ finished layout words →
     (stamp_at layout words place 0 ≤ t → t < stamp_at layout words place 1 →
-    worth layout.form job t place (held layout words (Stored place 0))
-    ≡ slice_index (state_after job t) place)
+    payload_of (held layout words (Stored place 0))
+    ≡ slice_index (state_after job (told_at layout.form job t place)) place)
     × (stamp_at layout words place 1 ≤ t → t < stamp_at layout words place 0 →
-    worth layout.form job t place (held layout words (Stored place 1))
-    ≡ slice_index (state_after job t) place)
+    payload_of (held layout words (Stored place 1))
+    ≡ slice_index (state_after job (told_at layout.form job t place)) place)
     × (stamp_at layout words place 0 ≤ t → stamp_at layout words place 1 ≤ t →
-    worth layout.form job t place
+    payload_of
     (newer_word (held layout words (Stored place 0)) (held layout words (Stored place 1)))
-    ≡ slice_index (state_after job t) place)
+    ≡ slice_index (state_after job (told_at layout.form job t place)) place)
 
 -- and after the last finished step there is one
 abbrev pub LastFinishedStepIsHeld : Type 0

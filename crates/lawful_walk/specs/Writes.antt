@@ -9,25 +9,25 @@ use Rattle.pram_words.specs.declared.phases.Kind.TheVariants.{Compute, Verify}
 use Rattle.pram_words.specs.declared.words.Word.{Word}
 use Rattle.pram_words.specs.declared.words.Word.TheVariants.{Conflict, Node, Asked, Position}
 use Rattle.pram_words.specs.declared.words.Word.TheVariants.{Stored, Claim}
-use Rattle.pram_words.specs.Stamps.{stamped_word, first_is_older, older, older_word, newer_word}
+use Rattle.pram_words.specs.Stamps.{stamped_word, payload_of, first_is_older, older, older_word}
+use Rattle.pram_words.specs.Stamps.{newer_word}
 use Rattle.pram_words.specs.Phases.{kind_at, has_phase, next_phase}
 use Rattle.pram_words.specs.Words.{LayoutData, IsWord, number_of}
 use Rattle.walkx.specs.declared.operation.Op.{Op}
 use Rattle.walkx.specs.declared.operation.Op.TheVariants.{Store, Max, Swap}
 use Rattle.walkx.specs.Operations.{words_after}
 use Rattle.walkx.specs.Tasks.{claim_of}
-use Rattle.walkx.specs.Counters.{worth}
 use Rattle.lawful_walk.specs.Board.{held, leaf_of, phase_in, root, stamp_at, IsLate, LeafDone}
 use Rattle.lawful_walk.specs.Board.{Rests}
-use Rattle.lawful_walk.specs.Lands.{Lands, phase_claimed, phase_written}
+use Rattle.lawful_walk.specs.Lands.{Lands, phase_claimed, phase_written, told_at}
 use Rattle.lawful_walk.specs.Moments.{IsFixed, Keeps}
 
--- Of a place whose two words were heard: the newer one stands for the value after t steps, and the
--- older one as heard still stands, or the place was written in step t + 1 or later.
+-- Of a place whose two words were heard: the newer one has the value that they tell after t steps,
+-- and the older one as heard still stands, or the place was written in step t + 1 or later.
 pub record PlaceAsHeard (job : JobData) (layout : LayoutData) (t place first second : ℕ)
     (now : List ℕ) : Type 0 where
-  pub value : worth layout.form job t place (newer_word first second)
-      ≡ slice_index (state_after job t) place
+  pub value : payload_of (newer_word first second)
+      ≡ slice_index (state_after job (told_at layout.form job t place)) place
   pub stands : held layout now (Stored place (older first second)) ≡ older_word first second →
       (stamp_at layout now place 0 ≤ t) × (stamp_at layout now place 1 ≤ t)
       × (first_is_older (held layout now (Stored place 0)) (held layout now (Stored place 1))
@@ -110,7 +110,7 @@ pub record MayWrite (job : JobData) (layout : LayoutData)
   pub jump : (grain mark : ℕ) → layout.form ≡ Wide grain → phase ≡ 3 * t + 1 →
       IsMark layout phase mark → mark ≤ 3 * job.steps → MayJump job layout words phase t mark →
       Does job layout phase (Swap (number_of layout (Node 1)) (3 * t) mark) words
-  pub place : (place i value first second : ℕ) →
+  pub place : (place i value first second : ℕ) → i < layout.procs →
       phase ≡ phase_written layout.form job place t → Lands layout.form job t place i value →
       Wins job t place i → PlaceAsHeard job layout t place first second words →
       Does job layout phase

@@ -90,7 +90,8 @@ pub fn progress_is_true()
 {}
 
 /// Where the last step is known, the newer of a place's two words, loaded one after the other,
-/// stands for what the place holds in the end.
+/// tells what the place holds in the end, or of a processor's own place in the wide form what it
+/// held when the processor last settled.
 pub fn final_values_are_held()
     ensures { FinalValuesAreHeld }
 {}

@@ -1,8 +1,8 @@
 -- The tasks of a leaf's block, with what is remembered of its processors.
-use Rattle.std.proofs.Common.{◌≡◌, ℕ, zero, suc, ◌+◌, ◌<◌, ◌≤◌, true, false, List, [], ◌∷◌, ◌++◌}
+use Rattle.std.proofs.Common.{◌≡◌, ℕ, zero, suc, ◌+◌, ◌≤◌, true, false, List, [], ◌++◌}
 use Rattle.std.proofs.Common.{Option, Some, None, refl, sym, ap, subst, ◌∙◌, inl, inr, arith}
 use Rattle.std.specs.Prelude.{slice_set}
-use Rattle.std.proofs.lemmas.Bool.{cases_Bool, cases_eq}
+use Rattle.std.proofs.lemmas.Bool.{cases_Bool}
 use Rattle.pram_job.specs.Job.{JobData}
 use Rattle.pram_words.proofs.Numbering.{grain_some}
 use Rattle.pram_words.specs.Phases.{kind_at}
@@ -10,27 +10,31 @@ use Rattle.pram_words.specs.Words.{LayoutData, grain}
 use Rattle.walkx.specs.declared.memo.Memo.{Memo}
 use Rattle.walkx.specs.declared.operation.Op.{Op}
 use Rattle.walkx.specs.declared.turns.Turned.{Turned}
-use Rattle.walkx.specs.Inner.Posts.{IsLeafPost, PostData, at_rank, processor_of, step_of}
+use Rattle.walkx.specs.Inner.Posts.{IsLeafPost, PostData, processor_of, step_of}
 use Rattle.walkx.specs.Inner.Posts.{then_raises}
 use Rattle.walkx.specs.Memory.{FitsMemo, FitsMemory, memo_of}
 use Rattle.walkx.specs.Parts.{does_wide}
 use Rattle.walkx.specs.Passes.{wide_task_of}
 use Rattle.walkx.specs.Passing.{Passes, idle}
-use Rattle.walkx.specs.Rests.{block_of, has_worked, leads}
+use Rattle.walkx.specs.Rests.{has_worked, leads}
 use Rattle.walkx.specs.Scripts.{Script, asks, ends, first_op, heard_in, rest}
-use Rattle.walkx.specs.Walk.{IsWide, Then, Walking, block_mark, block_reach, goes_in, has_rank}
-use Rattle.walkx.specs.Walk.{if_ended, passes_over, processor_at, script_of, stands_in, turns}
-use Rattle.walkx.specs.Walk.{worked}
+use Rattle.walkx.specs.Walk.{IsWide, Then, Walking, block_mark, block_reach, has_rank}
+use Rattle.walkx.specs.Walk.{block_gone_on, ends_block, if_ended, passes_over, processor_at}
+use Rattle.walkx.specs.Walk.{script_of, stands_in, turns}
+use Rattle.walkx.proofs.Alikes.{Alike, asks_first, comes_at_once, task_alike}
+use Rattle.walkx.proofs.Asking.{FitsThen, asks_after, script_asks}
+use Rattle.walkx.proofs.Boards.{step_most}
 use Rattle.walkx.proofs.Ends.{AllEnds, ends_after, raise_ends}
 use Rattle.walkx.proofs.Firsts.{raise_first, rank_parts, rank_there}
-use Rattle.walkx.proofs.Idling.{Alike, asks_first, comes_at_once, task_alike}
-use Rattle.walkx.proofs.Memories.{memo_other}
+use Rattle.walkx.proofs.Memories.{memory_set}
 use Rattle.walkx.proofs.PassingOver.{alone}
 use Rattle.walkx.proofs.Stepping.{goes_past, none_left, stops_here}
+use Rattle.walkx.proofs.TaskAsking.{AllAsk}
 use Rattle.walkx.proofs.Turning.{wide_does}
+use Rattle.walkx.proofs.WideAsking.{wide_asks}
 use Rattle.lawful_walk.specs.Moments.{Sound}
-use Rattle.pram_board.specs.Inner.Plays.{Drives, Driving, IsWalking, Led, Moved, in_block, task_at}
-use Rattle.pram_board.specs.Inner.Plays.{PlaysScript, turning_at}
+use Rattle.pram_board.specs.Inner.Plays.{DonePart, Drives, Driving, IsWalking, Led, Moved}
+use Rattle.pram_board.specs.Inner.Plays.{PlaysScript, in_block, task_at, turning_at}
 use Rattle.pram_board.proofs.Stepping.{driver_starts}
 use Rattle.pram_board.proofs.Telling.{led}
 
@@ -64,34 +68,6 @@ module _ (job : JobData) (y : LayoutData) (n q : ℕ) where
       by (asks op next) each = refl
       by (ends m) each = each m
 
-  -- what is known of earlier processors stays
-  kept_below : (more rank : ℕ) (memory : List Memo) (k : ℕ) → k < processor_at y n rank →
-      memo_of (passes_over more job y n q rank memory).1 k ≡ memo_of memory k
-  kept_below zero rank memory k below = refl
-  kept_below (suc more) rank memory k below = elim (cases_Bool (has_rank y n rank)) [
-    | inr none ↦ rw none refl
-    | inl there ↦ rw there (by (alone job y n q rank (memo_of memory (processor_at y n rank)))
-        (λ m. kept_below more (suc rank) (slice_set memory (processor_at y n rank) m) k
-        (omega (arith, below))
-        ∙ memo_other memory (processor_at y n rank) k m (λ e. absurd (omega (arith, e, below)))))
-  ]
-    where
-      by : (s : Script Memo) →
-          ((m : Memo) → memo_of (next_over more rank memory m).1 k ≡ memo_of memory k) →
-          memo_of (if_ended s (rank, memory) (next_over more rank memory)).1 k ≡ memo_of memory k
-      by (asks op next) each = refl
-      by (ends m) each = each m
-
-  pub kept_fits : (rank : ℕ) (memory : List Memo) (learned : Memo) → FitsMemory job memory →
-      FitsMemory job (passes_over (grain y) job y n q (suc rank)
-      (slice_set memory (processor_at y n rank) learned)).1 →
-      FitsMemory job (slice_set memory (processor_at y n rank) learned)
-  kept_fits rank memory learned fits later k = elim (cases_eq (processor_at y n rank) k) [
-    | inl same ↦ subst (FitsMemo job) (kept_below (grain y) (suc rank)
-        (slice_set memory (processor_at y n rank) learned) k (omega (arith, same))) (later k)
-    | inr other ↦ rw (memo_other memory (processor_at y n rank) k learned other) (fits k)
-  ]
-
 not_asks : (s : Script Memo) (op : Op) (m : Memo) → first_op s ≡ Some op →
     if_ended s None (λ x. Some x) ≡ Some m → ⊥
 not_asks (asks o next) op m first some = absurd (cc)
@@ -117,8 +93,10 @@ module _ (at : PostData) (leaf : IsLeafPost at) (wide : IsWide at.layout.form)
   -- where the task asks something, the worker stands at it
   stops : idle at memo ≡ None →
       here ≡ stands_in at.worker at.node at.phase (at.rank, memory)
-  stops none = ap (stands_in at.worker at.node at.phase)
+  stops none = ap (λ (p : ℕ × List Memo). stands_in at.worker at.node at.phase
+      (ends_block at.job at.layout at.node p))
       (stops_here at.job at.layout at.node at.phase at.rank memory wide (grain at.layout) there none)
+      ∙ ap (stands_in at.worker at.node at.phase) (rw there refl)
 
   -- where it does not, the worker is past it
   past : (m : Memo) → idle at memo ≡ Some m →
@@ -130,7 +108,8 @@ module _ (at : PostData) (leaf : IsLeafPost at) (wide : IsWide at.layout.form)
 
       by : (g : ℕ) → grain at.layout ≡ g → 1 ≤ g → here ≡ in_block at (suc at.rank) kept
       by zero is low = absurd (omega (arith, low))
-      by (suc g) is low = ap (stands_in at.worker at.node at.phase)
+      by (suc g) is low = ap (λ (p : ℕ × List Memo). stands_in at.worker at.node at.phase
+          (ends_block at.job at.layout at.node p))
           (goes_past at.job at.layout at.node at.phase at.rank memory wide (grain at.layout) g
           (suc at.rank) m is refl there some
           ∙ sym (fuel at.job at.layout at.node at.phase g (suc at.rank) kept (omega (arith, is)))
@@ -221,7 +200,7 @@ module _ (at : PostData) (leaf : IsLeafPost at) (wide : IsWide at.layout.form)
         subst (λ (d : Driving). Moved (task_at at) p here d (in_block at (suc at.rank) now))
         (sym same) (on p walks m some now (ap (slice_set memory (processor_of at)) (sym known)))
 
-    pub task_moves : Passes (idle at memo) p z learned →
+    task_moves : Passes (idle at memo) p z learned →
         Drives (task_at at) (p, script) z (after_task (idle at memo) learned) → Moves
     task_moves passes drives = by (idle at memo) refl passes drives
       where
@@ -230,7 +209,45 @@ module _ (at : PostData) (leaf : IsLeafPost at) (wide : IsWide at.layout.form)
         by None none passes drives = asked none drives
         by (Some m) some passes drives = passed m some passes.0 passes.1
 
+    -- what is then known of the processor fits
+    learned_fits : FitsMemory at.job memory → Passes (idle at memo) p z learned →
+        Drives (task_at at) (p, script) z (after_task (idle at memo) learned) →
+        FitsMemo at.job learned
+    unfolding AllAsk
+    learned_fits fits passes drives = by (idle at memo) refl passes drives
+      where
+        ends_fit : (s : Script Memo) (m : Memo) → if_ended s None (λ x. Some x) ≡ Some m →
+            AllAsk at.job at.layout (FitsMemo at.job) s → FitsMemo at.job m
+        ends_fit (asks op next) m some all = absurd (cc)
+        ends_fit (ends x) m some all = let is : x ≡ m = cc in subst (FitsMemo at.job) is all
+
+        by : (o : Option Memo) → idle at memo ≡ o → Passes o p z learned →
+            Drives (task_at at) (p, script) z (after_task o learned) → FitsMemo at.job learned
+        by None none passes drives =
+            subst (AllAsk at.job at.layout (FitsThen at.job)) drives.plays.comes
+            (asks_after (FitsThen at.job) at.job at.layout script drives.plays.answers
+            drives.plays.admitted (script_asks at.job at.layout here leaf.board walks.fits))
+        by (Some m) some passes drives = subst (FitsMemo at.job) (sym passes.0)
+            (ends_fit alone_task m some (wide_asks at.job at.layout leaf.board (FitsMemo at.job)
+            at.job.rule (kind_at at.phase) (step_of at) (processor_of at) memo (λ known. ends known)
+            refl (step_most at.job.steps at.phase leaf.phase) leaf.last (fits (processor_of at))
+            (λ known fit. fit)))
+
+    -- the task was done
+    pub task_done : FitsMemory at.job memory → Passes (idle at memo) p z learned →
+        Drives (task_at at) (p, script) z (after_task (idle at memo) learned) →
+        DonePart at p memory z (slice_set memory (processor_of at) learned)
+    task_done fits passes drives = record {
+      fits = memory_set at.job memory (processor_of at) learned fits
+          (learned_fits fits passes drives);
+      moved = task_moves passes drives;
+    }
+
 -- ---- the mark
+
+-- all in the block have gone on alone
+abbrev pub gone : PostData → List Memo → List Memo
+gone at memory = block_gone_on (grain at.layout) at.job at.layout at.node 0 memory
 
 -- its mark, the swap before it having been made or not
 abbrev pub marks_block : PostData → List Memo → Script Then
@@ -260,15 +277,18 @@ module _ (at : PostData) (memory : List Memo) where
 
 module _ (at : PostData) (rank : ℕ) (memory : List Memo) (wide : IsWide at.layout.form)
     (last : has_rank at.layout at.node rank ≡ false) where
-  at_end : in_block at rank memory ≡ stands_in at.worker at.node at.phase (rank, memory)
-  at_end = ap (stands_in at.worker at.node at.phase)
+  at_end : in_block at rank memory ≡ stands_in at.worker at.node at.phase (rank, gone at memory)
+  at_end = ap (λ (p : ℕ × List Memo). stands_in at.worker at.node at.phase
+      (ends_block at.job at.layout at.node p))
       (none_left at.job at.layout at.node at.phase rank memory wide (grain at.layout) last)
+      ∙ ap (stands_in at.worker at.node at.phase) (rw last refl)
 
-  mark_script : script_of at.job at.layout (in_block at rank memory) ≡ marks_block at memory
+  mark_script : script_of at.job at.layout (in_block at rank memory)
+      ≡ marks_block at (gone at memory)
   mark_script = ap (script_of at.job at.layout) at_end ∙ rw last refl
 
   pub mark_starts : (p : Driving) → IsWalking (task_at at) p (in_block at rank memory) →
-      Drives (task_at at) (p, marks_block at memory) p (marks_block at memory)
+      Drives (task_at at) (p, marks_block at (gone at memory)) p (marks_block at (gone at memory))
   mark_starts p walks =
       subst (λ (s : Script Then). Drives (task_at at) (p, s) p s) mark_script
       (driver_starts (task_at at) p (in_block at rank memory) walks refl tt)
@@ -276,20 +296,23 @@ module _ (at : PostData) (rank : ℕ) (memory : List Memo) (wide : IsWide at.lay
   pub mark_leads : (p z : Driving) (turned : Turned) →
       IsWalking (task_at at) p (in_block at rank memory) →
       Sound at.job at.layout z.seat.record_of →
-      Drives (task_at at) (p, marks_block at memory) z (ends (leads at turned)) →
-      Led (task_at at) p (in_block at rank memory) z (turning_at at memory)
+      Drives (task_at at) (p, marks_block at (gone at memory)) z (ends (leads at turned)) →
+      Led (task_at at) p (in_block at rank memory) z (turning_at at (gone at memory))
   mark_leads p z turned walks sound drives =
-      let w = stands_in at.worker at.node at.phase (rank, memory) in
+      let w = stands_in at.worker at.node at.phase (rank, gone at memory) in
       let end = turns at.node at.phase in
-      let script : script_of at.job at.layout w ≡ marks_block at memory = rw last refl in
+      let script : script_of at.job at.layout w ≡ marks_block at (gone at memory) = rw last refl in
       let walks_there = subst (λ (v : Walking). IsWalking (task_at at) p v) at_end walks in
-      let is = one_end at memory (leads at turned) drives.plays.answers drives.plays.comes in
-      let plays = subst (λ (s : Script Then). PlaysScript (task_at at) s p (ends end) z) (sym script)
-      (subst (λ (e : Then). PlaysScript (task_at at) (marks_block at memory) p (ends e) z) is
-      drives.plays) in
-      subst (λ (v : Walking). Led (task_at at) p v z (turning_at at memory)) (sym at_end)
-      (led (task_at at) w p z end (turning_at at memory) refl tt drives.here walks_there.fits
-      walks_there.knows sound (λ e. mark_asks at memory end (sym script ∙ e))
+      let is = one_end at (gone at memory) (leads at turned) drives.plays.answers
+      drives.plays.comes in
+      let plays = subst (λ (s : Script Then). PlaysScript (task_at at) s p (ends end) z)
+      (sym script)
+      (subst (λ (e : Then). PlaysScript (task_at at) (marks_block at (gone at memory)) p (ends e) z)
+      is drives.plays) in
+      subst (λ (v : Walking). Led (task_at at) p v z (turning_at at (gone at memory))) (sym at_end)
+      (led (task_at at) w p z end (turning_at at (gone at memory)) refl tt drives.here
+      walks_there.fits walks_there.knows sound
+      (λ e. mark_asks at (gone at memory) end (sym script ∙ e))
       (λ found earlier. refl) plays)
 
 -- what a task that asks nothing leaves as it was, seen from outside

@@ -7,7 +7,7 @@ use Rattle.pram_step.proofs.LawFixed.{length-state_after}
 use Rattle.pram_step.specs.Runs.{state_after}
 use Rattle.pram_words.specs.Words.{LayoutData, number_of, places_of}
 use Rattle.pram_words.specs.declared.words.Word.TheVariants.{Stored}
-use Rattle.pram_words.specs.Stamps.{newer_payload, newer_word}
+use Rattle.pram_words.specs.Stamps.{newer_payload}
 use Rattle.walkx.specs.declared.operation.Op.{Op}
 use Rattle.walkx.specs.declared.operation.Op.TheVariants.{Load}
 use Rattle.walkx.specs.Records.{Record, after}
@@ -15,7 +15,7 @@ use Rattle.walkx.specs.Walk.{IsBoard}
 use Rattle.lawful_walk.specs.Moments.{Sound, afters}
 use Rattle.lawful_walk.specs.Seen.{KnowsStep}
 use Rattle.lawful_walk.proofs.Sounding.{was_place}
-use Rattle.lawful_walk.proofs.Places.{cell_worth}
+use Rattle.lawful_walk.proofs.Places.{cell_value}
 use Rattle.pram_board.specs.declared.task.Task.{Task}
 use Rattle.pram_board.specs.Seats.{SeatData, hears, hears_all, IsLoad, HasLoaded}
 use Rattle.pram_board.proofs.Begins.{knows_afters}
@@ -40,8 +40,8 @@ loaded t q second p word a b knows cell place e f is sound =
     (Load (number_of t.layout (Stored p 0))) a) (Load (number_of t.layout (Stored p 1))) b) =
     subst (λ (x : ℕ × ℕ). Sound t.job t.layout
     (after (after q.record_of (Load x.0) a) (Load x.1) b)) (λ i. (e i, f i)) s in
-    sym (cell_worth t.layout.form t.job t.job.steps p (newer_word a b) cell)
-    ∙ was_place t.job t.layout q.record_of p a b knows place u
+    was_place t.job t.layout q.record_of p a b knows place u
+    ∙ cell_value t.layout.form t.job t.job.steps p cell
 
 -- ---- loads, one after the other
 

@@ -622,16 +622,18 @@ impl<'a, G: Gate> Driver<'a, G> {
         }
     }
 
-    // The leaf is marked, after its last processor, as its processors are known.
+    // After the task of the last processor all go on alone, and the leaf is marked as they are
+    // known.
     #[inline(always)]
-    fn mark(&mut self, post: &Post, rank: u32, memory: &Memory)
+    fn mark(&mut self, post: &Post, rank: u32, memory: &mut Memory)
         requires last { has_rank post.now.layout post.now.node rank ≡ false }
         requires walks { IsWalking (task_at post.now) (driving self.old)
-            (in_block post.now rank memory.now) }
+            (in_block post.now rank memory.old) }
         ensures same { self.new.seat.ghost_name ≡ self.old.seat.ghost_name }
-        ensures led { Led (task_at post.now) (driving self.old) (in_block post.now rank memory.now)
-            (driving self.new) (turning_at post.now memory.now) }
+        ensures led { Led (task_at post.now) (driving self.old) (in_block post.now rank memory.old)
+            (driving self.new) (turning_at post.now memory.new) }
     {
+        memory.go_on(post);
         let reach = memory.reach(post);
         match mark(self, post, reach) {
             Ok(turned) => {

@@ -19,7 +19,7 @@ use Rattle.pram_words.specs.declared.layout.Form.TheVariants.{Compact}
 use Rattle.walkx.specs.Requests.{heard_request}
 use Rattle.lawful_walk.specs.Board.{Stands, held, root, conflict, finished}
 use Rattle.lawful_walk.proofs.Facts.{facts}
-use Rattle.lawful_walk.proofs.Places.{cell_worth}
+use Rattle.lawful_walk.proofs.Places.{cell_value}
 use Rattle.lawful_walk.specs.Walks.{IsConflict}
 use Rattle.lawful_walk.proofs.Ending.{is_first}
 use Rattle.pram_world.specs.declared.outcome.Progress.{Progress}
@@ -53,9 +53,8 @@ pub final_value : (job : JobData) (y : LayoutData) (words : List ℕ) (p : ℕ) 
     ≡ slice_index (state_after job job.steps) p
 final_value job y words p stands clear done cell =
     let cells = same_cells job y words stands in
-    sym (cell_worth y.form job job.steps p
-    (newer_word (held y words (Stored p 0)) (held y words (Stored p 1))) cell)
-    ∙ (facts job y words stands).final_held p (omega arith) done clear
+    (facts job y words stands).final_held p (omega arith) done clear
+    ∙ cell_value y.form job job.steps p cell
 
 -- one cell more
 pub final_more : (job : JobData) (y : LayoutData) (words values now : List ℕ) (cell value : ℕ) →

@@ -4,17 +4,15 @@ use Rattle.std.proofs.Common.{◌≡◌, ℕ, suc, ◌-◌, ◌<◌, ◌≤◌, 
 use Rattle.std.proofs.Common.{arith}
 use Rattle.std.proofs.lemmas.Bool.{cases_lt, le-leb, lt-leb}
 use Rattle.pram_job.specs.Job.{JobData}
-use Rattle.pram_step.specs.History.{IsWritten}
 use Rattle.pram_words.specs.declared.words.Word.TheVariants.{Stored}
 use Rattle.pram_words.specs.Phases.{next_phase}
 use Rattle.pram_words.specs.Stamps.{stamp_of, newer_word}
 use Rattle.pram_words.specs.Words.{LayoutData, IsWord, places_of}
 use Rattle.lawful_walk.specs.Board.{Stands, root, stamp_at, finished}
-use Rattle.lawful_walk.specs.Lands.{phase_written}
+use Rattle.lawful_walk.specs.Lands.{IsLanded, phase_written}
 use Rattle.lawful_walk.proofs.Facts.{WordsShow, facts}
 use Rattle.lawful_walk.proofs.Places.{finished_held, last_held}
 use Rattle.lawful_walk.proofs.Values.{under_way}
-use Rattle.lawful_walk.proofs.Winners.{written_of}
 use Rattle.pram_world.specs.Interleavings.{ShowsMachine, Tells, newest_by, newest_upto}
 
 -- ---- the newest of two words up to a step, by the cases of their stamps
@@ -75,7 +73,7 @@ module _ (job : JobData) (y : LayoutData) (words : List ℕ) (stands : Stands jo
       ]
 
   pub new_next : (p k : ℕ) → IsWord y (Stored p k) → finished y words < stamp_at y words p k →
-      (stamp_at y words p k ≡ suc (finished y words)) × IsWritten job (finished y words) p
+      (stamp_at y words p k ≡ suc (finished y words)) × IsLanded y.form job (finished y words) p
       × (phase_written y.form job p (finished y words) ≤ next_phase y.form (root y words))
   new_next p k is less =
       let x = stamp_at y words p k - 1 in
@@ -85,7 +83,7 @@ module _ (job : JobData) (y : LayoutData) (words : List ℕ) (stands : Stands jo
       let upto = shown.reached_finished x begun from.0 in
       let same : x ≡ finished y words = omega arith in (
         omega (arith, e, same),
-        subst (λ (n : ℕ). IsWritten job n p) same (written_of y.form job x p from.1),
+        subst (λ (n : ℕ). IsLanded y.form job n p) same from.1,
         subst (λ (n : ℕ). phase_written y.form job p n ≤ next_phase y.form (root y words)) same
             from.2,
       )

@@ -2,10 +2,9 @@
 use Rattle.std.specs.Prelude.{◌≡◌, ℕ, suc, ◌+◌, ◌*◌, ◌<◌, ◌≤◌, nat_le, if◌then◌else◌, List}
 use Rattle.std.specs.Prelude.{slice_index, Option, Some, None, IfSome}
 use Rattle.pram_job.specs.Job.{JobData}
-use Rattle.pram_step.specs.History.{IsWritten}
 use Rattle.pram_step.specs.Runs.{IsReached, state_after}
 use Rattle.pram_words.specs.declared.words.Word.TheVariants.{Stored}
-use Rattle.pram_words.specs.Stamps.{stamp_of, newer_word}
+use Rattle.pram_words.specs.Stamps.{stamp_of, payload_of, newer_word}
 use Rattle.pram_words.specs.Words.{LayoutData, IsWord, places_of}
 use Rattle.pram_words.specs.Phases.{next_phase}
 use Rattle.walkx.specs.declared.operation.Ended.{Ended}
@@ -13,11 +12,10 @@ use Rattle.walkx.specs.declared.operation.Ended.TheVariants.{Done, Conflict}
 use Rattle.walkx.specs.Doing as doing
 use Rattle.walkx.specs.Records.{Record, Knows}
 use Rattle.walkx.specs.Walk.{Walking, Fits}
-use Rattle.walkx.specs.Counters.{worth}
 use Rattle.lawful_walk.specs.Board.{Grows, held, root, conflict, stamp_at, finished}
 use Rattle.lawful_walk.specs.Moments.{Backed}
 use Rattle.lawful_walk.specs.Walks.{IsConflict}
-use Rattle.lawful_walk.specs.Lands.{phase_written}
+use Rattle.lawful_walk.specs.Lands.{IsLanded, phase_written, told_at}
 use Rattle.pram_world.specs.declared.event.Event.{Event}
 use Rattle.pram_world.specs.Worlds.{WorldData, Walks, IsLawful, StaleChangesNothing, happens}
 
@@ -34,15 +32,16 @@ abbrev pub newest_upto : LayoutData → List ℕ → ℕ → ℕ → Option ℕ
 newest_upto layout words step place =
     newest_by step (held layout words (Stored place 0)) (held layout words (Stored place 1))
 
--- the word stands for what the place holds after the step
+-- The word tells what the place holds after the step: of a processor's own place in the wide form
+-- what it held when the processor last settled.
 abbrev pub Tells : JobData → LayoutData → ℕ → ℕ → ℕ → Type 0
 Tells job layout step place word =
-    worth layout.form job step place word ≡ slice_index (state_after job step) place
+    payload_of word ≡ slice_index (state_after job (told_at layout.form job step place)) place
 
 -- The words show t steps to be finished: the root is 3t, 3t + 1 or 3t + 2, or it is 3t + 3 and word
 -- 0 names step t + 1. These steps are reached, and the words hold the machine's state after the
 -- last of them, and of the earlier ones what they still have of it. A greater stamp is that of the
--- next step, which writes the place, and there is none before the phase in which it does.
+-- next step, in which the place gets a word, and there is none before the phase in which it does.
 pub record ShowsMachine (job : JobData) (layout : LayoutData) (words : List ℕ) (t : ℕ) :
     Type 0 where
   pub low : 3 * t ≤ root layout words
@@ -55,7 +54,7 @@ pub record ShowsMachine (job : JobData) (layout : LayoutData) (words : List ℕ)
       IfSome (newest_upto layout words step place) (Tells job layout step place)
   pub next : (place which : ℕ) → IsWord layout (Stored place which) →
       t < stamp_at layout words place which →
-      (stamp_at layout words place which ≡ suc t) × IsWritten job t place
+      (stamp_at layout words place which ≡ suc t) × IsLanded layout.form job t place
       × (phase_written layout.form job place t ≤ next_phase layout.form (root layout words))
 
 -- ---- a world between two events
@@ -67,7 +66,7 @@ IsTrueEnd job layout words (Conflict step) = (conflict layout words ≡ step) ×
 
 -- The words are admitted and lawful. They bear out the record of all atomic steps, which knows each
 -- body that is a worker. They show the machine. Whatever happens next, they grow, and a late worker
--- changes none but its own position. Who is over tells the truth.
+-- changes none but its own position, and in the wide form marks. Who is over tells the truth.
 pub record Interleaves (world : WorldData) (made : Record) : Type 0 where
   pub lawful : IsLawful world
   pub backed : Backed world.job world.layout made world.words

@@ -24,7 +24,7 @@ use Rattle.walkx.specs.Walk.{worked}
 use Rattle.walkx.specs.declared.memo.Memo.{Memo}
 use Rattle.walkx.specs.Memory.{FitsMemo, FitsMemory, at_start}
 use Rattle.walkx.proofs.Forms.{form_both}
-use Rattle.walkx.proofs.Memories.{start_fits}
+use Rattle.walkx.proofs.OwnFits.{start_fits}
 use Rattle.walkx.specs.Walk.{block_mark, block_reach, empty_mark, inner_mark, jumps, jumps_first}
 use Rattle.walkx.specs.Walk.{marks_node}
 use Rattle.walkx.specs.Walk.{stands_at, way_down, begin_script, turn_script}
@@ -91,8 +91,8 @@ module _ (job : JobData) (y : LayoutData) (board : IsBoard job y) where
       cond_both (has_rank y n rank) _ _ (AllAsk job y (FitsThen job))
       (λ e. part_asks n q rank _ low high last formed e (fits (processor_at y n rank)))
       (λ e. raises_ask n (block_mark job y n q memory) (block_reach job y n q memory) q low high
-      last (block_marks job y n q memory last formed)
-      (λ jump. block_reaches job y n q memory last formed))
+      last (block_marks job y n q memory last formed fits)
+      (λ jump. block_reaches job y n q memory last formed fits))
 
   turn_asks : (w n q : ℕ) → w < y.workers → 1 ≤ n → n < 2 * y.leaves → q ≤ 3 * job.steps →
       InForm q → AllAsk job y (FitsThen job) (turn_script job y w n q)

@@ -22,7 +22,7 @@ use Rattle.pram_words.specs.Words.{AreOwn, counters_of, lines_at, places_of}
 use Rattle.pram_words.specs.declared.layout.Form.{Form}
 use Rattle.pram_words.specs.declared.layout.Form.TheVariants.{Compact, Wide}
 use Rattle.walkx.specs.Inner.Posts.{IsLeafOf, IsLeafPost, IsPairAt, PostData, at_rank}
-use Rattle.walkx.specs.Inner.Posts.{processor_of, step_of}
+use Rattle.walkx.specs.Inner.Posts.{processor_of}
 use Rattle.walkx.specs.Walk.{IsBoard, IsWide}
 
 -- what is admitted at a word's number the word may have

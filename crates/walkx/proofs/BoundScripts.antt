@@ -85,30 +85,30 @@ To job y most (turns n q) history = (1 ≤ n) × (n < 2 * y.leaves) × (1 ≤ q)
     × (later_weight job y history n (doing.Turn q) + turn_ops y ≤ most)
     × IsTrue (has_phase y.form q)
 To job y most (enters n q) history = InBlock job y n q
-    × (later_weight job y history n (doing.Part q 0) + 15 ≤ most)
+    × (later_weight job y history n (doing.Part q 0) + 28 ≤ most)
 To job y most (worked n q rank memo) history = InBlock job y n q × (rank < grain y)
-    × (later_weight job y history n (doing.Part q (suc rank)) + 15 ≤ most)
+    × (later_weight job y history n (doing.Part q (suc rank)) + 28 ≤ most)
 To job y most (stops e) history = Unit {0}
 
 -- ---- weights of phases
 
 -- the operations of a phase
-ops_few : (y : LayoutData) → IsLayout y → most_ops y + 20 ≤ 96 * leaves_of y.procs
+ops_few : (y : LayoutData) → IsLayout y → most_ops y + 25 ≤ 96 * leaves_of y.procs
 ops_few y limits =
     let few = tasks_fit y limits in
     let some = limits.leaves.0 in
-    let spread : y.leaves * (15 * (count y + 1)) ≡ 15 * (y.leaves * count y) + 15 * y.leaves =
-    grind (arith, mul-add y.leaves (15 * count y) 15) in
-    let split : y.leaves * (12 + 15 * (count y + 1))
-    ≡ y.leaves * 12 + y.leaves * (15 * (count y + 1)) =
-    mul-add y.leaves 12 (15 * (count y + 1)) in
+    let spread : y.leaves * (28 * (count y + 1)) ≡ 28 * (y.leaves * count y) + 28 * y.leaves =
+    grind (arith, mul-add y.leaves (28 * count y) 28) in
+    let split : y.leaves * (12 + 28 * (count y + 1))
+    ≡ y.leaves * 12 + y.leaves * (28 * (count y + 1)) =
+    mul-add y.leaves 12 (28 * (count y + 1)) in
     elim (cases_form y.form) [
       | inl e ↦ rw e (omega (arith, few.0, some))
       | inr e ↦
           let wide : IsWide y.form = rw e.1 tt in
           let ops : turn_ops y ≡ 5 = form_wide_of y.form 16 5 wide in
-          let each : tasks y ≡ 15 * (count y + 1) =
-          form_wide_of y.form 0 (15 * (count y + 1)) wide in
+          let each : tasks y ≡ 28 * (count y + 1) =
+          form_wide_of y.form 0 (28 * (count y + 1)) wide in
           rw (ops, each) (omega (arith, few.0, few.1, some, spread, split))
     ]
 
@@ -129,7 +129,7 @@ phase_enters job y history n q a limits h =
 
 pub part_enters : (job : JobData) (y : LayoutData) (history : List (Op × ℕ)) (n q rank a : ℕ) →
     IsLayout y → y.leaves ≤ n → IsWide y.form → 3 * job.steps - q + 1 ≤ a →
-    later_weight job y history n (doing.Part q rank) + 17 ≤ phases_weight y a
+    later_weight job y history n (doing.Part q rank) + 28 ≤ phases_weight y a + 5
 unfolding later_weight
 part_enters job y history n q rank a limits leaf wide h =
     let turns = parts_most y history q n rank limits.leaves.0 leaf wide in

@@ -208,7 +208,7 @@ start_weight : (job : JobData) (y : LayoutData)
     (history : List (Op × ℕ)) (n heard : ℕ) (now : Doing) → IsLayout y → IsPhase job y now →
     IsInBlock y n now →
     later_weight job y history n now + (longest y now - heard)
-    ≤ 288 * leaves_of y.procs * job.steps + 3
+    ≤ 288 * leaves_of y.procs * job.steps + 5
 unfolding later_weight
 start_weight job y history n heard doing.Back limits phase block = omega arith
 start_weight job y history n heard doing.Begin limits phase block =
@@ -228,12 +228,12 @@ start_weight job y history n heard (doing.Part q rank) limits phase block =
 start_weight job y history n heard (doing.Over e) limits phase block = omega arith
 
 pub starts : (job : JobData) (y : LayoutData) (w : Walking) → IsLayout y → Fits job y w →
-    weight job y (heard_of job y w) w ≤ 288 * leaves_of y.procs * job.steps + 3
+    weight job y (heard_of job y w) w ≤ 288 * leaves_of y.procs * job.steps + 5
 unfolding weight
 starts job y w limits fits = start_weight job y (drop (length w.heard) (heard_of job y w))
     (node_of y w) (length w.heard) w.now limits fits.phase fits.block
 
-within : (job : JobData) → 288 * leaves_of job.procs * job.steps + 3 < most_steps job
+within : (job : JobData) → 288 * leaves_of job.procs * job.steps + 5 < most_steps job
 within job = omega arith
 
 steps_bounded : (job : JobData) (y : LayoutData) (w : Walking) →
@@ -241,13 +241,13 @@ steps_bounded : (job : JobData) (y : LayoutData) (w : Walking) →
     IsHeard job y w.number (history_of job y w answers) → length answers < most_steps job
 steps_bounded job y w board fits answers going may =
     let same : leaves_of y.procs ≡ leaves_of job.procs = ap leaves_of (same_procs job y board) in
-    let all : length answers < 288 * leaves_of y.procs * job.steps + 4 = omega (
+    let all : length answers < 288 * leaves_of y.procs * job.steps + 6 = omega (
       arith,
       lighter job y w board.layout fits answers going may,
       starts job y w board.layout fits,
     ) in
-    let few : length answers < 288 * leaves_of job.procs * job.steps + 4 =
-    subst (λ (l : ℕ). length answers < 288 * l * job.steps + 4) same all in
+    let few : length answers < 288 * leaves_of job.procs * job.steps + 6 =
+    subst (λ (l : ℕ). length answers < 288 * l * job.steps + 6) same all in
     omega (arith, few, within job)
 
 pub own_steps : OwnStepsAreBounded

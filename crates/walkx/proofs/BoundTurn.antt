@@ -25,7 +25,7 @@ use Rattle.walkx.proofs.BoundWeight.{count, low_of, later_weight, parts_left, ph
 use Rattle.walkx.proofs.BoundWeight.{turn_ops, turns_left}
 use Rattle.walkx.proofs.Forms.{form_both, form_cases, form_compact, form_wide_of}
 use Rattle.walkx.proofs.Firsts.{rank_parts}
-use Rattle.walkx.proofs.Marks.{block_marks, empty_marks, inner_least}
+use Rattle.walkx.proofs.Marks.{block_least, empty_marks, inner_least}
 use Rattle.walkx.proofs.BoundTurns.{Grown, marked_less, up_less, down_less, enters_less, next_less}
 use Rattle.walkx.proofs.BoundTurns.{last_less}
 use Rattle.walkx.proofs.BoundPasses.{compact_within, form_within}
@@ -157,13 +157,13 @@ leaf_leads job y w before n q some leaf inside first last formed unmarked =
 pub block_leads : (job : JobData) (y : LayoutData) (w n q rank : ℕ) (memory : List Memo)
     (before : List (Op × ℕ)) → InBlock job y n q →
     Leads job y w (To job y (later_weight job y before n (doing.Part q rank)))
-    (block_script job y n q rank memory) 15 before
+    (block_script job y n q rank memory) 28 before
 unfolding part_script later_weight
 block_leads job y w n q rank memory before at =
     let most = later_weight job y before n (doing.Part q rank) in
     let to = To job y most in
     let is = leads_on_within job y w to before in
-    cond_both (has_rank y n rank) _ _ (λ script. Leads job y w to script 15 before)
+    cond_both (has_rank y n rank) _ _ (λ script. Leads job y w to script 28 before)
     (λ there. form_within (LeadsOn job y w to before) is y 0 y.form job.rule (kind_at q) job
     (step_at q) (processor_at y n rank) (memo_of memory (processor_at y n rank))
     (after_part y n q rank)
@@ -171,20 +171,20 @@ block_leads job y w n q rank memory before at =
     (λ history grown. done job y before history n q rank grown at there)) before
     (grown_self before))
     (λ none. let m = block_mark job y n q memory in
-    raises_leads job y w before before to n m (block_reach job y n q memory) q 15 (omega arith)
+    raises_leads job y w before before to n m (block_reach job y n q memory) q 28 (omega arith)
     (grown_self before) (λ history grown. (
       omega arith,
       λ found may. marked job y before
           ((Max (number_of y (Node n)) m, found) ∷ history) n q rank
           (grown_more before history (Max (number_of y (Node n)) m) found grown) at
-          (le_trans ((block_marks job y n q memory at.last at.formed).least)
+          (le_trans (block_least job y n q memory)
           (low_raised history (number_of y (Node n)) m found)),
     )))
   where
     done : (job : JobData) (y : LayoutData) (before history : List (Op × ℕ)) (n q rank : ℕ) →
         Grown before history → InBlock job y n q → IsTrue (has_rank y n rank) →
         InBlock job y n q × (rank < grain y)
-        × (2 + phases_weight y (3 * job.steps - q) + parts_left y history q n (suc rank) + 15
+        × (2 + phases_weight y (3 * job.steps - q) + parts_left y history q n (suc rank) + 28
         ≤ 2 + phases_weight y (3 * job.steps - q) + parts_left y before q n rank)
     done job y before history n q rank grown at there =
         let h = rank_parts y n rank there in

@@ -203,27 +203,27 @@ unfolding part_at
 part_at-other y history q n rank m ne = rw (ne_eqb m n ne) refl
 
 part_at-here : (y : LayoutData) (history : List (Op × ℕ)) (q n rank : ℕ) →
-    part_at y history q n rank n ≡ 2 * turn_ops y + 15 * (count y - rank)
+    part_at y history q n rank n ≡ 2 * turn_ops y + 28 * (count y - rank)
 unfolding part_at
 part_at-here y history q n rank = rw (eq-eqb n n refl) refl
 
 -- the tasks of a leaf in the wide form
 wide_tasks : (y : LayoutData) (n : ℕ) → y.leaves ≤ n → IsWide y.form →
-    tasks_at y n ≡ 15 * (count y + 1)
+    tasks_at y n ≡ 28 * (count y + 1)
 unfolding tasks_at
 wide_tasks y n leaf wide =
-    rw (le-leb y.leaves n leaf) (form_wide_of y.form 0 (15 * (count y + 1)) wide)
+    rw (le-leb y.leaves n leaf) (form_wide_of y.form 0 (28 * (count y + 1)) wide)
 
 -- A block that is entered leaves less than the turn there.
 pub enters_less : (y : LayoutData) (before history : List (Op × ℕ)) (q n : ℕ) →
     Grown before history → 1 ≤ n → y.leaves ≤ n → n < 2 * y.leaves → low_of y before n < q →
-    IsWide y.form → parts_left y history q n 0 + 15 ≤ turns_left y before q n
+    IsWide y.form → parts_left y history q n 0 + 28 ≤ turns_left y before q n
 unfolding turns_left parts_left
 enters_less y before history q n grown some leaf inside unmarked wide =
-    sum_gap (part_at y history q n 0) (turns_at y before q n) 1 (2 * y.leaves - 1) n 15
+    sum_gap (part_at y history q n 0) (turns_at y before q n) 1 (2 * y.leaves - 1) n 28
     others_fall some (omega arith) here
   where
-    here : part_at y history q n 0 n + 15 ≤ turns_at y before q n n
+    here : part_at y history q n 0 n + 28 ≤ turns_at y before q n n
     here = rw (
       part_at-here y history q n 0,
       turns_at-cost y before q n n,
@@ -243,13 +243,13 @@ enters_less y before history q n grown some leaf inside unmarked wide =
 -- So does the task of each processor.
 pub next_less : (y : LayoutData) (before history : List (Op × ℕ)) (q n rank : ℕ) →
     Grown before history → 1 ≤ n → n < 2 * y.leaves → rank < count y →
-    parts_left y history q n (suc rank) + 15 ≤ parts_left y before q n rank
+    parts_left y history q n (suc rank) + 28 ≤ parts_left y before q n rank
 unfolding parts_left
 next_less y before history q n rank grown some inside more =
-    sum_gap (part_at y history q n (suc rank)) (part_at y before q n rank) 1 (2 * y.leaves - 1) n 15
+    sum_gap (part_at y history q n (suc rank)) (part_at y before q n rank) 1 (2 * y.leaves - 1) n 28
     others_fall some (omega arith) here
   where
-    here : part_at y history q n (suc rank) n + 15 ≤ part_at y before q n rank n
+    here : part_at y history q n (suc rank) n + 28 ≤ part_at y before q n rank n
     here = rw (part_at-here y history q n (suc rank), part_at-here y before q n rank) (omega arith)
 
     others_fall : (m : ℕ) → 1 ≤ m → m < 1 + (2 * y.leaves - 1) →

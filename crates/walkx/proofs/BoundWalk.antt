@@ -1,5 +1,5 @@
 -- A worker that is going makes its weight less with each operation.
-use Rattle.std.proofs.Common.{◌≡◌, ℕ, suc, ◌+◌, ◌-◌, ◌<◌, ◌≤◌, List, [], ◌∷◌}
+use Rattle.std.proofs.Common.{◌≡◌, ℕ, suc, ◌+◌, ◌-◌, ◌<◌, ◌≤◌, List, ◌∷◌}
 use Rattle.std.proofs.Common.{length, drop, Some, refl, sym, ap, ◌∙◌, subst, arith}
 use Rattle.pram_job.specs.Job.{JobData}
 use Rattle.pram_words.specs.Words.{LayoutData, IsLayout, grain}
@@ -8,7 +8,7 @@ use Rattle.walkx.specs.declared.operation.Op.{Op}
 use Rattle.walkx.specs.Doing as doing
 use Rattle.walkx.specs.Scripts.{Script, asks, ends, rest_after, first_op}
 use Rattle.walkx.specs.Walk.{Then, begins, turns, enters, worked, stops, Walking, node_of, rest_of}
-use Rattle.walkx.specs.Walk.{goes_in, passes_over}
+use Rattle.walkx.specs.Walk.{ends_block, goes_in, passes_over}
 use Rattle.walkx.specs.declared.memo.Memo.{Memo}
 use Rattle.walkx.specs.Turns.{beginning, turning}
 use Rattle.walkx.proofs.BoundTurns.{rank_falls}
@@ -85,11 +85,11 @@ turns_less job y history number n q most k memory to some = record {
 -- in a block, from a rank on
 block_less : (job : JobData) (y : LayoutData) (history : List (Op × ℕ))
     (number n q rank most k : ℕ) (memory : List Memo) → InBlock job y n q → rank ≤ grain y →
-    later_weight job y history n (doing.Part q rank) + 15 ≤ most → 1 ≤ k →
+    later_weight job y history n (doing.Part q rank) + 28 ≤ most → 1 ≤ k →
     Less job y history (goes_in job y number n q rank memory) (most + k)
 unfolding after_weight weight
 block_less job y history number n q rank most k memory at few less some =
-    let passed = passes_over (grain y) job y n q rank memory in
+    let passed = ends_block job y n (passes_over (grain y) job y n q rank memory) in
     let stop = goes_stops job y n q at.wide rank memory few in
     let falls = later_falls job y history n q rank passed.0 stop.later in
     record {

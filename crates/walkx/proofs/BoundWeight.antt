@@ -28,12 +28,12 @@ count y = min (grain y) y.procs
 
 -- A turn has at most so many operations: in the compact form that at a leaf makes the task of its
 -- processor, and marks it. In the wide form tasks and marks are scripts of their own, of at most
--- fifteen operations.
+-- twenty-eight operations.
 abbrev pub turn_ops : LayoutData → ℕ
 turn_ops y = by_form y.form 16 5
 
 abbrev pub tasks : LayoutData → ℕ
-tasks y = by_form y.form 0 (15 * (count y + 1))
+tasks y = by_form y.form 0 (28 * (count y + 1))
 
 -- those of node m
 unfoldable pub tasks_at : LayoutData → ℕ → ℕ
@@ -53,7 +53,7 @@ turns_left y history q n = sum_by (turns_at y history q n) (range_with_len 1 (2 
 -- the same in the midst of the block of node n, at the processor of this rank
 unfoldable pub part_at : LayoutData → List (Op × ℕ) → ℕ → ℕ → ℕ → ℕ → ℕ
 part_at y history q n rank m =
-    if m == n then 2 * turn_ops y + 15 * (count y - rank) else turns_at y history q n m
+    if m == n then 2 * turn_ops y + 28 * (count y - rank) else turns_at y history q n m
 
 unfoldable pub parts_left : LayoutData → List (Op × ℕ) → ℕ → ℕ → ℕ → ℕ
 parts_left y history q n rank =
@@ -64,7 +64,7 @@ abbrev pub longest : LayoutData → Doing → ℕ
 longest y doing.Back = 1
 longest y doing.Begin = 2
 longest y (doing.Turn q) = turn_ops y
-longest y (doing.Part q rank) = 15
+longest y (doing.Part q rank) = 28
 longest y (doing.Over e) = 0
 
 -- operations of this many phases, each of a begin and, in the compact form, up to 6L - 3 turns

@@ -1,5 +1,5 @@
 -- What holds in both forms.
-use Rattle.std.proofs.Common.{◌≡◌, ◌⊎◌, ℕ, refl, inl, inr}
+use Rattle.std.proofs.Common.{◌≡◌, refl}
 use Rattle.pram_words.specs.declared.layout.Form.{Form}
 use Rattle.pram_words.specs.declared.layout.Form.TheVariants.{Compact, Wide}
 use Rattle.pram_words.specs.Forms.{by_form}

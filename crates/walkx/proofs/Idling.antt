@@ -1,30 +1,28 @@
 -- A task of the wide form asks something, whatever follows it, or nothing.
-use Rattle.std.proofs.Common.{◌≡◌, ℕ, suc, ◌==◌, nat_lt, true, false, List, [], Option, Some, None}
-use Rattle.std.proofs.Common.{refl, sym, subst, ◌∙◌, inl, inr, ◌⊎◌}
-use Rattle.std.specs.Prelude.{slice_get}
+use Rattle.std.proofs.Common.{◌≡◌, ℕ, suc, ◌==◌, List, [], ◌∷◌, Option, Some, None}
+use Rattle.std.proofs.Common.{refl, inl, inr}
 use Rattle.std.proofs.lemmas.Bool.{cases_Bool, lt-ltb}
-use Rattle.pram_job.specs.declared.instr.Instr.{Instr}
 use Rattle.pram_job.specs.declared.instr.Rule.{Rule}
 use Rattle.pram_job.specs.declared.instr.Rule.TheVariants.{Common, Priority, Crew}
 use Rattle.pram_job.specs.Job.{JobData}
 use Rattle.pram_machine.specs.declared.requests.Request.{Request}
-use Rattle.pram_machine.specs.Instructions.{cell_read, decided, goes_to, operand_in}
+use Rattle.pram_machine.specs.Machine.{counter_place}
 use Rattle.pram_words.specs.declared.phases.Kind.{Kind}
 use Rattle.pram_words.specs.declared.phases.Kind.TheVariants.{Compute, Apply, Verify}
+use Rattle.pram_words.specs.declared.words.Word.TheVariants.{Claim, Stored}
+use Rattle.pram_words.specs.Phases.{phase_of}
+use Rattle.pram_words.specs.Stamps.{stamped_word}
 use Rattle.pram_words.specs.Words.{LayoutData, number_of}
 use Rattle.walkx.specs.declared.memo.Memo.{Memo}
-use Rattle.pram_machine.specs.Machine.{counter_place}
-use Rattle.pram_words.specs.declared.words.Word.TheVariants.{Claim, Stored}
-use Rattle.pram_words.specs.Stamps.{stamped_word}
 use Rattle.walkx.specs.declared.operation.Op.{Op}
 use Rattle.walkx.specs.declared.operation.Op.TheVariants.{Load, Max}
-use Rattle.walkx.specs.Memory.{at_start, memo_after}
-use Rattle.walkx.specs.OwnWrites.{cell_write, own_write}
-use Rattle.walkx.specs.Passes.{carry_task, claims_or_writes, crew_carry_task, if_write, knows}
-use Rattle.walkx.specs.Passes.{own_claim_task, own_task, priority_carry_task, requests, stores}
-use Rattle.walkx.specs.Passes.{wide_task_of, writes_own}
+use Rattle.walkx.specs.Memory.{asked, at_start, cell_next, has_store, is_past}
+use Rattle.walkx.specs.OwnWrites.{cell_write}
+use Rattle.walkx.specs.Passes.{carry_task, claims_store, computes_own, crew_carry_task, if_write}
+use Rattle.walkx.specs.Passes.{knows, landings, memo_after, own_claim_task, own_task}
+use Rattle.walkx.specs.Passes.{priority_carry_task, stores, wide_task_of, writes_each, writes_own}
 use Rattle.walkx.specs.Scripts.{Script, ends, first_op}
-use Rattle.walkx.specs.Tasks.{claim_of, claims}
+use Rattle.walkx.specs.Tasks.{claim_of, reads_cell}
 use Rattle.walkx.specs.Walk.{Then}
 use Rattle.walkx.proofs.Puts.{cell_put_is}
 
@@ -37,37 +35,30 @@ module _ (job : JobData) (y : LayoutData) (t i : ℕ) (after : Memo → Script T
   abbrev A : Script Memo → Script Then → Type 0
   A s u = Alike after s u
 
-  own_alike : (counter : ℕ) (r : Request) (learned : Memo) (o : Option (ℕ × ℕ)) →
-      own_write job i counter r ≡ o →
-      A (writes_own job y t i counter r (ends learned))
-      (writes_own job y t i counter r (after learned))
-  own_alike counter r learned None e = comes_at_once learned (rw e refl) (rw e refl)
-  own_alike counter r learned (Some w) e =
-      asks_first (Load (number_of y (Stored w.0 0))) (rw e refl) (rw e refl)
+  each_alike : (writes : List (ℕ × ℕ)) (learned : Memo) →
+      A (writes_each y t writes (ends learned)) (writes_each y t writes (after learned))
+  each_alike [] learned = comes_at_once learned refl refl
+  each_alike (w ∷ writes) learned = asks_first (Load (number_of y (Stored w.0 0))) refl refl
 
-  claim_alike : (counter : ℕ) (r : Request) (learned : Memo) (o : Option (ℕ × ℕ)) →
+  own_alike : (known : Memo) (r : Request) (learned : Memo) →
+      A (writes_own job y t i known r (ends learned)) (writes_own job y t i known r (after learned))
+  own_alike known r learned = each_alike (landings job t i known r) learned
+
+  claim_alike : (known : Memo) (r : Request) (learned : Memo) (o : Option (ℕ × ℕ)) →
       cell_write job r.put ≡ o →
-      A (claims_or_writes job y t i counter r (ends learned))
-      (claims_or_writes job y t i counter r (after learned))
-  claim_alike counter r learned None e =
-      rw e (own_alike counter r learned (own_write job i counter r) refl)
-  claim_alike counter r learned (Some w) e =
+      A (claims_store job y t i r (writes_own job y t i known r (ends learned)))
+      (claims_store job y t i r (writes_own job y t i known r (after learned)))
+  claim_alike known r learned None e = rw e (own_alike known r learned)
+  claim_alike known r learned (Some w) e =
       let cell = lt-ltb w.0 job.cells (cell_put_is job r.put w.0 w.1 e).1 in
       asks_first (Max (number_of y (Claim w.0)) (stamped_word t (claim_of job i)))
       (rw (e, cell) refl) (rw (e, cell) refl)
 
-  requests_alike : (known : Memo) (o : Option Instr) (late : Script Memo) (ended : Script Then)
-      (f : Request → Script Memo) (g : Request → Script Then) → ((r : Request) → A (f r) (g r)) →
-      A (requests job y t i known o late f) (requests job y t i known o ended g)
-  requests_alike known None late ended f g each = each (goes_to known.counter)
-  requests_alike known (Some instr) late ended f g each =
-      by (cell_read job instr (operand_in known.registers instr 0)) refl
-    where
-      by : (c : Option ℕ) → cell_read job instr (operand_in known.registers instr 0) ≡ c →
-          A (requests job y t i known (Some instr) late f)
-          (requests job y t i known (Some instr) ended g)
-      by None e = rw e (each _)
-      by (Some c) e = asks_first (Load (number_of y (Stored c 0))) (rw e refl) (rw e refl)
+  reads_alike : (o : Option ℕ) (late : Script Memo) (ended : Script Then) (f : ℕ → Script Memo)
+      (g : ℕ → Script Then) → A (f 0) (g 0) → A (reads_cell y t o late f) (reads_cell y t o ended g)
+  reads_alike None late ended f g each = each
+  reads_alike (Some c) late ended f g each =
+      asks_first (Load (number_of y (Stored c 0))) refl refl
 
   knows_alike : (memo : Memo) (late : Script Memo) (ended : Script Then)
       (f : Memo → Script Memo) (g : Memo → Script Then) → A (f memo) (g memo) →
@@ -78,42 +69,49 @@ module _ (job : JobData) (y : LayoutData) (t i : ℕ) (after : Memo → Script T
         (rw e refl)
   ]
 
+  computes_alike : (memo : Memo) (f : Memo → Request → Script Memo) (g : Memo → Request → Script Then) →
+      ((r : Request) → A (f memo r) (g memo r)) →
+      A (computes_own job y t i memo (λ m. ends m) f) (computes_own job y t i memo after g)
+  computes_alike memo f g each = elim (cases_Bool (is_past (phase_of t Compute) memo)) [
+    | inl past ↦ comes_at_once memo (rw past refl) (rw past refl)
+    | inr left ↦ rw left (knows_alike memo (ends memo) (after memo)
+        (λ known. reads_cell y t (cell_next job known.own) (ends at_start)
+        (λ value. f known (asked job i known.own value)))
+        (λ known. reads_cell y t (cell_next job known.own) (after at_start)
+        (λ value. g known (asked job i known.own value)))
+        (reads_alike (cell_next job memo.own) (ends at_start) (after at_start)
+        (λ value. f memo (asked job i memo.own value)) (λ value. g memo (asked job i memo.own value))
+        (each (asked job i memo.own 0))))
+  ]
+
   own_task_alike : (memo : Memo) →
       A (own_task job y t i memo (λ m. ends m)) (own_task job y t i memo after)
   unfolding own_task
-  own_task_alike memo =
-      knows_alike memo (ends memo) (after memo)
-      (λ known. requests job y t i known (slice_get job.code known.counter) (ends at_start)
-      (λ r. writes_own job y t i known.counter r (ends (memo_after job t i known r))))
-      (λ known. requests job y t i known (slice_get job.code known.counter) (after at_start)
-      (λ r. writes_own job y t i known.counter r (after (memo_after job t i known r))))
-      (requests_alike memo (slice_get job.code memo.counter) (ends at_start) (after at_start)
-      (λ r. writes_own job y t i memo.counter r (ends (memo_after job t i memo r)))
-      (λ r. writes_own job y t i memo.counter r (after (memo_after job t i memo r)))
-      (λ r. own_alike memo.counter r (memo_after job t i memo r) (own_write job i memo.counter r)
-      refl))
+  own_task_alike memo = computes_alike memo
+      (λ known r. writes_own job y t i known r (ends (memo_after job t i known r)))
+      (λ known r. writes_own job y t i known r (after (memo_after job t i known r)))
+      (λ r. own_alike memo r (memo_after job t i memo r))
 
   own_claim_alike : (memo : Memo) →
       A (own_claim_task job y t i memo (λ m. ends m)) (own_claim_task job y t i memo after)
   unfolding own_claim_task
-  own_claim_alike memo =
-      knows_alike memo (ends memo) (after memo)
-      (λ known. requests job y t i known (slice_get job.code known.counter) (ends at_start)
-      (λ r. claims_or_writes job y t i known.counter r (ends (memo_after job t i known r))))
-      (λ known. requests job y t i known (slice_get job.code known.counter) (after at_start)
-      (λ r. claims_or_writes job y t i known.counter r (after (memo_after job t i known r))))
-      (requests_alike memo (slice_get job.code memo.counter) (ends at_start) (after at_start)
-      (λ r. claims_or_writes job y t i memo.counter r (ends (memo_after job t i memo r)))
-      (λ r. claims_or_writes job y t i memo.counter r (after (memo_after job t i memo r)))
-      (λ r. claim_alike memo.counter r (memo_after job t i memo r) (cell_write job r.put) refl))
+  own_claim_alike memo = computes_alike memo
+      (λ known r. claims_store job y t i r
+      (writes_own job y t i known r (ends (memo_after job t i known r))))
+      (λ known r. claims_store job y t i r
+      (writes_own job y t i known r (after (memo_after job t i known r))))
+      (λ r. claim_alike memo r (memo_after job t i memo r) (cell_write job r.put) refl)
 
   stores_alike : (memo : Memo) (f : ℕ → ℕ → Script Memo) (g : ℕ → ℕ → Script Then) →
       ((c v : ℕ) → A (f c v) (g c v)) →
       A (stores job y t i memo (ends memo) f) (stores job y t i memo (after memo) g)
-  stores_alike memo f g each = elim (cases_Bool (memo.step == t)) [
-    | inl e ↦ rw e (kept memo.store)
-    | inr e ↦ asks_first (Load (number_of y (Stored (counter_place job i) 0))) (rw e refl)
-        (rw e refl)
+  stores_alike memo f g each = elim (cases_Bool (is_past (phase_of t Verify) memo)) [
+    | inl past ↦ comes_at_once memo (rw past refl) (rw past refl)
+    | inr left ↦ elim (cases_Bool (has_store t memo)) [
+      | inl e ↦ rw (left, e) (kept memo.store)
+      | inr e ↦ asks_first (Load (number_of y (Stored (counter_place job i) 0)))
+          (rw (left, e) refl) (rw (left, e) refl)
+    ]
   ]
     where
       kept : (o : Option (ℕ × ℕ)) → A (if_write o (ends memo) f) (if_write o (after memo) g)

@@ -2,7 +2,7 @@
 use Rattle.std.proofs.Common.{◌≡◌, ℕ, zero, suc, ◌<◌, ◌≤◌, List, [], ◌∷◌, ◌++◌, refl, sym, ◌∙◌}
 use Rattle.std.proofs.Common.{ap, subst, inl, inr, arith, IsTrue, true}
 use Rattle.std.specs.Prelude.{slice_set}
-use Rattle.std.proofs.lemmas.Bool.{cases_Bool, cases_lt}
+use Rattle.std.proofs.lemmas.Bool.{cases_Bool, cases_lt, cond_both}
 use Rattle.pram_job.specs.Job.{JobData}
 use Rattle.pram_words.specs.Words.{LayoutData, grain}
 use Rattle.walkx.specs.declared.memo.Memo.{Memo}
@@ -15,7 +15,8 @@ use Rattle.walkx.specs.Records.{Record, empty, after, both, Has, HasPart, HasBlo
 use Rattle.walkx.specs.Scripts.{Script, asks, ends, rest_after, rest, heard_in}
 use Rattle.walkx.specs.Walk.{Then, begins, turns, enters, worked, stops, Walking, IsGoing, IsInBlock}
 use Rattle.walkx.specs.Walk.{Fits, HearsAdmitted, IsBoard, IsWide, begun_phase, block_script}
-use Rattle.walkx.specs.Walk.{has_rank, if_ended, part_script, passes_over, processor_at, script_by}
+use Rattle.walkx.specs.Walk.{ends_block, has_rank, if_ended, part_script, passes_over, processor_at}
+use Rattle.walkx.specs.Walk.{script_by}
 use Rattle.walkx.specs.Walk.{script_of, told, rest_of, node_of, ask_of, goes_on, phase_begun, heard_of}
 use Rattle.walkx.specs.Playing.{hearing}
 use Rattle.walkx.proofs.Boards.{root_formed, same_procs}
@@ -23,7 +24,7 @@ use Rattle.walkx.proofs.Ends.{AllEnds, Brings, NewestPhase, worker_ends}
 use Rattle.walkx.proofs.Firsts.{rank_parts}
 use Rattle.walkx.proofs.Fitting.{heard_more, stops_begin}
 use Rattle.walkx.proofs.Going.{going_or_over, told_going, told_over}
-use Rattle.walkx.proofs.Idling.{Alike, asks_first, comes_at_once}
+use Rattle.walkx.proofs.Alikes.{Alike, asks_first, comes_at_once}
 use Rattle.walkx.proofs.Memories.{memo_other}
 use Rattle.walkx.proofs.PassingOver.{alone, going_first, part_alike}
 
@@ -114,6 +115,12 @@ knows_more job y r w op found knows = record {
 
 -- ---- those that are passed over
 
+-- a block that goes on alone stays at its end
+ended_rank : (job : JobData) (y : LayoutData) (n : ℕ) (passed : ℕ × List Memo) →
+    (ends_block job y n passed).0 ≡ passed.0
+ended_rank job y n passed = cond_both (has_rank y n passed.0) passed _ (λ p. p.0 ≡ passed.0)
+    (λ there. refl) (λ none. refl)
+
 one_more : (job : JobData) (y : LayoutData) (r : Record) (n q rank : ℕ) →
     ((earlier : ℕ) → earlier < rank → HasPart job y r n q earlier) → HasPart job y r n q rank →
     (earlier : ℕ) → earlier < suc rank → HasPart job y r n q earlier
@@ -191,9 +198,13 @@ module _ (job : JobData) (y : LayoutData) (r : Record) (n q : ℕ) (board : IsBo
   -- in a block, from this rank on
   pub goes_parts : (rank : ℕ) (memory : List Memo) → TrueFrom job y n rank memory →
       ((earlier : ℕ) → earlier < rank → HasPart job y r n q earlier) →
-      (earlier : ℕ) → earlier < (passes_over (grain y) job y n q rank memory).0 →
+      (earlier : ℕ) →
+      earlier < (ends_block job y n (passes_over (grain y) job y n q rank memory)).0 →
       HasPart job y r n q earlier
-  goes_parts rank memory is_true before = passed_parts (grain y) rank memory is_true before
+  goes_parts rank memory is_true before =
+      let passed = passes_over (grain y) job y n q rank memory in
+      subst (λ (end : ℕ). (earlier : ℕ) → earlier < end → HasPart job y r n q earlier)
+      (sym (ended_rank job y n passed)) (passed_parts (grain y) rank memory is_true before)
 
 -- ---- what comes of an answer
 

@@ -7,7 +7,8 @@ pub mod Firsts
 pub mod Fitting
 pub mod Knowing
 pub mod Puts
-pub mod Counting
+pub mod OwnFits
+pub mod Alikes
 pub mod TaskAsking
 pub mod WideAsking
 pub mod Asking
@@ -48,3 +49,13 @@ pub mod Nodes
 pub mod PassingOver
 pub mod Loaded
 pub mod Marks
+pub mod GoingAlone
+pub mod Timing
+pub mod Blocks
+pub mod HearingOwn
+pub mod Knows
+pub mod Landing
+pub mod FirstPass
+pub mod OwnKnown
+pub mod Kept
+pub mod AsFar

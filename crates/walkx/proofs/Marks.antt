@@ -1,21 +1,23 @@
 -- What a node is marked with: the phase or more, a phase of the form.
 use Rattle.std.proofs.Common.{◌≡◌, ℕ, zero, suc, ◌+◌, ◌-◌, ◌*◌, ◌%◌, ◌<◌, ◌≤◌, ◌==◌, ◌&&◌}
-use Rattle.std.proofs.Common.{Bool, true, false, if◌then◌else◌, nat_le, nat_lt, IsTrue, List}
+use Rattle.std.proofs.Common.{Bool, true, false, nat_le, nat_lt, IsTrue, List}
 use Rattle.std.proofs.Common.{refl, sym, subst, inl, inr, arith}
-use Rattle.std.specs.Prelude.{min, ◌||◌}
-use Rattle.std.proofs.Math.Nat.{le-min, min-eq_left, min-eq_right}
-use Rattle.std.proofs.lemmas.Bool.{cases_eq, cases_lt, cond_both, eq-eqb, eqb-true, leb-true}
-use Rattle.std.proofs.lemmas.Bool.{le-ltb, lt-ltb, ltb-true, ne_eqb}
+use Rattle.std.specs.Prelude.{is_some, max, min}
+use Rattle.std.proofs.Math.Nat.{le-max_left, le-min, max-eq_left, max-eq_right, min-eq_left}
+use Rattle.std.proofs.Math.Nat.{min-eq_right}
+use Rattle.std.proofs.lemmas.Bool.{cases_Bool, cases_eq, cases_lt, cond_both, eq-eqb, eqb-true}
+use Rattle.std.proofs.lemmas.Bool.{leb-true, le-ltb, lt-ltb, ltb-true, ne_eqb}
 use Rattle.pram_job.specs.Job.{JobData}
 use Rattle.pram_words.specs.declared.layout.Form.{Form}
 use Rattle.pram_words.specs.declared.layout.Form.TheVariants.{Compact, Wide}
 use Rattle.pram_words.specs.Phases.{has_phase, step_at}
 use Rattle.pram_words.specs.Words.{LayoutData, grain}
 use Rattle.walkx.specs.declared.memo.Memo.{Memo}
-use Rattle.walkx.specs.Memory.{has_rested, has_stopped, memo_of}
-use Rattle.walkx.specs.Passing.{all_next}
-use Rattle.walkx.specs.Walk.{IsWide, all_from, block_all, block_mark, block_reach, bounded_mark}
-use Rattle.walkx.specs.Walk.{empty_mark, has_rank, inner_mark, jumps, last_phase, processor_at}
+use Rattle.walkx.specs.Memory.{FitsMemo, FitsMemory, memo_of, reach}
+use Rattle.walkx.specs.Passing.{least_of}
+use Rattle.walkx.specs.Walk.{IsWide, block_mark, block_reach, bounded_mark, empty_mark, has_rank}
+use Rattle.walkx.specs.Walk.{inner_mark, jumps, last_phase, least_reach, processor_at}
+use Rattle.walkx.specs.Walk.{reach_from_phase}
 use Rattle.walkx.proofs.Firsts.{rank_parts, rank_there}
 use Rattle.walkx.proofs.Forms.{form_both, form_cases, form_wide_of}
 
@@ -29,11 +31,14 @@ pub phase_marks : (steps : ℕ) (y : LayoutData) (q : ℕ) → q ≤ 3 * steps �
     IsTrue (has_phase y.form q) → IsMark steps y q q
 phase_marks steps y q last formed = record { least = omega arith; most = last; formed = formed }
 
--- a step's last phase is one of each form
+-- a phase that is no second one of its step is one of each form
+formed_by : (form : Form) (m : ℕ) → (m % 3 ≡ 2 → ⊥) → IsTrue (has_phase form m)
+formed_by Compact m other = refl
+formed_by (Wide g) m other = rw (ne_eqb (m % 3) 2 other) refl
+
+-- so is a step's last phase
 last_formed : (form : Form) (t : ℕ) → IsTrue (has_phase form (3 * t))
-last_formed Compact t = refl
-last_formed (Wide g) t =
-    rw (ne_eqb (3 * t % 3) 2 (λ (e : 3 * t % 3 ≡ 2). omega (arith, e))) refl
+last_formed form t = formed_by form (3 * t) (λ (e : 3 * t % 3 ≡ 2). omega (arith, e))
 
 last_marks : (steps : ℕ) (y : LayoutData) (q : ℕ) → q ≤ 3 * steps →
     IsMark steps y q (last_phase q)
@@ -80,31 +85,76 @@ empty_marks job y n q last formed =
     (phase_marks job.steps y q last formed)
     (bounded_marks job.steps y n q (3 * job.steps) last (end_marks job.steps y q last))
 
--- how far a block has nothing to do, having rested or not, and stopped or not
-abbrev found_mark : ℕ → ℕ → Bool → Bool → ℕ
-found_mark steps q rested stopped =
-    if rested then (if stopped then 3 * steps else last_phase q) else q
+-- ---- how far a block has nothing to do
 
-found_marks : (steps : ℕ) (y : LayoutData) (q : ℕ) (rested stopped : Bool) → q ≤ 3 * steps →
-    IsTrue (has_phase y.form q) → IsMark steps y q (found_mark steps q rested stopped)
-found_marks steps y q true true last formed = end_marks steps y q last
-found_marks steps y q true false last formed = last_marks steps y q last
-found_marks steps y q false stopped last formed = phase_marks steps y q last formed
+-- a phase of a board with so many steps, which may be below the one that is marked
+abbrev pub IsFound : ℕ → LayoutData → ℕ → Type 0
+IsFound steps y m = (m ≤ 3 * steps) × IsTrue (has_phase y.form m)
+
+reach_found : (job : JobData) (y : LayoutData) (memo : Memo) → FitsMemo job memo →
+    IsFound job.steps y (reach memo)
+reach_found job y memo fits =
+    let step = fits.step in
+    cond_both (is_some memo.store) (3 * memo.step - 2) (3 * memo.step) (IsFound job.steps y)
+    (λ e. (
+      omega (arith, step),
+      formed_by y.form (3 * memo.step - 2)
+          (λ (two : (3 * memo.step - 2) % 3 ≡ 2). omega (arith, two)),
+    ))
+    (λ e. (omega (arith, step), last_formed y.form memo.step))
+
+from_found : (job : JobData) (y : LayoutData) (q : ℕ) (memo : Memo) → FitsMemo job memo →
+    IsFound job.steps y (reach_from_phase q memo)
+from_found job y q memo fits = cond_both (nat_le memo.acted q) (reach memo) 0 (IsFound job.steps y)
+    (λ e. reach_found job y memo fits) (λ e. (omega arith, last_formed y.form 0))
+
+min_found : (steps : ℕ) (y : LayoutData) (l r : ℕ) → IsFound steps y l → IsFound steps y r →
+    IsFound steps y (min l r)
+min_found steps y l r left right = elim (cases_lt l r) [
+  | inl less ↦ subst (IsFound steps y)
+      (sym (min-eq_left {n = l} {m = r} (omega (arith, less)))) left
+  | inr more ↦ subst (IsFound steps y) (sym (min-eq_right {n = r} {m = l} more)) right
+]
+
+pub least_found : (job : JobData) (y : LayoutData) (n q more rank : ℕ) (memory : List Memo) →
+    FitsMemory job memory → IsFound job.steps y (least_reach more job y n q rank memory)
+least_found job y n q zero rank memory fits = (omega arith, last_formed y.form job.steps)
+least_found job y n q (suc more) rank memory fits =
+    cond_both (has_rank y n rank) _ (3 * job.steps) (IsFound job.steps y)
+    (λ e. min_found job.steps y _ _
+    (from_found job y q (memo_of memory (processor_at y n rank)) (fits (processor_at y n rank)))
+    (least_found job y n q more (suc rank) memory fits))
+    (λ e. (omega arith, last_formed y.form job.steps))
 
 pub block_reaches : (job : JobData) (y : LayoutData) (n q : ℕ) (memory : List Memo) →
-    q ≤ 3 * job.steps → IsTrue (has_phase y.form q) →
+    q ≤ 3 * job.steps → IsTrue (has_phase y.form q) → FitsMemory job memory →
     IsMark job.steps y q (block_reach job y n q memory)
-block_reaches job y n q memory last formed =
-    found_marks job.steps y q
-    ((q == last_phase q) || block_all (has_rested (step_at q)) y n memory)
-    (block_all (has_stopped job (step_at q)) y n memory) last formed
+block_reaches job y n q memory last formed fits =
+    let found = least_found job y n q (grain y) 0 memory fits in
+    by (least_reach (grain y) job y n q 0 memory) found
+  where
+    by : (l : ℕ) → IsFound job.steps y l → IsMark job.steps y q (max q l)
+    by l found = elim (cases_lt q l) [
+      | inl less ↦ subst (IsMark job.steps y q)
+          (sym (max-eq_right {n = q} {m = l} (omega (arith, less))))
+          (record { least = omega (arith, less); most = found.0; formed = found.1 })
+      | inr more ↦ subst (IsMark job.steps y q) (sym (max-eq_left {n = q} {m = l} more))
+          (phase_marks job.steps y q last formed)
+    ]
 
 pub block_marks : (job : JobData) (y : LayoutData) (n q : ℕ) (memory : List Memo) →
-    q ≤ 3 * job.steps → IsTrue (has_phase y.form q) →
+    q ≤ 3 * job.steps → IsTrue (has_phase y.form q) → FitsMemory job memory →
     IsMark job.steps y q (block_mark job y n q memory)
-block_marks job y n q memory last formed =
+block_marks job y n q memory last formed fits =
     bounded_marks job.steps y n q (block_reach job y n q memory) last
-    (block_reaches job y n q memory last formed)
+    (block_reaches job y n q memory last formed fits)
+
+-- whatever is remembered, the mark is the phase or more
+pub block_least : (job : JobData) (y : LayoutData) (n q : ℕ) (memory : List Memo) →
+    q ≤ block_mark job y n q memory
+block_least job y n q memory =
+    bounded_least n q (block_reach job y n q memory)
+    (le-max_left q (least_reach (grain y) job y n q 0 memory))
 
 pub both_parts : (a b : Bool) → (a && b) ≡ true → (a ≡ true) × (b ≡ true)
 both_parts true true e = (refl, refl)
@@ -186,30 +236,57 @@ jump_from steps y n q m last jump =
 
 -- ---- a block's mark, as it is found
 
--- what is so with all of a block is so with each of its processors
-pub all_at : (is : Memo → Bool) (y : LayoutData) (n more rank k : ℕ) (memory : List Memo) →
-    rank ≤ k → k < rank + more → IsTrue (has_rank y n k) →
-    all_from is more y n rank memory ≡ true → is (memo_of memory (processor_at y n k)) ≡ true
-all_at is y n zero rank k memory low high there all = absurd (omega (arith, low, high))
-all_at is y n (suc more) rank k memory low high there all =
+-- Where a block has nothing to do up to a later phase, that is so of each of its processors, by
+-- what is known of it.
+abbrev pub ReachesAt : LayoutData → ℕ → ℕ → ℕ → List Memo → ℕ → Type 0
+ReachesAt y n q k memory m = ((memo_of memory (processor_at y n k)).acted ≤ q)
+    × (m ≤ reach (memo_of memory (processor_at y n k)))
+
+from_at : (q m : ℕ) (memo : Memo) → q < m → m ≤ reach_from_phase q memo →
+    (memo.acted ≤ q) × (m ≤ reach memo)
+from_at q m memo later most = elim (cases_Bool (nat_le memo.acted q)) [
+  | inl e ↦ (leb-true memo.acted q e, rw e at most)
+  | inr e ↦ absurd (let none : m ≤ 0 = rw e at most in omega (arith, none, later))
+]
+
+least_at : (job : JobData) (y : LayoutData) (n q m more rank k : ℕ) (memory : List Memo) →
+    rank ≤ k → k < rank + more → IsTrue (has_rank y n k) → q < m →
+    m ≤ least_reach more job y n q rank memory → ReachesAt y n q k memory m
+least_at job y n q m zero rank k memory low high there later most =
+    absurd (omega (arith, low, high))
+least_at job y n q m (suc more) rank k memory low high there later most =
     let at = rank_parts y n k there in
     let less = at.0 in
     let last = at.1 in
     let here = rank_there y n rank (omega (arith, low, less)) (omega (arith, low, last)) in
-    let both = both_parts (is (memo_of memory (processor_at y n rank)))
-    (all_from is more y n (suc rank) memory) (rw here at all) in
+    let both : m ≤ min (reach_from_phase q (memo_of memory (processor_at y n rank)))
+    (least_reach more job y n q (suc rank) memory) = rw here at most in
     elim (cases_eq rank k) [
-      | inl same ↦
-          subst (λ (j : ℕ). is (memo_of memory (processor_at y n j)) ≡ true) same both.0
-      | inr other ↦ all_at is y n more (suc rank) k memory (omega (arith, low, other))
-          (omega (arith, high)) there both.1
+      | inl same ↦ subst (λ (j : ℕ). ReachesAt y n q j memory m) same
+          (from_at q m (memo_of memory (processor_at y n rank)) later (omega (arith, both)))
+      | inr other ↦ least_at job y n q m more (suc rank) k memory (omega (arith, low, other))
+          (omega (arith, high)) there later (omega (arith, both))
     ]
 
+pub reach_at : (job : JobData) (y : LayoutData) (n q k : ℕ) (memory : List Memo) →
+    IsTrue (has_rank y n k) → q < block_reach job y n q memory →
+    ReachesAt y n q k memory (block_reach job y n q memory)
+reach_at job y n q k memory there later =
+    least_at job y n q (block_reach job y n q memory) (grain y) 0 k memory (omega arith)
+    (let below = (rank_parts y n k there).0 in omega (arith, below)) there later
+    (most (least_reach (grain y) job y n q 0 memory) later)
+  where
+    most : (l : ℕ) → q < max q l → max q l ≤ l
+    most l less = omega (arith, less)
+
+-- ---- the same, as it is worked out
+
 -- in a block of so many processors
-module _ (is : Memo → Bool) (y : LayoutData) (n len : ℕ) (memory : List Memo)
+module _ (job : JobData) (y : LayoutData) (n q len : ℕ) (memory : List Memo)
     (ranks : (rank : ℕ) → has_rank y n rank ≡ nat_lt rank len) where
   from_next : (more rank : ℕ) → len ≤ rank + more →
-      all_from is more y n rank memory ≡ all_next is (len - rank) (processor_at y n rank) memory
+      least_reach more job y n q rank memory
+      ≡ least_of (3 * job.steps) q (len - rank) (processor_at y n rank) memory
   from_next zero rank upto = let none : len - rank ≡ 0 = omega (arith, upto) in rw none refl
   from_next (suc more) rank upto = elim (cases_lt rank len) [
     | inl less ↦ (let left : len - rank ≡ suc (len - suc rank) = omega (arith, less) in
@@ -220,18 +297,25 @@ module _ (is : Memo → Bool) (y : LayoutData) (n len : ℕ) (memory : List Memo
         rw (ranks rank, le-ltb rank len past, none) refl)
   ]
 
-  -- this being found of its processors
+  -- the least of its processors' is the block's
   pub block_found : (first end : ℕ) (memos : List Memo) → len ≤ grain y →
       first ≡ processor_at y n 0 → end ≡ first + len → memos ≡ memory →
-      all_next is (end - first) first memos ≡ block_all is y n memory
+      least_of (3 * job.steps) q (end - first) first memos
+      ≡ least_reach (grain y) job y n q 0 memory
   block_found first end memos most from to same =
       let count : end - first ≡ len - 0 = omega (arith, to) in
       rw (count, from, same) (sym (from_next (grain y) 0 (omega (arith, most))))
 
--- it is so with one more of them
-pub one_so : (is : Memo → Bool) (end i : ℕ) (memory : List Memo) → i < end →
-    is (memo_of memory i) ≡ true →
-    all_next is (end - (i + 1)) (i + 1) memory ≡ all_next is (end - i) i memory
-one_so is end i memory less so =
+-- one processor more
+pub least_next : (most q end i : ℕ) (memory : List Memo) → i < end →
+    least_of most q (end - i) i memory
+    ≡ min (reach_from_phase q (memo_of memory i)) (least_of most q (end - (i + 1)) (i + 1) memory)
+least_next most q end i memory less =
     let left : end - i ≡ suc (end - (i + 1)) = omega (arith, less) in
-    let next : suc i ≡ i + 1 = omega arith in rw (left, so, next) refl
+    let next : suc i ≡ i + 1 = omega arith in rw (left, next) refl
+
+-- it is no more than this
+pub least_most : (most q more i : ℕ) (memory : List Memo) → least_of most q more i memory ≤ most
+least_most most q zero i memory = omega arith
+least_most most q (suc more) i memory =
+    omega (arith, least_most most q more (suc i) memory)

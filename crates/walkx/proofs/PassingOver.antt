@@ -3,7 +3,7 @@ use Rattle.pram_words.specs.Forms.{by_form}
 use Rattle.std.proofs.Common.{◌≡◌, ℕ, zero, suc, ◌+◌, ◌*◌, ◌≤◌, IsTrue, true, false}
 use Rattle.std.proofs.Common.{List, Some, refl, sym, subst, inl, inr, arith}
 use Rattle.std.specs.Prelude.{slice_set}
-use Rattle.std.proofs.lemmas.Bool.{cases_Bool}
+use Rattle.std.proofs.lemmas.Bool.{cases_Bool, cond_both}
 use Rattle.pram_job.specs.Job.{JobData}
 use Rattle.pram_words.specs.Phases.{kind_at, step_at}
 use Rattle.pram_words.specs.Words.{LayoutData, grain}
@@ -11,15 +11,17 @@ use Rattle.pram_words.specs.declared.layout.Form.{Form}
 use Rattle.pram_words.specs.declared.layout.Form.TheVariants.{Compact, Wide}
 use Rattle.walkx.specs.declared.memo.Memo.{Memo}
 use Rattle.walkx.specs.declared.operation.Op.{Op}
-use Rattle.walkx.specs.Memory.{FitsMemo, FitsMemory, memo_of}
+use Rattle.walkx.specs.Memory.{FitsMemo, FitsMemory, gone_on, memo_of}
 use Rattle.walkx.specs.Passes.{task_in}
 use Rattle.walkx.specs.Scripts.{Script, asks, ends, first_op}
-use Rattle.walkx.specs.Walk.{marks_node, IsBoard, IsWide, block_script, has_rank, if_ended, part_script}
-use Rattle.walkx.specs.Walk.{block_mark, block_reach, passes_over, processor_at, task_at, worked}
-use Rattle.walkx.proofs.Boards.{step_most}
+use Rattle.walkx.specs.Walk.{marks_node, IsBoard, IsWide, block_script, has_rank, if_ended}
+use Rattle.walkx.specs.Walk.{block_gone_on, block_mark, block_reach, ends_block, part_script}
+use Rattle.walkx.specs.Walk.{passes_over, processor_at, task_at, worked}
+use Rattle.walkx.proofs.Boards.{same_procs, step_most}
 use Rattle.walkx.proofs.Firsts.{raise_first, rank_parts}
-use Rattle.walkx.proofs.Idling.{Alike, asks_first, comes_at_once, task_alike}
+use Rattle.walkx.proofs.Alikes.{Alike, asks_first, comes_at_once, task_alike}
 use Rattle.walkx.proofs.Memories.{memory_set}
+use Rattle.walkx.proofs.OwnFits.{gone_on_fits}
 use Rattle.walkx.proofs.TaskAsking.{AllAsk}
 use Rattle.walkx.proofs.WideAsking.{wide_asks}
 
@@ -136,10 +138,27 @@ module _ (job : JobData) (y : LayoutData) (n q : ℕ) (wide : IsWide y.form) whe
             first = stop.first;
           })
 
+  -- at its end the block goes on alone
+  ended_stops : (from : ℕ) (passed : ℕ × List Memo) → Stops job y n q from passed →
+      Stops job y n q from (ends_block job y n passed)
+  ended_stops from passed stop = elim (cases_Bool (has_rank y n passed.0)) [
+    | inl there ↦ rw there stop
+    | inr none ↦ rw none (record {
+      later = stop.later;
+      within = stop.within;
+      first = rw none (raise_first y n (block_mark job y n q gone) (block_reach job y n q gone) q);
+    })
+  ]
+    where
+      gone : List Memo
+      gone = block_gone_on (grain y) job y n 0 passed.1
+
   -- in a block, from this rank on
   pub goes_stops : (rank : ℕ) (memory : List Memo) → rank ≤ grain y →
-      Stops job y n q rank (passes_over (grain y) job y n q rank memory)
-  goes_stops rank memory most = stops (grain y) rank memory most (omega arith)
+      Stops job y n q rank (ends_block job y n (passes_over (grain y) job y n q rank memory))
+  goes_stops rank memory most =
+      ended_stops rank (passes_over (grain y) job y n q rank memory)
+      (stops (grain y) rank memory most (omega arith))
 
 -- what is then remembered fits
 module _ (job : JobData) (y : LayoutData) (n q : ℕ) (board : IsBoard job y) (wide : IsWide y.form)
@@ -174,6 +193,26 @@ module _ (job : JobData) (y : LayoutData) (n q : ℕ) (board : IsBoard job y) (w
           rw e (next learned
           (alone_fits job y n q rank memo learned board wide last there (fits i) e))
 
+  gone_fits : (more rank : ℕ) (memory : List Memo) → FitsMemory job memory →
+      FitsMemory job (block_gone_on more job y n rank memory)
+  gone_fits zero rank memory fits = fits
+  gone_fits (suc more) rank memory fits =
+      let i = processor_at y n rank in
+      cond_both (has_rank y n rank) _ memory (FitsMemory job)
+      (λ there. let proc = (rank_parts y n rank there).1 in
+      let same = same_procs job y board in
+      gone_fits more (suc rank) (slice_set memory i (gone_on job i (memo_of memory i)))
+      (memory_set job memory i (gone_on job i (memo_of memory i)) fits
+      (gone_on_fits job i board.limits (omega (arith, proc, same)) (memo_of memory i) (fits i))))
+      (λ none. fits)
+
+  ended_fits : (passed : ℕ × List Memo) → FitsMemory job passed.1 →
+      FitsMemory job (ends_block job y n passed).1
+  ended_fits passed fits = cond_both (has_rank y n passed.0) passed _ (λ p. FitsMemory job p.1)
+      (λ there. fits) (λ none. gone_fits (grain y) 0 passed.1 fits)
+
   pub goes_fit : (rank : ℕ) (memory : List Memo) → FitsMemory job memory →
-      FitsMemory job (passes_over (grain y) job y n q rank memory).1
-  goes_fit rank memory fits = passed_fits (grain y) rank memory fits
+      FitsMemory job (ends_block job y n (passes_over (grain y) job y n q rank memory)).1
+  goes_fit rank memory fits =
+      ended_fits (passes_over (grain y) job y n q rank memory)
+      (passed_fits (grain y) rank memory fits)

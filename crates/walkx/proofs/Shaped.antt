@@ -1,10 +1,9 @@
 -- Where the register of a turn lies.
-use Rattle.std.proofs.Common.{◌≡◌, ℕ, ◌-◌, ◌<◌, ◌≤◌, Some, refl, inl, inr, arith}
-use Rattle.pram_machine.specs.declared.turn.Put.{Put}
+use Rattle.std.proofs.Common.{◌≡◌, ℕ, ◌<◌, ◌≤◌, Some, refl, inl, inr, arith}
 use Rattle.pram_machine.specs.declared.turn.Put.TheVariants.{Register}
 use Rattle.pram_machine.specs.declared.turn.Turn.{Turn}
 use Rattle.pram_machine.specs.Machine.{IsDataPlace, register_place}
-use Rattle.pram_machine.specs.Turns.{IsSorted, put_of}
+use Rattle.pram_machine.specs.Turns.{put_of}
 use Rattle.walkx.specs.Inner.Posts.{PostData, processor_of}
 use Rattle.walkx.specs.WideParts.{IsShaped}
 

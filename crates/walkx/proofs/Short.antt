@@ -1,4 +1,4 @@
--- A script of a worker has at most fifteen operations.
+-- A script of a worker has at most twenty-eight operations.
 use Rattle.std.proofs.Common.{◌≡◌, ℕ, suc, ◌-◌, ◌*◌, ◌%◌, ◌<◌, ◌≤◌, ◌&&◌}
 use Rattle.std.proofs.Common.{◌==◌, nat_le, List, [], ◌∷◌, length, Some, arith, sym, subst, inl, inr}
 use Rattle.std.specs.Prelude.{min}
@@ -92,7 +92,7 @@ part_compact job y n q rank memo is =
     (marks_short y n q q 1 (omega arith)))
 
 part_wide : (job : JobData) (y : LayoutData) (n q rank : ℕ) (memo : Memo) →
-    IsWide y.form → Short (part_script job y n q rank memo) 15
+    IsWide y.form → Short (part_script job y n q rank memo) 28
 unfolding part_script
 part_wide job y n q rank memo wide =
     form_within Within short_within y 0 y.form job.rule (kind_at q) job (step_at q)
@@ -101,18 +101,18 @@ part_wide job y n q rank memo wide =
     (sym (form_wide_of y.form (marks_node y n q q) (ends (worked n q rank m)) wide)) tt)
 
 part_short : (job : JobData) (y : LayoutData) (n q rank : ℕ) (memo : Memo) →
-    Short (part_script job y n q rank memo) 15
+    Short (part_script job y n q rank memo) 28
 part_short job y n q rank memo = elim (cases_form y.form) [
-  | inl e ↦ short_more (part_script job y n q rank memo) 15 12 (omega arith)
+  | inl e ↦ short_more (part_script job y n q rank memo) 28 12 (omega arith)
       (part_compact job y n q rank memo e)
   | inr e ↦ part_wide job y n q rank memo (rw e.1 tt)
 ]
 
 block_short : (job : JobData) (y : LayoutData) (n q rank : ℕ) (memory : List Memo) →
-    Short (block_script job y n q rank memory) 15
-block_short job y n q rank memory = cond_both (has_rank y n rank) _ _ (λ s. Short s 15)
+    Short (block_script job y n q rank memory) 28
+block_short job y n q rank memory = cond_both (has_rank y n rank) _ _ (λ s. Short s 28)
     (λ _. part_short job y n q rank (memo_of memory (processor_at y n rank)))
-    (λ _. raises_short y n (block_mark job y n q memory) (block_reach job y n q memory) q 15
+    (λ _. raises_short y n (block_mark job y n q memory) (block_reach job y n q memory) q 28
     (omega arith))
 
 leaf_short : (job : JobData) (y : LayoutData) (n q : ℕ) → Short (leaf_script job y n q) 12
@@ -152,12 +152,12 @@ begin_short job y n = (
 )
 
 pub script_short : (job : JobData) (y : LayoutData) (w n : ℕ) (memory : List Memo) (d : Doing) →
-    Short (script_by job y w n memory d) 15
+    Short (script_by job y w n memory d) 28
 script_short job y w n memory doing.Back = (omega arith, λ found. tt)
 script_short job y w n memory doing.Begin =
-    short_more (begin_script job y n) 15 13 (omega arith) (begin_short job y n)
+    short_more (begin_script job y n) 28 13 (omega arith) (begin_short job y n)
 script_short job y w n memory (doing.Turn q) =
-    short_more (turn_script job y w n q) 15 13 (omega arith) (turn_short job y w n q)
+    short_more (turn_script job y w n q) 28 13 (omega arith) (turn_short job y w n q)
 script_short job y w n memory (doing.Part q rank) = block_short job y n q rank memory
 script_short job y w n memory (doing.Over e) =
-    short_more (begin_script job y n) 15 13 (omega arith) (begin_short job y n)
+    short_more (begin_script job y n) 28 13 (omega arith) (begin_short job y n)

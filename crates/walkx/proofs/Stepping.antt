@@ -1,6 +1,6 @@
 -- A processor of a block that is passed over, or not.
-use Rattle.std.proofs.Common.{◌≡◌, ℕ, zero, suc, ◌+◌, ◌-◌, ◌<◌, ◌≤◌, true, false, List, Option, Some, None}
-use Rattle.std.proofs.Common.{refl, sym, ap, subst, ◌∙◌, arith}
+use Rattle.std.proofs.Common.{◌≡◌, ℕ, zero, suc, true, false, List, Option, Some, None}
+use Rattle.std.proofs.Common.{refl, sym, ap, subst, ◌∙◌}
 use Rattle.std.specs.Prelude.{slice_set}
 use Rattle.pram_job.specs.Job.{JobData}
 use Rattle.pram_words.specs.declared.layout.Form.{Form}
@@ -11,8 +11,10 @@ use Rattle.walkx.specs.declared.memo.Memo.{Memo}
 use Rattle.walkx.specs.Memory.{memo_of}
 use Rattle.walkx.specs.Passes.{task_in, wide_task_of}
 use Rattle.walkx.specs.Scripts.{Script, asks, ends}
-use Rattle.walkx.specs.Walk.{IsWide, has_rank, if_ended, passes_over, processor_at}
-use Rattle.walkx.proofs.PassingOver.{alone}
+use Rattle.walkx.specs.Walk.{IsWide, has_rank, if_ended, passes_over, processor_at, task_at}
+
+abbrev alone : JobData → LayoutData → ℕ → ℕ → ℕ → Memo → Script Memo
+alone job y n q rank memo = task_at job y n q rank memo (λ m. ends m)
 
 ended_some : (s : Script Memo) (m : Memo) → if_ended s None (λ x. Some x) ≡ Some m → s ≡ ends m
 ended_some (asks op next) m is = absurd (cc)

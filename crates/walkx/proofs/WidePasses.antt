@@ -1,12 +1,12 @@
 -- The task of a phase by the form of the board, and in the wide form by the rule.
-use Rattle.std.proofs.Common.{◌≡◌, ◌≢◌, ℕ, refl, sym, subst}
+use Rattle.std.proofs.Common.{◌≡◌, refl, sym}
 use Rattle.pram_job.specs.declared.instr.Rule.{Rule}
 use Rattle.pram_job.specs.declared.instr.Rule.TheVariants.{Common, Priority, Crew}
 use Rattle.pram_words.specs.declared.layout.Form.{Form}
-use Rattle.pram_words.specs.declared.layout.Form.TheVariants.{Compact, Wide}
+use Rattle.pram_words.specs.declared.layout.Form.TheVariants.{Compact}
 use Rattle.pram_words.specs.declared.phases.Kind.{Kind}
 use Rattle.pram_words.specs.declared.phases.Kind.TheVariants.{Compute, Apply, Verify}
-use Rattle.pram_words.specs.Phases.{kind_at}
+use Rattle.pram_words.specs.Phases.{kind_at, phase_of}
 use Rattle.walkx.specs.declared.memo.Memo.{Memo}
 use Rattle.walkx.specs.Inner.Posts.{PostData, step_of, processor_of}
 use Rattle.walkx.specs.Parts.{does_compact, does_wide_in}
@@ -16,6 +16,7 @@ use Rattle.walkx.specs.Scripts.{Script}
 use Rattle.walkx.specs.WideParts.{does_own, does_store}
 use Rattle.walkx.specs.WideParts.{does_crew_store, does_priority_store}
 use Rattle.walkx.specs.Walk.{Then}
+use Rattle.walkx.proofs.Timing.{compute_is}
 
 -- ---- by the form
 
@@ -45,11 +46,18 @@ module _ (at : PostData) (memo : Memo) (late : Script Then) (next : Memo → Scr
   second_none Priority = refl
   second_none Crew = refl
 
-  pub own_is : (r : Rule) → does_by r Compute ≡ does_own r at memo late next
+  pub own_is : kind_at at.phase ≡ Compute →
+      does_by at.job.rule Compute ≡ does_own at memo late next
   unfolding wide_task_of own_task own_claim_task
-  own_is Common = refl
-  own_is Priority = refl
-  own_is Crew = refl
+  own_is first = by at.job.rule refl
+    where
+      same : phase_of (step_of at) Compute ≡ at.phase
+      same = sym (compute_is at.phase first)
+
+      by : (r : Rule) → at.job.rule ≡ r → does_by at.job.rule Compute ≡ does_own at memo late next
+      by Common e = rw (e, same) refl
+      by Priority e = rw (e, same) refl
+      by Crew e = rw (e, same) refl
 
   pub carry_common : (r : Rule) → r ≡ Common → does_by r Verify ≡ does_store at memo late next
   unfolding wide_task_of carry_task

@@ -2,7 +2,7 @@
 use Rattle.std.proofs.Common.{◌≡◌, ℕ, suc, ◌*◌, ◌<◌, ◌≤◌, List, ◌∷◌, length, Option, Some, None}
 use Rattle.std.proofs.Common.{Result, Ok, Err, refl, sym, ap, subst, ◌∙◌, arith}
 use lib.ListN.{take}
-use Rattle.pram_job.specs.Job.{JobData, IsJob}
+use Rattle.pram_job.specs.Job.{JobData}
 use Rattle.pram_words.specs.Words.{LayoutData, grain}
 use Rattle.walkx.specs.declared.next.Next.{Next}
 use Rattle.walkx.specs.declared.next.Next.TheVariants as next
@@ -21,7 +21,8 @@ use Rattle.walkx.specs.Playing.{come_to, hearing, phase_of_doing, stand_of}
 use Rattle.walkx.specs.Serving.{IsHeldAt, Serves}
 use Rattle.walkx.specs.Activities.{activity_of}
 use Rattle.walkx.specs.Memory.{FitsMemory, IsTrueMemory, blank}
-use Rattle.walkx.proofs.Memories.{all_start, start_fits}
+use Rattle.walkx.proofs.Memories.{all_start}
+use Rattle.walkx.proofs.OwnFits.{start_fits}
 use Rattle.walkx.specs.Records.{Record, Knows}
 use Rattle.walkx.specs.Turns.{beginning}
 use Rattle.walkx.specs.Rests.{IsWithin, script_in, then_of}
@@ -89,10 +90,10 @@ playable_more job y w found board fits going admitted =
     }
 
 pub room : (job : JobData) (y : LayoutData) (w : Walking) → Fits job y w →
-    IsGoing w.now → length w.heard < 15
+    IsGoing w.now → length w.heard < 28
 room job y w fits going =
     let a = asks_of w.now (rest_of job y w) going fits.matches in
-    few_heard (script_of job y w) 15 w.heard a.op
+    few_heard (script_of job y w) 28 w.heard a.op
     (script_short job y w.number (node_of y w) w.memory w.now) a.first
 
 pub is_going : (d : Doing) → end_of d ≡ None → IsGoing d

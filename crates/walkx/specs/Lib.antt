@@ -3,7 +3,6 @@ pub mod Scripts
 pub mod Doing
 pub mod Activities
 pub mod Tasks
-pub mod Counters
 pub mod OwnWrites
 pub mod Memory
 pub mod Passes
@@ -23,3 +22,4 @@ pub mod WideParts
 pub mod Playing
 pub mod Rests
 pub mod Passing
+pub mod Together

@@ -11,7 +11,7 @@ use Rattle.pram_machine.specs.declared.requests.Request.{Request}
 use Rattle.pram_machine.specs.Instructions.{sources_of, cell_read, decided}
 use Rattle.pram_machine.specs.Machine.{register_place}
 use Rattle.pram_words.specs.Stamps.{stamped_word, stamp_of, payload_of}
-use Rattle.pram_words.specs.Words.{number_of}
+use Rattle.pram_words.specs.Words.{LayoutData, number_of}
 use Rattle.pram_words.specs.declared.words.Word.TheVariants.{Conflict, Stored, Claim}
 use Rattle.walkx.specs.declared.operation.Op.{Op}
 use Rattle.walkx.specs.declared.operation.Op.TheVariants.{Load, Max, Swap}
@@ -23,7 +23,7 @@ use Rattle.pram_words.specs.Stamps.{older, older_word}
 use Rattle.walkx.specs.Tasks.{is_late, loads_both, writes_place, hears_part}
 use Rattle.walkx.specs.Tasks.{if_data, carries, claim_of, claims, differs, reports, task_of}
 use Rattle.walkx.specs.declared.memo.Memo.{Memo}
-use Rattle.walkx.specs.Passes.{decides, wide_task_of}
+use Rattle.walkx.specs.Passes.{wide_task_of}
 use Rattle.walkx.specs.Walk.{Then}
 use Rattle.walkx.specs.Inner.Posts.{PostData, step_of, processor_of, part_raised}
 use Rattle.walkx.specs.Driving.{Part}
@@ -211,9 +211,21 @@ abbrev pub executes_at : PostData → ℕ → Option Instr → Script Then → S
 executes_at at counter instr =
     executes at.job at.layout (step_of at) (processor_of at) counter instr
 
--- what the instruction at a counter asks for; its operands were heard, and the cell
+-- what the instruction at a counter asks for
+abbrev pub decides : {R : Type 0} → JobData → LayoutData → ℕ → ℕ → ℕ → Instr → Script R →
+    (Request → Script R) → Script R
+decides job layout t i counter instr after next =
+    reads_registers job layout t i (sources_of instr) [] after (λ values.
+    reads_cell layout t (cell_read job instr (slice_index values 0)) after (λ value.
+    next (decided job i counter instr (slice_index values 0) (slice_index values 1) value)))
+
+-- its operands were heard, and the cell
 abbrev pub decides_at : PostData → ℕ → Instr → Part Request
-decides_at at counter instr = decides at.job at.layout (step_of at) (processor_of at) counter instr
+decides_at at counter instr after next =
+    reads_registers at.job at.layout (step_of at) (processor_of at) (sources_of instr) [] after
+    (λ values. reads_cell at.layout (step_of at) (cell_read at.job instr (slice_index values 0)) after
+    (λ value. next (decided at.job (processor_of at) counter instr (slice_index values 0)
+    (slice_index values 1) value)))
 
 abbrev pub decides_with : PostData → ℕ → Instr → (Request → Script Then) → ℕ × ℕ → ℕ → Script Then
 decides_with at counter instr next held value =

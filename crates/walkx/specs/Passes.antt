@@ -1,21 +1,20 @@
 -- What a worker does at the leaf of a processor in the wide form, which has two passes and no
--- request words: what a processor asks for is worked out in each pass from what the worker
--- remembers of it, or from its own places. In the first pass, compute, what is its own is written,
--- and in the second one, carry, its store. What follows is told what the worker then knows of it.
-use Rattle.std.specs.Prelude.{ℕ, suc, ◌-◌, Bool, ◌||◌, ◌==◌, nat_lt}
-use Rattle.std.specs.Prelude.{if◌then◌else◌, [], slice_get, slice_index, Option}
-use Rattle.std.specs.Prelude.{Some, None}
-use Rattle.pram_job.specs.declared.instr.Instr.{Instr}
+-- request words. What a processor asks for is worked out from what the worker remembers of it, or
+-- from its own places. In the first pass, compute, its own places are written where it settles, and
+-- a store is claimed; in the second one, carry, it is carried out. What follows is told what the
+-- worker then knows of the processor.
+use Rattle.std.specs.Prelude.{ℕ, suc, ◌-◌, ◌*◌, ◌++◌, Bool, not, ◌&&◌, ◌||◌, ◌==◌, nat_lt, max}
+use Rattle.std.specs.Prelude.{if◌then◌else◌, List, [], ◌∷◌, is_some, map, slice_index}
+use Rattle.std.specs.Prelude.{Option, Some, None, false}
 use Rattle.pram_job.specs.declared.instr.Rule.{Rule}
 use Rattle.pram_job.specs.declared.instr.Rule.TheVariants.{Common, Priority, Crew}
-use Rattle.pram_job.specs.Instructions.{row_of}
 use Rattle.pram_job.specs.Job.{JobData}
 use Rattle.pram_machine.specs.declared.requests.Request.{Request}
-use Rattle.pram_machine.specs.Instructions.{sources_of, cell_read, decided, goes_to, operand_in}
-use Rattle.pram_machine.specs.Machine.{counter_place}
+use Rattle.pram_machine.specs.Machine.{counter_place, register_place}
 use Rattle.pram_words.specs.declared.phases.Kind.{Kind}
 use Rattle.pram_words.specs.declared.phases.Kind.TheVariants.{Compute, Apply, Verify}
 use Rattle.pram_words.specs.declared.words.Word.TheVariants.{Stored, Claim}
+use Rattle.pram_words.specs.Phases.{phase_of}
 use Rattle.pram_words.specs.Stamps.{stamped_word, stamp_of, payload_of, older, older_word}
 use Rattle.pram_words.specs.Stamps.{newer_word}
 use Rattle.pram_words.specs.declared.layout.Form.{Form}
@@ -23,122 +22,182 @@ use Rattle.pram_words.specs.declared.layout.Form.TheVariants.{Compact, Wide}
 use Rattle.pram_words.specs.Words.{LayoutData, number_of}
 use Rattle.walkx.specs.declared.operation.Op.TheVariants.{Load, Swap}
 use Rattle.walkx.specs.Scripts.{Script, asks}
-use Rattle.walkx.specs.Tasks.{is_late, loads_both, writes_place, reads_registers, reads_cell}
+use Rattle.walkx.specs.Tasks.{is_late, loads_both, writes_place, reads_cell}
 use Rattle.walkx.specs.Tasks.{claim_of, claims, differs, reports, task_of}
-use Rattle.walkx.specs.Counters.{wide_worth}
 use Rattle.walkx.specs.declared.memo.Memo.{Memo}
-use Rattle.walkx.specs.Memory.{all_registers, at_start, memo_after}
-use Rattle.walkx.specs.OwnWrites.{own_write, cell_write, is_store}
+use Rattle.walkx.specs.declared.memo.Own.{Own}
+use Rattle.walkx.specs.Memory.{all_registers, asked, at_start, cell_next, has_store}
+use Rattle.walkx.specs.Memory.{is_past, loads_next, own_after, own_alone, settles_in}
+use Rattle.walkx.specs.OwnWrites.{cell_write}
 
--- ---- the counter
+-- ---- a processor's own places, before step t
 
--- The counter of processor i before step t. A processor writes one place of its own at most in a
--- step: where a word of one is of step t, or later, nothing is left to do for it.
-abbrev pub reads_counter : {R : Type 0} → JobData → LayoutData → ℕ → ℕ → Script R →
-    (ℕ → Script R) → Script R
-reads_counter job layout t i after next =
-    loads_both layout (counter_place job i) (λ first second.
-    if is_late t first second then after
-    else next (wide_worth job (t - 1) (counter_place job i) (newer_word first second)))
+-- The word of a place that was written before step t. A word of step t stands beside it; a later one
+-- means late.
+abbrev pub word_before : ℕ → ℕ → ℕ → ℕ
+word_before t first second = if stamp_of first == t then second
+    else (if stamp_of second == t then first else newer_word first second)
 
--- ---- what processor i asks for in step t
+abbrev pub is_beyond : ℕ → ℕ → ℕ → Bool
+is_beyond t first second = nat_lt t (stamp_of first) || nat_lt t (stamp_of second)
 
--- what is known of it before the step: remembered, or loaded, all of it
+abbrev pub hears_before : {R : Type 0} → LayoutData → ℕ → ℕ → Script R → (ℕ → Script R) → Script R
+hears_before layout t place late next = loads_both layout place (λ first second.
+    if is_beyond t first second then late else next (word_before t first second))
+
+-- those of these places in turn, after those that were heard before
+abbrev pub hears_words : {R : Type 0} → LayoutData → ℕ → List ℕ → List ℕ → Script R →
+    (List ℕ → Script R) → Script R
+hears_words layout t [] words late next = next words
+hears_words layout t (place ∷ places) words late next =
+    hears_before layout t place late (λ word.
+    hears_words layout t places (words ++ word ∷ []) late next)
+
+-- its counter's, and those of its registers
+abbrev pub own_places : JobData → ℕ → List ℕ
+own_places job i = counter_place job i ∷ map (register_place job i) all_registers
+
+-- what they tell, and the step after which it was so
+abbrev pub told_by : List ℕ → Own
+told_by [] = record { counter = 0; registers = [] }
+told_by (word ∷ words) = record { counter = payload_of word; registers = map payload_of words }
+
+abbrev pub newest_of : List ℕ → ℕ
+newest_of [] = 0
+newest_of (word ∷ words) = max (stamp_of word) (newest_of words)
+
+-- what is then known of it before step t: it went on alone since
+abbrev pub loaded_memo : JobData → ℕ → ℕ → List ℕ → Memo
+loaded_memo job t i words = record {
+  acted = 3 * (t - 1);
+  step = t - 1;
+  own = own_alone job i (t - 1 - newest_of words) (told_by words);
+  told = told_by words;
+  store = None;
+}
+
 abbrev pub loads_memo : {R : Type 0} → JobData → LayoutData → ℕ → ℕ → Script R →
     (Memo → Script R) → Script R
 loads_memo job layout t i late next =
-    reads_counter job layout t i late (λ counter.
-    reads_registers job layout t i all_registers [] late (λ values. next (record {
-      step = t - 1;
-      counter = counter;
-      registers = values;
-      store = None;
-    })))
+    hears_words layout t (own_places job i) [] late (λ words. next (loaded_memo job t i words))
 
+-- remembered, or loaded
 abbrev pub knows : {R : Type 0} → JobData → LayoutData → ℕ → ℕ → Memo → Script R →
     (Memo → Script R) → Script R
 knows job layout t i memo late next =
     if suc memo.step == t then next memo else loads_memo job layout t i late next
 
--- one who has stopped asks for nothing
-abbrev pub requests : {R : Type 0} → JobData → LayoutData → ℕ → ℕ → Memo → Option Instr →
-    Script R → (Request → Script R) → Script R
-requests job layout t i known None late next = next (goes_to known.counter)
-requests job layout t i known (Some instr) late next =
-    reads_cell layout t (cell_read job instr (operand_in known.registers instr 0)) late (λ value.
-    next (decided job i known.counter instr (operand_in known.registers instr 0)
-    (operand_in known.registers instr 1) value))
+-- ---- compute: where the processor settles, those of its places are written that are no longer what
+-- their words tell; and the one that tells the step: the register that takes what was read, or,
+-- where nothing was read, the counter
 
--- ---- compute: what is the processor's own is written, its register, or its counter where it does
--- not go on by one; no instruction has both
+abbrev pub is_put_to : ℕ → Option (ℕ × ℕ) → Bool
+is_put_to place None = false
+is_put_to place (Some write) = write.0 == place
+
+abbrev pub put_if : Bool → ℕ → ℕ → List (ℕ × ℕ) → List (ℕ × ℕ)
+put_if so place value others = if so then (place, value) ∷ others else others
+
+-- register r, known so, after a request
+abbrev pub lands_register : JobData → ℕ → Memo → Request → ℕ → Bool
+lands_register job i known request r =
+    (is_some (cell_next job known.own) && is_put_to (register_place job i r) request.put)
+    || not (slice_index (own_after job i known.own request).registers r
+    == slice_index known.told.registers r)
+
+abbrev pub lands_counter : JobData → Memo → Request → Bool
+lands_counter job known request =
+    not (is_some (cell_next job known.own)) || not (request.next == known.told.counter)
+
+abbrev pub registers_landing : JobData → ℕ → Memo → Request → List ℕ → List (ℕ × ℕ) →
+    List (ℕ × ℕ)
+registers_landing job i known request [] others = others
+registers_landing job i known request (r ∷ registers) others =
+    put_if (lands_register job i known request r) (register_place job i r)
+    (slice_index (own_after job i known.own request).registers r)
+    (registers_landing job i known request registers others)
+
+-- the places that are written, and the values
+abbrev pub landings : JobData → ℕ → ℕ → Memo → Request → List (ℕ × ℕ)
+landings job t i known request = if settles_in job t known.own
+    then registers_landing job i known request all_registers
+    (put_if (lands_counter job known request) (counter_place job i) request.next [])
+    else []
+
+abbrev pub writes_each : {R : Type 0} → LayoutData → ℕ → List (ℕ × ℕ) → Script R → Script R
+writes_each layout t [] after = after
+writes_each layout t (write ∷ writes) after =
+    writes_place layout t write.0 write.1 (writes_each layout t writes after)
+
+abbrev pub writes_own : {R : Type 0} → JobData → LayoutData → ℕ → ℕ → Memo → Request → Script R →
+    Script R
+writes_own job layout t i known request after =
+    writes_each layout t (landings job t i known request) after
+
+-- what is known after it
+abbrev pub memo_after : JobData → ℕ → ℕ → Memo → Request → Memo
+memo_after job t i known request = record {
+  acted = phase_of t Compute;
+  step = t;
+  own = own_after job i known.own request;
+  told = if settles_in job t known.own then own_after job i known.own request else known.told;
+  store = cell_write job request.put;
+}
 
 -- what is done with a write, if there is one, or what follows
 abbrev pub if_write : {R : Type 0} → Option (ℕ × ℕ) → Script R → (ℕ → ℕ → Script R) → Script R
 if_write None none some = none
 if_write (Some write) none some = some write.0 write.1
 
-abbrev pub writes_own : {R : Type 0} → JobData → LayoutData → ℕ → ℕ → ℕ → Request → Script R →
-    Script R
-writes_own job layout t i counter request after =
-    if_write (own_write job i counter request) after (λ place value.
-    writes_place layout t place value after)
-
--- with what is then known; whoever is late at the cell forgets it
+-- whoever is late at the cell forgets the processor
 abbrev pub computes_own : {R : Type 0} → JobData → LayoutData → ℕ → ℕ → Memo → (Memo → Script R) →
     (Memo → Request → Script R) → Script R
 computes_own job layout t i memo after next =
-    knows job layout t i memo (after memo) (λ known.
-    requests job layout t i known (slice_get job.code known.counter) (after at_start) (next known))
+    if is_past (phase_of t Compute) memo then after memo
+    else knows job layout t i memo (after memo) (λ known.
+    reads_cell layout t (cell_next job known.own) (after at_start) (λ value.
+    next known (asked job i known.own value)))
 
 unfoldable pub own_task : {R : Type 0} → JobData → LayoutData → ℕ → ℕ → Memo →
     (Memo → Script R) → Script R
 own_task job layout t i memo after = computes_own job layout t i memo after (λ known request.
-    writes_own job layout t i known.counter request (after (memo_after job t i known request)))
+    writes_own job layout t i known request (after (memo_after job t i known request)))
 
 -- with claims: that of a store is made, so that all stand when stores are carried out
-abbrev pub claims_or_writes : {R : Type 0} → JobData → LayoutData → ℕ → ℕ → ℕ → Request →
-    Script R → Script R
-claims_or_writes job layout t i counter request after =
-    if_write (cell_write job request.put) (writes_own job layout t i counter request after)
-    (λ cell value. claims job layout t i cell after)
+abbrev pub claims_store : {R : Type 0} → JobData → LayoutData → ℕ → ℕ → Request → Script R →
+    Script R
+claims_store job layout t i request after =
+    if_write (cell_write job request.put) after (λ cell value. claims job layout t i cell after)
 
 unfoldable pub own_claim_task : {R : Type 0} → JobData → LayoutData → ℕ → ℕ → Memo →
     (Memo → Script R) → Script R
 own_claim_task job layout t i memo after =
     computes_own job layout t i memo after (λ known request.
-    claims_or_writes job layout t i known.counter request
-    (after (memo_after job t i known request)))
+    claims_store job layout t i request
+    (writes_own job layout t i known request (after (memo_after job t i known request))))
 
 -- ---- carry: a processor's store
 
-abbrev pub decides : {R : Type 0} → JobData → LayoutData → ℕ → ℕ → ℕ → Instr → Script R →
-    (Request → Script R) → Script R
-decides job layout t i counter instr after next =
-    reads_registers job layout t i (sources_of instr) [] after (λ values.
-    reads_cell layout t (cell_read job instr (slice_index values 0)) after (λ value.
-    next (decided job i counter instr (slice_index values 0) (slice_index values 1) value)))
-
-abbrev pub stores_at : {R : Type 0} → JobData → LayoutData → ℕ → ℕ → ℕ → Option Instr →
-    Script R → (ℕ → ℕ → Script R) → Script R
-stores_at job layout t i counter None after next = after
-stores_at job layout t i counter (Some instr) after next =
-    if is_store (row_of instr).1
-    then decides job layout t i counter instr after (λ request.
-    if_write (cell_write job request.put) after next) else after
-
--- its cell and value, if its instruction is a store and there is such a cell
+-- worked out from its own places: its cell and value
 abbrev pub loads_store : {R : Type 0} → JobData → LayoutData → ℕ → ℕ → Script R →
     (ℕ → ℕ → Script R) → Script R
 loads_store job layout t i after next =
-    reads_counter job layout t i after (λ counter.
-    stores_at job layout t i counter (slice_get job.code counter) after next)
+    loads_memo job layout t i after (λ known.
+    if loads_next job known.own then after
+    else if_write (cell_write job (asked job i known.own 0).put) after next)
 
 -- remembered, or loaded
 abbrev pub stores : {R : Type 0} → JobData → LayoutData → ℕ → ℕ → Memo → Script R →
     (ℕ → ℕ → Script R) → Script R
 stores job layout t i memo after next =
-    if memo.step == t then if_write memo.store after next
-    else loads_store job layout t i after next
+    if is_past (phase_of t Verify) memo then after
+    else (if has_store t memo then if_write memo.store after next
+    else loads_store job layout t i after next)
+
+-- it is carried out
+abbrev pub carried : ℕ → Memo → Memo
+carried t memo =
+    if has_store t memo then record memo { acted = phase_of t Verify; store = None } else memo
 
 -- the step is reported where a word is of it and has another payload
 abbrev pub reports_other : {R : Type 0} → LayoutData → ℕ → Bool → Script R → Script R
@@ -157,7 +216,7 @@ unfoldable pub carry_task : {R : Type 0} → JobData → LayoutData → ℕ → 
     (Memo → Script R) → Script R
 carry_task job layout t i memo after =
     stores job layout t i memo (after memo) (λ cell value.
-    writes_compared layout t cell value (after memo))
+    writes_compared layout t cell value (after (carried t memo)))
 
 -- All claims stand. Who finds another's reports the step.
 unfoldable pub crew_carry_task : {R : Type 0} → JobData → LayoutData → ℕ → ℕ → Memo →
@@ -166,7 +225,7 @@ crew_carry_task job layout t i memo after =
     stores job layout t i memo (after memo) (λ cell value.
     asks (Load (number_of layout (Claim cell))) (λ found.
     reports_other layout t (differs t (claim_of job i) found)
-    (writes_place layout t cell value (after memo))))
+    (writes_place layout t cell value (after (carried t memo)))))
 
 -- The one whose claim stands writes. A later claim means late.
 unfoldable pub priority_carry_task : {R : Type 0} → JobData → LayoutData → ℕ → ℕ → Memo →
@@ -175,8 +234,9 @@ priority_carry_task job layout t i memo after =
     stores job layout t i memo (after memo) (λ cell value.
     asks (Load (number_of layout (Claim cell))) (λ found.
     if nat_lt t (stamp_of found) then after memo
-    else (if payload_of found == claim_of job i then writes_place layout t cell value (after memo)
-    else after memo)))
+    else (if payload_of found == claim_of job i
+    then writes_place layout t cell value (after (carried t memo))
+    else after (carried t memo))))
 
 -- ---- the task of a phase; the second phase of a step is none of the wide form's
 

@@ -1,6 +1,6 @@
 -- Processors of a block whose task asks nothing, by a post.
 use Rattle.std.specs.Prelude.{◌≡◌, ℕ, Bool, if◌then◌else◌, List, slice_set, Option, Some, None}
-use Rattle.std.specs.Prelude.{IfSome, Result, Ok, Err, true, false, slice_get, zero, suc, ◌&&◌}
+use Rattle.std.specs.Prelude.{IfSome, Result, Ok, Err, slice_get, zero, suc, min, true, false}
 use Rattle.std.specs.Fn.{AnyResult, Shared, always_fn}
 use Rattle.pram_job.specs.declared.instr.Instr.{Instr}
 use Rattle.pram_words.specs.Words.{grain}
@@ -14,7 +14,7 @@ use Rattle.walkx.specs.Memory.{memo_of}
 use Rattle.walkx.specs.Parts.{does_wide}
 use Rattle.walkx.specs.Passes.{wide_task_of}
 use Rattle.walkx.specs.Scripts.{Script, ends}
-use Rattle.walkx.specs.Walk.{Then, if_ended, passes_over}
+use Rattle.walkx.specs.Walk.{Then, ends_block, if_ended, passes_over, reach_from_phase}
 
 -- what is known of the processor after its task, if that asks nothing
 abbrev pub idle_in : Kind → PostData → Memo → Option Memo
@@ -33,10 +33,11 @@ Passes idle old new memo = IfSome idle (λ known. (memo ≡ known) × (new ≡ o
 abbrev pub idle : PostData → Memo → Option Memo
 idle at memo = idle_in (kind_at at.phase) at memo
 
--- it is so with so many processors, from this one on, by what is known of them
-abbrev pub all_next : (Memo → Bool) → ℕ → ℕ → List Memo → Bool
-all_next is zero i memory = true
-all_next is (suc more) i memory = is (memo_of memory i) && all_next is more (suc i) memory
+-- up to which phase so many processors have nothing to do, from this one on, or up to this one
+abbrev pub least_of : ℕ → ℕ → ℕ → ℕ → List Memo → ℕ
+least_of most phase zero i memory = most
+least_of most phase (suc more) i memory =
+    min (reach_from_phase phase (memo_of memory i)) (least_of most phase more (suc i) memory)
 
 -- a task was done with what was remembered of its processor, and this is remembered now: it played
 -- its script, and where that asks nothing it made no step
@@ -68,7 +69,7 @@ pub record StandsAt (at : PostData) (memory : List Memo) (counter : ℕ) (instr 
   where
     pub first : kind_at at.phase ≡ Kind.Compute
     pub before : suc (memo_of memory (processor_of at)).step ≡ step_of at
-    pub there : (memo_of memory (processor_of at)).counter ≡ counter
+    pub there : (memo_of memory (processor_of at)).own.counter ≡ counter
     pub code : slice_get at.job.code counter ≡ Some instr
 
 -- a closure that may always be called, and then gives this instruction
@@ -76,5 +77,10 @@ abbrev pub Spells : {F : Type 0} → Shared F (Unit {0}) Instr → F → Instr �
 Spells calls form instr = always_fn calls form × AnyResult calls form tt (λ given. given ≡ instr)
 
 -- the rank that comes next, from that of the post on, and what is then remembered
+abbrev pub passed_alone : PostData → List Memo → ℕ × List Memo
+passed_alone at memory =
+    passes_over (grain at.layout) at.job at.layout at.node at.phase at.rank memory
+
+-- past the last one they go on alone
 abbrev pub passed : PostData → List Memo → ℕ × List Memo
-passed at memory = passes_over (grain at.layout) at.job at.layout at.node at.phase at.rank memory
+passed at memory = ends_block at.job at.layout at.node (passed_alone at memory)

@@ -1,7 +1,7 @@
 -- The walk: the scripts back, begin and turn, and a worker that goes through them.
 use Rattle.std.specs.Prelude.{◌≡◌, ℕ, ◌+◌, ◌-◌, ◌*◌, ◌/◌, ◌%◌, ◌<◌}
 use Rattle.std.specs.Prelude.{◌≤◌, ◌&&◌, ◌==◌, nat_le, nat_lt, if◌then◌else◌, List, [], ◌∷◌}
-use Rattle.std.specs.Prelude.{◌||◌, true, false, min}
+use Rattle.std.specs.Prelude.{false, max, min}
 use Rattle.std.specs.Prelude.{zero, suc, Bool, IsTrue, ◌++◌, Option, Some, None, IfSome, unwrap_or}
 use Rattle.std.specs.Prelude.{slice_set}
 use Rattle.std.specs.List.{AllByRecursion}
@@ -22,7 +22,7 @@ use Rattle.pram_words.specs.Forms.{by_form}
 use Rattle.pram_words.specs.declared.layout.Form.{Form}
 use Rattle.pram_words.specs.declared.layout.Form.TheVariants.{Compact, Wide}
 use Rattle.walkx.specs.declared.memo.Memo.{Memo}
-use Rattle.walkx.specs.Memory.{FitsMemory, at_start, blank, has_rested, has_stopped, memo_of}
+use Rattle.walkx.specs.Memory.{FitsMemory, at_start, blank, gone_on, memo_of, reach}
 use Rattle.walkx.specs.Passes.{task_in}
 
 -- ---- the scripts
@@ -122,26 +122,23 @@ unfoldable pub part_script : JobData → LayoutData → ℕ → ℕ → ℕ → 
 part_script job layout node phase rank memo =
     task_at job layout node phase rank memo (after_part layout node phase rank)
 
--- it is so with all processors of a block, from this rank on, by what is known of them
-abbrev pub all_from : (Memo → Bool) → ℕ → LayoutData → ℕ → ℕ → List Memo → Bool
-all_from is zero layout node rank memory = true
-all_from is (suc more) layout node rank memory =
+-- Up to which phase the processors of a block have nothing to do, from this rank on, by what is known
+-- of them. Of one that acted in a later phase nothing is known.
+abbrev pub reach_from_phase : ℕ → Memo → ℕ
+reach_from_phase phase memo = if nat_le memo.acted phase then reach memo else 0
+
+abbrev pub least_reach : ℕ → JobData → LayoutData → ℕ → ℕ → ℕ → List Memo → ℕ
+least_reach zero job layout node phase rank memory = 3 * job.steps
+least_reach (suc more) job layout node phase rank memory =
     if has_rank layout node rank
-    then is (memo_of memory (processor_at layout node rank))
-    && all_from is more layout node (suc rank) memory
-    else true
+    then min (reach_from_phase phase (memo_of memory (processor_at layout node rank)))
+    (least_reach more job layout node phase (suc rank) memory)
+    else 3 * job.steps
 
-abbrev pub block_all : (Memo → Bool) → LayoutData → ℕ → List Memo → Bool
-block_all is layout node memory = all_from is (grain layout) layout node 0 memory
-
--- How far a block has nothing to do: in the step's last phase where none of it stores, and in no
--- later phase where all have stopped.
+-- and the block, where this phase is done
 abbrev pub block_reach : JobData → LayoutData → ℕ → ℕ → List Memo → ℕ
 block_reach job layout node phase memory =
-    if (phase == last_phase phase) || block_all (has_rested (step_at phase)) layout node memory
-    then (if block_all (has_stopped job (step_at phase)) layout node memory then 3 * job.steps
-    else last_phase phase)
-    else phase
+    max phase (least_reach (grain layout) job layout node phase 0 memory)
 
 -- so it is marked
 abbrev pub block_mark : JobData → LayoutData → ℕ → ℕ → List Memo → ℕ
@@ -253,6 +250,20 @@ passes_over (suc more) job layout node phase rank memory =
     (λ memo. passes_over more job layout node phase (suc rank)
     (slice_set memory (processor_at layout node rank) memo)) else (rank, memory)
 
+-- after the last one's task the processors of a block go on alone, from this rank on
+abbrev pub block_gone_on : ℕ → JobData → LayoutData → ℕ → ℕ → List Memo → List Memo
+block_gone_on zero job layout node rank memory = memory
+block_gone_on (suc more) job layout node rank memory =
+    if has_rank layout node rank
+    then block_gone_on more job layout node (suc rank) (slice_set memory
+    (processor_at layout node rank) (gone_on job (processor_at layout node rank)
+    (memo_of memory (processor_at layout node rank))))
+    else memory
+
+abbrev pub ends_block : JobData → LayoutData → ℕ → ℕ × List Memo → ℕ × List Memo
+ends_block job layout node passed = if has_rank layout node passed.0 then passed
+    else (passed.0, block_gone_on (grain layout) job layout node 0 passed.1)
+
 -- the worker in a block, at such a rank
 abbrev pub stands_in : ℕ → ℕ → ℕ → ℕ × List Memo → Walking
 stands_in worker node phase passed = record {
@@ -265,7 +276,8 @@ stands_in worker node phase passed = record {
 
 abbrev pub goes_in : JobData → LayoutData → ℕ → ℕ → ℕ → ℕ → List Memo → Walking
 goes_in job layout worker node phase rank memory =
-    stands_in worker node phase (passes_over (grain layout) job layout node phase rank memory)
+    stands_in worker node phase (ends_block job layout node
+    (passes_over (grain layout) job layout node phase rank memory))
 
 -- the worker with one answer more, this being the rest of its script
 abbrev pub goes_on : JobData → LayoutData → Walking → ℕ → Script Then → Walking

@@ -1,6 +1,7 @@
 //! A worker and a reader, asked and told one atomic step at a time.
 #![tactic(auto)]
 
+mod alone;
 mod begins;
 mod carry;
 mod claim;
@@ -20,6 +21,7 @@ mod request;
 mod scripts;
 mod steps;
 mod tasks;
+mod together;
 pub mod turns;
 mod wide_own;
 mod wide_request;
@@ -29,7 +31,7 @@ mod worker;
 
 pub use laws::own_steps_are_bounded;
 pub use left::Stopped;
-pub use memo::{Formed, Memo, Memory, Stand};
+pub use memo::{Formed, Memo, Memory, Own, Stand};
 pub use operation::{Activity, Ended, Op, ReadOp, Reading};
 pub use post::{Leaf, Post};
 pub use reader::Reader;

@@ -1,24 +1,28 @@
 //! What a worker remembers.
 ghost use Rattle.std.specs.Prelude.{◌≡◌, ◌==◌, suc, List, slice_get, slice_set, IfOk, IfSome, []};
-ghost use Rattle.std.specs.Prelude.{IsTrue, Some, None, ◌||◌, ◌-◌, ◌*◌, ◌≤◌};
-ghost use Rattle.pram_machine.specs.Instructions.{goes_to};
+ghost use Rattle.std.specs.Prelude.{IsTrue, Some, None, ◌-◌, ◌*◌, ◌<◌, ◌≤◌, length};
+ghost use Rattle.pram_machine.specs.Instructions.{gives};
 ghost use Rattle.pram_machine.specs.Turns.{request_of};
 ghost use Rattle.walkx.specs.declared.memo.Memo.{Memo};
 ghost use Rattle.walkx.specs.Driving.{IsNextPart};
-ghost use Rattle.pram_words.specs.Phases.{kind_at, step_at};
-ghost use Rattle.walkx.specs.Inner.Posts.{processor_of};
-ghost use Rattle.walkx.specs.Memory.{FitsMemo, at_start, blank, has_rested, has_stopped};
-ghost use Rattle.walkx.specs.Memory.{is_stopped, memo_of};
+ghost use Rattle.pram_words.specs.Phases.{kind_at};
+ghost use Rattle.pram_words.specs.Words.{grain};
+ghost use Rattle.walkx.specs.Inner.Posts.{processor_of, step_of};
+ghost use Rattle.walkx.specs.Memory.{FitsMemo, at_start, blank, has_store, is_past, memo_of};
+ghost use Rattle.walkx.specs.Memory.{gone_on, own_after, own_at_start, reach, settles_in};
+ghost use Rattle.walkx.specs.OwnWrites.{cell_write};
 ghost use Rattle.walkx.specs.Parts.{does_wide};
-ghost use Rattle.walkx.specs.Passing.{IsStand, StandsAt, TakesUp, TakesUpIf, all_next};
-ghost use Rattle.walkx.specs.Walk.{block_all, block_reach, last_phase};
-ghost use Rattle.walkx.specs.WideParts.{IsShaped, learned};
+ghost use Rattle.walkx.specs.Passes.{memo_after};
+ghost use Rattle.walkx.specs.Passing.{IsStand, StandsAt, TakesUp, TakesUpIf, least_of};
+ghost use Rattle.walkx.specs.Walk.{block_gone_on, block_reach, reach_from_phase};
+ghost use Rattle.walkx.specs.WideParts.{IsShaped, landed, stored};
 
 use crate::left::Stopped;
 use crate::post::{Leaf, Post};
 use crate::request::fetch;
 use crate::steps::Steps;
 use crate::tasks::{second_pass, wide_task};
+use crate::together::go_on_all;
 use crate::turns::settle;
 use crate::wide_own::own_by;
 use pram_job::Instr;
@@ -27,14 +31,65 @@ use pram_words::Kind;
 use std::alloc::{AllocError, Global};
 use std::marker::Model;
 
-/// What a worker of the wide form knows of a processor.
+/// What is a processor's own.
 #[derive(Clone, Copy, Debug, PartialEq, Eq)]
-pub struct Memo {
-    /// After how many steps it is so.
-    pub step: u32,
+pub struct Own {
     pub counter: u32,
     pub registers: [u32; 4],
-    /// The cell and the value of the store in the last of them, if it was one.
+}
+
+impl Own {
+    /// What each processor has before the first step.
+    #[inline(always)]
+    pub fn at_start() -> Own
+        ensures { result ≡ own_at_start }
+    {
+        Own {
+            counter: 0,
+            registers: [0; 4],
+        }
+    }
+
+    /// It is this after a turn of the leaf's processor.
+    #[inline(always)]
+    pub(crate) fn take(&mut self, leaf: &Leaf, turn: Turn)
+        requires { IsShaped leaf.now turn }
+        ensures { self.new ≡ own_after leaf.now.job (processor_of leaf.now) self.old
+            (request_of turn) }
+    {
+        if let Put::Register(place, value) = turn.put {
+            self.registers[(place - leaf.register_place(0)) as usize] = value;
+        }
+        self.counter = turn.next;
+    }
+
+    /// And this after a load into a register.
+    #[inline(always)]
+    pub(crate) fn load(&mut self, leaf: &Leaf, register: u8, value: u32)
+        requires register { register < 4 }
+        requires counter { self.old.counter < length leaf.now.job.code }
+        ensures { self.new ≡ own_after leaf.now.job (processor_of leaf.now) self.old
+            (gives leaf.now.job (processor_of leaf.now) self.old.counter register value) }
+    {
+        let _ = leaf.job();
+        self.registers[register as usize] = value;
+        self.counter += 1;
+    }
+}
+
+/// What a worker of the wide form knows of a processor, which goes on alone as far as it neither
+/// reads a cell nor stores.
+#[derive(Clone, Copy, Debug, PartialEq, Eq)]
+pub struct Memo {
+    /// The last phase in which it did something.
+    pub acted: u64,
+    /// After how many steps it is so.
+    pub step: u32,
+    pub own: Own,
+    /// What its words tell, which are written where it settles.
+    pub told: Own,
+    /// The cell and the value of the store in the last of the steps, while it is still to be carried
+    /// out.
     pub store: Option<(u32, u32)>,
 }
 
@@ -45,9 +100,10 @@ impl Memo {
         ensures { result ≡ at_start }
     {
         Memo {
+            acted: 0,
             step: 0,
-            counter: 0,
-            registers: [0; 4],
+            own: Own::at_start(),
+            told: Own::at_start(),
             store: None,
         }
     }
@@ -68,46 +124,87 @@ impl Memo {
         u64::from(self.step) + 1 == u64::from(t)
     }
 
-    /// It is known after this step, and made no store in it.
+    /// Up to which phase nothing is to be done, but for what was done when it last acted.
     #[inline(always)]
-    pub(crate) fn has_rested(&self, t: u32) -> bool
-        ensures { result ≡ has_rested t self.now }
+    pub(crate) fn reach(&self) -> u64
+        ensures { result ≡ reach self.now }
     {
-        self.step == t && self.store.is_none()
-    }
-
-    /// It is known after this step, and its counter is past this many instructions.
-    #[inline(always)]
-    pub(crate) fn has_stopped(&self, t: u32, code_len: u32) -> bool
-        ensures { result ≡ is_stopped code_len t self.now }
-    {
-        self.step == t && code_len <= self.counter
-    }
-
-    /// What is known after a turn of the leaf's step.
-    #[inline(always)]
-    pub(crate) fn take_up(&mut self, leaf: &Leaf, turn: Turn)
-        requires { IsShaped leaf.now turn }
-        ensures { self.new ≡ learned leaf.now self.old (request_of turn) }
-    {
-        if let Put::Register(place, value) = turn.put {
-            self.registers[(place - leaf.register_place(0)) as usize] = value;
+        let last = 3 * u64::from(self.step);
+        if self.store.is_some() {
+            last.saturating_sub(2)
+        } else {
+            last
         }
-        self.step = leaf.step();
-        self.counter = turn.next;
-        self.store = match turn.put {
-            Put::Cell(cell, value) => Some((cell, value)),
-            _ => None,
-        };
     }
 
-    /// What is known after a step of a processor that has stopped.
+    /// Nothing is to be done in this phase.
     #[inline(always)]
-    pub(crate) fn stay(&mut self, leaf: &Leaf)
-        ensures { self.new ≡ learned leaf.now self.old (goes_to self.old.counter) }
+    pub(crate) fn is_past(&self, phase: u64) -> bool
+        ensures { result ≡ is_past phase self.now }
     {
+        self.acted < phase && phase <= self.reach()
+    }
+
+    /// The store of this step is still to be carried out.
+    #[inline(always)]
+    pub(crate) fn has_store(&self, t: u32) -> bool
+        ensures { result ≡ has_store t self.now }
+    {
+        self.step == t && self.store.is_some()
+    }
+
+    /// What is known after a turn of the leaf's step, in which it settles or not.
+    #[inline(always)]
+    pub(crate) fn take_up(&mut self, leaf: &Leaf, turn: Turn, settles: bool)
+        requires first { kind_at leaf.now.phase ≡ Kind.Compute }
+        requires shape { IsShaped leaf.now turn }
+        requires settles { settles ≡ settles_in leaf.now.job (step_of leaf.now) self.old.own }
+        ensures { self.new ≡ memo_after leaf.now.job (step_of leaf.now) (processor_of leaf.now)
+            self.old (request_of turn) }
+    {
+        self.own.take(leaf, turn);
+        self.acted = leaf.phase();
+        self.step = leaf.step();
+        if settles {
+            self.told = self.own;
+        }
+        self.store = store_of(leaf, turn);
+    }
+
+    /// Its words tell in the leaf's step what it is. It stores nothing in it.
+    #[inline(always)]
+    pub(crate) fn land(&mut self, leaf: &Leaf)
+        ensures { self.new ≡ landed leaf.now self.old }
+    {
+        self.told = self.own;
+        self.acted = leaf.phase();
         self.step = leaf.step();
         self.store = None;
+    }
+
+    /// The store is carried out, if it was remembered.
+    #[inline(always)]
+    pub(crate) fn carry(&mut self, leaf: &Leaf)
+        requires { kind_at leaf.now.phase ≡ Kind.Verify }
+        ensures { self.new ≡ stored leaf.now self.old }
+    {
+        if self.has_store(leaf.step()) {
+            self.acted = leaf.phase();
+            self.store = None;
+        }
+    }
+}
+
+/// The cell and the value that a turn stores, if it stores.
+#[inline(always)]
+pub(crate) fn store_of(leaf: &Leaf, turn: Turn) -> Option<(u32, u32)>
+    requires { IsShaped leaf.now turn }
+    ensures { result ≡ cell_write leaf.now.job (request_of turn).put }
+{
+    let _ = leaf;
+    match turn.put {
+        Put::Cell(cell, value) => Some((cell, value)),
+        _ => None,
     }
 }
 
@@ -158,7 +255,7 @@ impl Memory {
         Memory { memos: None }
     }
 
-    /// A memory for so many processors: about 40 bytes for each.
+    /// A memory for so many processors: 64 bytes for each.
     pub fn of(alloc: Global, procs: u32) -> Result<Memory, AllocError>
         ensures { IfOk result (λ memory. memory ≡ blank procs) }
     {
@@ -218,25 +315,26 @@ impl Memory {
         settle(wide_task(steps, leaf, &mut memo))
     }
 
-    /// As `take_up`, in the second pass, where the leaf's processor is known after the step; else
+    /// As `take_up`, in the second pass, where it is known what the leaf's processor does in it; else
     /// nothing is done.
     #[inline(always)]
-    pub fn carry<S: Steps>(&self, steps: &mut S, leaf: &Leaf) -> Result<bool, Stopped>
-        requires memo { FitsMemo leaf.now.job (memo_of self.now (processor_of leaf.now)) }
+    pub fn carry<S: Steps>(&mut self, steps: &mut S, leaf: &Leaf) -> Result<bool, Stopped>
+        requires memo { FitsMemo leaf.now.job (memo_of self.old (processor_of leaf.now)) }
         requires next { IsNextPart (S.stands leaf.now) steps.old
-            (does_wide leaf.now (memo_of self.now (processor_of leaf.now))) }
-        ensures { TakesUpIf (S.stands leaf.now) leaf.now steps.old self.now steps.new self.now
+            (does_wide leaf.now (memo_of self.old (processor_of leaf.now))) }
+        ensures { TakesUpIf (S.stands leaf.now) leaf.now steps.old self.old steps.new self.new
             result }
     {
         let i = leaf.processor() as usize;
-        match (&self.memos, leaf.kind()) {
+        match (&mut self.memos, leaf.kind()) {
             (Some(memos), Kind::Verify) => {
                 if i < memos.len() {
-                    let memo = &memos[i];
-                    if memo.step == leaf.step() {
-                        if memo.store.is_some() {
-                            settle(second_pass(steps, leaf, memo))?;
-                        }
+                    let memo = &mut memos[i];
+                    if memo.has_store(leaf.step()) {
+                        settle(second_pass(steps, leaf, memo))?;
+                        return Ok(true);
+                    }
+                    if memo.is_past(leaf.phase()) {
                         return Ok(true);
                     }
                 }
@@ -246,56 +344,33 @@ impl Memory {
         Ok(false)
     }
 
-    /// How far a block has nothing to do at its end: in the phase; or in the last one of the step,
-    /// where its processors are known after the step and none stored in it; or, where they have all
-    /// stopped besides, in the last one of all. In the step's last phase it does not matter whether
-    /// they stored.
+    /// The processors of a block go on alone, as they do once the last one's task is done.
     #[inline(always)]
-    pub fn reach(&self, post: &Post) -> u64
+    pub fn go_on(&mut self, post: &Post)
         requires leaf { post.now.layout.leaves ≤ post.now.node }
         requires phase { post.now.phase ≤ 3 * post.now.job.steps }
+        ensures { self.new ≡ block_gone_on (grain post.now.layout) post.now.job post.now.layout
+            post.now.node 0 self.old }
+    {
+        match &mut self.memos {
+            Some(memos) => go_on_all(post, memos.as_mut_slice()),
+            None => {}
+        }
+    }
+
+    /// Up to which phase a block has nothing to do at the end of this one, by what is known of its
+    /// processors.
+    #[inline(always)]
+    pub fn reach(&self, post: &Post) -> u64
+        requires { post.now.layout.leaves ≤ post.now.node }
         ensures { result ≡ block_reach post.now.job post.now.layout post.now.node post.now.phase
             self.now }
     {
-        if !self.step_is_done(post) {
-            post.phase
-        } else if self.has_stopped(post) {
-            3 * u64::from(post.job.steps())
-        } else {
-            post.last_phase()
-        }
-    }
-
-    // Nothing is left to do in the block in the last phase of the step: this is that phase, or the
-    // processors are known after the step, and none stored in it.
-    #[inline(always)]
-    fn step_is_done(&self, post: &Post) -> bool
-        requires leaf { post.now.layout.leaves ≤ post.now.node }
-        requires phase { post.now.phase ≤ 3 * post.now.job.steps }
-        ensures { result ≡ ((post.now.phase == last_phase post.now.phase)
-            || block_all (has_rested (step_at post.now.phase)) post.now.layout post.now.node
-            self.now) }
-    {
-        if post.phase == post.last_phase() {
-            return true;
-        }
         let first = post.first_processor() as usize;
         let end = first + post.block_len() as usize;
-        none_stored(self.memos(), first, end, post.step())
-    }
-
-    // The processors of the block are known after the step, and have all stopped.
-    #[inline(always)]
-    fn has_stopped(&self, post: &Post) -> bool
-        requires leaf { post.now.layout.leaves ≤ post.now.node }
-        requires phase { post.now.phase ≤ 3 * post.now.job.steps }
-        ensures { result ≡ block_all (has_stopped post.now.job (step_at post.now.phase))
-            post.now.layout post.now.node self.now }
-    {
-        let first = post.first_processor() as usize;
-        let end = first + post.block_len() as usize;
-        let code_len = post.job.code().len() as u32;
-        all_stopped(self.memos(), first, end, post.step(), code_len)
+        let most = 3 * u64::from(post.job.steps());
+        post.phase
+            .max(least_reach(self.memos(), first, end, post.phase, most))
     }
 
     // What is known of each processor, from the first one on.
@@ -321,7 +396,7 @@ impl Memory {
         if !memo.is_before(leaf.step()) {
             return None;
         }
-        let counter = memo.counter;
+        let counter = memo.own.counter;
         let instr = fetch(leaf, counter)?;
         Some(Stand { counter, instr })
     }
@@ -335,7 +410,7 @@ impl Memory {
             stand.entry.instr.now }
     {
         let memo = self.memo(leaf.processor());
-        memo.is_before(leaf.step()) && memo.counter == stand.counter
+        memo.is_before(leaf.step()) && memo.own.counter == stand.counter
     }
 
     /// As `take_up`, where the leaf's processor is known to stand at this instruction of the first
@@ -361,7 +436,7 @@ impl Memory {
             Some(memos) => {
                 if i < memos.len() {
                     let memo = &mut memos[i];
-                    if memo.is_before(leaf.step()) && memo.counter == counter {
+                    if memo.is_before(leaf.step()) && memo.own.counter == counter {
                         settle(own_by(steps, leaf, memo, instr))?;
                         return Ok(true);
                     }
@@ -373,54 +448,27 @@ impl Memory {
     }
 }
 
-// The processors from the first one up to this one are known after this step, and none stored in
-// it.
+// Up to which phase the processors from the first one up to this one have nothing to do, or up to
+// this phase.
 #[inline(never)]
-fn none_stored(memos: &[Memo], first: usize, end: usize, step: u32) -> bool
+fn least_reach(memos: &[Memo], first: usize, end: usize, phase: u64, most: u64) -> u64
     requires { first ≤ end }
-    ensures { result ≡ all_next (has_rested step) (end - first) first memos.now }
+    ensures { result ≡ least_of most phase (end - first) first memos.now }
 {
+    let mut least = most;
     for i in first..end {
-        if !has_rested(memos, i, step) {
-            return false;
-        }
+        least = least.min(reach_of(memos, i, phase));
     }
-    true
+    least
 }
 
-// A processor is known after this step, and did not store in it.
+// That of a processor of which this is known, unless it acted in a later phase.
 #[inline(always)]
-fn has_rested(memos: &[Memo], i: usize, step: u32) -> bool
-    ensures { result ≡ has_rested step (memo_of memos.now i) }
+fn reach_of(memos: &[Memo], i: usize, phase: u64) -> u64
+    ensures { result ≡ reach_from_phase phase (memo_of memos.now i) }
 {
     match memos.get(i) {
-        Some(memo) => memo.has_rested(step),
-        None => Memo::at_start().has_rested(step),
-    }
-}
-
-// The processors from the first one up to this one are known after this step, and all have stopped,
-// with so much code.
-#[inline(never)]
-fn all_stopped(memos: &[Memo], first: usize, end: usize, step: u32, code_len: u32) -> bool
-    requires { first ≤ end }
-    ensures { result ≡ all_next (is_stopped code_len step) (end - first) first memos.now }
-{
-    for i in first..end {
-        if !has_stopped(memos, i, step, code_len) {
-            return false;
-        }
-    }
-    true
-}
-
-// A processor is known after this step, and has stopped.
-#[inline(always)]
-fn has_stopped(memos: &[Memo], i: usize, step: u32, code_len: u32) -> bool
-    ensures { result ≡ is_stopped code_len step (memo_of memos.now i) }
-{
-    match memos.get(i) {
-        Some(memo) => memo.has_stopped(step, code_len),
-        None => Memo::at_start().has_stopped(step, code_len),
+        Some(memo) if memo.acted <= phase => memo.reach(),
+        _ => 0,
     }
 }

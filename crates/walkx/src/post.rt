@@ -190,6 +190,28 @@ impl<'a> Post<'a> {
             first_cell: self.layout.cells_word(),
         }
     }
+
+    /// The same, this being the first processor of the block.
+    #[inline(always)]
+    pub(crate) fn leaf_from(&self, first: u32, rank: u32) -> Leaf<'a>
+        requires leaf { IsLeafPost (at_rank self.now rank) }
+        requires first { first ≡ processor_at self.now.layout self.now.node 0 }
+        ensures { result ≡ at_rank self.now rank }
+    {
+        Leaf {
+            job: self.job,
+            layout: self.layout,
+            worker: self.worker,
+            node: self.node,
+            phase: self.phase,
+            step: step_of(self.phase),
+            kind: kind_of(self.phase),
+            rank,
+            processor: first + rank,
+            own: self.layout.own_words(first + rank),
+            first_cell: self.layout.cells_word(),
+        }
+    }
 }
 
 /// A worker at the leaf of a processor.
@@ -302,6 +324,15 @@ impl<'a> Leaf<'a> {
         ensures limits { IsLeafPost self.now }
     {
         self.step
+    }
+
+    /// The phase.
+    #[inline(always)]
+    pub(crate) fn phase(&self) -> u64
+        ensures value { result ≡ self.now.phase }
+        ensures limits { IsLeafPost self.now }
+    {
+        self.phase
     }
 
     /// What the phase does.

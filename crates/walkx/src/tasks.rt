@@ -1,8 +1,8 @@
 //! The task of a phase, by the form of the board, the kind of the phase and the rule of writing.
-ghost use Rattle.std.specs.Prelude.{◌≡◌, None};
+ghost use Rattle.std.specs.Prelude.{◌≡◌, true};
+ghost use Rattle.pram_words.specs.Phases.{kind_at};
 ghost use Rattle.walkx.specs.Driving.{Ends, IsDue, IsNextPart, Plays, learns};
-ghost use Rattle.walkx.specs.Memory.{FitsMemo};
-ghost use Rattle.walkx.specs.Inner.Posts.{step_of};
+ghost use Rattle.walkx.specs.Memory.{FitsMemo, is_past};
 ghost use Rattle.walkx.specs.Parts.{does_compact, does_wide, does_wide_in};
 ghost use Rattle.walkx.specs.Passing.{Passes, idle};
 
@@ -53,16 +53,17 @@ pub(crate) fn wide_task<S: Steps>(steps: &mut S, leaf: &Leaf, memo: &mut Memo) -
     }
 }
 
-// The second one.
+/// The second one.
 #[inline(always)]
-pub(crate) fn second_pass<S: Steps>(steps: &mut S, leaf: &Leaf, memo: &Memo) -> Result<(), Left>
-    requires memo { FitsMemo leaf.now.job memo.now }
+pub(crate) fn second_pass<S: Steps>(steps: &mut S, leaf: &Leaf, memo: &mut Memo) -> Result<(), Left>
+    requires second { kind_at leaf.now.phase ≡ Kind.Verify }
+    requires memo { FitsMemo leaf.now.job memo.old }
     requires next { IsNextPart (S.stands leaf.now) steps.old
-        (does_wide_in Kind.Verify leaf.now memo.now) }
-    ensures none { memo.now.step ≡ step_of leaf.now → memo.now.store ≡ None →
-        steps.new ≡ steps.old }
+        (does_wide_in Kind.Verify leaf.now memo.old) }
+    ensures past { is_past leaf.now.phase memo.old ≡ true →
+        (memo.new ≡ memo.old) × (steps.new ≡ steps.old) }
     ensures plays { Plays (S.stands leaf.now) steps.old
-        (does_wide_in Kind.Verify leaf.now memo.now) steps.new (learns result memo.now) }
+        (does_wide_in Kind.Verify leaf.now memo.old) steps.new (learns result memo.new) }
 {
     match leaf.rule() {
         Rule::Common => store_common(steps, leaf, memo),

@@ -1,15 +1,16 @@
 //! The first pass of the wide form: what is a processor's own is written, and a store claimed.
-ghost use Rattle.std.specs.Prelude.{◌≡◌, ◌<◌, suc, false, length, slice_get, IfSome};
-ghost use Rattle.std.specs.Prelude.{None, Some, Ok, option_map};
-ghost use Rattle.pram_job.specs.Job.{IsInstr};
+ghost use Rattle.std.specs.Prelude.{◌≡◌, ◌<◌, ◌==◌, ◌%◌, ◌||◌, suc, false, slice_get};
+ghost use Rattle.std.specs.Prelude.{IfSome, Ok, None, Some};
+ghost use Rattle.pram_machine.specs.Instructions.{goes_to};
 ghost use Rattle.pram_machine.specs.Turns.{request_of};
+ghost use Rattle.pram_words.specs.Phases.{kind_at};
 ghost use Rattle.walkx.specs.Driving.{IsNextPart, Plays, learns};
-ghost use Rattle.walkx.specs.Inner.Posts.{IsCell, IsCellOf, IsLeafPost, IsPairAt, processor_of};
-ghost use Rattle.walkx.specs.Inner.Posts.{step_of};
-ghost use Rattle.walkx.specs.OwnWrites.{cell_write, own_write};
-ghost use Rattle.walkx.specs.Passing.{Passes, idle_in, if_so};
-ghost use Rattle.walkx.specs.WideParts.{IsPlan, IsShaped, claimed_cell, does_own, does_own_by};
-ghost use Rattle.walkx.specs.WideParts.{makes_own, named_cell, own_made};
+ghost use Rattle.walkx.specs.Inner.Posts.{IsCell, IsPairAt, processor_of, step_of};
+ghost use Rattle.walkx.specs.Memory.{cell_named, cell_next, is_load, settles_in};
+ghost use Rattle.walkx.specs.Passing.{IsStand, Passes, idle_in, if_so};
+ghost use Rattle.walkx.specs.WideParts.{IsShaped, claimed_cell, counter_due, counter_landed};
+ghost use Rattle.walkx.specs.WideParts.{does_own, does_own_by, learned, own_landed, own_written};
+ghost use Rattle.walkx.specs.WideParts.{register_due, register_landed, store_claimed, writes_if};
 
 use crate::left::Left;
 use crate::memo::Memo;
@@ -17,66 +18,156 @@ use crate::parts::write_place;
 use crate::post::Leaf;
 use crate::request::{fetch, read_place};
 use crate::steps::Steps;
-use crate::wide_request::{know, loaded, turn_by};
+use crate::wide_request::{is_load, know, turn_by};
 use pram_job::{Instr, Rule};
-use pram_machine::{Put, Request, Turn, cell_named};
+use pram_machine::{Put, Turn, cell_named};
 use pram_words::Kind;
 
-// What a turn claims, a cell, and what it writes of the processor's own.
-type Plan = (Option<u32>, Option<(u32, u32, u32)>);
-
-// The store of a turn is claimed; where it has none, its own write is made. Under common no store
-// is claimed.
+// A place of the processor's own, of which this is the first word, is written, if it is to be.
 #[inline(always)]
-fn make_own<S: Steps>(
+fn write_if<S: Steps>(
     steps: &mut S,
     leaf: &Leaf,
-    counter: u32,
-    turn: Turn,
-    plan: Plan,
+    so: bool,
+    write: (u32, u32, u32),
 ) -> Result<(), Left>
-    requires plan { IsPlan leaf.now counter (request_of turn) plan }
+    requires word { IsPairAt leaf.now.layout write.0 write.1 }
     requires next { IsNextPart (S.stands leaf.now) steps.old
-        (own_made leaf.now.job.rule leaf.now counter (request_of turn)) }
-    ensures none { makes_own leaf.now.job.rule leaf.now counter (request_of turn) ≡ false →
-        (result ≡ Ok tt) × (steps.new ≡ steps.old) }
-    ensures plays { Plays (S.stands leaf.now) steps.old
-        (own_made leaf.now.job.rule leaf.now counter (request_of turn)) steps.new result }
+        (writes_if leaf.now so write.0 write.2) }
+    ensures plays { Plays (S.stands leaf.now) steps.old (writes_if leaf.now so write.0 write.2)
+        steps.new result }
 {
-    let _ = (counter, turn);
-    match plan {
-        (Some(cell), _) => {
-            steps.make(leaf.claiming(cell))?;
-            Ok(())
-        }
-        (None, write) => write_own(steps, leaf, counter, turn, write),
+    let (place, word, value) = write;
+    if so {
+        write_place(steps, leaf, place, word, value)
+    } else {
+        Ok(())
     }
 }
 
-// That write of a turn that claims nothing.
+// A register is to be written: it is no longer what its words tell, or tells the step.
 #[inline(always)]
-fn write_own<S: Steps>(
+fn register_due(taken: &Memo, tells: Option<u8>, r: u8) -> bool
+    requires { r < 4 }
+    ensures { result ≡ register_due taken.now tells r }
+{
+    let tells_step = match tells {
+        Some(register) => register == r,
+        None => false,
+    };
+    tells_step || taken.own.registers[r as usize] != taken.told.registers[r as usize]
+}
+
+// Then it is written.
+#[inline(always)]
+fn land_register<S: Steps>(
     steps: &mut S,
     leaf: &Leaf,
-    counter: u32,
-    turn: Turn,
-    write: Option<(u32, u32, u32)>,
+    taken: &Memo,
+    tells: Option<u8>,
+    r: u8,
 ) -> Result<(), Left>
-    requires claims { claimed_cell leaf.now.job.rule leaf.now.job (request_of turn) ≡ None }
-    requires write { option_map (λ write. (write.0, write.2)) write
-        ≡ own_write leaf.now.job (processor_of leaf.now) counter (request_of turn) }
-    requires pair { IfSome write (λ write. IsPairAt leaf.now.layout write.0 write.1) }
+    requires register { r < 4 }
     requires next { IsNextPart (S.stands leaf.now) steps.old
-        (own_made leaf.now.job.rule leaf.now counter (request_of turn)) }
-    ensures none { makes_own leaf.now.job.rule leaf.now counter (request_of turn) ≡ false →
+        (register_landed leaf.now taken.now tells r) }
+    ensures plays { Plays (S.stands leaf.now) steps.old
+        (register_landed leaf.now taken.now tells r) steps.new result }
+{
+    let value = taken.own.registers[r as usize];
+    let write = (leaf.register_place(r), leaf.register_word(r), value);
+    write_if(steps, leaf, register_due(taken, tells, r), write)
+}
+
+// The same of the counter.
+#[inline(always)]
+fn counter_due(taken: &Memo, tells: Option<u8>) -> bool
+    ensures { result ≡ counter_due taken.now tells }
+{
+    tells.is_none() || taken.own.counter != taken.told.counter
+}
+
+// Then it is written.
+#[inline(always)]
+fn land_counter<S: Steps>(
+    steps: &mut S,
+    leaf: &Leaf,
+    taken: &Memo,
+    tells: Option<u8>,
+) -> Result<(), Left>
+    requires next { IsNextPart (S.stands leaf.now) steps.old
+        (counter_landed leaf.now taken.now tells) }
+    ensures plays { Plays (S.stands leaf.now) steps.old (counter_landed leaf.now taken.now tells)
+        steps.new result }
+{
+    let write = (leaf.counter_place(), leaf.counter_word(), taken.own.counter);
+    write_if(steps, leaf, counter_due(taken, tells), write)
+}
+
+// Of a processor that settles, and took its turn in what is known, those places are written that are
+// no longer what its words tell, and the one that tells the step.
+#[inline(always)]
+fn land_own<S: Steps>(
+    steps: &mut S,
+    leaf: &Leaf,
+    taken: &Memo,
+    tells: Option<u8>,
+) -> Result<(), Left>
+    requires next { IsNextPart (S.stands leaf.now) steps.old
+        (own_landed leaf.now taken.now tells) }
+    ensures plays { Plays (S.stands leaf.now) steps.old (own_landed leaf.now taken.now tells)
+        steps.new result }
+{
+    land_register(steps, leaf, taken, tells, 0)?;
+    land_register(steps, leaf, taken, tells, 1)?;
+    land_register(steps, leaf, taken, tells, 2)?;
+    land_register(steps, leaf, taken, tells, 3)?;
+    land_counter(steps, leaf, taken, tells)
+}
+
+// It settles by a turn in which it read nothing, or goes on without.
+#[inline(always)]
+fn settle_own<S: Steps>(
+    steps: &mut S,
+    leaf: &Leaf,
+    known: &Memo,
+    turn: Turn,
+    settles: bool,
+) -> Result<(), Left>
+    requires shape { IsShaped leaf.now turn }
+    requires reads { cell_next leaf.now.job known.now.own ≡ None }
+    requires settles { settles ≡ settles_in leaf.now.job (step_of leaf.now) known.now.own }
+    requires next { IsNextPart (S.stands leaf.now) steps.old
+        (own_written leaf.now known.now (request_of turn)) }
+    ensures none { settles ≡ false → (result ≡ Ok tt) × (steps.new ≡ steps.old) }
+    ensures plays { Plays (S.stands leaf.now) steps.old
+        (own_written leaf.now known.now (request_of turn)) steps.new result }
+{
+    if settles {
+        let mut taken = *known;
+        taken.own.take(leaf, turn);
+        land_own(steps, leaf, &taken, None)
+    } else {
+        Ok(())
+    }
+}
+
+// The store of a turn is claimed. Under common no store is.
+#[inline(always)]
+fn claim_store<S: Steps>(steps: &mut S, leaf: &Leaf, turn: Turn) -> Result<(), Left>
+    requires shape { IsShaped leaf.now turn }
+    requires next { IsNextPart (S.stands leaf.now) steps.old
+        (store_claimed leaf.now.job.rule leaf.now (request_of turn)) }
+    ensures none { claimed_cell leaf.now.job.rule leaf.now.job (request_of turn) ≡ None →
         (result ≡ Ok tt) × (steps.new ≡ steps.old) }
     ensures plays { Plays (S.stands leaf.now) steps.old
-        (own_made leaf.now.job.rule leaf.now counter (request_of turn)) steps.new result }
+        (store_claimed leaf.now.job.rule leaf.now (request_of turn)) steps.new result }
 {
-    let _ = (counter, turn);
-    match write {
+    match claimed(leaf, turn) {
         None => Ok(()),
-        Some((place, word, value)) => write_place(steps, leaf, place, word, value),
+        Some(cell) => {
+            steps.make(leaf.claiming(cell))?;
+            Ok(())
+        }
     }
 }
 
@@ -88,23 +179,21 @@ pub(crate) fn own_by<S: Steps>(
     memo: &mut Memo,
     instr: &Instr,
 ) -> Result<(), Left>
-    requires counter { memo.old.counter < length leaf.now.job.code }
-    requires instr { IsInstr leaf.now.job.cells (length leaf.now.job.code) instr.now }
+    requires stand { IsStand leaf.now memo.old.own.counter instr.now }
     requires next { IsNextPart (S.stands leaf.now) steps.old
-        (does_own_by leaf.now memo.old instr.now) }
+        (does_own_by leaf.now memo.old (Some instr.now)) }
     ensures idle { suc memo.old.step ≡ step_of leaf.now →
-        slice_get leaf.now.job.code memo.old.counter ≡ Some instr.now →
         Passes (idle_in Kind.Compute leaf.now memo.old) steps.old steps.new memo.new }
-    ensures plays { Plays (S.stands leaf.now) steps.old (does_own_by leaf.now memo.old instr.now)
-        steps.new (learns result memo.new) }
+    ensures plays { Plays (S.stands leaf.now) steps.old
+        (does_own_by leaf.now memo.old (Some instr.now)) steps.new (learns result memo.new) }
 {
-    match cell_named(leaf.job(), instr, &memo.registers) {
+    match cell_named(leaf.job(), instr, &memo.own.registers) {
         Some(cell) => own_loaded(steps, leaf, memo, instr, cell),
         None => own_decided(steps, leaf, memo, instr),
     }
 }
 
-// The same, where it reads this cell: what it loads goes into a register, and nothing else is done.
+// The same, where it reads this cell: what it loads goes into a register, and the processor settles.
 #[inline(always)]
 fn own_loaded<S: Steps>(
     steps: &mut S,
@@ -113,15 +202,15 @@ fn own_loaded<S: Steps>(
     instr: &Instr,
     cell: u32,
 ) -> Result<(), Left>
-    requires counter { memo.old.counter < length leaf.now.job.code }
-    requires instr { IsInstr leaf.now.job.cells (length leaf.now.job.code) instr.now }
-    requires cell { named_cell leaf.now memo.old instr.now ≡ Some cell }
+    requires stand { IsStand leaf.now memo.old.own.counter instr.now }
+    requires cell { cell_named leaf.now.job memo.old.own (Some instr.now) ≡ Some cell }
     requires below { cell < leaf.now.job.cells }
     requires next { IsNextPart (S.stands leaf.now) steps.old
-        (does_own_by leaf.now memo.old instr.now) }
-    ensures plays { Plays (S.stands leaf.now) steps.old (does_own_by leaf.now memo.old instr.now)
-        steps.new (learns result memo.new) }
+        (does_own_by leaf.now memo.old (Some instr.now)) }
+    ensures plays { Plays (S.stands leaf.now) steps.old
+        (does_own_by leaf.now memo.old (Some instr.now)) steps.new (learns result memo.new) }
 {
+    let _ = leaf.job();
     let value = match read_place(steps, leaf, cell, leaf.cell_word(cell)) {
         Ok(value) => value,
         Err(why) => {
@@ -129,14 +218,19 @@ fn own_loaded<S: Steps>(
             return Err(why);
         }
     };
-    let counter = memo.counter;
-    let turn = loaded(leaf, memo, instr, cell, value);
-    let write = own_write(leaf, counter, turn);
-    memo.take_up(leaf, turn);
-    write_own(steps, leaf, counter, turn, write)
+    match *instr {
+        Instr::Ld(register, _) => {
+            memo.own.load(leaf, register, value);
+            land_own(steps, leaf, memo, Some(register))?;
+            memo.land(leaf);
+            Ok(())
+        }
+        _ => unreachable!(),
+    }
 }
 
-// The same, where it reads no cell.
+// The same, where it reads no cell: a store is claimed, and in each 64th step, and in a load, it
+// settles.
 #[inline(always)]
 fn own_decided<S: Steps>(
     steps: &mut S,
@@ -144,41 +238,56 @@ fn own_decided<S: Steps>(
     memo: &mut Memo,
     instr: &Instr,
 ) -> Result<(), Left>
-    requires counter { memo.old.counter < length leaf.now.job.code }
-    requires instr { IsInstr leaf.now.job.cells (length leaf.now.job.code) instr.now }
-    requires none { named_cell leaf.now memo.old instr.now ≡ None }
+    requires stand { IsStand leaf.now memo.old.own.counter instr.now }
+    requires none { cell_named leaf.now.job memo.old.own (Some instr.now) ≡ None }
     requires next { IsNextPart (S.stands leaf.now) steps.old
-        (does_own_by leaf.now memo.old instr.now) }
+        (does_own_by leaf.now memo.old (Some instr.now)) }
     ensures idle { suc memo.old.step ≡ step_of leaf.now →
-        slice_get leaf.now.job.code memo.old.counter ≡ Some instr.now →
         Passes (idle_in Kind.Compute leaf.now memo.old) steps.old steps.new memo.new }
-    ensures plays { Plays (S.stands leaf.now) steps.old (does_own_by leaf.now memo.old instr.now)
-        steps.new (learns result memo.new) }
+    ensures plays { Plays (S.stands leaf.now) steps.old
+        (does_own_by leaf.now memo.old (Some instr.now)) steps.new (learns result memo.new) }
 {
-    let counter = memo.counter;
-    let turn = turn_by(leaf, memo, instr, 0);
-    let plan = plan(leaf, counter, turn);
-    memo.take_up(leaf, turn);
-    make_own(steps, leaf, counter, turn, plan)
+    let _ = leaf.job();
+    let turn = turn_by(leaf, &memo.own, instr, 0);
+    claim_store(steps, leaf, turn)?;
+    let settles = settles_by(leaf, instr);
+    settle_own(steps, leaf, memo, turn, settles)?;
+    memo.take_up(leaf, turn, settles);
+    Ok(())
 }
 
 /// The first pass.
 #[inline(always)]
 pub(crate) fn own<S: Steps>(steps: &mut S, leaf: &Leaf, memo: &mut Memo) -> Result<(), Left>
-    requires next { IsNextPart (S.stands leaf.now) steps.old
-        (does_own leaf.now.job.rule leaf.now memo.old) }
+    requires first { kind_at leaf.now.phase ≡ Kind.Compute }
+    requires next { IsNextPart (S.stands leaf.now) steps.old (does_own leaf.now memo.old) }
     ensures idle { Passes (idle_in Kind.Compute leaf.now memo.old) steps.old steps.new memo.new }
-    ensures plays { Plays (S.stands leaf.now) steps.old
-        (does_own leaf.now.job.rule leaf.now memo.old) steps.new (learns result memo.new) }
+    ensures plays { Plays (S.stands leaf.now) steps.old (does_own leaf.now memo.old) steps.new
+        (learns result memo.new) }
 {
+    if memo.is_past(leaf.phase()) {
+        return Ok(());
+    }
     know(steps, leaf, memo)?;
-    match fetch(leaf, memo.counter) {
+    match fetch(leaf, memo.own.counter) {
         None => {
-            memo.stay(leaf);
+            stay(leaf, memo);
             Ok(())
         }
         Some(instr) => own_by(steps, leaf, memo, instr),
     }
+}
+
+/// What is known after a step of a processor that has stopped.
+#[inline(always)]
+pub(crate) fn stay(leaf: &Leaf, memo: &mut Memo)
+    requires first { kind_at leaf.now.phase ≡ Kind.Compute }
+    requires none { slice_get leaf.now.job.code memo.old.own.counter ≡ None }
+    ensures { memo.new ≡ learned leaf.now memo.old (goes_to memo.old.own.counter) }
+{
+    memo.acted = leaf.phase();
+    memo.step = leaf.step();
+    memo.store = None;
 }
 
 /// Whether the task of a processor that is known before the step asks nothing, by its instruction.
@@ -186,39 +295,28 @@ pub(crate) fn own<S: Steps>(steps: &mut S, leaf: &Leaf, memo: &mut Memo) -> Resu
 #[inline(always)]
 pub(crate) fn passes_by(leaf: &Leaf, memo: &mut Memo, instr: &Instr) -> bool
     requires before { suc memo.old.step ≡ step_of leaf.now }
-    requires instr { slice_get leaf.now.job.code memo.old.counter ≡ Some instr.now }
+    requires stand { IsStand leaf.now memo.old.own.counter instr.now }
     ensures idle { idle_in Kind.Compute leaf.now memo.old ≡ if_so result memo.new }
     ensures other { result ≡ false → memo.new ≡ memo.old }
 {
-    if cell_named(leaf.job(), instr, &memo.registers).is_some() {
+    let _ = leaf.job();
+    if settles_by(leaf, instr) {
         return false;
     }
-    let turn = turn_by(leaf, memo, instr, 0);
-    if writes(leaf, memo.counter, turn) {
+    let turn = turn_by(leaf, &memo.own, instr, 0);
+    if claimed(leaf, turn).is_some() {
         return false;
     }
-    memo.take_up(leaf, turn);
+    memo.take_up(leaf, turn, false);
     true
 }
 
-// The turn writes something of the processor's own, or claims a cell.
+// It settles in the step, by its instruction.
 #[inline(always)]
-fn writes(leaf: &Leaf, counter: u32, turn: Turn) -> bool
-    requires counter { counter < length leaf.now.job.code }
-    requires shape { IsShaped leaf.now turn }
-    ensures { result ≡ makes_own leaf.now.job.rule leaf.now counter (request_of turn) }
+fn settles_by(leaf: &Leaf, instr: &Instr) -> bool
+    ensures { result ≡ (is_load (Some instr.now) || (step_of leaf.now % 64 == 0)) }
 {
-    claimed(leaf, turn).is_some() || own_write(leaf, counter, turn).is_some()
-}
-
-// What it claims and writes.
-#[inline(always)]
-fn plan(leaf: &Leaf, counter: u32, turn: Turn) -> Plan
-    requires counter { counter < length leaf.now.job.code }
-    requires shape { IsShaped leaf.now turn }
-    ensures { IsPlan leaf.now counter (request_of turn) result }
-{
-    (claimed(leaf, turn), own_write(leaf, counter, turn))
+    is_load(instr) || leaf.step() % 64 == 0
 }
 
 // The cell that the turn claims, if it claims one.
@@ -231,45 +329,6 @@ fn claimed(leaf: &Leaf, turn: Turn) -> Option<u32>
 {
     match (leaf.rule(), turn.put) {
         (Rule::Priority | Rule::Crew, Put::Cell(cell, _)) => Some(cell),
-        _ => None,
-    }
-}
-
-// What a turn writes of the processor's own: its counter, where that does not go on by one, or a
-// register.
-#[inline(always)]
-#[tactic(auto, using(crate::proofs::Counting::advanced_next))]
-fn own_write(leaf: &Leaf, counter: u32, turn: Turn) -> Option<(u32, u32, u32)>
-    requires counter { counter < length leaf.now.job.code }
-    requires shape { IsShaped leaf.now turn }
-    ensures value { option_map (λ write. (write.0, write.2)) result
-        ≡ own_write leaf.now.job (processor_of leaf.now) counter (request_of turn) }
-    ensures pair { IfSome result (λ write. IsPairAt leaf.now.layout write.0 write.1) }
-{
-    let _ = leaf.job();
-    if turn.next != counter + 1 {
-        return Some((leaf.counter_place(), leaf.counter_word(), turn.next));
-    }
-    match turn.put {
-        Put::Register(place, value) => {
-            let register = place - leaf.register_place(0);
-            Some((place, leaf.register_word(register as u8), value))
-        }
-        _ => None,
-    }
-}
-
-/// The store of a request, if it has one: its cell and the value.
-#[inline(always)]
-#[tactic(auto, using(crate::proofs::CellParts::cell_of))]
-pub(crate) fn cell_write(leaf: &Leaf, request: Request) -> Option<(u32, u32)>
-    ensures value { result ≡ cell_write leaf.now.job request.put }
-    ensures cell { IfSome result (λ write. IsCellOf leaf.now write.0) }
-    ensures limits { IsLeafPost leaf.now }
-{
-    let cells = leaf.job().cells();
-    match request.put {
-        Some((cell, value)) if cell < cells => Some((cell, value)),
         _ => None,
     }
 }

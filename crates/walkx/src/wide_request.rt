@@ -1,95 +1,123 @@
 //! What a processor of the wide form asks for in a step, worked out from what is remembered of it,
 //! or from its own places.
-ghost use Rattle.std.specs.Prelude.{◌≡◌, suc, ◌<◌, length, IfOk, None, Some, Ok, Err};
+ghost use Rattle.std.specs.Prelude.{◌≡◌, suc, ◌<◌, length, None, Some, Ok, Err, [], ◌∷◌, IfOk};
 ghost use Rattle.pram_job.specs.Job.{IsInstr};
+ghost use Rattle.pram_machine.specs.Machine.{register_place};
 ghost use Rattle.pram_machine.specs.Turns.{request_of};
-ghost use Rattle.walkx.specs.Counters.{advanced};
 ghost use Rattle.walkx.specs.Driving.{IsNextPart, Plays, loads};
-ghost use Rattle.walkx.specs.Inner.Posts.{step_of};
-ghost use Rattle.walkx.specs.WideParts.{IsShaped, asked_with, claimed_cell, named_cell};
-ghost use Rattle.walkx.specs.WideParts.{counter_told, counts, memo_known, memo_loaded, reads_all};
+ghost use Rattle.walkx.specs.Inner.Posts.{IsPairAt, processor_of, step_of};
+ghost use Rattle.walkx.specs.Memory.{asked_by, is_load};
+ghost use Rattle.walkx.specs.Passes.{is_beyond, loaded_memo, word_before};
+ghost use Rattle.walkx.specs.WideParts.{IsShaped, heard_before, hears_own, memo_known};
+ghost use Rattle.walkx.specs.WideParts.{memo_loaded};
 
+use crate::alone::own_alone;
 use crate::left::Left;
-use crate::memo::Memo;
+use crate::memo::{Memo, Own};
 use crate::parts::hear_both;
 use crate::post::Leaf;
-use crate::request::{read_place, read_register};
 use crate::steps::Steps;
-use pram_job::{Instr, Job};
-use pram_machine::{Put, Turn, cell_named, decided_by};
+use pram_job::Instr;
+use pram_machine::{Turn, decided_by};
 use pram_words::{newer, payload, stamp};
 
-/// What a counter becomes in so many steps, each of which takes it on by one, up to K, where it
-/// stops.
+// The word of a place of the processor's own that was written before the step. Whoever finds it
+// written later is late.
 #[inline(always)]
-pub(crate) fn advanced(job: &Job, steps: u32, counter: u32) -> u32
-    ensures { result ≡ advanced job.now steps counter }
+fn hear_before<S: Steps>(steps: &mut S, leaf: &Leaf, place: u32, word: u32) -> Result<u64, Left>
+    requires word { IsPairAt leaf.now.layout place word }
+    requires next { IsNextPart (S.stands leaf.now) steps.old (heard_before leaf.now place) }
+    ensures plays { Plays (S.stands leaf.now) steps.old (heard_before leaf.now place) steps.new
+        result }
 {
-    let code = job.code().len() as u32;
-    if counter < code {
-        counter + steps.min(code - counter)
-    } else {
-        counter
-    }
-}
-
-// What the counter of the processor was before the step, by the newer of its words.
-#[inline(always)]
-#[tactic(auto, using(crate::proofs::Counting::told_is))]
-fn counter_told(leaf: &Leaf, word: u64) -> u32
-    ensures { result ≡ counter_told leaf.now word }
-{
-    let before = leaf.step().saturating_sub(1);
-    advanced(
-        leaf.job(),
-        before.saturating_sub(stamp(word)),
-        payload(word),
-    )
-}
-
-/// The counter of the processor before the step. Whoever finds it written in the step, or later, is
-/// late: a processor writes one place of its own at most in a step.
-#[inline(always)]
-pub(crate) fn read_counter<S: Steps>(steps: &mut S, leaf: &Leaf) -> Result<u32, Left>
-    requires next { IsNextPart (S.stands leaf.now) steps.old (counts leaf.now) }
-    ensures plays { Plays (S.stands leaf.now) steps.old (counts leaf.now) steps.new result }
-{
-    let place = leaf.counter_place();
-    let (first, second) = hear_both(steps, leaf, place, leaf.counter_word())?;
-    if leaf.is_late(first, second) {
+    let (first, second) = hear_both(steps, leaf, place, word)?;
+    if is_beyond(leaf, first, second) {
         Err(Left::Late)
     } else {
-        Ok(counter_told(leaf, newer(first, second)))
+        Ok(word_before(leaf, first, second))
     }
 }
 
-/// All registers of the processor before the step.
+// One of them is of a later step.
 #[inline(always)]
-fn read_all<S: Steps>(steps: &mut S, leaf: &Leaf) -> Result<[u32; 4], Left>
-    requires next { IsNextPart (S.stands leaf.now) steps.old (reads_all leaf.now) }
-    ensures plays { Plays (S.stands leaf.now) steps.old (reads_all leaf.now) steps.new result }
+fn is_beyond(leaf: &Leaf, first: u64, second: u64) -> bool
+    ensures { result ≡ is_beyond (step_of leaf.now) first second }
 {
-    let a = read_register(steps, leaf, 0)?;
-    let b = read_register(steps, leaf, 1)?;
-    let c = read_register(steps, leaf, 2)?;
-    let d = read_register(steps, leaf, 3)?;
-    Ok([a, b, c, d])
+    leaf.is_past(first) || leaf.is_past(second)
 }
 
-/// What the processor's own places hold before the step.
+// A word of the step stands beside it.
 #[inline(always)]
-fn load_memo<S: Steps>(steps: &mut S, leaf: &Leaf) -> Result<Memo, Left>
+fn word_before(leaf: &Leaf, first: u64, second: u64) -> u64
+    ensures { result ≡ word_before (step_of leaf.now) first second }
+{
+    if leaf.is_of(first) {
+        second
+    } else if leaf.is_of(second) {
+        first
+    } else {
+        newer(first, second)
+    }
+}
+
+// That of one of its registers.
+#[inline(always)]
+fn hear_register<S: Steps>(steps: &mut S, leaf: &Leaf, r: u8) -> Result<u64, Left>
+    requires register { r < 4 }
+    requires next { IsNextPart (S.stands leaf.now) steps.old (heard_before leaf.now (register_place
+        leaf.now.job (processor_of leaf.now) r)) }
+    ensures plays { Plays (S.stands leaf.now) steps.old (heard_before leaf.now (register_place
+        leaf.now.job (processor_of leaf.now) r)) steps.new result }
+{
+    hear_before(steps, leaf, leaf.register_place(r), leaf.register_word(r))
+}
+
+// Those of its counter and of its registers.
+#[inline(always)]
+fn hear_own<S: Steps>(steps: &mut S, leaf: &Leaf) -> Result<[u64; 5], Left>
+    requires next { IsNextPart (S.stands leaf.now) steps.old (hears_own leaf.now) }
+    ensures plays { Plays (S.stands leaf.now) steps.old (hears_own leaf.now) steps.new result }
+{
+    let counter = hear_before(steps, leaf, leaf.counter_place(), leaf.counter_word())?;
+    let a = hear_register(steps, leaf, 0)?;
+    let b = hear_register(steps, leaf, 1)?;
+    let c = hear_register(steps, leaf, 2)?;
+    let d = hear_register(steps, leaf, 3)?;
+    Ok([counter, a, b, c, d])
+}
+
+// What is known of the processor before the step by these words.
+fn memo_of_words(leaf: &Leaf, words: [u64; 5]) -> Memo
+    ensures { result ≡ loaded_memo leaf.now.job (step_of leaf.now) (processor_of leaf.now) words }
+{
+    let [counter, a, b, c, d] = words;
+    let told = Own {
+        counter: payload(counter),
+        registers: [payload(a), payload(b), payload(c), payload(d)],
+    };
+    let newest = stamp(counter)
+        .max(stamp(a))
+        .max(stamp(b))
+        .max(stamp(c))
+        .max(stamp(d));
+    let before = leaf.step().saturating_sub(1);
+    Memo {
+        acted: 3 * u64::from(before),
+        step: before,
+        own: own_alone(leaf, told, before.saturating_sub(newest)),
+        told,
+        store: None,
+    }
+}
+
+/// What the processor's own places tell before the step.
+#[inline(never)]
+pub(crate) fn load_memo<S: Steps>(steps: &mut S, leaf: &Leaf) -> Result<Memo, Left>
     requires next { IsNextPart (S.stands leaf.now) steps.old (memo_loaded leaf.now) }
     ensures plays { Plays (S.stands leaf.now) steps.old (memo_loaded leaf.now) steps.new result }
 {
-    let counter = read_counter(steps, leaf)?;
-    let registers = read_all(steps, leaf)?;
-    Ok(Memo {
-        step: leaf.step().saturating_sub(1),
-        counter,
-        registers,
-        store: None,
-    })
+    let words = hear_own(steps, leaf)?;
+    Ok(memo_of_words(leaf, words))
 }
 
 /// What is known of the processor before the step: remembered, or loaded.
@@ -108,41 +136,23 @@ pub(crate) fn know<S: Steps>(steps: &mut S, leaf: &Leaf, memo: &mut Memo) -> Res
     Ok(())
 }
 
-/// What it asks for, this cell having held this. Of a load the operands are not looked at again.
-#[inline(always)]
-pub(crate) fn loaded(leaf: &Leaf, known: &Memo, instr: &Instr, cell: u32, value: u32) -> Turn
-    requires counter { known.now.counter < length leaf.now.job.code }
-    requires instr { IsInstr leaf.now.job.cells (length leaf.now.job.code) instr.now }
-    requires cell { named_cell leaf.now known.now instr.now ≡ Some cell }
-    ensures value { request_of result ≡ asked_with leaf.now known.now instr.now value }
-    ensures shape { IsShaped leaf.now result }
-    ensures claims { claimed_cell leaf.now.job.rule leaf.now.job (request_of result) ≡ None }
-{
-    let _ = cell;
-    match *instr {
-        Instr::Ld(register, _) => Turn {
-            put: Put::Register(leaf.register_place(register), value),
-            next: known.counter + 1,
-        },
-        _ => unreachable!(),
-    }
-}
-
 /// What it asks for, the cell having held this.
 #[inline(always)]
-pub(crate) fn turn_by(leaf: &Leaf, known: &Memo, instr: &Instr, value: u32) -> Turn
-    requires counter { known.now.counter < length leaf.now.job.code }
+pub(crate) fn turn_by(leaf: &Leaf, own: &Own, instr: &Instr, value: u32) -> Turn
+    requires counter { own.now.counter < length leaf.now.job.code }
     requires instr { IsInstr leaf.now.job.cells (length leaf.now.job.code) instr.now }
-    ensures value { request_of result ≡ asked_with leaf.now known.now instr.now value }
+    ensures value { request_of result ≡ asked_by leaf.now.job (processor_of leaf.now) own.now
+        (Some instr.now) value }
     ensures shape { IsShaped leaf.now result }
 {
     let (job, processor) = (leaf.job(), leaf.processor());
-    decided_by(
-        job,
-        processor,
-        known.counter,
-        instr,
-        &known.registers,
-        value,
-    )
+    decided_by(job, processor, own.counter, instr, &own.registers, value)
+}
+
+/// The instruction is a load.
+#[inline(always)]
+pub(crate) fn is_load(instr: &Instr) -> bool
+    ensures { result ≡ is_load (Some instr.now) }
+{
+    matches!(*instr, Instr::Ld(_, _))
 }

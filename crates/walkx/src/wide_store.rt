@@ -1,95 +1,87 @@
 //! The second pass of the wide form: a processor's store is remembered, or worked out anew, and
 //! carried out by the rule.
-ghost use Rattle.std.specs.Prelude.{◌≡◌, ◌≢◌, ◌<◌, length, IfOk, None, Err};
-ghost use Rattle.pram_job.specs.Instructions.{row_of};
+ghost use Rattle.std.specs.Prelude.{◌≡◌, ◌≢◌, ◌<◌, true, length, IfOk, IfSome, Some, Err};
 ghost use Rattle.pram_job.specs.Job.{IsInstr};
+ghost use Rattle.pram_words.specs.Phases.{kind_at};
 ghost use Rattle.walkx.specs.Driving.{IsNextPart, Plays, learns};
-ghost use Rattle.walkx.specs.Inner.Posts.{IsCellOf, IsLeafPost, step_of};
-ghost use Rattle.walkx.specs.Memory.{FitsMemo};
-ghost use Rattle.walkx.specs.OwnWrites.{is_store};
+ghost use Rattle.walkx.specs.Inner.Posts.{IsCellOf, IsLeafPost};
+ghost use Rattle.walkx.specs.Memory.{FitsMemo, is_past};
 ghost use Rattle.walkx.specs.WideParts.{does_crew_store, does_priority_store, does_store};
-ghost use Rattle.walkx.specs.WideParts.{kept_as, store_loaded, stores_by, stores_of, swaps};
+ghost use Rattle.walkx.specs.WideParts.{kept_as, owned_written, store_by, store_loaded};
+ghost use Rattle.walkx.specs.WideParts.{stores_of, swaps};
 
 use crate::compare::{either_differs, report_if};
 use crate::left::Left;
-use crate::memo::Memo;
+use crate::memo::{Memo, Own, store_of};
 use crate::parts::{hear_both, older_swap, write_place};
 use crate::post::Leaf;
-use crate::request::{decide, fetch};
+use crate::request::fetch;
 use crate::steps::Steps;
-use crate::wide_own::cell_write;
-use crate::wide_request::read_counter;
+use crate::wide_request::{is_load, load_memo, turn_by};
 use pram_job::{Instr, Rule};
+use pram_words::Kind;
 
-/// The cell and the value of an instruction, if it is a store and there is such a cell; else
-/// nothing is left of the task.
-#[inline(always)]
-pub(crate) fn store_by<S: Steps>(
-    steps: &mut S,
-    leaf: &Leaf,
-    counter: u32,
-    instr: Instr,
-) -> Result<(u32, u32), Left>
-    requires counter { counter < length leaf.now.job.code }
-    requires instr { IsInstr leaf.now.job.cells (length leaf.now.job.code) instr }
-    requires next { IsNextPart (S.stands leaf.now) steps.old (stores_by leaf.now counter instr) }
-    ensures cell { IfOk result (λ write. IsCellOf leaf.now write.0) }
-    ensures plays { Plays (S.stands leaf.now) steps.old (stores_by leaf.now counter instr)
-        steps.new result }
-{
-    if !is_store(instr) {
-        return Err(Left::Late);
-    }
-    let request = decide(steps, leaf, counter, instr)?;
-    match cell_write(leaf, request) {
-        None => Err(Left::Late),
-        Some(write) => Ok(write),
-    }
-}
-
-/// The processor's store, worked out from its own places.
+// The processor's store, worked out from its own places.
 #[inline(never)]
 fn load_store<S: Steps>(steps: &mut S, leaf: &Leaf) -> Result<(u32, u32), Left>
     requires next { IsNextPart (S.stands leaf.now) steps.old (store_loaded leaf.now) }
     ensures cell { IfOk result (λ write. IsCellOf leaf.now write.0) }
     ensures plays { Plays (S.stands leaf.now) steps.old (store_loaded leaf.now) steps.new result }
 {
-    let counter = read_counter(steps, leaf)?;
-    match fetch(leaf, counter) {
+    let known = load_memo(steps, leaf)?;
+    match fetch(leaf, known.own.counter) {
         None => Err(Left::Late),
-        Some(instr) => store_by(steps, leaf, counter, *instr),
+        Some(instr) => store_by(leaf, &known.own, instr),
     }
+}
+
+// That of its instruction, if it is a store and there is such a cell; else nothing is left of the
+// task.
+#[inline(always)]
+fn store_by(leaf: &Leaf, own: &Own, instr: &Instr) -> Result<(u32, u32), Left>
+    requires counter { own.now.counter < length leaf.now.job.code }
+    requires instr { IsInstr leaf.now.job.cells (length leaf.now.job.code) instr.now }
+    ensures value { result ≡ store_by leaf.now own.now (Some instr.now) }
+    ensures cell { IfOk result (λ write. IsCellOf leaf.now write.0) }
+{
+    if is_load(instr) {
+        return Err(Left::Late);
+    }
+    kept(leaf, store_of(leaf, turn_by(leaf, own, instr, 0)))
 }
 
 /// The processor's store: remembered, or worked out.
 #[inline(always)]
 pub(crate) fn store<S: Steps>(steps: &mut S, leaf: &Leaf, memo: &Memo) -> Result<(u32, u32), Left>
+    requires second { kind_at leaf.now.phase ≡ Kind.Verify }
     requires memo { FitsMemo leaf.now.job memo.now }
     requires next { IsNextPart (S.stands leaf.now) steps.old (stores_of leaf.now memo.now) }
     ensures cell { IfOk result (λ write. IsCellOf leaf.now write.0) }
-    ensures none { memo.now.step ≡ step_of leaf.now → memo.now.store ≡ None →
+    ensures past { is_past leaf.now.phase memo.now ≡ true →
         (result ≡ Err Left.Late) × (steps.new ≡ steps.old) }
     ensures plays { Plays (S.stands leaf.now) steps.old (stores_of leaf.now memo.now) steps.new
         result }
 {
-    if memo.step == leaf.step() {
-        kept_store(leaf, memo)
+    if memo.has_store(leaf.step()) {
+        kept(leaf, memo.store)
+    } else if memo.is_past(leaf.phase()) {
+        Err(Left::Late)
     } else {
         load_store(steps, leaf)
     }
 }
 
-// The store that is remembered, if there is one.
+// This store, if there is one; else nothing is left of the task.
 #[inline(always)]
 #[tactic(auto, using(crate::proofs::CellParts::cell_of))]
-fn kept_store(leaf: &Leaf, memo: &Memo) -> Result<(u32, u32), Left>
-    requires memo { FitsMemo leaf.now.job memo.now }
-    ensures value { result ≡ kept_as memo.now.store }
+fn kept(leaf: &Leaf, store: Option<(u32, u32)>) -> Result<(u32, u32), Left>
+    requires { IfSome store (λ write. write.0 < leaf.now.job.cells) }
+    ensures value { result ≡ kept_as store }
     ensures cell { IfOk result (λ write. IsCellOf leaf.now write.0) }
     ensures limits { IsLeafPost leaf.now }
 {
     let _ = leaf.cells();
-    memo.store.ok_or(Left::Late)
+    store.ok_or(Left::Late)
 }
 
 /// A cell is written, unless it was written in the step or later: whether another value of the step
@@ -118,65 +110,91 @@ pub(crate) fn swap<S: Steps>(
 
 /// The second pass under the rule common: a store of another value is reported.
 #[inline(always)]
-pub(crate) fn store_common<S: Steps>(steps: &mut S, leaf: &Leaf, memo: &Memo) -> Result<(), Left>
-    requires memo { FitsMemo leaf.now.job memo.now }
-    requires next { IsNextPart (S.stands leaf.now) steps.old (does_store leaf.now memo.now) }
-    ensures none { memo.now.step ≡ step_of leaf.now → memo.now.store ≡ None →
-        steps.new ≡ steps.old }
-    ensures plays { Plays (S.stands leaf.now) steps.old (does_store leaf.now memo.now) steps.new
-        (learns result memo.now) }
+pub(crate) fn store_common<S: Steps>(
+    steps: &mut S,
+    leaf: &Leaf,
+    memo: &mut Memo,
+) -> Result<(), Left>
+    requires second { kind_at leaf.now.phase ≡ Kind.Verify }
+    requires memo { FitsMemo leaf.now.job memo.old }
+    requires next { IsNextPart (S.stands leaf.now) steps.old (does_store leaf.now memo.old) }
+    ensures past { is_past leaf.now.phase memo.old ≡ true →
+        (memo.new ≡ memo.old) × (steps.new ≡ steps.old) }
+    ensures plays { Plays (S.stands leaf.now) steps.old (does_store leaf.now memo.old) steps.new
+        (learns result memo.new) }
 {
     let (cell, value) = store(steps, leaf, memo)?;
     let other = swap(steps, leaf, cell, value)?;
-    report_if(steps, leaf, other)
+    report_if(steps, leaf, other)?;
+    memo.carry(leaf);
+    Ok(())
 }
 
 /// The second pass under the rule crew: all claims stand, and another's is reported.
 #[inline(always)]
-pub(crate) fn store_crew<S: Steps>(steps: &mut S, leaf: &Leaf, memo: &Memo) -> Result<(), Left>
+pub(crate) fn store_crew<S: Steps>(steps: &mut S, leaf: &Leaf, memo: &mut Memo) -> Result<(), Left>
     requires rule { leaf.now.job.rule ≢ Rule.Common }
-    requires memo { FitsMemo leaf.now.job memo.now }
-    requires next { IsNextPart (S.stands leaf.now) steps.old (does_crew_store leaf.now memo.now) }
-    ensures none { memo.now.step ≡ step_of leaf.now → memo.now.store ≡ None →
-        steps.new ≡ steps.old }
-    ensures plays { Plays (S.stands leaf.now) steps.old (does_crew_store leaf.now memo.now)
-        steps.new (learns result memo.now) }
+    requires second { kind_at leaf.now.phase ≡ Kind.Verify }
+    requires memo { FitsMemo leaf.now.job memo.old }
+    requires next { IsNextPart (S.stands leaf.now) steps.old (does_crew_store leaf.now memo.old) }
+    ensures past { is_past leaf.now.phase memo.old ≡ true →
+        (memo.new ≡ memo.old) × (steps.new ≡ steps.old) }
+    ensures plays { Plays (S.stands leaf.now) steps.old (does_crew_store leaf.now memo.old)
+        steps.new (learns result memo.new) }
 {
     let (cell, value) = store(steps, leaf, memo)?;
     let found = steps.make(leaf.claim_look(cell))?;
     report_if(steps, leaf, leaf.differs(leaf.claim(), found))?;
-    write_place(steps, leaf, cell, leaf.cell_word(cell), value)
+    write_place(steps, leaf, cell, leaf.cell_word(cell), value)?;
+    memo.carry(leaf);
+    Ok(())
 }
 
 /// The second pass under the rule priority: the one whose claim stands writes. A later claim means
 /// late.
 #[inline(always)]
-pub(crate) fn store_priority<S: Steps>(steps: &mut S, leaf: &Leaf, memo: &Memo) -> Result<(), Left>
+pub(crate) fn store_priority<S: Steps>(
+    steps: &mut S,
+    leaf: &Leaf,
+    memo: &mut Memo,
+) -> Result<(), Left>
     requires rule { leaf.now.job.rule ≢ Rule.Common }
-    requires memo { FitsMemo leaf.now.job memo.now }
+    requires second { kind_at leaf.now.phase ≡ Kind.Verify }
+    requires memo { FitsMemo leaf.now.job memo.old }
     requires next { IsNextPart (S.stands leaf.now) steps.old
-        (does_priority_store leaf.now memo.now) }
-    ensures none { memo.now.step ≡ step_of leaf.now → memo.now.store ≡ None →
-        steps.new ≡ steps.old }
-    ensures plays { Plays (S.stands leaf.now) steps.old (does_priority_store leaf.now memo.now)
-        steps.new (learns result memo.now) }
+        (does_priority_store leaf.now memo.old) }
+    ensures past { is_past leaf.now.phase memo.old ≡ true →
+        (memo.new ≡ memo.old) × (steps.new ≡ steps.old) }
+    ensures plays { Plays (S.stands leaf.now) steps.old (does_priority_store leaf.now memo.old)
+        steps.new (learns result memo.new) }
 {
     let (cell, value) = store(steps, leaf, memo)?;
     let found = steps.make(leaf.claim_look(cell))?;
     if leaf.is_past(found) {
         return Err(Left::Late);
     }
+    write_owned(steps, leaf, (cell, value), found)?;
+    memo.carry(leaf);
+    Ok(())
+}
+
+// The store is carried out, if the claim that was found is the processor's own.
+#[inline(always)]
+fn write_owned<S: Steps>(
+    steps: &mut S,
+    leaf: &Leaf,
+    write: (u32, u32),
+    found: u64,
+) -> Result<(), Left>
+    requires cell { IsCellOf leaf.now write.0 }
+    requires next { IsNextPart (S.stands leaf.now) steps.old (owned_written leaf.now write found) }
+    ensures plays { Plays (S.stands leaf.now) steps.old (owned_written leaf.now write found)
+        steps.new result }
+{
+    let (cell, value) = write;
     if leaf.is_own(found) {
         write_place(steps, leaf, cell, leaf.cell_word(cell), value)
     } else {
         Ok(())
     }
-}
-
-// The instruction is a store.
-#[inline(always)]
-fn is_store(instr: Instr) -> bool
-    ensures { result ≡ is_store (row_of instr).1 }
-{
-    matches!(instr, Instr::St(_, _))
 }

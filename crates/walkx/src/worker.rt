@@ -17,7 +17,7 @@ pub struct Worker {
     node: Option<u32>,
     activity: Activity,
     held_op: Option<Op>,
-    heard: [u64; 15],
+    heard: [u64; 28],
     count: usize,
     memory: Memory,
 }
@@ -32,7 +32,7 @@ impl Model for Worker {
     ghost view = { λ w. worker_data w.number w.node w.activity w.held_op (newest w.count w.heard)
         w.memory };
 
-    ghost invariant = { λ w. (w.count ≤ 15) × (length w.heard ≡ 15) };
+    ghost invariant = { λ w. (w.count ≤ 28) × (length w.heard ≡ 28) };
 }
 
 impl Worker {
@@ -92,7 +92,7 @@ impl Worker {
             node: None,
             activity,
             held_op: None,
-            heard: [0; 15],
+            heard: [0; 28],
             count: 0,
             memory,
         }
@@ -288,7 +288,7 @@ impl Worker {
     // One answer more.
     #[inline(always)]
     fn hear(&mut self, answer: u64)
-        requires { length self.old.walking.heard < 15 }
+        requires { length self.old.walking.heard < 28 }
         ensures { self.new.walking ≡ hearing self.old.walking answer }
     {
         self.heard[self.count] = answer;

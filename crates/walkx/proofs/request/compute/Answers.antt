@@ -1,5 +1,4 @@
 use Rattle.walkx.proofs.Fetched.{fetched_none, fetched_some}
-use Rattle.std.proofs.Common.{sym, ◌∙◌}
 use Rattle.walkx.specs.Tasks.{compute_task}
 use Rattle.walkx.proofs.Passing.{passed}
 use Rattle.walkx.specs.Parts.{after_counter}

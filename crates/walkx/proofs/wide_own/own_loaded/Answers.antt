@@ -1,11 +1,14 @@
-use Rattle.std.proofs.Common.{◌≡◌, Err, refl}
-use Rattle.pram_machine.specs.Turns.{request_of}
+use Rattle.std.proofs.Common.{Err, refl, ◌∙◌}
+use Rattle.std.proofs.lemmas.Option.{slice_get_within}
+use Rattle.pram_machine.specs.Instructions.{gives}
+use Rattle.walkx.specs.Inner.Posts.{processor_of}
 use Rattle.walkx.specs.Memory.{at_start}
-use Rattle.walkx.specs.WideParts.{asks_with, learned}
-use Rattle.walkx.proofs.Claimed.{made_late}
-use Rattle.walkx.proofs.Loaded.{asked_for, made, reads_first}
+use Rattle.walkx.specs.WideParts.{learned}
+use Rattle.walkx.proofs.FirstPass.{made_with, reads_first}
+use Rattle.walkx.proofs.Landing.{load_lands, load_learned}
+use Rattle.walkx.proofs.Passing.{passed}
 use Rattle.walkx.proofs.Settling.{learned_comes}
-use Rattle.walkx.proofs.Turning.{comes_to, moved}
+use Rattle.walkx.proofs.Turning.{comes_to}
 use Rattle.walkx.proofs.wide_own.own_loaded.Goals as goal
 
 pub read_place-requires-clause-next : goal.read_place-requires-clause-next
@@ -13,33 +16,42 @@ read_place-requires-clause-next g c =
     let at = c.args.leaf.now in
     let memo = c.args.memo.now in
     let instr = c.args.instr.now in
-    let r = c.requires.next in
     let stands = g.S.Steps.stands at in
+    let r = c.requires.next in
     record {
       from = r.from;
       after = r.next at_start;
-      next = asks_with at memo instr (made stands at memo instr r.from r.next);
+      next = made_with stands at memo instr r.from r.next;
       here = reads_first stands at memo instr r.from r.next c.args.steps.now c.args.cell
           c.requires.cell r.after r.here;
     }
 
-pub write_own-requires-clause-next : goal.write_own-requires-clause-next
-write_own-requires-clause-next g c =
+pub load-requires-clause-counter : goal.load-requires-clause-counter
+load-requires-clause-counter g c =
+    slice_get_within c.args.leaf.now.job.code c.args.memo.now.own.counter c.args.instr.now
+    c.requires.stand.1
+
+pub land_own-requires : goal.land_own-requires
+land_own-requires g c =
     let at = c.args.leaf.now in
     let memo = c.args.memo.now in
     let instr = c.args.instr.now in
-    let r = c.requires.next in
     let stands = g.S.Steps.stands at in
-    let first = reads_first stands at memo instr r.from r.next c.args.steps.now c.args.cell
-    c.requires.cell r.after r.here in
-    let asked = c.in-Ok.ensures.plays.on r.from (r.next at_start)
-    (asks_with at memo instr (made stands at memo instr r.from r.next)) first in
+    let given = gives at.job (processor_of at) memo.own.counter c.in-Ld.register c.in-Ok.value in
+    let r = c.requires.next in
     record {
-      from = r.from;
-      after = r.next memo;
-      next = λ done. r.next (learned at memo (request_of c.loaded-turn.result));
-      here = asked_for stands at memo instr r.from r.next c.read_place.new.steps c.in-Ok.value
-          (request_of c.loaded-turn.result) c.loaded-turn.ensures.value asked;
+      next = record {
+        from = r.from;
+        after = r.after;
+        next = λ done. r.next (learned at memo given);
+        here = load_lands at memo (record memo { own = c.load.new.self }) c.in-Ld.register
+            c.in-Ok.value c.load.ensures instr c.in-Ld.field-1 c.args.cell c.in-Ld.is
+            c.requires.stand.1 c.requires.cell stands r.from c.read_place.new.steps r.after r.next refl
+            (c.in-Ok.ensures.plays.on r.from (r.next at_start)
+            (made_with stands at memo instr r.from r.next)
+            (reads_first stands at memo instr r.from r.next c.args.steps.now c.args.cell
+            c.requires.cell r.after r.here));
+      };
     }
 
 pub returns-in-Err : goal.returns-in-Err
@@ -52,10 +64,32 @@ returns-in-Err g c =
       plays = record {
         on = λ from late next here. comes_to stands from _ _ _
             (learned_comes (Err c.in-Err.why) at_start late next)
-            (c.in-Err.ensures.plays.on from (next at_start)
-            (asks_with at memo instr (made stands at memo instr from next))
+            (c.in-Err.ensures.plays.on from (next at_start) (made_with stands at memo instr from next)
             (reads_first stands at memo instr from next c.args.steps.now c.args.cell
             c.requires.cell late here));
+      };
+    })
+
+pub returns-in_err-land_own-in-Ld : goal.returns-in_err-land_own-in-Ld
+returns-in_err-land_own-in-Ld g c =
+    let at = c.args.leaf.now in
+    let memo = c.args.memo.now in
+    let instr = c.args.instr.now in
+    let stands = g.S.Steps.stands at in
+    let taken = record memo { own = c.load.new.self } in
+    let given = gives at.job (processor_of at) memo.own.counter c.in-Ld.register c.in-Ok.value in
+    rw (passed c.from_residual.result _ c.from_residual.ensures.1) (record {
+      plays = record {
+        on = λ from late next here. comes_to stands from _ _ _
+            (learned_comes (Err _) taken late next)
+            (c.in_err-land_own-in-Ld.ensures.plays.on from (next taken)
+            (λ done. next (learned at memo given))
+            (load_lands at memo taken c.in-Ld.register c.in-Ok.value c.load.ensures instr
+            c.in-Ld.field-1 c.args.cell c.in-Ld.is c.requires.stand.1 c.requires.cell stands from
+            c.read_place.new.steps (next taken) next refl
+            (c.in-Ok.ensures.plays.on from (next at_start) (made_with stands at memo instr from next)
+            (reads_first stands at memo instr from next c.args.steps.now c.args.cell
+            c.requires.cell late here))));
       };
     })
 
@@ -64,22 +98,20 @@ returns g c =
     let at = c.args.leaf.now in
     let memo = c.args.memo.now in
     let instr = c.args.instr.now in
-    let request = request_of c.loaded-turn.result in
-    let known = learned at memo request in
     let stands = g.S.Steps.stands at in
-    rw c.take_up.ensures (record {
+    let taken = record memo { own = c.load.new.self } in
+    let given = gives at.job (processor_of at) memo.own.counter c.in-Ld.register c.in-Ok.value in
+    rw (c.land.ensures ∙ load_learned at memo taken c.in-Ld.register c.in-Ok.value c.load.ensures
+    instr c.in-Ld.field-1 c.args.cell c.in-Ld.is c.requires.stand.1 c.requires.cell
+    c.requires.stand.0) (record {
       plays = record {
-        on = λ from late next here.
-            let first = reads_first stands at memo instr from next c.args.steps.now c.args.cell
-            c.requires.cell late here in
-            let asked = c.in-Ok.ensures.plays.on from (next at_start)
-            (asks_with at memo instr (made stands at memo instr from next)) first in
-            comes_to stands from _ _ _ (learned_comes c.write_own.result known late next)
-            (c.write_own.ensures.plays.on from (next known) (λ done. next known)
-            (moved stands from _ _ _
-            (made_late at memo.counter request (next memo) (next known) (λ done. next known)
-            at.job.rule)
-            (asked_for stands at memo instr from next c.read_place.new.steps c.in-Ok.value request
-            c.loaded-turn.ensures.value asked)));
+        on = λ from late next here. c.in_ok-land_own-in-Ld.ensures.plays.on from late
+            (λ done. next (learned at memo given))
+            (load_lands at memo taken c.in-Ld.register c.in-Ok.value c.load.ensures instr
+            c.in-Ld.field-1 c.args.cell c.in-Ld.is c.requires.stand.1 c.requires.cell stands from
+            c.read_place.new.steps late next refl
+            (c.in-Ok.ensures.plays.on from (next at_start) (made_with stands at memo instr from next)
+            (reads_first stands at memo instr from next c.args.steps.now c.args.cell
+            c.requires.cell late here)));
       };
     })

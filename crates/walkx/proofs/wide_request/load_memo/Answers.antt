@@ -1,40 +1,38 @@
+use Rattle.std.proofs.Common.{ℕ, List}
 use Rattle.walkx.proofs.Passing.{passed}
-use Rattle.walkx.specs.WideParts.{memo_after_counter, memo_with}
+use Rattle.walkx.specs.Inner.Posts.{processor_of, step_of}
+use Rattle.walkx.specs.Passes.{loaded_memo}
 use Rattle.walkx.proofs.wide_request.load_memo.Goals as goal
 
-pub read_all-requires : goal.read_all-requires
-read_all-requires g c =
+pub hear_own-requires : goal.hear_own-requires
+hear_own-requires g c =
     let at = c.args.leaf.now in
     let r = c.requires.next in
     record {
       next = record {
         from = r.from;
         after = r.after;
-        next = λ values. r.next (memo_with at c.in_ok-counter.counter values);
-        here = c.in_ok-counter.ensures.plays.on r.from r.after
-            (memo_after_counter at r.after r.next) r.here;
+        next = λ words. r.next (loaded_memo at.job (step_of at) (processor_of at) words);
+        here = r.here;
       };
     }
 
-pub returns-in_err-registers : goal.returns-in_err-registers
-returns-in_err-registers g c =
+pub returns-in_err-words : goal.returns-in_err-words
+returns-in_err-words g c =
     let at = c.args.leaf.now in
-    rw (passed c.from_residual-in_err-registers.result _
-    c.from_residual-in_err-registers.ensures.1) (record {
+    rw (passed c.from_residual.result _ c.from_residual.ensures.1) (record {
       plays = record {
-        on = λ from after next here. c.in_err-registers.ensures.plays.on from after
-            (λ values. next (memo_with at c.in_ok-counter.counter values))
-            (c.in_ok-counter.ensures.plays.on from after (memo_after_counter at after next) here);
+        on = λ from after next here. c.in_err-words.ensures.plays.on from after
+            (λ (words : List ℕ). next (loaded_memo at.job (step_of at) (processor_of at) words)) here;
       };
     })
 
 pub returns : goal.returns
 returns g c =
     let at = c.args.leaf.now in
-    rw (c.saturating_sub.ensures, c.step.ensures.value) (record {
+    rw c.memo_of_words.ensures (record {
       plays = record {
-        on = λ from after next here. c.in_ok-registers.ensures.plays.on from after
-            (λ values. next (memo_with at c.in_ok-counter.counter values))
-            (c.in_ok-counter.ensures.plays.on from after (memo_after_counter at after next) here);
+        on = λ from after next here. c.in_ok-words.ensures.plays.on from after
+            (λ (words : List ℕ). next (loaded_memo at.job (step_of at) (processor_of at) words)) here;
       };
     })

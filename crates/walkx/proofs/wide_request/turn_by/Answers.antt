@@ -8,7 +8,7 @@ use Rattle.walkx.proofs.wide_request.turn_by.Goals as goal
 pub returns-clause-shape : goal.returns-clause-shape
 returns-clause-shape c =
     let at = c.args.leaf.now in
-    let known = c.args.known.now in
+    let known = c.args.own.now in
     let turn = rw (c.job-job.ensures.value, c.processor-processor.ensures.value) at c.decided_by.ensures in
     record {
       place = λ p v e. decided_place at.job (processor_of at) known.counter _ _ c.args.value

@@ -1,10 +1,7 @@
-use Rattle.std.proofs.Common.{◌≡◌, ◌+◌, ◌<◌, true, ℕ, refl, sym, subst, ◌∙◌, arith}
+use Rattle.std.proofs.Common.{◌≡◌, ◌<◌, ℕ, refl, subst, ◌∙◌, arith}
 use Rattle.std.proofs.lemmas.Bool.{lt-ltb}
-use Rattle.walkx.specs.Inner.Posts.{IsLeafPost, at_rank}
-use Rattle.walkx.specs.Walk.{has_rank}
 use Rattle.walkx.proofs.Firsts.{rank_parts}
-use Rattle.pram_board.specs.Inner.Plays.{IsWalking, Moved, driving, in_block, task_at}
-use Rattle.pram_board.proofs.Tasks.{not_moved}
+use Rattle.pram_board.specs.Inner.Plays.{IsWalking, driving, in_block, task_at}
 use Rattle.pram_board.proofs.Working.{led_more}
 use Rattle.pram_board.proofs.driver.Driver.block.Goals as goal
 use Rattle.pram_board.proofs.driver.Driver.block.Goals.{then-len-gt0, else-len-gt0}
@@ -65,9 +62,9 @@ pub returns-clause-led : goal.returns-clause-led
 returns-clause-led g c = elim c.if-len-gt0.branch [
   | then-len-gt0 w ↦ (
       let moved = rw (w.leaf.ensures, w.at.ensures) at w.tasks.ensures.moved in
-      rw w.memory-is (led_more _ _ _ (driving w.tasks.new.self) _ _ _ moved.went
-      (rw (w.self-is, w.memory-is) at c.mark.ensures.led)))
+      led_more _ _ _ (driving w.tasks.new.self) _ _ _ moved.went
+      (rw (w.self-is, w.memory-is) at c.mark.ensures.led))
   | else-len-gt0 w ↦ (
       let none : c.block_len-len.result ≡ 0 = omega (arith, w.if-len-gt0.false) in
-      rw w.memory-is (rw none at (rw (w.self-is, w.memory-is) at c.mark.ensures.led)))
+      rw none at (rw (w.self-is, w.memory-is) at c.mark.ensures.led))
 ]

@@ -1,12 +1,9 @@
-use Rattle.std.proofs.Common.{refl, sym, ap, subst, ◌∙◌}
-use Rattle.walkx.specs.declared.memo.Memo.{Memo}
-use Rattle.walkx.specs.Inner.Posts.{processor_of}
+use Rattle.std.proofs.Common.{refl}
 use Rattle.walkx.specs.Passing.{idle}
 use Rattle.walkx.specs.Scripts.{ends}
 use Rattle.walkx.specs.Walk.{begins, script_of}
 use Rattle.pram_board.specs.Inner.Plays.{driving, in_block, task_at}
-use Rattle.pram_board.proofs.Blocks.{after_task, kept_fits, memo, passes_driving, task_moves}
-use Rattle.pram_board.proofs.Blocks.{task_starts}
+use Rattle.pram_board.proofs.Blocks.{after_task, memo, passes_driving, task_done, task_starts}
 use Rattle.pram_board.proofs.Working.{sound_at}
 use Rattle.pram_board.proofs.driver.Driver.part.Goals as goal
 
@@ -72,13 +69,8 @@ returns-clause-done g c =
       task_starts at c.requires.at.leaf wide memory (driving c.args.self.now) c.requires.at.walks
           (ends (begins 1)),
     )).1 in
-    let moved = task_moves at c.requires.at.leaf wide memory (driving c.args.self.now)
+    rw takes.kept (task_done at c.requires.at.leaf wide memory (driving c.args.self.now)
     (driving c.take_up.new.steps) c.requires.at.walks
     (sound_at (task_at at) (driving c.take_up.new.steps) done.here c.facts.ensures) takes.learned
-    (passes_driving (idle at (memo at c.requires.at.leaf wide memory)) takes.learned
-    (λ d. driving d) _ _ takes.idle) done in
-    rw takes.kept (record {
-      fits = kept_fits at.job at.layout at.node at.phase at.rank memory takes.learned
-          c.requires.at.fits moved.walks.fits.memory;
-      moved = moved;
-    })
+    c.requires.at.fits (passes_driving (idle at (memo at c.requires.at.leaf wide memory))
+    takes.learned (λ d. driving d) _ _ takes.idle) done)

@@ -1,12 +1,10 @@
 use Rattle.std.proofs.Common.{◌≡◌, List, Bool, true, false, Ok, refl, sym, ap, subst, ◌∙◌}
 use Rattle.walkx.specs.declared.memo.Memo.{Memo}
-use Rattle.walkx.specs.Inner.Posts.{processor_of}
 use Rattle.walkx.specs.Passing.{idle}
 use Rattle.walkx.specs.Scripts.{ends}
 use Rattle.walkx.specs.Walk.{begins, script_of}
 use Rattle.pram_board.specs.Inner.Plays.{DonePart, driving, in_block, task_at}
-use Rattle.pram_board.proofs.Blocks.{after_task, kept_fits, memo, passes_driving, task_moves}
-use Rattle.pram_board.proofs.Blocks.{task_starts}
+use Rattle.pram_board.proofs.Blocks.{after_task, memo, passes_driving, task_done, task_starts}
 use Rattle.pram_board.proofs.Working.{sound_at}
 use Rattle.pram_board.proofs.driver.Driver.second_part.Goals as goal
 
@@ -76,21 +74,17 @@ returns-in-Ok-true-clause-done g c =
       task_starts at c.requires.at.leaf wide memory (driving c.args.self.now) c.requires.at.walks
           (ends (begins 1)),
     )).1 in
-    let moved = task_moves at c.requires.at.leaf wide memory (driving c.args.self.now)
+    subst (λ (now : List Memo). DonePart at (driving c.args.self.now) memory
+    (driving c.carry.new.steps) now) (sym takes.kept)
+    (task_done at c.requires.at.leaf wide memory (driving c.args.self.now)
     (driving c.carry.new.steps) c.requires.at.walks
     (sound_at (task_at at) (driving c.carry.new.steps) done.here c.facts.ensures) takes.learned
-    (passes_driving (idle at (memo at c.requires.at.leaf wide memory)) takes.learned
-    (λ d. driving d) _ _ takes.idle) done in
-    subst (λ (now : List Memo). DonePart at (driving c.args.self.now) memory
-    (driving c.carry.new.steps) now) (sym takes.kept) (record {
-      fits = kept_fits at.job at.layout at.node at.phase at.rank memory takes.learned
-          c.requires.at.fits moved.walks.fits.memory;
-      moved = moved;
-    })
+    c.requires.at.fits (passes_driving (idle at (memo at c.requires.at.leaf wide memory))
+    takes.learned (λ d. driving d) _ _ takes.idle) done)
 
 pub part_apart-requires : goal.part_apart-requires
 part_apart-requires g c =
     let is : c.carry.result ≡ Ok false =
     c.in-Ok-false.is ∙ ap (λ (there : Bool). Ok there) c.in-Ok-false.field-0-test in
     let still = rw is at c.carry.ensures in
-    record { at = rw still.0 c.requires.at }
+    record { at = rw (still.0, still.1) c.requires.at }

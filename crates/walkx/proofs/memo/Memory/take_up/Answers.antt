@@ -1,11 +1,10 @@
-use Rattle.std.proofs.Common.{◌≡◌, ◌<◌, ◌≤◌, List, [], length, sym, ap, subst, ◌∙◌, refl, arith}
+use Rattle.std.proofs.Common.{◌≡◌, ◌<◌, ◌≤◌, List, [], length, sym, ap, ◌∙◌, refl, arith}
 use Rattle.walkx.specs.contracts.memo.Memory.{the_view}
 use Rattle.walkx.specs.declared.memo.Memo.{Memo}
-use Rattle.walkx.specs.Driving.{IsNextPart}
-use Rattle.walkx.specs.Inner.Posts.{PostData, processor_of}
-use Rattle.walkx.specs.Memory.{at_start, memo_of}
-use Rattle.walkx.specs.Parts.{does_wide}
-use Rattle.walkx.proofs.TakingUp.{memo_past, memo_there, set_past, takes_up}
+use Rattle.walkx.specs.Inner.Posts.{processor_of}
+use Rattle.walkx.specs.Memory.{memo_of}
+use Rattle.walkx.proofs.Memories.{memo_past, memo_there, set_past}
+use Rattle.walkx.proofs.TakingUp.{takes_up}
 use Rattle.walkx.proofs.memo.Memory.take_up.Goals as goal
 use Rattle.walkx.proofs.memo.Memory.take_up.Goals.{in-Some+else-i-len, in-None}
 

@@ -1,0 +1,152 @@
+-- A task of the wide form asks something, whatever follows it, or nothing.
+use Rattle.std.proofs.Common.{◌≡◌, ℕ, suc, ◌==◌, List, [], ◌∷◌, Option, Some, None}
+use Rattle.std.proofs.Common.{refl, inl, inr}
+use Rattle.std.proofs.lemmas.Bool.{cases_Bool, lt-ltb}
+use Rattle.pram_job.specs.declared.instr.Rule.{Rule}
+use Rattle.pram_job.specs.declared.instr.Rule.TheVariants.{Common, Priority, Crew}
+use Rattle.pram_job.specs.Job.{JobData}
+use Rattle.pram_machine.specs.declared.requests.Request.{Request}
+use Rattle.pram_machine.specs.Machine.{counter_place}
+use Rattle.pram_words.specs.declared.phases.Kind.{Kind}
+use Rattle.pram_words.specs.declared.phases.Kind.TheVariants.{Compute, Apply, Verify}
+use Rattle.pram_words.specs.declared.words.Word.TheVariants.{Claim, Stored}
+use Rattle.pram_words.specs.Phases.{phase_of}
+use Rattle.pram_words.specs.Stamps.{stamped_word}
+use Rattle.pram_words.specs.Words.{LayoutData, number_of}
+use Rattle.walkx.specs.declared.memo.Memo.{Memo}
+use Rattle.walkx.specs.declared.operation.Op.{Op}
+use Rattle.walkx.specs.declared.operation.Op.TheVariants.{Load, Max}
+use Rattle.walkx.specs.Memory.{asked, at_start, cell_next, has_store, is_past}
+use Rattle.walkx.specs.OwnWrites.{cell_write}
+use Rattle.walkx.specs.Passes.{carry_task, claims_store, computes_own, crew_carry_task, if_write}
+use Rattle.walkx.specs.Passes.{knows, landings, memo_after, own_claim_task, own_task}
+use Rattle.walkx.specs.Passes.{priority_carry_task, stores, wide_task_of, writes_each, writes_own}
+use Rattle.walkx.specs.Scripts.{Script, ends, first_op}
+use Rattle.walkx.specs.Tasks.{claim_of, claims, reads_cell}
+use Rattle.walkx.specs.Walk.{Then}
+use Rattle.walkx.proofs.OwnFits.{cell_write_is}
+
+-- two scripts ask the same first, or come to the same
+pub data Alike (after : Memo → Script Then) (s : Script Memo) (t : Script Then) : Type 0 where
+  asks_first : (op : Op) → first_op s ≡ Some op → first_op t ≡ Some op → Alike after s t
+  comes_at_once : (learned : Memo) → s ≡ ends learned → t ≡ after learned → Alike after s t
+
+module _ (job : JobData) (y : LayoutData) (t i : ℕ) (after : Memo → Script Then) where
+  abbrev A : Script Memo → Script Then → Type 0
+  A s u = Alike after s u
+
+  -- ---- the first pass
+
+  each_alike : (writes : List (ℕ × ℕ)) (learned : Memo) →
+      A (writes_each y t writes (ends learned)) (writes_each y t writes (after learned))
+  each_alike [] learned = comes_at_once learned refl refl
+  each_alike (write ∷ writes) learned =
+      asks_first (Load (number_of y (Stored write.0 0))) refl refl
+
+  claim_alike : (r : Request) (s : Script Memo) (u : Script Then) → A s u →
+      A (claims_store job y t i r s) (claims_store job y t i r u)
+  claim_alike r s u alike = by (cell_write job r.put) refl
+    where
+      by : (o : Option (ℕ × ℕ)) → cell_write job r.put ≡ o →
+          A (if_write o s (λ c v. claims job y t i c s))
+          (if_write o u (λ c v. claims job y t i c u))
+      by None e = alike
+      by (Some w) e =
+          let cell = lt-ltb w.0 job.cells (cell_write_is job r.put w.0 w.1 e).1 in
+          asks_first (Max (number_of y (Claim w.0)) (stamped_word t (claim_of job i)))
+          (rw cell refl) (rw cell refl)
+
+  cell_alike : (o : Option ℕ) (late : Script Memo) (ended : Script Then) (f : ℕ → Script Memo)
+      (g : ℕ → Script Then) → A (f 0) (g 0) →
+      A (reads_cell y t o late f) (reads_cell y t o ended g)
+  cell_alike None late ended f g each = each
+  cell_alike (Some c) late ended f g each =
+      asks_first (Load (number_of y (Stored c 0))) refl refl
+
+  knows_alike : (memo : Memo) (late : Script Memo) (ended : Script Then)
+      (f : Memo → Script Memo) (g : Memo → Script Then) → A (f memo) (g memo) →
+      A (knows job y t i memo late f) (knows job y t i memo ended g)
+  knows_alike memo late ended f g each = elim (cases_Bool (suc memo.step == t)) [
+    | inl e ↦ rw e each
+    | inr e ↦ asks_first (Load (number_of y (Stored (counter_place job i) 0))) (rw e refl)
+        (rw e refl)
+  ]
+
+  computes_alike : (memo : Memo) (f : Memo → Request → Script Memo)
+      (g : Memo → Request → Script Then) → ((r : Request) → A (f memo r) (g memo r)) →
+      A (computes_own job y t i memo (λ m. ends m) f) (computes_own job y t i memo after g)
+  computes_alike memo f g each = elim (cases_Bool (is_past (phase_of t Compute) memo)) [
+    | inl e ↦ comes_at_once memo (rw e refl) (rw e refl)
+    | inr e ↦ rw e (knows_alike memo (ends memo) (after memo)
+        (λ known. reads_cell y t (cell_next job known.own) (ends at_start)
+        (λ value. f known (asked job i known.own value)))
+        (λ known. reads_cell y t (cell_next job known.own) (after at_start)
+        (λ value. g known (asked job i known.own value)))
+        (cell_alike (cell_next job memo.own) (ends at_start) (after at_start)
+        (λ value. f memo (asked job i memo.own value))
+        (λ value. g memo (asked job i memo.own value))
+        (each (asked job i memo.own 0))))
+  ]
+
+  own_task_alike : (memo : Memo) →
+      A (own_task job y t i memo (λ m. ends m)) (own_task job y t i memo after)
+  unfolding own_task
+  own_task_alike memo = computes_alike memo
+      (λ known r. writes_own job y t i known r (ends (memo_after job t i known r)))
+      (λ known r. writes_own job y t i known r (after (memo_after job t i known r)))
+      (λ r. each_alike (landings job t i memo r) (memo_after job t i memo r))
+
+  own_claim_alike : (memo : Memo) →
+      A (own_claim_task job y t i memo (λ m. ends m)) (own_claim_task job y t i memo after)
+  unfolding own_claim_task
+  own_claim_alike memo = computes_alike memo
+      (λ known r. claims_store job y t i r
+      (writes_own job y t i known r (ends (memo_after job t i known r))))
+      (λ known r. claims_store job y t i r
+      (writes_own job y t i known r (after (memo_after job t i known r))))
+      (λ r. claim_alike r (writes_own job y t i memo r (ends (memo_after job t i memo r)))
+      (writes_own job y t i memo r (after (memo_after job t i memo r)))
+      (each_alike (landings job t i memo r) (memo_after job t i memo r)))
+
+  -- ---- the second pass
+
+  stores_alike : (memo : Memo) (f : ℕ → ℕ → Script Memo) (g : ℕ → ℕ → Script Then) →
+      ((c v : ℕ) → A (f c v) (g c v)) →
+      A (stores job y t i memo (ends memo) f) (stores job y t i memo (after memo) g)
+  stores_alike memo f g each = elim (cases_Bool (is_past (phase_of t Verify) memo)) [
+    | inl e ↦ comes_at_once memo (rw e refl) (rw e refl)
+    | inr e ↦ elim (cases_Bool (has_store t memo)) [
+      | inl h ↦ rw (e, h) (kept memo.store)
+      | inr h ↦ asks_first (Load (number_of y (Stored (counter_place job i) 0)))
+          (rw (e, h) refl) (rw (e, h) refl)
+    ]
+  ]
+    where
+      kept : (o : Option (ℕ × ℕ)) → A (if_write o (ends memo) f) (if_write o (after memo) g)
+      kept None = comes_at_once memo refl refl
+      kept (Some w) = each w.0 w.1
+
+  pub task_alike : (rule : Rule) (kind : Kind) (memo : Memo) →
+      A (wide_task_of rule kind job y t i memo (λ m. ends m))
+      (wide_task_of rule kind job y t i memo after)
+  unfolding wide_task_of carry_task crew_carry_task priority_carry_task
+  task_alike Common Compute memo = own_task_alike memo
+  task_alike Priority Compute memo = own_claim_alike memo
+  task_alike Crew Compute memo = own_claim_alike memo
+  task_alike Common Verify memo =
+      stores_alike memo _ _ (λ c v. asks_first (Load (number_of y (Stored c 0))) refl refl)
+  task_alike Priority Verify memo =
+      stores_alike memo _ _ (λ c v. asks_first (Load (number_of y (Claim c))) refl refl)
+  task_alike Crew Verify memo =
+      stores_alike memo _ _ (λ c v. asks_first (Load (number_of y (Claim c))) refl refl)
+  task_alike rule Apply memo = comes_at_once memo (none rule) (none_then rule)
+    where
+      none : (r : Rule) → wide_task_of r Apply job y t i memo (λ m. ends m) ≡ ends memo
+      none Common = refl
+      none Priority = refl
+      none Crew = refl
+
+      none_then : (r : Rule) → wide_task_of r Apply job y t i memo after ≡ after memo
+      none_then Common = refl
+      none_then Priority = refl
+      none_then Crew = refl

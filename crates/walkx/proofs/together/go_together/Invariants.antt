@@ -1,0 +1,8 @@
+use Rattle.std.proofs.Common.{◌≡◌}
+use Rattle.walkx.specs.Together.{gone_from}
+use Rattle.walkx.proofs.together.go_together.Given as goal
+
+-- what is left to go leads to the same
+abbrev pub invariant-loop : goal.invariant-loop
+invariant-loop l =
+    gone_from l.fn.post l.fn.rank l.memos ≡ gone_from l.fn.post l.fn.rank l.fn.memos
