@@ -37,7 +37,7 @@ impl Model for Board {
 }
 
 impl Board {
-    ghost use Rattle.std.specs.Prelude.{◌≡◌, ◌≤◌, IfOk};
+    ghost use Rattle.std.specs.Prelude.{◌≡◌, ◌≤◌, ◌<◌, ◌*◌, IfOk};
     ghost use Rattle.pram_words.specs.Words.{IsGrain, grain_for};
     ghost use Rattle.pram_words.specs.declared.layout.Form.TheVariants.{Compact, Wide};
     ghost use Rattle.walkx.specs.Walk.{IsBoard, IsLayoutOf};
@@ -179,6 +179,16 @@ impl Board {
     {
         let shared = &self.table.shared;
         shared.compare_exchange::<Swaps>(&mut seat.seat, word as usize, old, new)
+    }
+
+    // What a node holds. It is no atomic step of a worker, and tells nothing.
+    #[inline(always)]
+    pub(crate) fn peek(&self, node: u32) -> u64
+        requires some { 1 ≤ node }
+        requires most { node < 2 * self.now.task.layout.leaves }
+    {
+        let word = self.task().layout.node_word(node);
+        self.table.shared.peek(word as usize)
     }
 
     // One atomic step, and its answer.

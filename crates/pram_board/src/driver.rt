@@ -83,7 +83,7 @@ impl<'a, G: Gate> Driver<'a, G> {
             gate,
             worker,
             made: 0,
-            rest: Rest::new(),
+            rest: Rest::new(worker),
         }
     }
 
@@ -222,7 +222,7 @@ impl<'a, G: Gate> Driver<'a, G> {
     {
         let board = self.board;
         board.facts();
-        self.rest.take();
+        self.rest.take(phase);
         let number = worker.number();
         let mut memory = worker.lend();
         self.turns(board.task(), number, &mut memory, node, phase);
@@ -244,6 +244,7 @@ impl<'a, G: Gate> Driver<'a, G> {
         let mut node = start;
         loop {
             let post = Post::new(&task.job, &layout, number, node, phase);
+            self.rest.keep_off(self.board, node, memory);
             match self.visit(&post, memory) {
                 None => return,
                 Some(next) => node = next,
@@ -633,8 +634,7 @@ impl<'a, G: Gate> Driver<'a, G> {
         ensures led { Led (task_at post.now) (driving self.old) (in_block post.now rank memory.old)
             (driving self.new) (turning_at post.now memory.new) }
     {
-        memory.go_on(post);
-        let reach = memory.reach(post);
+        let reach = memory.go_on(post);
         match mark(self, post, reach) {
             Ok(turned) => {
                 self.rest.mark(self.board.task().layout.leaves(), turned);

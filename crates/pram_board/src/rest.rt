@@ -1,22 +1,38 @@
 //! How a worker keeps out of the way of others.
-ghost use Rattle.std.specs.Prelude.{◌≤◌, ◌≡◌};
+ghost use Rattle.std.specs.Prelude.{◌≤◌, ◌<◌, ◌*◌, ◌≡◌};
 
+use crate::board::Board;
+use pram_words::{Form, Layout};
 use std::hint::spin_loop;
-use walkx::Op;
 use walkx::turns::Turned;
+use walkx::{Memory, Op};
 
 // How long a worker rests after the first phase in vain, and at most, in pauses of the processor.
 const FIRST: u32 = 16;
 
 const MOST: u32 = 1_024;
 
+// How often in a phase it looks whether another one has finished a block, and how long it rests
+// between two looks.
+const LOOKS: u32 = 128;
+
+const BETWEEN: u32 = 8;
+
 /// What a worker knows of its own use. One that was the first to mark no leaf in a phase did there
 /// what others did as well, and took lines of memory from them. So it rests before the next phase,
 /// and twice as long each time, until it is the first somewhere. A worker whose fellows are lost
 /// is that as soon as its rest is over. The idea is that of exponential backoff.
+///
+/// In the wide form each worker has a share of the leaves, into which its first turns lead. To load
+/// a block that it does not remember costs a worker as much as several that it does, and the other
+/// as much again when it comes back. So it leaves a block of another's share to that one for about
+/// as long, once in a phase, and takes it over then. The idea is that of renting skis.
 #[derive(Clone, Copy, Debug)]
 pub(crate) struct Rest {
+    worker: u32,
+    phase: u64,
     pauses: u32,
+    patience: u32,
     raised: bool,
     is_first: bool,
 }
@@ -24,9 +40,12 @@ pub(crate) struct Rest {
 impl Rest {
     /// A worker that has not rested.
     #[inline(always)]
-    pub(crate) fn new() -> Rest {
+    pub(crate) fn new(worker: u32) -> Rest {
         Rest {
+            worker,
+            phase: 0,
             pauses: 0,
+            patience: 0,
             raised: false,
             is_first: true,
         }
@@ -52,17 +71,73 @@ impl Rest {
     }
 
     /// A phase begins: the rest before it, if the last one was in vain.
-    pub(crate) fn take(&mut self)
+    pub(crate) fn take(&mut self, phase: u64)
         ensures most { self.new.pauses ≤ 1024 }
     {
+        self.phase = phase;
+        self.patience = LOOKS;
         self.pauses = if self.is_first {
             0
         } else {
             self.pauses.saturating_mul(2).max(FIRST).min(MOST)
         };
         self.is_first = false;
-        for _ in 0..self.pauses {
-            spin_loop();
+        pause(self.pauses);
+    }
+
+    /// A turn at this node comes next. A block of another's share that the worker does not know is
+    /// left to that one for a while.
+    #[inline(always)]
+    pub(crate) fn keep_off(&mut self, board: &Board, node: u32, memory: &Memory)
+        requires some { 1 ≤ node }
+        requires most { node < 2 * board.now.task.layout.leaves }
+    {
+        let layout = &board.task().layout;
+        if layout.leaves() <= node
+            && !knows(layout, memory, node, self.phase)
+            && is_anothers(layout, self.worker, node)
+        {
+            self.wait(board, node);
         }
     }
+
+    // Until the leaf is finished, or the worker has waited long enough in the phase.
+    #[inline(never)]
+    fn wait(&mut self, board: &Board, node: u32)
+        requires some { 1 ≤ node }
+        requires most { node < 2 * board.now.task.layout.leaves }
+    {
+        for _ in 0..self.patience {
+            if self.phase <= board.peek(node) {
+                return;
+            }
+            pause(BETWEEN);
+            self.patience = self.patience.saturating_sub(1);
+        }
+    }
+}
+
+// So many pauses of the processor.
+fn pause(count: u32) {
+    for _ in 0..count {
+        spin_loop();
+    }
+}
+
+// The worker remembers how the block of the leaf stood before this phase, or later, by its first
+// processor.
+#[inline(always)]
+fn knows(layout: &Layout, memory: &Memory, node: u32, phase: u64) -> bool
+    requires { layout.now.leaves ≤ node }
+{
+    let first = layout.grain().saturating_mul(node - layout.leaves());
+    phase <= 3 * u64::from(memory.memo(first).step) + 1
+}
+
+// The form is wide, and the leaf lies in no share of this worker. Where there are more workers than
+// leaves, those beyond have none.
+fn is_anothers(layout: &Layout, worker: u32, node: u32) -> bool {
+    let share = (layout.leaves() / layout.workers().next_power_of_two()).max(1);
+    layout.form() != Form::Compact
+        && (layout.leaves() <= worker || node / share != layout.first_leaf(worker) / share)
 }

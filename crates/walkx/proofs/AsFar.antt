@@ -2,7 +2,7 @@
 use Rattle.std.proofs.Common.{◌≡◌, ℕ, zero, suc, ◌+◌, ◌-◌, ◌%◌, ◌<◌, ◌≤◌, ◌&&◌, Bool}
 use Rattle.std.proofs.Common.{true, false, not, List, [], ◌∷◌, length, slice_get, Option, Some, None}
 use Rattle.std.proofs.Common.{refl, sym, ap, subst, ◌∙◌, inl, inr, arith}
-use Rattle.std.specs.Prelude.{◌||◌, is_some, nat_le, slice_set}
+use Rattle.std.specs.Prelude.{◌||◌, is_none, is_some, nat_le, slice_set}
 use Rattle.std.proofs.lemmas.Bool.{cases_Bool, cases_lt, eq-eqb}
 use Rattle.pram_job.specs.declared.instr.Instr.{Instr}
 use Rattle.pram_job.specs.Job.{JobData}
@@ -10,11 +10,12 @@ use Rattle.pram_words.specs.Words.{LayoutData, grain}
 use Rattle.walkx.specs.declared.memo.Memo.{Memo}
 use Rattle.walkx.specs.Inner.Posts.{PostData}
 use Rattle.walkx.specs.Memory.{goes_alone, goes_on_alone, gone_on, has_stopped, is_load, memo_of}
-use Rattle.walkx.specs.Memory.{one_alone}
+use Rattle.walkx.specs.Memory.{asked_by, is_common, one_alone}
+use Rattle.walkx.specs.OwnWrites.{cell_write}
 use Rattle.walkx.specs.Together.{IsOnItsWay, goes_as_far, gone_from}
 use Rattle.walkx.specs.Walk.{block_gone_on, has_rank, processor_at}
 use Rattle.walkx.proofs.Firsts.{rank_parts, rank_there}
-use Rattle.walkx.proofs.GoingAlone.{goes_one, last_stays, stays_here, stays_load, stored_stays}
+use Rattle.walkx.proofs.GoingAlone.{goes_by, goes_one, last_stays, stays_at, stays_here, stays_load, stored_stays}
 use Rattle.walkx.proofs.Memories.{memo_other}
 
 -- ---- one processor
@@ -72,7 +73,45 @@ module _ (job : JobData) (i : ℕ) where
       there (Some instr) at load e before =
           stays_here job i memo 64 63 refl e before instr at (sym (stays_load job i memo instr at load))
 
+  -- so it does before a 64th step
+  pub at_64th : (memo : Memo) (instr : Instr) → slice_get job.code memo.own.counter ≡ Some instr →
+      (memo.step + 1) % 64 ≡ 0 → gone_on job i memo ≡ memo
+  at_64th memo instr some next = elim (cases_Bool (is_some memo.store)) [
+    | inl e ↦ stored_stays job i memo 64 e
+    | inr e ↦ elim (cases_lt memo.step job.steps) [
+      | inl before ↦ stays_here job i memo 64 63 refl e before instr some
+          (sym (stays_at job i memo instr some next))
+      | inr last ↦ last_stays job i memo 64 (omega (arith, last))
+    ]
+  ]
+
+  -- and, but under common, at a store
+  pub at_store : (memo : Memo) (instr : Instr) → slice_get job.code memo.own.counter ≡ Some instr →
+      is_common job.rule ≡ false →
+      is_some (cell_write job (asked_by job i memo.own (Some instr) 0).put) ≡ true →
+      gone_on job i memo ≡ memo
+  at_store memo instr some rule stores = elim (cases_Bool (is_some memo.store)) [
+    | inl e ↦ stored_stays job i memo 64 e
+    | inr e ↦ elim (cases_lt memo.step job.steps) [
+      | inl before ↦ stays_here job i memo 64 63 refl e before instr some
+          (goes_by job i memo instr some
+          ∙ rw rule (by (cell_write job (asked_by job i memo.own (Some instr) 0).put) _ stores))
+      | inr last ↦ last_stays job i memo 64 (omega (arith, last))
+    ]
+  ]
+    where
+      by : (w : Option (ℕ × ℕ)) (a : Bool) → is_some w ≡ true → (a && (false || is_none w)) ≡ false
+      by None a e = absurd (cc)
+      by (Some w) true e = refl
+      by (Some w) false e = refl
+
 -- ---- a list in which one is set
+
+pub set_there : (memory : List Memo) (i : ℕ) (m : Memo) → i < length memory →
+    memo_of (slice_set memory i m) i ≡ m
+set_there [] i m low = absurd (omega (arith, low))
+set_there (memo ∷ memory) zero m low = refl
+set_there (memo ∷ memory) (suc i) m low = set_there memory i m (omega (arith, low))
 
 set_swap : (memory : List Memo) (i j : ℕ) (a b : Memo) → (i ≡ j → ⊥) →
     slice_set (slice_set memory i a) j b ≡ slice_set (slice_set memory j b) i a

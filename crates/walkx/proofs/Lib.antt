@@ -59,3 +59,4 @@ pub mod FirstPass
 pub mod OwnKnown
 pub mod Kept
 pub mod AsFar
+pub mod AsOne

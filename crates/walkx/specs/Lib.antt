@@ -23,3 +23,4 @@ pub mod Playing
 pub mod Rests
 pub mod Passing
 pub mod Together
+pub mod AsOne

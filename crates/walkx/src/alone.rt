@@ -1,7 +1,7 @@
 //! A processor that neither reads a cell nor stores goes on alone.
 ghost use Rattle.std.specs.Prelude.{◌≡◌, ◌<◌, ℕ, false, true, slice_get, IfSome, Some};
 ghost use Rattle.walkx.specs.Inner.Posts.{IsLeafPost, processor_of};
-ghost use Rattle.walkx.specs.Memory.{goes_alone, gone_on, is_load, one_alone, own_alone};
+ghost use Rattle.walkx.specs.Memory.{goes_alone, gone_on, is_common, is_load, one_alone, own_alone};
 ghost use Rattle.walkx.specs.Together.{goes_as_far};
 
 use crate::memo::{Memo, Own, store_of};
@@ -36,7 +36,7 @@ pub(crate) fn go_on(leaf: &Leaf, memo: &mut Memo)
 
 // One step by its instruction, if it can.
 #[inline(always)]
-fn go_one(leaf: &Leaf, memo: &mut Memo, instr: &Instr) -> bool
+pub(crate) fn go_one(leaf: &Leaf, memo: &mut Memo, instr: &Instr) -> bool
     requires step { memo.old.step < leaf.now.job.steps }
     requires instr { slice_get leaf.now.job.code memo.old.own.counter ≡ Some instr.now }
     ensures value { result ≡ goes_alone leaf.now.job (processor_of leaf.now) memo.old }
@@ -71,6 +71,30 @@ pub(crate) fn go_one_at(leaf: &Leaf, memo: &mut Memo, counter: u32, instr: &Inst
         return false;
     }
     go_one(leaf, memo, instr)
+}
+
+/// Under crew and priority: it stands at this instruction, which is a store of its own, and stays.
+#[inline(always)]
+pub(crate) fn stays_at_store(leaf: &Leaf, memo: &Memo, counter: u32, instr: &Instr) -> bool
+    requires { slice_get leaf.now.job.code counter ≡ Some instr.now }
+    ensures { result ≡ true → gone_on leaf.now.job (processor_of leaf.now) memo.now ≡ memo.now }
+{
+    let _ = leaf.job();
+    if is_common(leaf) || memo.own.counter != counter {
+        return false;
+    }
+    store_of(leaf, turn_by(leaf, &memo.own, instr, 0)).is_some()
+}
+
+// No store is claimed.
+#[inline(always)]
+fn is_common(leaf: &Leaf) -> bool
+    ensures { result ≡ is_common leaf.now.job.rule }
+{
+    match leaf.rule() {
+        Rule::Common => true,
+        Rule::Priority | Rule::Crew => false,
+    }
 }
 
 /// It has nothing to do alone: it has a store to carry out, or is at the end, or stands at this

@@ -2,6 +2,7 @@
 #![tactic(auto)]
 
 mod alone;
+mod as_one;
 mod begins;
 mod carry;
 mod claim;

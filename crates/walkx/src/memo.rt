@@ -344,17 +344,21 @@ impl Memory {
         Ok(false)
     }
 
-    /// The processors of a block go on alone, as they do once the last one's task is done.
+    /// The processors of a block go on alone, as they do once the last one's task is done. Up to
+    /// which phase it then has nothing to do, by what is known of them.
     #[inline(always)]
-    pub fn go_on(&mut self, post: &Post)
+    pub fn go_on(&mut self, post: &Post) -> u64
         requires leaf { post.now.layout.leaves ≤ post.now.node }
         requires phase { post.now.phase ≤ 3 * post.now.job.steps }
-        ensures { self.new ≡ block_gone_on (grain post.now.layout) post.now.job post.now.layout
+        ensures gone { self.new ≡ block_gone_on (grain post.now.layout) post.now.job post.now.layout
             post.now.node 0 self.old }
+        ensures reach { result ≡ block_reach post.now.job post.now.layout post.now.node
+            post.now.phase self.new }
     {
+        post.limits_hold();
         match &mut self.memos {
             Some(memos) => go_on_all(post, memos.as_mut_slice()),
-            None => {}
+            None => reach_of_all(post, &[]),
         }
     }
 
@@ -366,11 +370,7 @@ impl Memory {
         ensures { result ≡ block_reach post.now.job post.now.layout post.now.node post.now.phase
             self.now }
     {
-        let first = post.first_processor() as usize;
-        let end = first + post.block_len() as usize;
-        let most = 3 * u64::from(post.job.steps());
-        post.phase
-            .max(least_reach(self.memos(), first, end, post.phase, most))
+        reach_of_all(post, self.memos())
     }
 
     // What is known of each processor, from the first one on.
@@ -446,6 +446,20 @@ impl Memory {
         }
         Ok(false)
     }
+}
+
+/// Up to which phase a block has nothing to do at the end of this one, this being known of its
+/// processors.
+pub(crate) fn reach_of_all(post: &Post, memos: &[Memo]) -> u64
+    requires { post.now.layout.leaves ≤ post.now.node }
+    ensures { result ≡ block_reach post.now.job post.now.layout post.now.node post.now.phase
+        memos.now }
+{
+    let first = post.first_processor() as usize;
+    let end = first + post.block_len() as usize;
+    let most = 3 * u64::from(post.job.steps());
+    post.phase
+        .max(least_reach(memos, first, end, post.phase, most))
 }
 
 // Up to which phase the processors from the first one up to this one have nothing to do, or up to

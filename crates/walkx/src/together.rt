@@ -4,16 +4,35 @@ ghost use Rattle.walkx.specs.Inner.Posts.{IsLeafPost, at_rank, processor_of};
 ghost use Rattle.walkx.specs.Memory.{gone_on, is_load, memo_of};
 ghost use Rattle.walkx.specs.Passing.{Spells};
 ghost use Rattle.walkx.specs.Together.{IsOnItsWay, gone_from};
+ghost use Rattle.walkx.specs.Walk.{block_reach};
 
 use crate::alone::{go_on, go_one_at, rests};
-use crate::memo::{Formed, Memo, Stand};
+use crate::as_one::go_as_one;
+use crate::memo::{Formed, Memo, Stand, reach_of_all};
 use crate::post::{Leaf, Post};
 use crate::request::fetch;
 use crate::wide_request::is_load;
 use pram_job::{Instr, Place, Rule};
 
-/// All go on, as far as each can.
-pub(crate) fn go_on_all(post: &Post, memos: &mut [Memo])
+/// All go on, as far as each can. Up to which phase the block then has nothing to do.
+pub(crate) fn go_on_all(post: &Post, memos: &mut [Memo]) -> u64
+    requires leaf { post.now.layout.leaves ≤ post.now.node }
+    requires phase { post.now.phase ≤ 3 * post.now.job.steps }
+    ensures gone { memos.new ≡ gone_from post.now 0 memos.old }
+    ensures reach { result ≡ block_reach post.now.job post.now.layout post.now.node post.now.phase
+        memos.new }
+{
+    match go_as_one(post, memos) {
+        Some(reach) => reach,
+        None => {
+            go_apart(post, memos);
+            reach_of_all(post, memos)
+        }
+    }
+}
+
+// Those that stand at one instruction in lockstep, and then each by itself.
+fn go_apart(post: &Post, memos: &mut [Memo])
     requires leaf { post.now.layout.leaves ≤ post.now.node }
     requires phase { post.now.phase ≤ 3 * post.now.job.steps }
     ensures { memos.new ≡ gone_from post.now 0 memos.old }

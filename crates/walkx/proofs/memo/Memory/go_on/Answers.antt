@@ -16,15 +16,23 @@ returns c =
           let items : w.in-Some.memos.items ≡ c.args.self.now = rw w.in-Some.is at c.self.view_is in
           let gone : w.go_on_all.new.memos ≡ block_gone_on (grain at.layout) at.job at.layout at.node
           0 c.args.self.now =
-          rw (w.go_on_all.ensures, all, w.as_mut_slice.ensures.value, items) refl in
+          rw (w.go_on_all.ensures.gone, all, w.as_mut_slice.ensures.value, items) refl in
           let long : length w.go_on_all.new.memos ≡ length w.in-Some.memos.items =
           rw (gone, items) (length_gone at.job at.layout at.node (grain at.layout) 0
           c.args.self.now) in
-          rw w.self-inside-is (with_items_is w.in-Some.memos w.go_on_all.new.memos
-          (omega (arith, long, w.in-Some.memos.ok)) ∙ gone))
+          let kept = with_items_is w.in-Some.memos w.go_on_all.new.memos
+          (omega (arith, long, w.in-Some.memos.ok)) in
+          record {
+            gone = rw w.self-inside-is (kept ∙ gone);
+            reach = rw (w.result-is, w.self-inside-is, kept) w.go_on_all.ensures.reach;
+          })
       | in-None w ↦ (
           let items : [] ≡ c.args.self.now = rw w.in-None.is at c.self.view_is in
-          rw w.self-inside-is c.self.view_is
-          ∙ subst (λ (memory : List Memo). memory ≡ block_gone_on (grain at.layout) at.job at.layout
-          at.node 0 memory) items (sym (none_known at.job at.layout at.node (grain at.layout) 0)))
+          record {
+            gone = rw w.self-inside-is c.self.view_is
+                ∙ subst (λ (memory : List Memo). memory ≡ block_gone_on (grain at.layout) at.job
+                at.layout at.node 0 memory) items
+                (sym (none_known at.job at.layout at.node (grain at.layout) 0));
+            reach = rw (w.result-is, w.self-inside-is, w.in-None.is) w.reach_of_all.ensures;
+          })
     ]

@@ -2,7 +2,7 @@ use Rattle.std.proofs.Common.{◌≡◌, true}
 use Rattle.std.specs.Prelude.{IfSome, slice_get}
 use Rattle.walkx.specs.Memory.{is_load}
 use Rattle.walkx.specs.Together.{gone_from}
-use Rattle.walkx.proofs.together.go_on_all.Given as goal
+use Rattle.walkx.proofs.together.go_apart.Given as goal
 
 -- what is left to go leads to the same, and the load is one
 abbrev pub invariant-loop-rank : goal.invariant-loop-rank

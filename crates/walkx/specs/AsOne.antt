@@ -1,0 +1,36 @@
+-- A block whose processors all stand at one instruction.
+use Rattle.std.specs.Prelude.{◌≡◌, ◌<◌, ◌≤◌, ℕ, true, false, is_some, slice_get, List, Some}
+use Rattle.pram_job.specs.Job.{JobData}
+use Rattle.pram_job.specs.declared.instr.Instr.{Instr}
+use Rattle.walkx.specs.declared.as_one.Together.{Together}
+use Rattle.walkx.specs.declared.memo.Memo.{Memo}
+use Rattle.walkx.specs.Inner.Posts.{PostData}
+use Rattle.walkx.specs.Memory.{gone_on, memo_of}
+use Rattle.walkx.specs.Walk.{has_rank, processor_at}
+
+-- a processor stands there, and acted in no later phase
+pub record IsAt (phase : ℕ) (at : Together) (memo : Memo) : Type 0 where
+  pub acted : memo.acted ≤ phase
+  pub counter : memo.own.counter ≡ at.counter
+  pub step : memo.step ≡ at.step
+  pub stored : is_some memo.store ≡ at.stored
+
+-- what is known of the processor of a rank
+abbrev pub memo_at : PostData → List Memo → ℕ → Memo
+memo_at post memory rank = memo_of memory (processor_at post.layout post.node rank)
+
+-- all stand there
+abbrev pub AllAt : PostData → Together → List Memo → Type 0
+AllAt post at memory = (rank : ℕ) → has_rank post.layout post.node rank ≡ true →
+    IsAt post.phase at (memo_at post memory rank)
+
+-- there this instruction is next, and they can go on
+abbrev pub Stands : JobData → Together → Instr → Type 0
+Stands job at instr = (slice_get job.code at.counter ≡ Some instr) × (at.step < job.steps)
+    × (at.stored ≡ false)
+
+-- all stay where they are
+abbrev pub AllStay : PostData → List Memo → Type 0
+AllStay post memory = (rank : ℕ) → has_rank post.layout post.node rank ≡ true →
+    gone_on post.job (processor_at post.layout post.node rank) (memo_at post memory rank)
+    ≡ memo_at post memory rank
