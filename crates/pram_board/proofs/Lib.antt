@@ -12,6 +12,7 @@ pub mod Due
 pub mod Telling
 pub mod Stepping
 pub mod Blocks
+pub mod Storing
 pub mod Working
 pub mod Remembering
 pub mod Tasks

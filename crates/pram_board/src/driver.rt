@@ -11,7 +11,7 @@ use pram_words::Kind;
 use std::mem;
 use stop_plan::Gate;
 use walkx::turns::{Turned, mark, turn};
-use walkx::{Formed, Leaf, Memory, Op, Post, Stand, Steps, Stopped, Worker};
+use walkx::{Claims, Formed, Leaf, Loads, Memory, Op, Post, Stand, Steps, Stopped, Worker};
 
 /// Makes the atomic steps of a worker on a board, passing the gate before each, and counts them.
 #[derive(Drop)]
@@ -48,12 +48,16 @@ impl<'a, G: Gate> Steps for Driver<'a, G> {
 }
 
 impl<'a, G: Gate> Driver<'a, G> {
-    ghost use Rattle.std.specs.Prelude.{◌≡◌, ◌<◌, ◌≤◌, ◌+◌, ◌%◌, ◌^◌, suc, None, false, true};
+    ghost use Rattle.std.specs.Prelude.{◌≡◌, ◌<◌, ◌≤◌, ◌+◌, ◌%◌, ◌^◌, suc, None, false, true, List};
+    ghost use Rattle.std.specs.Prelude.{◌≢◌, ℕ, slice_get};
     ghost use Rattle.walkx.specs.declared.operation.Op.TheVariants.{Load, Swap};
-    ghost use Rattle.walkx.specs.Inner.Posts.{IsLeafPost};
+    ghost use Rattle.walkx.specs.declared.memo.Memo.{Memo};
+    ghost use Rattle.walkx.specs.Inner.Posts.{IsLeafPost, at_rank, processor_of};
     ghost use Rattle.pram_words.specs.Phases.{kind_at};
-    ghost use Rattle.walkx.specs.Memory.{FitsMemory};
+    ghost use Rattle.walkx.specs.Memory.{FitsMemory, memo_of};
     ghost use Rattle.walkx.specs.Passing.{IsStand, Spells};
+    ghost use Rattle.walkx.specs.Storing.{AllStore, StoresPlainly};
+    ghost use Rattle.walkx.specs.Plain.{AllLoadBy, LoadsBy, AllClaimBy, ClaimsBy};
     ghost use Rattle.walkx.specs.Turns.{beginning, turning};
     ghost use Rattle.walkx.specs.Walk.{end_of, has_rank};
     ghost use Rattle.pram_board.specs.Worked.{Worked, Works};
@@ -62,7 +66,7 @@ impl<'a, G: Gate> Driver<'a, G> {
     ghost use Rattle.pram_board.specs.Seats.{IsLater, hears};
     ghost use Rattle.pram_board.specs.Inner.Plays.{WorkerGoesOn, Led, Moved, IsWalking, driving};
     ghost use Rattle.pram_board.specs.Inner.Plays.{AtPart, AtTask, DoneMore, DonePart, DoneTo};
-    ghost use Rattle.pram_board.specs.Inner.Plays.{PastTask, Tried};
+    ghost use Rattle.pram_board.specs.Inner.Plays.{Driving, PastTask, StoredTo, Swapped, Tried};
     ghost use Rattle.pram_board.specs.Inner.Plays.{in_block, led_to, next_turn, task_at};
     ghost use Rattle.pram_board.specs.Inner.Plays.{turning_at};
 
@@ -322,7 +326,7 @@ impl<'a, G: Gate> Driver<'a, G> {
     {
         match leaf.kind() {
             Kind::Compute => self.first_tasks(leaf, len, memory),
-            _ => self.other_tasks(leaf, len, memory),
+            _ => self.second_tasks(leaf, len, memory),
         }
     }
 
@@ -346,7 +350,23 @@ impl<'a, G: Gate> Driver<'a, G> {
         }
     }
 
-    // Those of another pass. A loop in a function of its own, and by a driver of its own, has what
+    // Those of another pass.
+    #[inline(always)]
+    fn second_tasks(&mut self, leaf: Leaf<'_>, len: u32, memory: &mut Memory)
+        requires at { AtTask leaf len (driving self.old) memory.old }
+        ensures same { self.new.seat.ghost_name ≡ self.old.seat.ghost_name }
+        ensures moved { Moved (task_at leaf.entry) (driving self.old)
+            (in_block leaf.entry leaf.entry.rank memory.old) (driving self.new)
+            (in_block leaf.entry len memory.new) }
+    {
+        if memory.stores_plainly(&leaf, len) {
+            self.plain_stores(leaf, len, memory)
+        } else {
+            self.other_tasks(leaf, len, memory)
+        }
+    }
+
+    // The same one by one. A loop in a function of its own, and by a driver of its own, has what
     // it uses in registers.
     #[inline(never)]
     fn other_tasks(&mut self, leaf: Leaf<'_>, len: u32, memory: &mut Memory)
@@ -370,6 +390,127 @@ impl<'a, G: Gate> Driver<'a, G> {
         self.made = driver.made;
         self.rest = driver.rest;
         driver.end();
+    }
+
+    // Those of the second pass under common, where all have stores that are remembered.
+    #[inline(never)]
+    fn plain_stores(&mut self, leaf: Leaf<'_>, len: u32, memory: &mut Memory)
+        requires at { AtTask leaf len (driving self.old) memory.old }
+        requires stores { AllStore leaf len memory.old }
+        ensures same { self.new.seat.ghost_name ≡ self.old.seat.ghost_name }
+        ensures moved { Moved (task_at leaf.entry) (driving self.old)
+            (in_block leaf.entry leaf.entry.rank memory.old) (driving self.new)
+            (in_block leaf.entry len memory.new) }
+    {
+        let mut leaf = leaf;
+        loop {
+            let last = self.stores(leaf, len, memory);
+            if last.rank() + 1 == len {
+                return;
+            }
+            leaf = last.next();
+        }
+    }
+
+    // Those from the leaf's processor up to the first that finds another value, which is reported:
+    // the leaf of the last of them.
+    #[inline(always)]
+    fn stores<'b>(&mut self, leaf: Leaf<'b>, len: u32, memory: &mut Memory) -> Leaf<'b>
+        requires at { AtTask leaf len (driving self.old) memory.old }
+        requires stores { AllStore leaf len memory.old }
+        ensures same { self.new.seat.ghost_name ≡ self.old.seat.ghost_name }
+        ensures leaf { result ≡ at_rank leaf.entry result.rank }
+        ensures done { DoneTo leaf.entry len (driving self.old) memory.old result.rank
+            (driving self.new) memory.new }
+        ensures stores { AllStore (at_rank result (suc result.rank)) len memory.new }
+    {
+        let (last, other) = self.store_apart(leaf, len, memory);
+        if other {
+            self.report(&last);
+            return last;
+        }
+        last
+    }
+
+    // The same but for the report, by a driver of its own: and whether another value was found.
+    #[inline(always)]
+    fn store_apart<'b>(&mut self, leaf: Leaf<'b>, len: u32, memory: &mut Memory) -> (Leaf<'b>, bool)
+        requires at { AtTask leaf len (driving self.old) memory.old }
+        requires stores { AllStore leaf len memory.old }
+        ensures same { self.new.seat.ghost_name ≡ self.old.seat.ghost_name }
+        ensures stored { StoredTo leaf.entry len (driving self.old) memory.old result
+            (driving self.new) memory.new }
+    {
+        let mut driver = Driver {
+            board: self.board,
+            seat: self.seat,
+            gate: self.gate,
+            worker: self.worker,
+            made: self.made,
+            rest: self.rest,
+        };
+        let mut own = mem::replace(memory, Memory::none());
+        let last = driver.store_on(leaf, len, &mut own);
+        *memory = own;
+        self.made = driver.made;
+        self.rest = driver.rest;
+        driver.end();
+        last
+    }
+
+    // The same by this driver.
+    #[inline(always)]
+    fn store_on<'b>(&mut self, leaf: Leaf<'b>, len: u32, memory: &mut Memory) -> (Leaf<'b>, bool)
+        requires at { AtTask leaf len (driving self.old) memory.old }
+        requires stores { AllStore leaf len memory.old }
+        ensures same { self.new.seat.ghost_name ≡ self.old.seat.ghost_name }
+        ensures stored { StoredTo leaf.entry len (driving self.old) memory.old result
+            (driving self.new) memory.new }
+    {
+        let mut leaf = leaf;
+        loop {
+            let other = self.store_at(&leaf, memory);
+            if other {
+                return (leaf, other);
+            }
+            if leaf.rank() + 1 == len {
+                return (leaf, other);
+            }
+            leaf = leaf.next();
+        }
+    }
+
+    // The second pass of the leaf's processor, whose store is remembered, but for the report:
+    // whether another value was found.
+    #[inline(always)]
+    fn store_at(&mut self, leaf: &Leaf, memory: &mut Memory) -> bool
+        requires at { AtPart leaf.now (driving self.old) memory.old }
+        requires store { StoresPlainly leaf.now (memo_of memory.old (processor_of leaf.now)) }
+        ensures same { self.new.seat.ghost_name ≡ self.old.seat.ghost_name }
+        ensures swapped { Swapped leaf.now (driving self.old) memory.old result (driving self.new)
+            memory.new }
+    {
+        match memory.swap_store(self, leaf) {
+            Ok(other) => {
+                self.seat.facts();
+                other
+            }
+            Err(_) => unreachable!(),
+        }
+    }
+
+    // Another value was found: the step is reported.
+    #[inline(never)]
+    fn report(&mut self, leaf: &Leaf)
+        requires found { (before : Driving) × (memory : List Memo) × (now : List Memo)
+            × Swapped leaf.now before memory true (driving self.old) now }
+        ensures same { self.new.seat.ghost_name ≡ self.old.seat.ghost_name }
+        ensures reported { (before : Driving) (memory now : List Memo) →
+            Swapped leaf.now before memory true (driving self.old) now →
+            Swapped leaf.now before memory false (driving self.new) now }
+    {
+        let _ = self.step(leaf.reporting());
+        self.seat.facts();
     }
 
     // The tasks of a block of this length, from the leaf's processor on, one by one.
@@ -401,34 +542,191 @@ impl<'a, G: Gate> Driver<'a, G> {
         ensures done { DoneTo leaf.now len (driving self.old) memory.old result
             (driving self.new) memory.new }
     {
-        let stand = memory.stand(leaf);
-        self.part(leaf, memory);
-        match stand {
-            Some(stand) => self.more_tasks(leaf, len, memory, stand),
-            None => leaf.rank(),
+        if let Some(stand) = memory.stand(leaf) {
+            if self.has_more(leaf, len, memory, stand) {
+                return self.stand_tasks(leaf, len, memory, stand);
+            }
         }
+        self.part(leaf, memory);
+        leaf.rank()
     }
 
-    // That of the next ones, after this leaf's, that stand at this instruction: the rank of the
-    // last of them. Loops by form are entered for two or more.
+    // The next one, too, is known to stand at this instruction. Loops are entered for two or more.
     #[inline(always)]
-    fn more_tasks(&mut self, leaf: &Leaf, len: u32, memory: &mut Memory, stand: Stand<'_>) -> u32
-        requires past { PastTask leaf.now len (driving self.old) memory.old }
+    fn has_more(&self, leaf: &Leaf, len: u32, memory: &Memory, stand: Stand<'_>) -> bool
+        requires at { AtTask leaf.now len (driving self.now) memory.now }
+        requires stand { IsStand leaf.now stand.counter stand.instr.now }
+    {
+        leaf.rank() + 1 < len && memory.stands_at(&leaf.next(), stand)
+    }
+
+    // The first pass of the leaf's processor and of the next ones, which are known to stand at this
+    // instruction: the rank of the last of them.
+    #[inline(always)]
+    fn stand_tasks(&mut self, leaf: &Leaf, len: u32, memory: &mut Memory, stand: Stand<'_>) -> u32
+        requires at { AtTask leaf.now len (driving self.old) memory.old }
         requires stand { IsStand leaf.now stand.counter stand.instr.now }
         ensures same { self.new.seat.ghost_name ≡ self.old.seat.ghost_name }
-        ensures done { DoneMore leaf.now len (driving self.old) memory.old result
+        ensures done { DoneTo leaf.now len (driving self.old) memory.old result
             (driving self.new) memory.new }
     {
-        let rank = leaf.rank();
-        if rank + 1 < len && memory.stands_at(&leaf.next(), stand) {
-            self.run_form(leaf, len, memory, stand)
-        } else {
-            rank
+        match *stand.instr {
+            Instr::Ld(..) => self.load_tasks(leaf, len, memory, stand),
+            Instr::St(..) => self.claim_tasks(leaf, len, memory, stand),
+            _ => self.form_tasks(leaf, len, memory, stand),
         }
     }
 
-    // The same. Each form that has a row here has a loop of its own, in which no other is looked
-    // at.
+    // The same, by forms of instructions.
+    #[inline(never)]
+    fn form_tasks(&mut self, leaf: &Leaf, len: u32, memory: &mut Memory, stand: Stand<'_>) -> u32
+        requires at { AtTask leaf.now len (driving self.old) memory.old }
+        requires stand { IsStand leaf.now stand.counter stand.instr.now }
+        ensures same { self.new.seat.ghost_name ≡ self.old.seat.ghost_name }
+        ensures done { DoneTo leaf.now len (driving self.old) memory.old result
+            (driving self.new) memory.new }
+    {
+        self.part(leaf, memory);
+        self.run_form(leaf, len, memory, stand)
+    }
+
+    // The same, by a driver and a memory of its own where all in the block load plainly: so what the
+    // loop uses is in registers.
+    #[inline(never)]
+    fn load_tasks(&mut self, leaf: &Leaf, len: u32, memory: &mut Memory, stand: Stand<'_>) -> u32
+        requires at { AtTask leaf.now len (driving self.old) memory.old }
+        requires stand { IsStand leaf.now stand.counter stand.instr.now }
+        ensures same { self.new.seat.ghost_name ≡ self.old.seat.ghost_name }
+        ensures done { DoneTo leaf.now len (driving self.old) memory.old result
+            (driving self.new) memory.new }
+    {
+        let Some(loads) = memory.plain_loads(leaf, len, stand) else {
+            return self.form_tasks(leaf, len, memory, stand);
+        };
+        let mut driver = Driver {
+            board: self.board,
+            seat: self.seat,
+            gate: self.gate,
+            worker: self.worker,
+            made: self.made,
+            rest: self.rest,
+        };
+        let mut own = mem::replace(memory, Memory::none());
+        let last = driver.load_all(leaf.again(), len, &mut own, &loads);
+        *memory = own;
+        self.made = driver.made;
+        self.rest = driver.rest;
+        driver.end();
+        last
+    }
+
+    // The first pass of all from the leaf's on, which load plainly: the rank of the last of them.
+    #[inline(always)]
+    fn load_all(&mut self, leaf: Leaf<'_>, len: u32, memory: &mut Memory, loads: &Loads) -> u32
+        requires at { AtTask leaf len (driving self.old) memory.old }
+        requires plain { AllLoadBy leaf len memory.old loads.now }
+        ensures same { self.new.seat.ghost_name ≡ self.old.seat.ghost_name }
+        ensures done { DoneTo leaf.entry len (driving self.old) memory.old result
+            (driving self.new) memory.new }
+    {
+        let mut leaf = leaf;
+        loop {
+            self.load_part(&leaf, memory, loads);
+            let rank = leaf.rank();
+            if rank + 1 == len {
+                return rank;
+            }
+            leaf = leaf.next();
+        }
+    }
+
+    // The first pass of the leaf's processor, which loads plainly.
+    #[inline(always)]
+    fn load_part(&mut self, leaf: &Leaf, memory: &mut Memory, loads: &Loads)
+        requires at { AtPart leaf.now (driving self.old) memory.old }
+        requires plain { LoadsBy leaf.now memory.old loads.now }
+        ensures same { self.new.seat.ghost_name ≡ self.old.seat.ghost_name }
+        ensures done { DonePart leaf.now (driving self.old) memory.old (driving self.new)
+            memory.new }
+        ensures others { (i : ℕ) → i ≢ processor_of leaf.now →
+            memo_of memory.new i ≡ memo_of memory.old i }
+    {
+        match memory.take_load(self, leaf, loads) {
+            Ok(()) => self.seat.facts(),
+            Err(_) => unreachable!(),
+        }
+    }
+
+    // The same, by a driver and a memory of its own where all in the block claim plainly: so what the
+    // loop uses is in registers.
+    #[inline(never)]
+    fn claim_tasks(&mut self, leaf: &Leaf, len: u32, memory: &mut Memory, stand: Stand<'_>) -> u32
+        requires at { AtTask leaf.now len (driving self.old) memory.old }
+        requires stand { IsStand leaf.now stand.counter stand.instr.now }
+        ensures same { self.new.seat.ghost_name ≡ self.old.seat.ghost_name }
+        ensures done { DoneTo leaf.now len (driving self.old) memory.old result
+            (driving self.new) memory.new }
+    {
+        let Some(claims) = memory.plain_claims(leaf, len, stand) else {
+            return self.form_tasks(leaf, len, memory, stand);
+        };
+        let mut driver = Driver {
+            board: self.board,
+            seat: self.seat,
+            gate: self.gate,
+            worker: self.worker,
+            made: self.made,
+            rest: self.rest,
+        };
+        let mut own = mem::replace(memory, Memory::none());
+        let last = driver.claim_all(leaf.again(), len, &mut own, &claims);
+        *memory = own;
+        self.made = driver.made;
+        self.rest = driver.rest;
+        driver.end();
+        last
+    }
+
+    // The first pass of all from the leaf's on, which claim plainly: the rank of the last of them.
+    #[inline(always)]
+    fn claim_all(&mut self, leaf: Leaf<'_>, len: u32, memory: &mut Memory, claims: &Claims) -> u32
+        requires at { AtTask leaf len (driving self.old) memory.old }
+        requires plain { AllClaimBy leaf len memory.old claims.now }
+        ensures same { self.new.seat.ghost_name ≡ self.old.seat.ghost_name }
+        ensures done { DoneTo leaf.entry len (driving self.old) memory.old result
+            (driving self.new) memory.new }
+    {
+        let mut leaf = leaf;
+        loop {
+            self.claim_part(&leaf, memory, claims);
+            let rank = leaf.rank();
+            if rank + 1 == len {
+                return rank;
+            }
+            leaf = leaf.next();
+        }
+    }
+
+    // The first pass of the leaf's processor, which claims plainly.
+    #[inline(always)]
+    fn claim_part(&mut self, leaf: &Leaf, memory: &mut Memory, claims: &Claims)
+        requires at { AtPart leaf.now (driving self.old) memory.old }
+        requires plain { ClaimsBy leaf.now memory.old claims.now }
+        ensures same { self.new.seat.ghost_name ≡ self.old.seat.ghost_name }
+        ensures done { DonePart leaf.now (driving self.old) memory.old (driving self.new)
+            memory.new }
+        ensures others { (i : ℕ) → i ≢ processor_of leaf.now →
+            slice_get memory.new i ≡ slice_get memory.old i }
+    {
+        match memory.take_claim(self, leaf, claims) {
+            Ok(()) => self.seat.facts(),
+            Err(_) => unreachable!(),
+        }
+    }
+
+    // The first pass of the next ones, after this leaf's, that stand at this instruction: the rank of
+    // the last of them. Each form that has a row here has a loop of its own, in which no other is
+    // looked at.
     #[inline(always)]
     fn run_form(&mut self, leaf: &Leaf, len: u32, memory: &mut Memory, stand: Stand<'_>) -> u32
         requires past { PastTask leaf.now len (driving self.old) memory.old }

@@ -73,6 +73,7 @@ impl Rest {
     /// A phase begins: the rest before it, if the last one was in vain.
     pub(crate) fn take(&mut self, phase: u64)
         ensures most { self.new.pauses ≤ 1024 }
+        ensures looks { self.new.patience ≡ 128 }
     {
         self.phase = phase;
         self.patience = LOOKS;
@@ -91,30 +92,32 @@ impl Rest {
     pub(crate) fn keep_off(&mut self, board: &Board, node: u32, memory: &Memory)
         requires some { 1 ≤ node }
         requires most { node < 2 * board.now.task.layout.leaves }
+        ensures { self.new.patience ≤ self.old.patience }
     {
         let layout = &board.task().layout;
         if layout.leaves() <= node
             && !knows(layout, memory, node, self.phase)
             && is_anothers(layout, self.worker, node)
         {
-            self.wait(board, node);
+            self.patience = wait(board, node, self.phase, self.patience);
         }
     }
+}
 
-    // Until the leaf is finished, or the worker has waited long enough in the phase.
-    #[inline(never)]
-    fn wait(&mut self, board: &Board, node: u32)
-        requires some { 1 ≤ node }
-        requires most { node < 2 * board.now.task.layout.leaves }
-    {
-        for _ in 0..self.patience {
-            if self.phase <= board.peek(node) {
-                return;
-            }
-            pause(BETWEEN);
-            self.patience = self.patience.saturating_sub(1);
+// Until the leaf is finished, or the worker has looked so often: how many looks are left.
+#[inline(never)]
+fn wait(board: &Board, node: u32, phase: u64, looks: u32) -> u32
+    requires some { 1 ≤ node }
+    requires most { node < 2 * board.now.task.layout.leaves }
+    ensures { result ≤ looks }
+{
+    for made in 0..looks {
+        if phase <= board.peek(node) {
+            return looks - made;
         }
+        pause(BETWEEN);
     }
+    0
 }
 
 // So many pauses of the processor.
@@ -134,10 +137,14 @@ fn knows(layout: &Layout, memory: &Memory, node: u32, phase: u64) -> bool
     phase <= 3 * u64::from(memory.memo(first).step) + 1
 }
 
-// The form is wide, and the leaf lies in no share of this worker. Where there are more workers than
-// leaves, those beyond have none.
+// The form is wide, and the leaf lies in no share of this worker.
 fn is_anothers(layout: &Layout, worker: u32, node: u32) -> bool {
+    layout.form() != Form::Compact && !is_in_share(layout, worker, node)
+}
+
+// The leaf lies in the share of this worker. Where there are more workers than leaves, those beyond
+// have none.
+fn is_in_share(layout: &Layout, worker: u32, node: u32) -> bool {
     let share = (layout.leaves() / layout.workers().next_power_of_two()).max(1);
-    layout.form() != Form::Compact
-        && (layout.leaves() <= worker || node / share != layout.first_leaf(worker) / share)
+    worker < layout.leaves() && node / share == layout.first_leaf(worker) / share
 }

@@ -71,9 +71,9 @@ impl Board {
         stay
     }
 
-    /// A memory for a worker of the board, 64 bytes for each processor, of which nothing is
-    /// known yet. In the compact form, which has no use for one, it is empty, and so it is where
-    /// there is no memory left: then the worker loads what it does not remember.
+    /// A memory for a worker of the board, 4 KB for each 64 processors, of which nothing is known
+    /// yet. In the compact form, which has no use for one, it is empty, and so it is where there is
+    /// no memory left: then the worker loads what it does not remember.
     pub fn worker_memory(&self, alloc: Global) -> Memory
         ensures { result ≡ blank (length result) }
     {

@@ -1,6 +1,7 @@
 pub mod Blocks
 pub mod Halvings
 pub mod NextPhases
+pub mod NoLater
 pub mod Numbering
 pub mod Starts
 pub mod Ways

@@ -18,6 +18,6 @@ pub use laws::{
 };
 pub use layout::{Form, Layout, OwnWords};
 pub use phases::{Kind, LAST_PHASE, kind_of, phase, step_of};
-pub use stamps::{newer, newer_payload, older, payload, stamp, stamped};
+pub use stamps::{first_is_older, newer, newer_payload, older, payload, stamp, stamped};
 pub use tree::{first_leaf, goes_right, height, leaves, left, parent, right};
 pub use words::Word;

@@ -1,7 +1,7 @@
 //! Stamped words: the number of a step above a payload, in one word.
 ghost use Rattle.std.specs.Prelude.{◌≡◌};
 ghost use Rattle.pram_words.specs.Stamps.{stamped_word, stamp_of, payload_of};
-ghost use Rattle.pram_words.specs.Stamps.{newer_payload, newer_word, older};
+ghost use Rattle.pram_words.specs.Stamps.{first_is_older, newer_payload, newer_word, older};
 
 /// The word with this stamp in its upper 32 bits and this payload in its lower 32. Words compare by
 /// their stamps first.
@@ -25,6 +25,15 @@ pub fn payload(word: u64) -> u32
     (word % 0x1_0000_0000) as u32
 }
 
+/// Of the two words of a place the first is the older one, or both have one stamp.
+#[inline(always)]
+#[tactic(auto, using(crate::proofs::NoLater::no_later))]
+pub fn first_is_older(first: u64, second: u64) -> bool
+    ensures { result ≡ first_is_older first second }
+{
+    first <= second | 0xffff_ffff
+}
+
 /// The number of the older of the two words of a place, 0 or 1. Of equal stamps the first is older.
 #[inline(always)]
 pub fn older(first: u64, second: u64) -> u32
@@ -38,7 +47,7 @@ pub fn older(first: u64, second: u64) -> u32
 pub fn newer(first: u64, second: u64) -> u64
     ensures { result ≡ newer_word first second }
 {
-    if stamp(first) <= stamp(second) {
+    if first_is_older(first, second) {
         second
     } else {
         first

@@ -2,21 +2,22 @@
 use Rattle.std.proofs.Common.{◌≡◌, ℕ, zero, suc, ◌+◌, ◌-◌, ◌%◌, ◌<◌, ◌≤◌, ◌&&◌, Bool}
 use Rattle.std.proofs.Common.{true, false, not, List, [], ◌∷◌, length, slice_get, Option, Some, None}
 use Rattle.std.proofs.Common.{refl, sym, ap, subst, ◌∙◌, inl, inr, arith}
-use Rattle.std.specs.Prelude.{◌||◌, is_none, is_some, nat_le, slice_set}
+use Rattle.std.specs.Prelude.{◌||◌, is_none, is_some, nat_le, slice_set, unwrap_or}
 use Rattle.std.proofs.lemmas.Bool.{cases_Bool, cases_lt, eq-eqb}
+use Rattle.std.proofs.lemmas.Option.{slice_get_within}
 use Rattle.pram_job.specs.declared.instr.Instr.{Instr}
 use Rattle.pram_job.specs.Job.{JobData}
 use Rattle.pram_words.specs.Words.{LayoutData, grain}
 use Rattle.walkx.specs.declared.memo.Memo.{Memo}
 use Rattle.walkx.specs.Inner.Posts.{PostData}
 use Rattle.walkx.specs.Memory.{goes_alone, goes_on_alone, gone_on, has_stopped, is_load, memo_of}
-use Rattle.walkx.specs.Memory.{asked_by, is_common, one_alone}
+use Rattle.walkx.specs.Memory.{asked_by, at_start, is_common, one_alone}
 use Rattle.walkx.specs.OwnWrites.{cell_write}
 use Rattle.walkx.specs.Together.{IsOnItsWay, goes_as_far, gone_from}
 use Rattle.walkx.specs.Walk.{block_gone_on, has_rank, processor_at}
 use Rattle.walkx.proofs.Firsts.{rank_parts, rank_there}
 use Rattle.walkx.proofs.GoingAlone.{goes_by, goes_one, last_stays, stays_at, stays_here, stays_load, stored_stays}
-use Rattle.walkx.proofs.Memories.{memo_other}
+use Rattle.walkx.proofs.Memories.{memo_again, memo_other}
 
 -- ---- one processor
 
@@ -112,6 +113,24 @@ pub set_there : (memory : List Memo) (i : ℕ) (m : Memo) → i < length memory 
 set_there [] i m low = absurd (omega (arith, low))
 set_there (memo ∷ memory) zero m low = refl
 set_there (memo ∷ memory) (suc i) m low = set_there memory i m (omega (arith, low))
+
+-- what is known of one goes on, and is kept
+pub way_kept : (job : JobData) (i : ℕ) (before after : List Memo) (memo learned : Memo) →
+    slice_get before i ≡ Some memo → after ≡ slice_set before i learned →
+    goes_as_far job i memo learned → IsOnItsWay job i before after
+way_kept job i before after memo learned is kept far =
+    let known : memo_of before i ≡ memo = ap (λ (o : Option Memo). unwrap_or o at_start) is in
+    let there : memo_of after i ≡ learned =
+    ap (λ (memory : List Memo). memo_of memory i) kept
+    ∙ set_there before i learned (slice_get_within before i memo is) in (
+      kept ∙ ap (λ (m : Memo). slice_set before i m) (sym there),
+      ap (λ (m : Memo). gone_on job i m) there
+          ∙ (far ∙ ap (λ (m : Memo). gone_on job i m) (sym known)),
+    )
+
+-- none goes on
+pub way_none : (job : JobData) (i : ℕ) (memory : List Memo) → IsOnItsWay job i memory memory
+way_none job i memory = (sym (memo_again memory i), refl)
 
 set_swap : (memory : List Memo) (i j : ℕ) (a b : Memo) → (i ≡ j → ⊥) →
     slice_set (slice_set memory i a) j b ≡ slice_set (slice_set memory j b) i a

@@ -1,19 +1,17 @@
--- A block that stands together: how it stays, how far it has nothing to do, and a step of one of its
--- processors.
+-- A block that stands together: how it stays, and how far it has nothing to do.
 use Rattle.std.proofs.Common.{◌≡◌, ℕ, zero, suc, ◌-◌, ◌*◌, ◌<◌, ◌≤◌, true, List}
-use Rattle.std.proofs.Common.{refl, sym, ap, ◌∙◌, inl, inr, arith}
-use Rattle.std.specs.Prelude.{min, max, if◌then◌else◌}
-use Rattle.std.proofs.lemmas.Bool.{cases_Bool, le-leb}
+use Rattle.std.proofs.Common.{refl, sym, ap, inl, inr, arith}
+use Rattle.std.specs.Prelude.{min, max}
+use Rattle.std.proofs.lemmas.Bool.{cases_Bool}
 use Rattle.pram_words.specs.Words.{LayoutData, grain}
-use Rattle.walkx.specs.declared.as_one.Together.{Together}
 use Rattle.walkx.specs.declared.memo.Memo.{Memo}
-use Rattle.walkx.specs.AsOne.{AllAt, AllStay, memo_at}
+use Rattle.walkx.specs.AsOne.{AllStay, memo_at}
 use Rattle.walkx.specs.Inner.Posts.{PostData}
-use Rattle.walkx.specs.Together.{IsOnItsWay, gone_from}
+use Rattle.walkx.specs.Together.{gone_from}
 use Rattle.walkx.specs.Walk.{block_gone_on, block_reach, has_rank, least_reach, processor_at}
 use Rattle.walkx.specs.Walk.{reach_from_phase}
 use Rattle.walkx.proofs.Firsts.{rank_parts}
-use Rattle.walkx.proofs.Memories.{memo_again, memo_other}
+use Rattle.walkx.proofs.Memories.{memo_again}
 
 module _ (post : PostData) (memory : List Memo) where
   abbrev y : LayoutData
@@ -36,8 +34,7 @@ module _ (post : PostData) (memory : List Memo) where
   stays_all stay = none_goes_on (grain y - 0) 0 stay
 
   -- how far
-  module _ (at : Together) (all : AllAt post at memory) (r : ℕ)
-      (same : (rank : ℕ) → has_rank y n rank ≡ true →
+  module _ (r : ℕ) (same : (rank : ℕ) → has_rank y n rank ≡ true →
       reach_from_phase post.phase (memo_at post memory rank) ≡ r) (most : r ≤ 3 * post.job.steps) where
     not_less : (more rank : ℕ) → min r (least_reach more post.job y n post.phase rank memory) ≡ r
     not_less zero rank = omega (arith, most)
@@ -52,32 +49,3 @@ module _ (post : PostData) (memory : List Memo) where
         from : (g : ℕ) → 0 < g → least_reach g post.job y n post.phase 0 memory ≡ r
         from zero none = absurd (omega (arith, none))
         from (suc more) some = rw (there, same 0 there) (not_less more 1)
-
--- up to which phase one has nothing to do that stands there
-abbrev pub reach_of : Together → ℕ
-reach_of at = if at.stored then 3 * at.step - 2 else 3 * at.step
-
-pub reach_all : (post : PostData) (at : Together) (memory : List Memo) → AllAt post at memory →
-    at.step ≤ post.job.steps → has_rank post.layout post.node 0 ≡ true →
-    max post.phase (reach_of at) ≡ block_reach post.job post.layout post.node post.phase memory
-reach_all post at memory all low there = reach_is post memory at all (reach_of at) here most there
-  where
-    here : (rank : ℕ) → has_rank post.layout post.node rank ≡ true →
-        reach_from_phase post.phase (memo_at post memory rank) ≡ reach_of at
-    here rank e = (let is = all rank e in
-        rw (le-leb (memo_at post memory rank).acted post.phase is.acted, is.stored, is.step) refl)
-
-    most : reach_of at ≤ 3 * post.job.steps
-    most = elim (cases_Bool at.stored) [
-      | inl e ↦ rw e (omega (arith, low))
-      | inr e ↦ rw e (omega (arith, low))
-    ]
-
--- a step of one leaves the others
-pub other_stays : (post : PostData) (rank r : ℕ) (before after : List Memo) →
-    IsOnItsWay post.job (processor_at post.layout post.node rank) before after → (rank ≡ r → ⊥) →
-    memo_at post after r ≡ memo_at post before r
-other_stays post rank r before after way other =
-    ap (λ (memory : List Memo). memo_at post memory r) way.0
-    ∙ memo_other before (processor_at post.layout post.node rank)
-    (processor_at post.layout post.node r) _ (λ e. other (omega (arith, e)))

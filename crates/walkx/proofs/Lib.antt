@@ -45,6 +45,7 @@ pub mod Halted
 pub mod Shaped
 pub mod Idling
 pub mod Memories
+pub mod Lanes
 pub mod Nodes
 pub mod PassingOver
 pub mod Loaded
@@ -59,4 +60,11 @@ pub mod FirstPass
 pub mod OwnKnown
 pub mod Kept
 pub mod AsFar
+pub mod Ways
 pub mod AsOne
+pub mod InLanes
+pub mod RowGone
+pub mod Storing
+pub mod Plainly
+mod Placed
+pub mod PlainClaims

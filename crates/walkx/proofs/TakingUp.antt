@@ -1,6 +1,6 @@
 -- A task that is done with what is remembered of its processor.
 use Rattle.std.proofs.Common.{◌≡◌, ℕ, suc, true, false, List, Some, Ok, Result}
-use Rattle.std.proofs.Common.{refl, sym, subst, ◌∙◌, slice_get}
+use Rattle.std.proofs.Common.{Bool, refl, sym, ap, subst, ◌∙◌, slice_get}
 use Rattle.std.specs.Prelude.{slice_set}
 use Rattle.std.proofs.lemmas.Bool.{eq-eqb}
 use Rattle.pram_job.specs.declared.instr.Instr.{Instr}
@@ -16,10 +16,11 @@ use Rattle.walkx.specs.Inner.Posts.{PostData, processor_of, step_of}
 use Rattle.walkx.specs.Memory.{is_past, memo_of}
 use Rattle.walkx.specs.Parts.{does_wide, does_wide_in}
 use Rattle.walkx.specs.Passes.{carry_task, crew_carry_task, priority_carry_task, wide_task_of}
-use Rattle.walkx.specs.Passing.{Passes, TakesUp, idle, idle_in}
+use Rattle.walkx.specs.Passing.{Passes, TakesUp, TakesUpIf, idle, idle_in}
 use Rattle.walkx.specs.Scripts.{Script}
 use Rattle.walkx.specs.Walk.{Then}
 use Rattle.walkx.specs.WideParts.{does_own_by}
+use Rattle.walkx.proofs.Memories.{memo_again}
 use Rattle.walkx.proofs.OwnKnown.{known_does, stands_does}
 use Rattle.walkx.proofs.Passes.{next_as, plays_as}
 use Rattle.walkx.proofs.Resting.{not_past}
@@ -111,3 +112,11 @@ module _ (at : PostData) (memory : List Memo) (memo : Memo) (is : memo ≡ memo_
         on = λ from late next here. subst (λ (s : Script Then). stands from old (Some s))
             (past_carries past late next) here;
       })
+
+  -- what is past asks nothing; else nothing is done
+  pub past_if : {D : Type 0} (stands : Standing D) (old : D) (past : Bool) →
+      is_past at.phase memo ≡ past → TakesUpIf stands at old memory old memory (Ok past)
+  past_if stands old true past = past_takes stands old memory
+      (sym (memo_again memory (processor_of at))
+      ∙ ap (slice_set memory (processor_of at)) (sym is)) past
+  past_if stands old false past = (refl, refl)

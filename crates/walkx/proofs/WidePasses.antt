@@ -14,7 +14,6 @@ use Rattle.walkx.specs.Passes.{task_in, wide_task_of, own_task, own_claim_task, 
 use Rattle.walkx.specs.Passes.{crew_carry_task, priority_carry_task}
 use Rattle.walkx.specs.Scripts.{Script}
 use Rattle.walkx.specs.WideParts.{does_own, does_store}
-use Rattle.walkx.specs.WideParts.{does_crew_store, does_priority_store}
 use Rattle.walkx.specs.Walk.{Then}
 use Rattle.walkx.proofs.Timing.{compute_is}
 
@@ -59,21 +58,11 @@ module _ (at : PostData) (memo : Memo) (late : Script Then) (next : Memo → Scr
       by Priority e = rw (e, same) refl
       by Crew e = rw (e, same) refl
 
-  pub carry_common : (r : Rule) → r ≡ Common → does_by r Verify ≡ does_store at memo late next
-  unfolding wide_task_of carry_task
-  carry_common Common is = refl
-  carry_common Priority is = absurd (cc)
-  carry_common Crew is = absurd (cc)
-
-  pub carry_priority : (r : Rule) → r ≡ Priority →
-      does_by r Verify ≡ does_priority_store at memo late next
-  unfolding wide_task_of priority_carry_task
-  carry_priority Common is = absurd (cc)
-  carry_priority Priority is = refl
-  carry_priority Crew is = absurd (cc)
-
-  pub carry_crew : (r : Rule) → r ≡ Crew → does_by r Verify ≡ does_crew_store at memo late next
-  unfolding wide_task_of crew_carry_task
-  carry_crew Common is = absurd (cc)
-  carry_crew Priority is = absurd (cc)
-  carry_crew Crew is = refl
+  pub carry_is : does_by at.job.rule Verify ≡ does_store at memo late next
+  unfolding wide_task_of carry_task priority_carry_task crew_carry_task
+  carry_is = by at.job.rule refl
+    where
+      by : (r : Rule) → at.job.rule ≡ r → does_by at.job.rule Verify ≡ does_store at memo late next
+      by Common e = rw e refl
+      by Priority e = rw e refl
+      by Crew e = rw e refl

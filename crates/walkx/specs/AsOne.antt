@@ -1,5 +1,5 @@
 -- A block whose processors all stand at one instruction.
-use Rattle.std.specs.Prelude.{◌≡◌, ◌<◌, ◌≤◌, ℕ, true, false, is_some, slice_get, List, Some}
+use Rattle.std.specs.Prelude.{◌≡◌, ◌<◌, ℕ, true, false, slice_get, List, Some}
 use Rattle.pram_job.specs.Job.{JobData}
 use Rattle.pram_job.specs.declared.instr.Instr.{Instr}
 use Rattle.walkx.specs.declared.as_one.Together.{Together}
@@ -8,21 +8,9 @@ use Rattle.walkx.specs.Inner.Posts.{PostData}
 use Rattle.walkx.specs.Memory.{gone_on, memo_of}
 use Rattle.walkx.specs.Walk.{has_rank, processor_at}
 
--- a processor stands there, and acted in no later phase
-pub record IsAt (phase : ℕ) (at : Together) (memo : Memo) : Type 0 where
-  pub acted : memo.acted ≤ phase
-  pub counter : memo.own.counter ≡ at.counter
-  pub step : memo.step ≡ at.step
-  pub stored : is_some memo.store ≡ at.stored
-
 -- what is known of the processor of a rank
 abbrev pub memo_at : PostData → List Memo → ℕ → Memo
 memo_at post memory rank = memo_of memory (processor_at post.layout post.node rank)
-
--- all stand there
-abbrev pub AllAt : PostData → Together → List Memo → Type 0
-AllAt post at memory = (rank : ℕ) → has_rank post.layout post.node rank ≡ true →
-    IsAt post.phase at (memo_at post memory rank)
 
 -- there this instruction is next, and they can go on
 abbrev pub Stands : JobData → Together → Instr → Type 0

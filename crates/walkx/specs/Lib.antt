@@ -5,6 +5,7 @@ pub mod Activities
 pub mod Tasks
 pub mod OwnWrites
 pub mod Memory
+pub mod Lanes
 pub mod Passes
 pub mod Walk
 pub mod Turns
@@ -19,8 +20,12 @@ pub mod Laws
 pub mod Driving
 pub mod Parts
 pub mod WideParts
+pub mod Plain
+pub mod Storing
+pub mod Places
 pub mod Playing
 pub mod Rests
 pub mod Passing
 pub mod Together
 pub mod AsOne
+pub mod Rows

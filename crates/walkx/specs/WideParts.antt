@@ -199,26 +199,19 @@ abbrev pub swaps : PostData → ℕ → ℕ → Part Bool
 swaps at cell value after next = both_of at cell after (swaps_after at cell value next)
 
 -- it is reported where it was
-abbrev pub store_compared : PostData → Script Then → ℕ × ℕ → Script Then
-store_compared at next write =
-    swaps at write.0 write.1 next (λ other. reports_if at other next (λ done. next))
-
-abbrev pub does_store : PostData → Memo → Part Memo
-does_store at memo after next =
-    stores_of at memo (next memo) (store_compared at (next (stored at memo)))
+abbrev pub store_compared : PostData → ℕ × ℕ → Part (Unit {0})
+store_compared at write after next =
+    swaps at write.0 write.1 after (λ other. reports_if at other after next)
 
 -- the claim to the cell was heard: another's is reported
-abbrev pub store_reported : PostData → Script Then → ℕ × ℕ → ℕ → Script Then
-store_reported at next write found =
-    reports_if at (differs_from at (claim_of at.job (processor_of at)) found) next
-    (λ done. writes at write.0 write.1 next (λ done. next))
+abbrev pub store_reported : PostData → ℕ × ℕ → ℕ → Part (Unit {0})
+store_reported at write found after next =
+    reports_if at (differs_from at (claim_of at.job (processor_of at)) found) after
+    (λ done. writes at write.0 write.1 after next)
 
-abbrev pub crew_store : PostData → Script Then → ℕ × ℕ → Script Then
-crew_store at next write = asks (claim_loaded at write.0) (store_reported at next write)
-
-abbrev pub does_crew_store : PostData → Memo → Part Memo
-does_crew_store at memo after next =
-    stores_of at memo (next memo) (crew_store at (next (stored at memo)))
+abbrev pub crew_store : PostData → ℕ × ℕ → Part (Unit {0})
+crew_store at write after next =
+    asks (claim_loaded at write.0) (λ found. store_reported at write found after next)
 
 -- the one whose claim stands writes; a later claim means late
 abbrev pub owned_written : PostData → ℕ × ℕ → ℕ → Part (Unit {0})
@@ -226,15 +219,20 @@ owned_written at write found after next =
     if payload_of found == claim_of at.job (processor_of at)
     then writes at write.0 write.1 after next else next tt
 
-abbrev pub store_owned : PostData → Script Then → Script Then → ℕ × ℕ → ℕ → Script Then
-store_owned at late next write found =
-    if nat_lt (step_of at) (stamp_of found) then late
-    else owned_written at write found next (λ done. next)
+abbrev pub store_owned : PostData → ℕ × ℕ → ℕ → Part (Unit {0})
+store_owned at write found late next =
+    if nat_lt (step_of at) (stamp_of found) then late else owned_written at write found late next
 
-abbrev pub priority_store : PostData → Script Then → Script Then → ℕ × ℕ → Script Then
-priority_store at late next write =
-    asks (claim_loaded at write.0) (store_owned at late next write)
+abbrev pub priority_store : PostData → ℕ × ℕ → Part (Unit {0})
+priority_store at write late next =
+    asks (claim_loaded at write.0) (λ found. store_owned at write found late next)
 
-abbrev pub does_priority_store : PostData → Memo → Part Memo
-does_priority_store at memo after next =
-    stores_of at memo (next memo) (priority_store at (next memo) (next (stored at memo)))
+-- the store is carried out by the rule
+abbrev pub store_carried : Rule → PostData → ℕ × ℕ → Part (Unit {0})
+store_carried Common = store_compared
+store_carried Priority = priority_store
+store_carried Crew = crew_store
+
+abbrev pub does_store : PostData → Memo → Part Memo
+does_store at memo after next = stores_of at memo (next memo)
+    (λ write. store_carried at.job.rule at write (next memo) (λ done. next (stored at memo)))

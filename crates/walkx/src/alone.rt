@@ -1,32 +1,42 @@
 //! A processor that neither reads a cell nor stores goes on alone.
-ghost use Rattle.std.specs.Prelude.{◌≡◌, ◌<◌, ℕ, false, true, slice_get, IfSome, Some};
+ghost use Rattle.std.specs.Prelude.{◌≡◌, ◌≢◌, ◌<◌, ℕ, false, true, slice_get, IfSome, Some};
+ghost use Rattle.pram_machine.specs.Turns.{request_of};
 ghost use Rattle.walkx.specs.Inner.Posts.{IsLeafPost, processor_of};
-ghost use Rattle.walkx.specs.Memory.{goes_alone, gone_on, is_common, is_load, one_alone, own_alone};
+ghost use Rattle.walkx.specs.Lanes.{lane};
+ghost use Rattle.walkx.specs.Memory.{goes_alone, gone_on, is_load, one_alone, own_alone};
+ghost use Rattle.walkx.specs.Places.{stepped};
 ghost use Rattle.walkx.specs.Together.{goes_as_far};
+ghost use Rattle.walkx.specs.WideParts.{IsShaped};
 
+use crate::block::Block;
 use crate::memo::{Memo, Own, store_of};
+use crate::own_in::put_in;
 use crate::post::Leaf;
 use crate::request::fetch;
 use crate::wide_request::{is_load, turn_by};
 use pram_job::{Instr, Job, Rule};
+use pram_machine::Turn;
 
 /// As far as it can, for 64 steps at most. One that has stopped goes on to the end.
 #[inline(never)]
-pub(crate) fn go_on(leaf: &Leaf, memo: &mut Memo)
-    ensures { memo.new ≡ gone_on leaf.now.job (processor_of leaf.now) memo.old }
+pub(crate) fn go_on(leaf: &Leaf, block: &mut Block, k: usize)
+    requires { k < 64 }
+    ensures same { lane block.new k ≡ gone_on leaf.now.job (processor_of leaf.now)
+        (lane block.old k) }
+    ensures others { (j : ℕ) → j ≢ k → lane block.new j ≡ lane block.old j }
 {
     let steps = leaf.job().steps();
     for _ in 0..64u32 {
-        if memo.store.is_some() || steps <= memo.step {
+        if block.has_store(k) || steps <= block.step[k] {
             return;
         }
-        match fetch(leaf, memo.own.counter) {
+        match fetch(leaf, block.counter[k]) {
             None => {
-                memo.step = steps;
+                stand_after(block, k, steps);
                 return;
             }
             Some(instr) => {
-                if !go_one(leaf, memo, instr) {
+                if !go_one(leaf, block, k, instr) {
                     return;
                 }
             }
@@ -34,66 +44,71 @@ pub(crate) fn go_on(leaf: &Leaf, memo: &mut Memo)
     }
 }
 
+// So many steps are gone.
+#[inline(always)]
+fn stand_after(block: &mut Block, k: usize, steps: u32)
+    requires { k < 64 }
+    ensures same { lane block.new k ≡ record (lane block.old k) { step = steps } }
+    ensures others { (j : ℕ) → j ≢ k → lane block.new j ≡ lane block.old j }
+{
+    block.step[k] = steps;
+}
+
 // One step by its instruction, if it can.
 #[inline(always)]
-pub(crate) fn go_one(leaf: &Leaf, memo: &mut Memo, instr: &Instr) -> bool
-    requires step { memo.old.step < leaf.now.job.steps }
-    requires instr { slice_get leaf.now.job.code memo.old.own.counter ≡ Some instr.now }
-    ensures value { result ≡ goes_alone leaf.now.job (processor_of leaf.now) memo.old }
-    ensures on { result ≡ true → memo.new ≡ one_alone leaf.now.job (processor_of leaf.now)
-        memo.old }
-    ensures not { result ≡ false → memo.new ≡ memo.old }
+fn go_one(leaf: &Leaf, block: &mut Block, k: usize, instr: &Instr) -> bool
+    requires lane { k < 64 }
+    requires step { (lane block.old k).step < leaf.now.job.steps }
+    requires instr { slice_get leaf.now.job.code (lane block.old k).own.counter ≡ Some instr.now }
+    ensures value { result ≡ goes_alone leaf.now.job (processor_of leaf.now) (lane block.old k) }
+    ensures on { result ≡ true → lane block.new k ≡ one_alone leaf.now.job (processor_of leaf.now)
+        (lane block.old k) }
+    ensures not { result ≡ false → lane block.new k ≡ lane block.old k }
+    ensures others { (j : ℕ) → j ≢ k → lane block.new j ≡ lane block.old j }
 {
     let _ = leaf.job();
-    let step = memo.step + 1;
+    let step = block.step[k] + 1;
     if step % 64 == 0 || is_load(instr) {
         return false;
     }
-    let turn = turn_by(leaf, &memo.own, instr, 0);
+    let turn = turn_by(leaf, &block.own(k), instr, 0);
     let store = store_of(leaf, turn);
     if store.is_some() && leaf.rule() != Rule::Common {
         return false;
     }
-    memo.own.take(leaf, turn);
-    memo.step = step;
-    memo.store = store;
+    step_on(leaf, block, k, turn);
     true
+}
+
+// The turn is taken, and a step is gone.
+#[inline(always)]
+fn step_on(leaf: &Leaf, block: &mut Block, k: usize, turn: Turn)
+    requires lane { k < 64 }
+    requires step { (lane block.old k).step < leaf.now.job.steps }
+    requires shape { IsShaped leaf.now turn }
+    ensures same { lane block.new k ≡ stepped leaf.now (lane block.old k) (request_of turn) }
+    ensures others { (j : ℕ) → j ≢ k → lane block.new j ≡ lane block.old j }
+{
+    let _ = leaf.job();
+    put_in(leaf, &mut block.registers, k, turn);
+    block.counter[k] = turn.next;
+    block.step[k] += 1;
+    let acted = block.acted[k];
+    block.set_store(k, acted, store_of(leaf, turn));
 }
 
 /// One step, if it can and stands at this instruction.
 #[inline(always)]
-pub(crate) fn go_one_at(leaf: &Leaf, memo: &mut Memo, counter: u32, instr: &Instr) -> bool
-    requires { slice_get leaf.now.job.code counter ≡ Some instr.now }
-    ensures { goes_as_far leaf.now.job (processor_of leaf.now) memo.old memo.new }
+pub(crate) fn go_one_at(leaf: &Leaf, block: &mut Block, k: usize, counter: u32, instr: &Instr)
+    requires lane { k < 64 }
+    requires instr { slice_get leaf.now.job.code counter ≡ Some instr.now }
+    ensures far { goes_as_far leaf.now.job (processor_of leaf.now) (lane block.old k)
+        (lane block.new k) }
+    ensures others { (j : ℕ) → j ≢ k → lane block.new j ≡ lane block.old j }
 {
     let steps = leaf.job().steps();
-    if memo.own.counter != counter || memo.store.is_some() || steps <= memo.step {
-        return false;
-    }
-    go_one(leaf, memo, instr)
-}
-
-/// Under crew and priority: it stands at this instruction, which is a store of its own, and stays.
-#[inline(always)]
-pub(crate) fn stays_at_store(leaf: &Leaf, memo: &Memo, counter: u32, instr: &Instr) -> bool
-    requires { slice_get leaf.now.job.code counter ≡ Some instr.now }
-    ensures { result ≡ true → gone_on leaf.now.job (processor_of leaf.now) memo.now ≡ memo.now }
-{
-    let _ = leaf.job();
-    if is_common(leaf) || memo.own.counter != counter {
-        return false;
-    }
-    store_of(leaf, turn_by(leaf, &memo.own, instr, 0)).is_some()
-}
-
-// No store is claimed.
-#[inline(always)]
-fn is_common(leaf: &Leaf) -> bool
-    ensures { result ≡ is_common leaf.now.job.rule }
-{
-    match leaf.rule() {
-        Rule::Common => true,
-        Rule::Priority | Rule::Crew => false,
+    if block.counter[k] == counter && !block.has_store(k) && block.step[k] < steps {
+        go_one(leaf, block, k, instr);
     }
 }
 

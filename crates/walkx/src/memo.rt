@@ -1,6 +1,6 @@
 //! What a worker remembers.
 ghost use Rattle.std.specs.Prelude.{◌≡◌, ◌==◌, suc, List, slice_get, slice_set, IfOk, IfSome, []};
-ghost use Rattle.std.specs.Prelude.{IsTrue, Some, None, ◌-◌, ◌*◌, ◌<◌, ◌≤◌, length};
+ghost use Rattle.std.specs.Prelude.{IsTrue, Some, None, ℕ, ◌-◌, ◌*◌, ◌<◌, ◌≤◌, length, nat_lt};
 ghost use Rattle.pram_machine.specs.Instructions.{gives};
 ghost use Rattle.pram_machine.specs.Turns.{request_of};
 ghost use Rattle.walkx.specs.declared.memo.Memo.{Memo};
@@ -8,24 +8,37 @@ ghost use Rattle.walkx.specs.Driving.{IsNextPart};
 ghost use Rattle.pram_words.specs.Phases.{kind_at};
 ghost use Rattle.pram_words.specs.Words.{grain};
 ghost use Rattle.walkx.specs.Inner.Posts.{processor_of, step_of};
+ghost use Rattle.walkx.specs.AsOne.{AllStay};
+ghost use Rattle.walkx.specs.Lanes.{memos_of};
+ghost use Rattle.walkx.specs.Together.{IsOnItsWay, gone_from};
 ghost use Rattle.walkx.specs.Memory.{FitsMemo, at_start, blank, has_store, is_past, memo_of};
 ghost use Rattle.walkx.specs.Memory.{gone_on, own_after, own_at_start, reach, settles_in};
 ghost use Rattle.walkx.specs.OwnWrites.{cell_write};
 ghost use Rattle.walkx.specs.Parts.{does_wide};
+ghost use Rattle.walkx.specs.Plain.{AllClaimBy, AllLoadBy, ClaimsBy, LoadsBy};
+ghost use Rattle.walkx.specs.Storing.{AllStore, StoresPlainly, Swaps};
 ghost use Rattle.walkx.specs.Passes.{memo_after};
 ghost use Rattle.walkx.specs.Passing.{IsStand, StandsAt, TakesUp, TakesUpIf, least_of};
-ghost use Rattle.walkx.specs.Walk.{block_gone_on, block_reach, reach_from_phase};
+ghost use Rattle.walkx.specs.Walk.{block_gone_on, block_reach, has_rank, reach_from_phase};
 ghost use Rattle.walkx.specs.WideParts.{IsShaped, landed, stored};
 
+use crate::alone::{go_on, go_one_at};
+use crate::block::Block;
+use crate::claim_plain::{claim_plainly, plain_claims};
 use crate::left::Stopped;
+use crate::load_in::{ClaimIn, Claims, LoadIn, Loads};
+use crate::own_in::{known_in, own_in, stands_in};
+use crate::plain::{last_stands, load_plainly, plain_loads};
 use crate::post::{Leaf, Post};
 use crate::request::fetch;
+use crate::row_walk::{go_far, lanes_from, span_of};
+use crate::span::Span;
 use crate::steps::Steps;
-use crate::tasks::{second_pass, wide_task};
+use crate::stores::{all_stored, carry_known, swap_lane};
+use crate::tasks::wide_task;
 use crate::together::go_on_all;
 use crate::turns::settle;
-use crate::wide_own::own_by;
-use pram_job::Instr;
+use pram_job::{Instr, Rule};
 use pram_machine::{Put, Turn};
 use pram_words::Kind;
 use std::alloc::{AllocError, Global};
@@ -233,17 +246,17 @@ impl<'a> Stand<'a> {
     }
 }
 
-/// What a worker remembers of each processor. One without memory knows what each is before the
-/// first step, and nothing else.
+/// What a worker remembers of each processor, 64 to a block. One without memory knows what each is
+/// before the first step, and nothing else.
 #[derive(Drop)]
 pub struct Memory {
-    memos: Option<Vec<Memo>>,
+    blocks: Option<Vec<Block>>,
 }
 
 impl Model for Memory {
     ghost Value = { List Memo };
 
-    ghost view = { λ m. elim m.memos [ None ↦ [] | Some memos ↦ memos.items ] };
+    ghost view = { λ m. elim m.blocks [ None ↦ [] | Some blocks ↦ memos_of blocks.items ] };
 }
 
 impl Memory {
@@ -252,15 +265,36 @@ impl Memory {
     pub fn none() -> Memory
         ensures { result ≡ [] }
     {
-        Memory { memos: None }
+        Memory { blocks: None }
     }
 
-    /// A memory for so many processors: 64 bytes for each.
+    /// A memory for so many processors at least: 4 KB for each 64 of them.
     pub fn of(alloc: Global, procs: u32) -> Result<Memory, AllocError>
-        ensures { IfOk result (λ memory. memory ≡ blank procs) }
+        ensures blank { IfOk result (λ memory. memory ≡ blank (length memory)) }
+        ensures most { IfOk result (λ memory. procs ≤ length memory) }
     {
-        let memos = vec![in alloc; Memo::at_start(); procs as usize]?;
-        Ok(Memory { memos: Some(memos) })
+        let start = Block::at_start();
+        let blocks = vec![in alloc; start; procs.div_ceil(64) as usize]?;
+        Ok(Memory {
+            blocks: Some(blocks),
+        })
+    }
+
+    /// What is known of processor i, if it has a place.
+    #[inline(always)]
+    pub(crate) fn get(&self, i: usize) -> Option<Memo>
+        ensures { result ≡ slice_get self.now i }
+    {
+        match &self.blocks {
+            Some(blocks) => {
+                if i / 64 < blocks.len() {
+                    Some(blocks[i / 64].memo(i % 64))
+                } else {
+                    None
+                }
+            }
+            None => None,
+        }
     }
 
     /// What is known of processor i.
@@ -268,11 +302,15 @@ impl Memory {
     pub fn memo(&self, i: u32) -> Memo
         ensures { result ≡ memo_of self.now i }
     {
-        match &self.memos {
-            Some(memos) => match memos.as_slice().get(i as usize) {
-                Some(memo) => *memo,
-                None => Memo::at_start(),
-            },
+        let i = i as usize;
+        match &self.blocks {
+            Some(blocks) => {
+                if i / 64 < blocks.len() {
+                    blocks[i / 64].memo(i % 64)
+                } else {
+                    Memo::at_start()
+                }
+            }
             None => Memo::at_start(),
         }
     }
@@ -282,10 +320,56 @@ impl Memory {
     pub fn keep(&mut self, i: u32, memo: Memo)
         ensures { self.new ≡ slice_set self.old i memo }
     {
-        match &mut self.memos {
-            Some(memos) => {
-                if (i as usize) < memos.len() {
-                    memos.as_mut_slice()[i as usize] = memo;
+        self.put(i, &memo);
+    }
+
+    // The same.
+    #[inline(always)]
+    fn put(&mut self, i: u32, memo: &Memo)
+        ensures { self.new ≡ slice_set self.old i memo.now }
+    {
+        let i = i as usize;
+        match &mut self.blocks {
+            Some(blocks) => {
+                if i / 64 < blocks.len() {
+                    let block = &mut blocks[i / 64];
+                    block.set(i % 64, memo);
+                }
+            }
+            None => {}
+        }
+    }
+
+    /// The leaf's processor goes on alone, as far as it can.
+    #[inline(always)]
+    pub(crate) fn go_alone(&mut self, leaf: &Leaf)
+        ensures { self.new ≡ slice_set self.old (processor_of leaf.now) (gone_on leaf.now.job
+            (processor_of leaf.now) (memo_of self.old (processor_of leaf.now))) }
+    {
+        let i = leaf.processor() as usize;
+        match &mut self.blocks {
+            Some(blocks) => {
+                if i / 64 < blocks.len() {
+                    let block = &mut blocks[i / 64];
+                    go_on(leaf, block, i % 64);
+                }
+            }
+            None => {}
+        }
+    }
+
+    /// It goes on by a step, if it can and stands at this instruction.
+    #[inline(always)]
+    pub(crate) fn step_alone(&mut self, leaf: &Leaf, counter: u32, instr: &Instr)
+        requires { slice_get leaf.now.job.code counter ≡ Some instr.now }
+        ensures { IsOnItsWay leaf.now.job (processor_of leaf.now) self.old self.new }
+    {
+        let i = leaf.processor() as usize;
+        match &mut self.blocks {
+            Some(blocks) => {
+                if i / 64 < blocks.len() {
+                    let block = &mut blocks[i / 64];
+                    go_one_at(leaf, block, i % 64, counter, instr);
                 }
             }
             None => {}
@@ -302,17 +386,69 @@ impl Memory {
         ensures { TakesUp (S.stands leaf.now) leaf.now steps.old self.old steps.new self.new
             result }
     {
-        let i = leaf.processor() as usize;
-        match &mut self.memos {
-            Some(memos) => {
-                if i < memos.len() {
-                    return settle(wide_task(steps, leaf, &mut memos[i]));
-                }
-            }
-            None => {}
+        if self.take_known(steps, leaf)? {
+            return Ok(());
         }
-        let mut memo = Memo::at_start();
-        settle(wide_task(steps, leaf, &mut memo))
+        self.take_copied(steps, leaf)
+    }
+
+    // In the first pass, where the processor is past it or its step is known, that is done where its
+    // lane lies; else nothing is.
+    #[inline(always)]
+    fn take_known<S: Steps>(&mut self, steps: &mut S, leaf: &Leaf) -> Result<bool, Stopped>
+        requires next { IsNextPart (S.stands leaf.now) steps.old
+            (does_wide leaf.now (memo_of self.old (processor_of leaf.now))) }
+        ensures { TakesUpIf (S.stands leaf.now) leaf.now steps.old self.old steps.new self.new
+            result }
+    {
+        match leaf.kind() {
+            Kind::Compute => self.take_first(steps, leaf),
+            _ => Ok(false),
+        }
+    }
+
+    // The same, in the first pass.
+    #[inline(always)]
+    fn take_first<S: Steps>(&mut self, steps: &mut S, leaf: &Leaf) -> Result<bool, Stopped>
+        requires first { kind_at leaf.now.phase ≡ Kind.Compute }
+        requires next { IsNextPart (S.stands leaf.now) steps.old
+            (does_wide leaf.now (memo_of self.old (processor_of leaf.now))) }
+        ensures { TakesUpIf (S.stands leaf.now) leaf.now steps.old self.old steps.new self.new
+            result }
+    {
+        let i = leaf.processor() as usize;
+        match &mut self.blocks {
+            Some(blocks) => {
+                if i / 64 < blocks.len() {
+                    if blocks[i / 64].memo(i % 64).is_past(leaf.phase()) {
+                        return Ok(true);
+                    }
+                    if let Some(instr) = known_in(leaf, &blocks[i / 64], i % 64) {
+                        let done = own_in(steps, leaf, &mut blocks[i / 64], i % 64, instr);
+                        settle(done)?;
+                        return Ok(true);
+                    }
+                }
+                Ok(false)
+            }
+            None => Ok(false),
+        }
+    }
+
+    // Its task by a copy of what is known of it.
+    #[inline(never)]
+    fn take_copied<S: Steps>(&mut self, steps: &mut S, leaf: &Leaf) -> Result<(), Stopped>
+        requires memo { FitsMemo leaf.now.job (memo_of self.old (processor_of leaf.now)) }
+        requires next { IsNextPart (S.stands leaf.now) steps.old
+            (does_wide leaf.now (memo_of self.old (processor_of leaf.now))) }
+        ensures { TakesUp (S.stands leaf.now) leaf.now steps.old self.old steps.new self.new
+            result }
+    {
+        let i = leaf.processor();
+        let mut memo = self.memo(i);
+        let done = wide_task(steps, leaf, &mut memo);
+        self.put(i, &memo);
+        settle(done)
     }
 
     /// As `take_up`, in the second pass, where it is known what the leaf's processor does in it; else
@@ -325,23 +461,119 @@ impl Memory {
         ensures { TakesUpIf (S.stands leaf.now) leaf.now steps.old self.old steps.new self.new
             result }
     {
+        match leaf.kind() {
+            Kind::Verify => self.carry_known(steps, leaf),
+            _ => Ok(false),
+        }
+    }
+
+    // The same, in the second pass.
+    #[inline(always)]
+    fn carry_known<S: Steps>(&mut self, steps: &mut S, leaf: &Leaf) -> Result<bool, Stopped>
+        requires second { kind_at leaf.now.phase ≡ Kind.Verify }
+        requires memo { FitsMemo leaf.now.job (memo_of self.old (processor_of leaf.now)) }
+        requires next { IsNextPart (S.stands leaf.now) steps.old
+            (does_wide leaf.now (memo_of self.old (processor_of leaf.now))) }
+        ensures { TakesUpIf (S.stands leaf.now) leaf.now steps.old self.old steps.new self.new
+            result }
+    {
         let i = leaf.processor() as usize;
-        match (&mut self.memos, leaf.kind()) {
-            (Some(memos), Kind::Verify) => {
-                if i < memos.len() {
-                    let memo = &mut memos[i];
-                    if memo.has_store(leaf.step()) {
-                        settle(second_pass(steps, leaf, memo))?;
-                        return Ok(true);
-                    }
-                    if memo.is_past(leaf.phase()) {
-                        return Ok(true);
-                    }
+        match &mut self.blocks {
+            Some(blocks) => {
+                if i / 64 < blocks.len() {
+                    let block = &mut blocks[i / 64];
+                    return carry_known(steps, leaf, block, i % 64);
+                }
+                Ok(false)
+            }
+            None => Ok(false),
+        }
+    }
+
+    /// Whether the processors of a block of this length, from the leaf's on, all have their stores
+    /// of the step still to be carried out, under common.
+    #[inline(always)]
+    pub fn stores_plainly(&self, leaf: &Leaf, len: u32) -> bool
+        ensures { IsTrue result → AllStore leaf.now len self.now }
+    {
+        match (leaf.kind(), leaf.rule()) {
+            (Kind::Verify, Rule::Common) => self.all_store(leaf, len),
+            _ => false,
+        }
+    }
+
+    // The same, in the second pass, under common.
+    fn all_store(&self, leaf: &Leaf, len: u32) -> bool
+        requires second { kind_at leaf.now.phase ≡ Kind.Verify }
+        requires rule { leaf.now.job.rule ≡ Rule.Common }
+        ensures { IsTrue result → AllStore leaf.now len self.now }
+    {
+        let i = leaf.processor();
+        let start = i % 64;
+        let more = len.saturating_sub(leaf.rank());
+        if 64 - start < more {
+            return false;
+        }
+        let lanes = Span {
+            first: i - start,
+            start: start as usize,
+            end: (start + more) as usize,
+        };
+        match &self.blocks {
+            Some(blocks) => {
+                let q = (i / 64) as usize;
+                q < blocks.len() && all_stored(&blocks[q], lanes, leaf.step())
+            }
+            None => false,
+        }
+    }
+
+    /// The second pass of the leaf's processor under common, whose store is remembered, but for the
+    /// report: whether another value was found.
+    #[inline(always)]
+    pub fn swap_store<S: Steps>(&mut self, steps: &mut S, leaf: &Leaf) -> Result<bool, Stopped>
+        requires store { StoresPlainly leaf.now (memo_of self.old (processor_of leaf.now)) }
+        requires memo { FitsMemo leaf.now.job (memo_of self.old (processor_of leaf.now)) }
+        requires next { IsNextPart (S.stands leaf.now) steps.old
+            (does_wide leaf.now (memo_of self.old (processor_of leaf.now))) }
+        ensures { Swaps (S.stands leaf.now) leaf.now steps.old self.old steps.new self.new result }
+    {
+        let i = leaf.processor() as usize;
+        match &mut self.blocks {
+            Some(blocks) => {
+                if i / 64 < blocks.len() {
+                    let block = &mut blocks[i / 64];
+                    return swap_lane(steps, leaf, block, i % 64);
+                }
+                unreachable!()
+            }
+            None => unreachable!(),
+        }
+    }
+
+    /// All of a block go on as far as they can, if they stand together all the way: up to which phase
+    /// the block then has nothing to do. Else some have gone on by some steps.
+    pub(crate) fn go_as_one(&mut self, post: &Post) -> Option<u64>
+        requires leaf { post.now.layout.leaves ≤ post.now.node }
+        requires phase { post.now.phase ≤ 3 * post.now.job.steps }
+        ensures far { gone_from post.now 0 self.new ≡ gone_from post.now 0 self.old }
+        ensures stay { IfSome result (λ _. AllStay post.now self.new) }
+        ensures reach { IfSome result (λ reach. reach ≡ block_reach post.now.job post.now.layout
+            post.now.node post.now.phase self.new) }
+    {
+        let lanes = span_of(post);
+        let q = (lanes.first / 64) as usize;
+        match &mut self.blocks {
+            Some(blocks) => {
+                if q < blocks.len() {
+                    let block = &mut blocks[q];
+                    let reach = go_far(post.job, post.phase, lanes, block)?;
+                    return Some(post.phase.max(reach));
                 }
             }
-            _ => {}
+            None => {}
         }
-        Ok(false)
+        None
     }
 
     /// The processors of a block go on alone, as they do once the last one's task is done. Up to
@@ -355,11 +587,7 @@ impl Memory {
         ensures reach { result ≡ block_reach post.now.job post.now.layout post.now.node
             post.now.phase self.new }
     {
-        post.limits_hold();
-        match &mut self.memos {
-            Some(memos) => go_on_all(post, memos.as_mut_slice()),
-            None => reach_of_all(post, &[]),
-        }
+        go_on_all(post, self)
     }
 
     /// Up to which phase a block has nothing to do at the end of this one, by what is known of its
@@ -370,18 +598,7 @@ impl Memory {
         ensures { result ≡ block_reach post.now.job post.now.layout post.now.node post.now.phase
             self.now }
     {
-        reach_of_all(post, self.memos())
-    }
-
-    // What is known of each processor, from the first one on.
-    #[inline(always)]
-    fn memos(&self) -> &[Memo]
-        ensures { result.now ≡ self.now }
-    {
-        match &self.memos {
-            Some(memos) => memos.as_slice(),
-            None => &[],
-        }
+        reach_of_all(post, self)
     }
 
     /// The instruction that the leaf's processor stands at in the first pass, where it is known
@@ -432,56 +649,185 @@ impl Memory {
             result }
     {
         let i = leaf.processor() as usize;
-        match &mut self.memos {
-            Some(memos) => {
-                if i < memos.len() {
-                    let memo = &mut memos[i];
-                    if memo.is_before(leaf.step()) && memo.own.counter == counter {
-                        settle(own_by(steps, leaf, memo, instr))?;
-                        return Ok(true);
+        match &mut self.blocks {
+            Some(blocks) => {
+                if i / 64 < blocks.len() && stands_in(leaf, &blocks[i / 64], i % 64, counter) {
+                    let done = own_in(steps, leaf, &mut blocks[i / 64], i % 64, instr);
+                    settle(done)?;
+                    return Ok(true);
+                }
+                Ok(false)
+            }
+            None => Ok(false),
+        }
+    }
+}
+
+impl Memory {
+    /// The loads of a block of this length, from the leaf's processor on, if all load plainly by the
+    /// instruction that this one stands at.
+    #[inline(always)]
+    pub fn plain_loads(&self, leaf: &Leaf, len: u32, stand: Stand<'_>) -> Option<Loads>
+        requires stand { IsStand leaf.now stand.counter stand.instr.now }
+        requires ranks { (rank : ℕ) → has_rank leaf.now.layout leaf.now.node rank
+            ≡ nat_lt rank len }
+        ensures { IfSome result (λ loads. AllLoadBy leaf.now len self.now loads) }
+    {
+        if !matches!(*stand.instr, Instr::Ld(..)) {
+            return None;
+        }
+        let lanes = lanes_from(leaf, len);
+        let q = (lanes.first / 64) as usize;
+        match &self.blocks {
+            Some(blocks) => {
+                if q < blocks.len() {
+                    let block = &blocks[q];
+                    if last_stands(block, lanes, stand.counter) {
+                        return plain_loads(leaf, block, lanes, stand);
                     }
                 }
+                None
             }
-            None => {}
+            None => None,
         }
-        Ok(false)
+    }
+
+    /// As `take_up`, where the leaf's processor loads plainly.
+    #[inline(always)]
+    pub fn take_load<S: Steps>(
+        &mut self,
+        steps: &mut S,
+        leaf: &Leaf,
+        loads: &Loads,
+    ) -> Result<(), Stopped>
+        requires plain { LoadsBy leaf.now self.old loads.now }
+        requires next { IsNextPart (S.stands leaf.now) steps.old
+            (does_wide leaf.now (memo_of self.old (processor_of leaf.now))) }
+        ensures { TakesUp (S.stands leaf.now) leaf.now steps.old self.old steps.new self.new
+            result }
+    {
+        let i = leaf.processor() as usize;
+        match &mut self.blocks {
+            Some(blocks) => {
+                if i / 64 < blocks.len() {
+                    let block = &mut blocks[i / 64];
+                    let lane = i % 64;
+                    let register = loads.register;
+                    let cell = loads.cells[lane];
+                    let done = load_plainly(
+                        steps,
+                        leaf,
+                        block,
+                        LoadIn {
+                            lane,
+                            register,
+                            cell,
+                        },
+                    );
+                    return settle(done);
+                }
+                unreachable!()
+            }
+            None => unreachable!(),
+        }
+    }
+}
+
+impl Memory {
+    /// The claims of a block of this length, from the leaf's processor on, if all claim plainly by
+    /// the instruction that this one stands at.
+    #[inline(always)]
+    pub fn plain_claims(&self, leaf: &Leaf, len: u32, stand: Stand<'_>) -> Option<Claims>
+        requires stand { IsStand leaf.now stand.counter stand.instr.now }
+        requires ranks { (rank : ℕ) → has_rank leaf.now.layout leaf.now.node rank
+            ≡ nat_lt rank len }
+        ensures { IfSome result (λ claims. AllClaimBy leaf.now len self.now claims) }
+    {
+        if !matches!(*stand.instr, Instr::St(..)) {
+            return None;
+        }
+        let lanes = lanes_from(leaf, len);
+        let q = (lanes.first / 64) as usize;
+        match &self.blocks {
+            Some(blocks) => {
+                if q < blocks.len() {
+                    let block = &blocks[q];
+                    if last_stands(block, lanes, stand.counter) {
+                        return plain_claims(leaf, block, lanes, stand);
+                    }
+                }
+                None
+            }
+            None => None,
+        }
+    }
+
+    /// As `take_up`, where the leaf's processor claims plainly.
+    #[inline(always)]
+    pub fn take_claim<S: Steps>(
+        &mut self,
+        steps: &mut S,
+        leaf: &Leaf,
+        claims: &Claims,
+    ) -> Result<(), Stopped>
+        requires plain { ClaimsBy leaf.now self.old claims.now }
+        requires next { IsNextPart (S.stands leaf.now) steps.old
+            (does_wide leaf.now (memo_of self.old (processor_of leaf.now))) }
+        ensures { TakesUp (S.stands leaf.now) leaf.now steps.old self.old steps.new self.new
+            result }
+    {
+        let i = leaf.processor() as usize;
+        match &mut self.blocks {
+            Some(blocks) => {
+                if i / 64 < blocks.len() {
+                    let block = &mut blocks[i / 64];
+                    let lane = i % 64;
+                    let cell = claims.cells[lane];
+                    let value = claims.values[lane];
+                    let done = claim_plainly(steps, leaf, block, ClaimIn { lane, cell, value });
+                    return settle(done);
+                }
+                unreachable!()
+            }
+            None => unreachable!(),
+        }
     }
 }
 
 /// Up to which phase a block has nothing to do at the end of this one, this being known of its
 /// processors.
-pub(crate) fn reach_of_all(post: &Post, memos: &[Memo]) -> u64
+pub(crate) fn reach_of_all(post: &Post, memory: &Memory) -> u64
     requires { post.now.layout.leaves ≤ post.now.node }
     ensures { result ≡ block_reach post.now.job post.now.layout post.now.node post.now.phase
-        memos.now }
+        memory.now }
 {
     let first = post.first_processor() as usize;
     let end = first + post.block_len() as usize;
     let most = 3 * u64::from(post.job.steps());
     post.phase
-        .max(least_reach(memos, first, end, post.phase, most))
+        .max(least_reach(memory, first, end, post.phase, most))
 }
 
 // Up to which phase the processors from the first one up to this one have nothing to do, or up to
 // this phase.
 #[inline(never)]
-fn least_reach(memos: &[Memo], first: usize, end: usize, phase: u64, most: u64) -> u64
+fn least_reach(memory: &Memory, first: usize, end: usize, phase: u64, most: u64) -> u64
     requires { first ≤ end }
-    ensures { result ≡ least_of most phase (end - first) first memos.now }
+    ensures { result ≡ least_of most phase (end - first) first memory.now }
 {
     let mut least = most;
     for i in first..end {
-        least = least.min(reach_of(memos, i, phase));
+        least = least.min(reach_of(memory, i, phase));
     }
     least
 }
 
 // That of a processor of which this is known, unless it acted in a later phase.
 #[inline(always)]
-fn reach_of(memos: &[Memo], i: usize, phase: u64) -> u64
-    ensures { result ≡ reach_from_phase phase (memo_of memos.now i) }
+fn reach_of(memory: &Memory, i: usize, phase: u64) -> u64
+    ensures { result ≡ reach_from_phase phase (memo_of memory.now i) }
 {
-    match memos.get(i) {
+    match memory.get(i) {
         Some(memo) if memo.acted <= phase => memo.reach(),
         _ => 0,
     }

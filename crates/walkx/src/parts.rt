@@ -10,7 +10,7 @@ use crate::left::Left;
 use crate::operation::Op;
 use crate::post::Leaf;
 use crate::steps::Steps;
-use pram_words::{payload, stamp, stamped};
+use pram_words::{first_is_older, payload, stamped};
 
 /// Part j of the request, as long as it is of the step.
 #[inline(always)]
@@ -84,7 +84,7 @@ pub(crate) fn older_swap(
         Swap result.0 result.1 result.2 ≡ swap_of leaf.now place value first second }
 {
     let new = stamped(leaf.step(), value);
-    if stamp(first) <= stamp(second) {
+    if first_is_older(first, second) {
         (word, first, new)
     } else {
         (word + 1, second, new)

@@ -497,7 +497,7 @@ impl<'a> Leaf<'a> {
 
     /// The step is reported as against the rule.
     #[inline(always)]
-    pub(crate) fn reporting(&self) -> Op
+    pub fn reporting(&self) -> Op
         ensures { result ≡ report_made self.now }
     {
         Op::Swap(self.layout.conflict_word(), 0, u64::from(self.step()))

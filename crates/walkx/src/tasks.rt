@@ -15,7 +15,7 @@ use crate::post::Leaf;
 use crate::request::compute;
 use crate::steps::Steps;
 use crate::wide_own::own;
-use crate::wide_store::{store_common, store_crew, store_priority};
+use crate::wide_store::{carry_store, store};
 use pram_job::Rule;
 use pram_words::Kind;
 
@@ -53,7 +53,7 @@ pub(crate) fn wide_task<S: Steps>(steps: &mut S, leaf: &Leaf, memo: &mut Memo) -
     }
 }
 
-/// The second one.
+/// The second one: the processor's store, remembered or worked out, is carried out.
 #[inline(always)]
 pub(crate) fn second_pass<S: Steps>(steps: &mut S, leaf: &Leaf, memo: &mut Memo) -> Result<(), Left>
     requires second { kind_at leaf.now.phase ≡ Kind.Verify }
@@ -65,9 +65,8 @@ pub(crate) fn second_pass<S: Steps>(steps: &mut S, leaf: &Leaf, memo: &mut Memo)
     ensures plays { Plays (S.stands leaf.now) steps.old
         (does_wide_in Kind.Verify leaf.now memo.old) steps.new (learns result memo.new) }
 {
-    match leaf.rule() {
-        Rule::Common => store_common(steps, leaf, memo),
-        Rule::Priority => store_priority(steps, leaf, memo),
-        Rule::Crew => store_crew(steps, leaf, memo),
-    }
+    let write = store(steps, leaf, memo)?;
+    carry_store(steps, leaf, write)?;
+    memo.carry(leaf);
+    Ok(())
 }

@@ -25,7 +25,7 @@ use pram_words::Kind;
 
 // A place of the processor's own, of which this is the first word, is written, if it is to be.
 #[inline(always)]
-fn write_if<S: Steps>(
+pub(crate) fn write_if<S: Steps>(
     steps: &mut S,
     leaf: &Leaf,
     so: bool,
@@ -153,7 +153,7 @@ fn settle_own<S: Steps>(
 
 // The store of a turn is claimed. Under common no store is.
 #[inline(always)]
-fn claim_store<S: Steps>(steps: &mut S, leaf: &Leaf, turn: Turn) -> Result<(), Left>
+pub(crate) fn claim_store<S: Steps>(steps: &mut S, leaf: &Leaf, turn: Turn) -> Result<(), Left>
     requires shape { IsShaped leaf.now turn }
     requires next { IsNextPart (S.stands leaf.now) steps.old
         (store_claimed leaf.now.job.rule leaf.now (request_of turn)) }
@@ -313,7 +313,7 @@ pub(crate) fn passes_by(leaf: &Leaf, memo: &mut Memo, instr: &Instr) -> bool
 
 // It settles in the step, by its instruction.
 #[inline(always)]
-fn settles_by(leaf: &Leaf, instr: &Instr) -> bool
+pub(crate) fn settles_by(leaf: &Leaf, instr: &Instr) -> bool
     ensures { result ≡ (is_load (Some instr.now) || (step_of leaf.now % 64 == 0)) }
 {
     is_load(instr) || leaf.step() % 64 == 0

@@ -3,11 +3,11 @@
 ghost use Rattle.std.specs.Prelude.{◌≡◌, ◌≢◌, ◌<◌, true, length, IfOk, IfSome, Some, Err};
 ghost use Rattle.pram_job.specs.Job.{IsInstr};
 ghost use Rattle.pram_words.specs.Phases.{kind_at};
-ghost use Rattle.walkx.specs.Driving.{IsNextPart, Plays, learns};
+ghost use Rattle.walkx.specs.Driving.{IsNextPart, Plays};
 ghost use Rattle.walkx.specs.Inner.Posts.{IsCellOf, IsLeafPost};
 ghost use Rattle.walkx.specs.Memory.{FitsMemo, is_past};
-ghost use Rattle.walkx.specs.WideParts.{does_crew_store, does_priority_store, does_store};
-ghost use Rattle.walkx.specs.WideParts.{kept_as, owned_written, store_by, store_loaded};
+ghost use Rattle.walkx.specs.WideParts.{crew_store, kept_as, owned_written, priority_store};
+ghost use Rattle.walkx.specs.WideParts.{store_by, store_carried, store_compared, store_loaded};
 ghost use Rattle.walkx.specs.WideParts.{stores_of, swaps};
 
 use crate::compare::{either_differs, report_if};
@@ -108,74 +108,68 @@ pub(crate) fn swap<S: Steps>(
     Ok(leaf.differs(value, found))
 }
 
-/// The second pass under the rule common: a store of another value is reported.
+/// A store is carried out by the rule.
 #[inline(always)]
-pub(crate) fn store_common<S: Steps>(
+pub(crate) fn carry_store<S: Steps>(
     steps: &mut S,
     leaf: &Leaf,
-    memo: &mut Memo,
+    write: (u32, u32),
 ) -> Result<(), Left>
-    requires second { kind_at leaf.now.phase ≡ Kind.Verify }
-    requires memo { FitsMemo leaf.now.job memo.old }
-    requires next { IsNextPart (S.stands leaf.now) steps.old (does_store leaf.now memo.old) }
-    ensures past { is_past leaf.now.phase memo.old ≡ true →
-        (memo.new ≡ memo.old) × (steps.new ≡ steps.old) }
-    ensures plays { Plays (S.stands leaf.now) steps.old (does_store leaf.now memo.old) steps.new
-        (learns result memo.new) }
+    requires cell { IsCellOf leaf.now write.0 }
+    requires next { IsNextPart (S.stands leaf.now) steps.old
+        (store_carried leaf.now.job.rule leaf.now write) }
+    ensures plays { Plays (S.stands leaf.now) steps.old
+        (store_carried leaf.now.job.rule leaf.now write) steps.new result }
 {
-    let (cell, value) = store(steps, leaf, memo)?;
-    let other = swap(steps, leaf, cell, value)?;
-    report_if(steps, leaf, other)?;
-    memo.carry(leaf);
-    Ok(())
+    match leaf.rule() {
+        Rule::Common => carry_common(steps, leaf, write),
+        Rule::Priority => carry_priority(steps, leaf, write),
+        Rule::Crew => carry_crew(steps, leaf, write),
+    }
 }
 
-/// The second pass under the rule crew: all claims stand, and another's is reported.
+// Under the rule common a store of another value is reported.
 #[inline(always)]
-pub(crate) fn store_crew<S: Steps>(steps: &mut S, leaf: &Leaf, memo: &mut Memo) -> Result<(), Left>
-    requires rule { leaf.now.job.rule ≢ Rule.Common }
-    requires second { kind_at leaf.now.phase ≡ Kind.Verify }
-    requires memo { FitsMemo leaf.now.job memo.old }
-    requires next { IsNextPart (S.stands leaf.now) steps.old (does_crew_store leaf.now memo.old) }
-    ensures past { is_past leaf.now.phase memo.old ≡ true →
-        (memo.new ≡ memo.old) × (steps.new ≡ steps.old) }
-    ensures plays { Plays (S.stands leaf.now) steps.old (does_crew_store leaf.now memo.old)
-        steps.new (learns result memo.new) }
+fn carry_common<S: Steps>(steps: &mut S, leaf: &Leaf, write: (u32, u32)) -> Result<(), Left>
+    requires cell { IsCellOf leaf.now write.0 }
+    requires next { IsNextPart (S.stands leaf.now) steps.old (store_compared leaf.now write) }
+    ensures plays { Plays (S.stands leaf.now) steps.old (store_compared leaf.now write) steps.new
+        result }
 {
-    let (cell, value) = store(steps, leaf, memo)?;
+    let (cell, value) = write;
+    let other = swap(steps, leaf, cell, value)?;
+    report_if(steps, leaf, other)
+}
+
+// Under the rule crew all claims stand, and another's is reported.
+#[inline(always)]
+fn carry_crew<S: Steps>(steps: &mut S, leaf: &Leaf, write: (u32, u32)) -> Result<(), Left>
+    requires rule { leaf.now.job.rule ≢ Rule.Common }
+    requires cell { IsCellOf leaf.now write.0 }
+    requires next { IsNextPart (S.stands leaf.now) steps.old (crew_store leaf.now write) }
+    ensures plays { Plays (S.stands leaf.now) steps.old (crew_store leaf.now write) steps.new
+        result }
+{
+    let (cell, value) = write;
     let found = steps.make(leaf.claim_look(cell))?;
     report_if(steps, leaf, leaf.differs(leaf.claim(), found))?;
-    write_place(steps, leaf, cell, leaf.cell_word(cell), value)?;
-    memo.carry(leaf);
-    Ok(())
+    write_place(steps, leaf, cell, leaf.cell_word(cell), value)
 }
 
-/// The second pass under the rule priority: the one whose claim stands writes. A later claim means
-/// late.
+// Under the rule priority the one whose claim stands writes. A later claim means late.
 #[inline(always)]
-pub(crate) fn store_priority<S: Steps>(
-    steps: &mut S,
-    leaf: &Leaf,
-    memo: &mut Memo,
-) -> Result<(), Left>
+fn carry_priority<S: Steps>(steps: &mut S, leaf: &Leaf, write: (u32, u32)) -> Result<(), Left>
     requires rule { leaf.now.job.rule ≢ Rule.Common }
-    requires second { kind_at leaf.now.phase ≡ Kind.Verify }
-    requires memo { FitsMemo leaf.now.job memo.old }
-    requires next { IsNextPart (S.stands leaf.now) steps.old
-        (does_priority_store leaf.now memo.old) }
-    ensures past { is_past leaf.now.phase memo.old ≡ true →
-        (memo.new ≡ memo.old) × (steps.new ≡ steps.old) }
-    ensures plays { Plays (S.stands leaf.now) steps.old (does_priority_store leaf.now memo.old)
-        steps.new (learns result memo.new) }
+    requires cell { IsCellOf leaf.now write.0 }
+    requires next { IsNextPart (S.stands leaf.now) steps.old (priority_store leaf.now write) }
+    ensures plays { Plays (S.stands leaf.now) steps.old (priority_store leaf.now write) steps.new
+        result }
 {
-    let (cell, value) = store(steps, leaf, memo)?;
-    let found = steps.make(leaf.claim_look(cell))?;
+    let found = steps.make(leaf.claim_look(write.0))?;
     if leaf.is_past(found) {
         return Err(Left::Late);
     }
-    write_owned(steps, leaf, (cell, value), found)?;
-    memo.carry(leaf);
-    Ok(())
+    write_owned(steps, leaf, write, found)
 }
 
 // The store is carried out, if the claim that was found is the processor's own.

@@ -1,22 +1,27 @@
 -- A script that is played through a seat, and the ticks that come of it.
 use Rattle.std.specs.Prelude.{◌≡◌, ◌≤◌, ◌<◌, ℕ, Bool, true, false, ◌⊎◌, ◌+◌, ◌%◌, ◌^◌, nat_lt, suc}
-use Rattle.std.specs.Prelude.{List, [], ◌∷◌, length, Option, Some, None}
+use Rattle.std.specs.Prelude.{List, [], ◌∷◌, length, slice_set, Option, Some, None}
 use Rattle.walkx.specs.declared.operation.Op.{Op}
-use Rattle.walkx.specs.Inner.Posts.{IsLeafPost, PostData, at_rank}
-use Rattle.walkx.specs.Memory.{FitsMemory}
+use Rattle.walkx.specs.Inner.Posts.{IsLeafPost, PostData, at_rank, processor_of}
+use Rattle.walkx.specs.Memory.{FitsMemory, memo_of}
+use Rattle.walkx.specs.Parts.{reports_if}
+use Rattle.walkx.specs.Passing.{idle}
+use Rattle.walkx.specs.Rests.{has_worked}
+use Rattle.walkx.specs.Storing.{AllStore}
 use Rattle.walkx.specs.Bound.{told_all}
 use Rattle.walkx.specs.Inner.Workers.{WorkerData}
 use Rattle.walkx.specs.Records.{Knows}
-use Rattle.walkx.specs.Scripts.{Script, rest, first_op, heard_in}
+use Rattle.walkx.specs.Scripts.{Script, ends, rest, first_op, heard_in}
 use Rattle.walkx.specs.Turns.{beginning, turning}
 use Rattle.walkx.specs.declared.turns.Turned.{Turned}
 use Rattle.walkx.specs.declared.turns.Turned.TheVariants as turned
 use Rattle.walkx.specs.declared.memo.Memo.{Memo}
 use Rattle.walkx.specs.Walk.{Then, Walking, Fits, IsBoard, IsGoing, AllAdmitted, end_of, goes_in}
-use Rattle.walkx.specs.Walk.{has_rank, script_of}
+use Rattle.walkx.specs.Walk.{begins, has_rank, script_of}
 use Rattle.pram_board.specs.declared.driver.Driver.{Driver}
 use Rattle.pram_board.specs.declared.task.Task.{Task}
 use Rattle.pram_board.specs.Seats.{Desk, SeatData, hears_all}
+use Rattle.lawful_walk.specs.Moments.{Sound}
 use Rattle.lawful_walk.specs.Walks.{steps_heard}
 use Rattle.pram_board.specs.Worked.{Works}
 
@@ -179,6 +184,32 @@ pub record DonePart (at : PostData) (before : Driving) (memory : List Memo) (lat
 abbrev pub Tried : PostData → Driving → List Memo → Driving → List Memo → Bool → Type 0
 Tried at before memory later now true = DonePart at before memory later now
 Tried at before memory later now false = (later ≡ before) × (now ≡ memory)
+
+-- The task of the leaf's processor was done by a swap of its store, but for the report where another
+-- value was found.
+pub record Swapped (at : PostData) (before : Driving) (memory : List Memo) (other : Bool)
+    (later : Driving) (now : List Memo) : Type 0 where
+  pub learned : Memo
+  pub kept : now ≡ slice_set memory (processor_of at) learned
+  pub asks : idle at (memo_of memory (processor_of at)) ≡ None
+  pub sound : Sound at.job at.layout later.seat.record_of
+  pub drives : Drives (task_at at)
+      (before, script_of at.job at.layout (in_block at at.rank memory)) later
+      (reports_if at other (ends (begins 1)) (λ done. ends (has_worked at learned)))
+
+-- So it was for the processors of a block of this length from this leaf's to the last one: only of
+-- that one another value may have been found, which is still to be reported.
+pub record StoredTo (at : PostData) (len : ℕ) (before : Driving) (memory : List Memo)
+    (last : PostData × Bool) (later : Driving) (now : List Memo) : Type 0 where
+  pub same : last.0 ≡ at_rank at last.0.rank
+  pub onward : at.rank ≤ last.0.rank
+  pub mid : Driving
+  pub between : List Memo
+  pub moved : Moved (task_at at) before (in_block at at.rank memory) mid
+      (in_block at last.0.rank between)
+  pub there : AtTask last.0 len mid between
+  pub stores : AllStore last.0 len between
+  pub swapped : Swapped last.0 mid between last.1 later now
 
 -- where a turn leads it
 abbrev pub led_to : PostData → List Memo → Turned → Walking

@@ -11,6 +11,6 @@ returns c =
     ap (λ (n : ℕ). 3 * n) (c.steps.ensures.value ∙ ap (λ (p : PostData). p.job.steps) c.post.view_is) in
     c.max.ensures
     ∙ rw (c.least_reach.ensures, c.from-most.ensures, phase_is c.post.view_is, steps)
-    (block_is at.job at.layout at.node at.phase c.block_len.result c.args.memos.now
-    c.block_len.ensures.ranks c.first_processor-first.result _ c.args.memos.now
+    (block_is at.job at.layout at.node at.phase c.block_len.result c.args.memory.now
+    c.block_len.ensures.ranks c.first_processor-first.result _ c.args.memory.now
     c.block_len.ensures.most c.first_processor-first.ensures refl refl)

@@ -1,40 +1,88 @@
-use Rattle.std.proofs.Common.{sym, ◌∙◌}
+use Rattle.std.proofs.Common.{Err, refl}
+use Rattle.walkx.specs.WideParts.{store_carried, stored}
 use Rattle.walkx.proofs.Passes.{next_as, plays_as}
-use Rattle.walkx.proofs.WidePasses.{carry_common, carry_crew, carry_priority}
+use Rattle.walkx.proofs.Passing.{passed}
+use Rattle.walkx.proofs.Settling.{learned_comes}
+use Rattle.walkx.proofs.Turning.{comes_to}
+use Rattle.walkx.proofs.WidePasses.{carry_is}
 use Rattle.walkx.proofs.tasks.second_pass.Goals as goal
 
-pub store_common-requires-clause-next : goal.store_common-requires-clause-next
-store_common-requires-clause-next g c = let at = c.args.leaf.now in
-    next_as (g.S.Steps.stands at) _ _ _
-    (λ late next. carry_common at c.args.memo.now late next _
-    (sym c.rule.ensures.value ∙ c.in-Common.is)) c.requires.next
+pub store-requires-clause-next : goal.store-requires-clause-next
+store-requires-clause-next g c =
+    let at = c.args.leaf.now in
+    let memo = c.args.memo.now in
+    let r = next_as (g.S.Steps.stands at) _ _ _ (λ late next. carry_is at memo late next)
+    c.requires.next in
+    record {
+      from = r.from;
+      after = r.next memo;
+      next = λ write. store_carried at.job.rule at write (r.next memo)
+          (λ done. r.next (stored at memo));
+      here = r.here;
+    }
 
-pub returns-in-Common-clause-plays : goal.returns-in-Common-clause-plays
-returns-in-Common-clause-plays g c = let at = c.args.leaf.now in plays_as (g.S.Steps.stands at) _ _ _
-    (λ late next. carry_common at c.args.memo.now late next _
-    (sym c.rule.ensures.value ∙ c.in-Common.is))
-    _ _ c.store_common.ensures.plays
+pub returns-in_err-write-clause-past : goal.returns-in_err-write-clause-past
+returns-in_err-write-clause-past g c = λ past. (refl, (c.in_err-write.ensures.past past).1)
 
-pub store_priority-requires-clause-next : goal.store_priority-requires-clause-next
-store_priority-requires-clause-next g c = let at = c.args.leaf.now in
-    next_as (g.S.Steps.stands at) _ _ _
-    (λ late next. carry_priority at c.args.memo.now late next _
-    (sym c.rule.ensures.value ∙ c.in-Priority.is)) c.requires.next
+pub returns-in_err-write-clause-plays : goal.returns-in_err-write-clause-plays
+returns-in_err-write-clause-plays g c =
+    let at = c.args.leaf.now in
+    let memo = c.args.memo.now in
+    let stands = g.S.Steps.stands at in
+    rw (passed c.from_residual.result _ c.from_residual.ensures.1)
+    (plays_as stands _ _ _ (λ late next. carry_is at memo late next) _ _ (record {
+      on = λ from late next here. comes_to stands from _ _ _ (learned_comes (Err _) memo late next)
+          (c.in_err-write.ensures.plays.on from (next memo)
+          (λ write. store_carried at.job.rule at write (next memo) (λ done. next (stored at memo)))
+          here);
+    }))
 
-pub returns-in-Priority-clause-plays : goal.returns-in-Priority-clause-plays
-returns-in-Priority-clause-plays g c = let at = c.args.leaf.now in plays_as (g.S.Steps.stands at) _ _ _
-    (λ late next. carry_priority at c.args.memo.now late next _
-    (sym c.rule.ensures.value ∙ c.in-Priority.is))
-    _ _ c.store_priority.ensures.plays
+pub carry_store-requires-clause-next : goal.carry_store-requires-clause-next
+carry_store-requires-clause-next g c =
+    let at = c.args.leaf.now in
+    let memo = c.args.memo.now in
+    let r = next_as (g.S.Steps.stands at) _ _ _ (λ late next. carry_is at memo late next)
+    c.requires.next in
+    record {
+      from = r.from;
+      after = r.next memo;
+      next = λ done. r.next (stored at memo);
+      here = c.in_ok-write.ensures.plays.on r.from (r.next memo)
+          (λ write. store_carried at.job.rule at write (r.next memo)
+          (λ done. r.next (stored at memo))) r.here;
+    }
 
-pub store_crew-requires-clause-next : goal.store_crew-requires-clause-next
-store_crew-requires-clause-next g c = let at = c.args.leaf.now in
-    next_as (g.S.Steps.stands at) _ _ _
-    (λ late next. carry_crew at c.args.memo.now late next _
-    (sym c.rule.ensures.value ∙ c.in-Crew.is)) c.requires.next
+pub returns-in_err-carry_store-clause-past : goal.returns-in_err-carry_store-clause-past
+returns-in_err-carry_store-clause-past g c =
+    λ past. absurd (let late = (c.in_ok-write.ensures.past past).0 in cc)
 
-pub returns-in-Crew-clause-plays : goal.returns-in-Crew-clause-plays
-returns-in-Crew-clause-plays g c = let at = c.args.leaf.now in plays_as (g.S.Steps.stands at) _ _ _
-    (λ late next. carry_crew at c.args.memo.now late next _
-    (sym c.rule.ensures.value ∙ c.in-Crew.is))
-    _ _ c.store_crew.ensures.plays
+pub returns-in_err-carry_store-clause-plays : goal.returns-in_err-carry_store-clause-plays
+returns-in_err-carry_store-clause-plays g c =
+    let at = c.args.leaf.now in
+    let memo = c.args.memo.now in
+    let stands = g.S.Steps.stands at in
+    rw (passed c.from_residual-in_err-carry_store.result _
+    c.from_residual-in_err-carry_store.ensures.1)
+    (plays_as stands _ _ _ (λ late next. carry_is at memo late next) _ _ (record {
+      on = λ from late next here. comes_to stands from _ _ _ (learned_comes (Err _) memo late next)
+          (c.in_err-carry_store.ensures.plays.on from (next memo) (λ done. next (stored at memo))
+          (c.in_ok-write.ensures.plays.on from (next memo)
+          (λ write. store_carried at.job.rule at write (next memo) (λ done. next (stored at memo)))
+          here));
+    }))
+
+pub returns-clause-past : goal.returns-clause-past
+returns-clause-past g c = λ past. absurd (let late = (c.in_ok-write.ensures.past past).0 in cc)
+
+pub returns-clause-plays : goal.returns-clause-plays
+returns-clause-plays g c =
+    let at = c.args.leaf.now in
+    let memo = c.args.memo.now in
+    let stands = g.S.Steps.stands at in
+    rw c.carry.ensures (plays_as stands _ _ _ (λ late next. carry_is at memo late next) _ _ (record {
+      on = λ from late next here.
+          c.in_ok-carry_store.ensures.plays.on from (next memo) (λ done. next (stored at memo))
+          (c.in_ok-write.ensures.plays.on from (next memo)
+          (λ write. store_carried at.job.rule at write (next memo) (λ done. next (stored at memo)))
+          here);
+    }))

@@ -14,7 +14,7 @@ pub loop-rank-preserved : goal.loop-rank-preserved
 loop-rank-preserved c =
     let at = c.args.post.now in
     let rank = c.loop-rank.rank in
-    let memos = c.loop-rank.memos in
+    let memos = c.loop-rank.memory in
     let i = processor_at at.layout at.node rank in
     let there : has_rank at.layout at.node rank ≡ true =
     c.block_len-rank-end.ensures.ranks rank
@@ -26,8 +26,8 @@ loop-rank-preserved c =
     (omega (arith, (rank_parts at.layout at.node rank there).0)) (omega arith) refl there in
     elim c.if-not-rests_in.branch [
       | then-not-rests_in w ↦ (
-        rw (w.memos-is, w.go_on_in.ensures, w.leaf_at.ensures)
-            (sym (next w.go_together-load.new.memos) ∙ w.go_together-load.ensures.far
+        rw (w.memory-is, w.go_alone.ensures, w.leaf_at.ensures)
+            (sym (next w.go_together-load.new.memory) ∙ w.go_together-load.ensures.far
             ∙ c.loop-rank.invariant.0),
         rw w.load-is w.go_together-load.ensures.load,
       )
@@ -36,7 +36,7 @@ loop-rank-preserved c =
             omega (arith, c.first_processor-first.ensures) in
             let rested : slice_set memos i (gone_on at.job i (memo_of memos i)) ≡ memos =
             rw here at (c.rests_in.ensures w.if-not-rests_in.false) in
-            rw w.memos-is (ap (gone_from at (rank + 1)) (sym rested) ∙ sym (next memos)
+            rw w.memory-is (ap (gone_from at (rank + 1)) (sym rested) ∙ sym (next memos)
             ∙ c.loop-rank.invariant.0)),
         rw w.load-is c.loop-rank.invariant.1,
       )

@@ -28,5 +28,5 @@ loop-other-preserved g c =
     let there : has_rank at.layout at.node other ≡ true =
     c.block_len-other-end.ensures.ranks other
     ∙ lt-ltb other c.block_len-other-end.result c.loop-other-test.true in
-    on_its_way at c.args.rank other (processor_at at.layout at.node other) c.loop-other.memos
-    c.go_one_in.new.memos refl there (omega arith) (rw c.leaf_from.ensures at c.go_one_in.ensures) ∙ c.loop-other.invariant
+    on_its_way at c.args.rank other (processor_at at.layout at.node other) c.loop-other.memory
+    c.step_alone.new.self refl there (omega arith) (rw c.leaf_from.ensures at c.step_alone.ensures) ∙ c.loop-other.invariant

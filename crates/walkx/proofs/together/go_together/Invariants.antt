@@ -5,4 +5,4 @@ use Rattle.walkx.proofs.together.go_together.Given as goal
 -- what is left to go leads to the same
 abbrev pub invariant-loop : goal.invariant-loop
 invariant-loop l =
-    gone_from l.fn.post l.fn.rank l.memos ≡ gone_from l.fn.post l.fn.rank l.fn.memos
+    gone_from l.fn.post l.fn.rank l.memory ≡ gone_from l.fn.post l.fn.rank l.fn.memory

@@ -1,16 +1,10 @@
 use Rattle.std.proofs.Common.{refl, sym, subst, ℕ, arith}
 use Rattle.pram_board.specs.Inner.Plays.{DoneTo, driving}
-use Rattle.pram_board.proofs.Tasks.{done_first, done_from, not_moved}
+use Rattle.pram_board.proofs.Tasks.{done_from, not_moved}
 use Rattle.pram_board.proofs.driver.Driver.task.Goals as goal
 
-pub returns-in-Some-clause-done : goal.returns-in-Some-clause-done
-returns-in-Some-clause-done g c =
-    done_first c.args.leaf.now c.args.len (driving c.args.self.now) c.args.memory.now
-    (driving c.part.new.self) c.part.new.memory c.part.ensures.done.moved c.more_tasks.result
-    (driving c.more_tasks.new.self) c.more_tasks.new.memory c.more_tasks.ensures.done
-
-pub returns-in-None-clause-done : goal.returns-in-None-clause-done
-returns-in-None-clause-done g c =
+pub returns-clause-done : goal.returns-clause-done
+returns-clause-done g c =
     let at = c.args.leaf.now in
     subst (λ (rank : ℕ). DoneTo at c.args.len (driving c.args.self.now) c.args.memory.now rank
     (driving c.part.new.self) c.part.new.memory) (sym c.rank.ensures)

@@ -1,0 +1,19 @@
+use Rattle.std.proofs.Common.{◌≡◌, ◌-◌}
+use Rattle.walkx.specs.Inner.Posts.{at_rank}
+use Rattle.walkx.specs.Storing.{AllStore}
+use Rattle.pram_board.specs.Inner.Plays.{AtTask, Moved, driving, in_block, task_at}
+use Rattle.pram_board.proofs.driver.Driver.plain_stores.Given as goal
+
+abbrev pub invariant-loop-last : goal.invariant-loop-last
+invariant-loop-last g l = record {
+  seat : l.self.seat.ghost_name ≡ l.fn.self.seat.ghost_name;
+  same : l.leaf ≡ at_rank l.fn.leaf l.leaf.rank;
+  at : AtTask l.leaf l.len (driving l.self) l.memory;
+  stores : AllStore l.leaf l.len l.memory;
+  moved : Moved (task_at l.fn.leaf) (driving l.fn.self)
+      (in_block l.fn.leaf l.fn.leaf.rank l.fn.memory) (driving l.self)
+      (in_block l.fn.leaf l.leaf.rank l.memory);
+}
+
+abbrev pub decreases-loop-last : goal.decreases-loop-last
+decreases-loop-last g l = l.len - l.leaf.rank

@@ -1,0 +1,7 @@
+use Rattle.std.proofs.Common.{sym, subst}
+use Rattle.walkx.specs.Storing.{AllStore}
+use Rattle.pram_board.proofs.driver.Driver.store_apart.Goals as goal
+
+pub store_on-last-requires-clause-stores : goal.store_on-last-requires-clause-stores
+store_on-last-requires-clause-stores g c =
+    subst (AllStore c.args.leaf c.args.len) (sym c.replace-own.ensures.value) c.requires.stores

@@ -1,0 +1,10 @@
+//! A lane that settles.
+ghost use Rattle.std.specs.Prelude.{◌<◌};
+
+/// A lane, and the register whose word tells the step, or none where that of the counter does.
+#[derive(Clone, Copy)]
+pub struct Landing {
+    pub lane: usize,
+    pub tells: Option<u8>,
+    ghost row: { lane < 64 },
+}

@@ -1,0 +1,313 @@
+//! The first pass of a processor whose step is known, where its lane lies.
+ghost use Rattle.std.specs.Prelude.{◌≡◌, ◌≢◌, ◌<◌, ℕ, MatchOption, OnOk, None, Some};
+ghost use Rattle.std.specs.Prelude.{IfSome, IsTrue, length, suc};
+ghost use Rattle.pram_words.specs.Phases.{kind_at};
+ghost use Rattle.pram_machine.specs.Instructions.{gives};
+ghost use Rattle.pram_machine.specs.Turns.{request_of};
+ghost use Rattle.walkx.specs.Driving.{IsNextPart, Plays};
+ghost use Rattle.walkx.specs.Inner.Posts.{processor_of, step_of};
+ghost use Rattle.walkx.specs.Lanes.{entries, lane};
+ghost use Rattle.walkx.specs.Memory.{cell_named, registers_after};
+ghost use Rattle.walkx.specs.Parts.{does_wide};
+ghost use Rattle.walkx.specs.Passing.{Passes, idle};
+ghost use Rattle.walkx.specs.Places.{DoneInLane, LoadsKnown, StandsKnown, tells_all, tells_counter};
+ghost use Rattle.walkx.specs.Places.{tells_register, turned};
+ghost use Rattle.walkx.specs.WideParts.{IsShaped, counter_due, counter_landed, own_landed};
+ghost use Rattle.walkx.specs.WideParts.{register_due, register_landed};
+
+use crate::block::{Block, set_entry};
+use crate::land_at::Landing;
+use crate::left::Left;
+use crate::load_in::LoadIn;
+use crate::memo::store_of;
+use crate::plain::forget;
+use crate::post::Leaf;
+use crate::request::{fetch, read_place};
+use crate::steps::Steps;
+use crate::wide_own::{claim_store, settles_by, write_if};
+use crate::wide_request::turn_by;
+use pram_job::Instr;
+use pram_machine::{Put, Turn, cell_named};
+use pram_words::Kind;
+
+/// The first pass of the leaf's processor, by its instruction.
+#[inline(always)]
+pub(crate) fn own_in<S: Steps>(
+    steps: &mut S,
+    leaf: &Leaf,
+    block: &mut Block,
+    k: usize,
+    instr: &Instr,
+) -> Result<(), Left>
+    requires lane { k < 64 }
+    requires stands { StandsKnown leaf.now (lane block.old k) instr.now }
+    requires next { IsNextPart (S.stands leaf.now) steps.old (does_wide leaf.now (lane block.old k)) }
+    ensures idle { Passes (idle leaf.now (lane block.old k)) steps.old steps.new (lane block.new k) }
+    ensures done { DoneInLane (S.stands leaf.now) leaf.now steps.old block.old k steps.new block.new
+        result }
+{
+    match load_of(leaf, block, k, instr) {
+        Some(load) => load_in(steps, leaf, block, load),
+        None => decide_in(steps, leaf, block, k, instr),
+    }
+}
+
+/// The instruction that the leaf's processor stands at, where it is known before the step.
+#[inline(always)]
+pub(crate) fn known_in<'a>(leaf: &Leaf<'a>, block: &Block, k: usize) -> Option<&'a Instr>
+    requires lane { k < 64 }
+    requires first { kind_at leaf.now.phase ≡ Kind.Compute }
+    ensures { IfSome result (λ instr. StandsKnown leaf.now (lane block.now k) instr.now) }
+{
+    let memo = block.memo(k);
+    if memo.is_before(leaf.step()) {
+        fetch(leaf, memo.own.counter)
+    } else {
+        None
+    }
+}
+
+/// It is known before the step, and stands at this counter.
+#[inline(always)]
+pub(crate) fn stands_in(leaf: &Leaf, block: &Block, k: usize, counter: u32) -> bool
+    requires lane { k < 64 }
+    ensures before { IsTrue result → suc (lane block.now k).step ≡ step_of leaf.now }
+    ensures there { IsTrue result → (lane block.now k).own.counter ≡ counter }
+{
+    let memo = block.memo(k);
+    memo.is_before(leaf.step()) && memo.own.counter == counter
+}
+
+// What it loads, if it loads.
+#[inline(always)]
+fn load_of(leaf: &Leaf, block: &Block, k: usize, instr: &Instr) -> Option<LoadIn>
+    requires lane { k < 64 }
+    requires stands { StandsKnown leaf.now (lane block.now k) instr.now }
+    ensures { MatchOption result
+        (cell_named leaf.now.job (lane block.now k).own (Some instr.now) ≡ None)
+        (λ load. (load.lane ≡ k) × LoadsKnown leaf.now (lane block.now k) load.register load.cell) }
+{
+    let own = block.own(k);
+    let cell = cell_named(leaf.job(), instr, &own.registers)?;
+    match *instr {
+        Instr::Ld(register, _) => Some(LoadIn {
+            lane: k,
+            register,
+            cell,
+        }),
+        _ => unreachable!(),
+    }
+}
+
+// The first pass, where it loads this: that goes into a register, and the processor settles.
+#[inline(always)]
+fn load_in<S: Steps>(
+    steps: &mut S,
+    leaf: &Leaf,
+    block: &mut Block,
+    load: LoadIn,
+) -> Result<(), Left>
+    requires loads { LoadsKnown leaf.now (lane block.old load.lane) load.register load.cell }
+    requires next { IsNextPart (S.stands leaf.now) steps.old
+        (does_wide leaf.now (lane block.old load.lane)) }
+    ensures { DoneInLane (S.stands leaf.now) leaf.now steps.old block.old load.lane steps.new
+        block.new result }
+{
+    let value = match read_place(steps, leaf, load.cell, leaf.cell_word(load.cell)) {
+        Ok(value) => value,
+        Err(why) => {
+            forget(block, load.lane);
+            return Err(why);
+        }
+    };
+    take_value(leaf, block, load, value);
+    let tells = Some(load.register);
+    land_in(
+        steps,
+        leaf,
+        block,
+        Landing {
+            lane: load.lane,
+            tells,
+        },
+    )
+}
+
+// The register took this value.
+#[inline(always)]
+fn take_value(leaf: &Leaf, block: &mut Block, load: LoadIn, value: u32)
+    requires { (lane block.old load.lane).own.counter < length leaf.now.job.code }
+    ensures same { lane block.new load.lane ≡ turned leaf.now (lane block.old load.lane)
+        (gives leaf.now.job (processor_of leaf.now) (lane block.old load.lane).own.counter
+        load.register value) }
+    ensures others { (j : ℕ) → j ≢ load.lane → lane block.new j ≡ lane block.old j }
+{
+    let _ = leaf.job();
+    let k = load.lane;
+    block.acted[k] = leaf.phase();
+    block.step[k] = leaf.step();
+    block.counter[k] += 1;
+    set_entry(&mut block.registers, load.register as usize, k, value);
+    block.stored[k] = false;
+}
+
+// The first pass, where it reads no cell: a store is claimed, and in each 64th step, and in a load,
+// it settles.
+#[inline(always)]
+fn decide_in<S: Steps>(
+    steps: &mut S,
+    leaf: &Leaf,
+    block: &mut Block,
+    k: usize,
+    instr: &Instr,
+) -> Result<(), Left>
+    requires lane { k < 64 }
+    requires stands { StandsKnown leaf.now (lane block.old k) instr.now }
+    requires none { cell_named leaf.now.job (lane block.old k).own (Some instr.now) ≡ None }
+    requires next { IsNextPart (S.stands leaf.now) steps.old (does_wide leaf.now (lane block.old k)) }
+    ensures idle { Passes (idle leaf.now (lane block.old k)) steps.old steps.new (lane block.new k) }
+    ensures done { DoneInLane (S.stands leaf.now) leaf.now steps.old block.old k steps.new block.new
+        result }
+{
+    let _ = leaf.job();
+    let turn = turn_by(leaf, &block.own(k), instr, 0);
+    claim_store(steps, leaf, turn)?;
+    take_turn(leaf, block, k, turn);
+    if settles_by(leaf, instr) {
+        land_in(
+            steps,
+            leaf,
+            block,
+            Landing {
+                lane: k,
+                tells: None,
+            },
+        )
+    } else {
+        Ok(())
+    }
+}
+
+// The turn is taken.
+#[inline(always)]
+fn take_turn(leaf: &Leaf, block: &mut Block, k: usize, turn: Turn)
+    requires lane { k < 64 }
+    requires shape { IsShaped leaf.now turn }
+    ensures same { lane block.new k ≡ turned leaf.now (lane block.old k) (request_of turn) }
+    ensures others { (j : ℕ) → j ≢ k → lane block.new j ≡ lane block.old j }
+{
+    put_in(leaf, &mut block.registers, k, turn);
+    block.counter[k] = turn.next;
+    block.step[k] = leaf.step();
+    block.set_store(k, leaf.phase(), store_of(leaf, turn));
+}
+
+/// Its register is written, if it writes one.
+#[inline(always)]
+pub(crate) fn put_in(leaf: &Leaf, registers: &mut [[u32; 64]; 4], k: usize, turn: Turn)
+    requires lane { k < 64 }
+    requires shape { IsShaped leaf.now turn }
+    ensures same { entries registers.new k ≡ registers_after leaf.now.job (processor_of leaf.now)
+        (entries registers.old k) (request_of turn).put }
+    ensures others { (j : ℕ) → j ≢ k → entries registers.new j ≡ entries registers.old j }
+{
+    if let Put::Register(place, value) = turn.put {
+        let r = (place - leaf.register_place(0)) as usize;
+        set_entry(registers, r, k, value);
+    }
+}
+
+// Those of the lane's words are written that no longer tell what it is, and the one that tells the
+// step: a register, or the counter.
+#[inline(always)]
+fn land_in<S: Steps>(
+    steps: &mut S,
+    leaf: &Leaf,
+    block: &mut Block,
+    landing: Landing,
+) -> Result<(), Left>
+    requires next { IsNextPart (S.stands leaf.now) steps.old
+        (own_landed leaf.now (lane block.old landing.lane) landing.tells) }
+    ensures others { (j : ℕ) → j ≢ landing.lane → lane block.new j ≡ lane block.old j }
+    ensures told { OnOk result
+        (lane block.new landing.lane ≡ tells_all (lane block.old landing.lane)) }
+    ensures plays { Plays (S.stands leaf.now) steps.old
+        (own_landed leaf.now (lane block.old landing.lane) landing.tells) steps.new result }
+{
+    for r in 0..4u8 {
+        land_register_in(steps, leaf, block, landing, r)?;
+    }
+    land_counter_in(steps, leaf, block, landing)
+}
+
+// The word of a register, if it is to be written.
+#[inline(always)]
+fn land_register_in<S: Steps>(
+    steps: &mut S,
+    leaf: &Leaf,
+    block: &mut Block,
+    landing: Landing,
+    r: u8,
+) -> Result<(), Left>
+    requires register { r < 4 }
+    requires next { IsNextPart (S.stands leaf.now) steps.old
+        (register_landed leaf.now (lane block.old landing.lane) landing.tells r) }
+    ensures others { (j : ℕ) → j ≢ landing.lane → lane block.new j ≡ lane block.old j }
+    ensures told { lane block.new landing.lane ≡ tells_register (lane block.old landing.lane) r }
+    ensures four { length (lane block.new landing.lane).told.registers ≡ 4 }
+    ensures plays { Plays (S.stands leaf.now) steps.old
+        (register_landed leaf.now (lane block.old landing.lane) landing.tells r) steps.new result }
+{
+    let k = landing.lane;
+    let due = register_due_in(block, landing, r);
+    let value = block.registers[r as usize][k];
+    set_entry(&mut block.told, r as usize, k, value);
+    let write = (leaf.register_place(r), leaf.register_word(r), value);
+    write_if(steps, leaf, due, write)
+}
+
+// It is: it no longer tells what the register is, or it tells the step.
+#[inline(always)]
+fn register_due_in(block: &Block, landing: Landing, r: u8) -> bool
+    requires { r < 4 }
+    ensures { result ≡ register_due (lane block.now landing.lane) landing.tells r }
+{
+    let (r, k) = (r as usize, landing.lane);
+    let tells_step = match landing.tells {
+        Some(register) => register as usize == r,
+        None => false,
+    };
+    tells_step || block.registers[r][k] != block.told[r][k]
+}
+
+// That of the counter.
+#[inline(always)]
+fn land_counter_in<S: Steps>(
+    steps: &mut S,
+    leaf: &Leaf,
+    block: &mut Block,
+    landing: Landing,
+) -> Result<(), Left>
+    requires next { IsNextPart (S.stands leaf.now) steps.old
+        (counter_landed leaf.now (lane block.old landing.lane) landing.tells) }
+    ensures others { (j : ℕ) → j ≢ landing.lane → lane block.new j ≡ lane block.old j }
+    ensures told { lane block.new landing.lane ≡ tells_counter (lane block.old landing.lane) }
+    ensures plays { Plays (S.stands leaf.now) steps.old
+        (counter_landed leaf.now (lane block.old landing.lane) landing.tells) steps.new result }
+{
+    let k = landing.lane;
+    let due = counter_due_in(block, landing);
+    let value = block.counter[k];
+    block.told_counter[k] = value;
+    let write = (leaf.counter_place(), leaf.counter_word(), value);
+    write_if(steps, leaf, due, write)
+}
+
+// It is to be written.
+#[inline(always)]
+fn counter_due_in(block: &Block, landing: Landing) -> bool
+    ensures { result ≡ counter_due (lane block.now landing.lane) landing.tells }
+{
+    let k = landing.lane;
+    landing.tells.is_none() || block.counter[k] != block.told_counter[k]
+}
