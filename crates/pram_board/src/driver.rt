@@ -6,12 +6,14 @@ use crate::rest::Rest;
 use crate::seat::Seat;
 use crate::task::Task;
 use crate::work::Stay;
-use pram_job::{Instr, Place};
+use pram_job::{Instr, Place, Rule};
 use pram_words::Kind;
 use std::mem;
 use stop_plan::Gate;
 use walkx::turns::{Turned, mark, turn};
-use walkx::{Claims, Formed, Leaf, Loads, Memory, Op, Post, Stand, Steps, Stopped, Worker};
+use walkx::{
+    Claims, Formed, Leaf, Loads, Memory, Op, Post, Stand, Steps, Stopped, Worker, report_store,
+};
 
 /// Makes the atomic steps of a worker on a board, passing the gate before each, and counts them.
 #[derive(Drop)]
@@ -49,14 +51,14 @@ impl<'a, G: Gate> Steps for Driver<'a, G> {
 
 impl<'a, G: Gate> Driver<'a, G> {
     ghost use Rattle.std.specs.Prelude.{◌≡◌, ◌<◌, ◌≤◌, ◌+◌, ◌%◌, ◌^◌, suc, None, false, true, List};
-    ghost use Rattle.std.specs.Prelude.{◌≢◌, ℕ, slice_get};
+    ghost use Rattle.std.specs.Prelude.{◌≢◌, ℕ, Some, slice_get};
     ghost use Rattle.walkx.specs.declared.operation.Op.TheVariants.{Load, Swap};
     ghost use Rattle.walkx.specs.declared.memo.Memo.{Memo};
     ghost use Rattle.walkx.specs.Inner.Posts.{IsLeafPost, at_rank, processor_of};
     ghost use Rattle.pram_words.specs.Phases.{kind_at};
     ghost use Rattle.walkx.specs.Memory.{FitsMemory, memo_of};
     ghost use Rattle.walkx.specs.Passing.{IsStand, Spells};
-    ghost use Rattle.walkx.specs.Storing.{AllStore, StoresPlainly};
+    ghost use Rattle.walkx.specs.Storing.{AllStore, HasStore};
     ghost use Rattle.walkx.specs.Plain.{AllLoadBy, LoadsBy, AllClaimBy, ClaimsBy};
     ghost use Rattle.walkx.specs.Turns.{beginning, turning};
     ghost use Rattle.walkx.specs.Walk.{end_of, has_rank};
@@ -392,7 +394,7 @@ impl<'a, G: Gate> Driver<'a, G> {
         driver.end();
     }
 
-    // Those of the second pass under common, where all have stores that are remembered.
+    // Those of the second pass, where all have stores that are remembered.
     #[inline(never)]
     fn plain_stores(&mut self, leaf: Leaf<'_>, len: u32, memory: &mut Memory)
         requires at { AtTask leaf len (driving self.old) memory.old }
@@ -412,8 +414,8 @@ impl<'a, G: Gate> Driver<'a, G> {
         }
     }
 
-    // Those from the leaf's processor up to the first that finds another value, which is reported:
-    // the leaf of the last of them.
+    // Those from the leaf's processor up to the first of which a report is due, which is made: the
+    // leaf of the last of them.
     #[inline(always)]
     fn stores<'b>(&mut self, leaf: Leaf<'b>, len: u32, memory: &mut Memory) -> Leaf<'b>
         requires at { AtTask leaf len (driving self.old) memory.old }
@@ -424,17 +426,24 @@ impl<'a, G: Gate> Driver<'a, G> {
             (driving self.new) memory.new }
         ensures stores { AllStore (at_rank result (suc result.rank)) len memory.new }
     {
-        let (last, other) = self.store_apart(leaf, len, memory);
-        if other {
-            self.report(&last);
-            return last;
+        let (last, due) = self.store_apart(leaf, len, memory);
+        match due {
+            Some(write) => {
+                self.report(&last, write);
+                last
+            }
+            None => last,
         }
-        last
     }
 
-    // The same but for the report, by a driver of its own: and whether another value was found.
+    // The same but for the report, by a driver of its own: and the store of which one is due.
     #[inline(always)]
-    fn store_apart<'b>(&mut self, leaf: Leaf<'b>, len: u32, memory: &mut Memory) -> (Leaf<'b>, bool)
+    fn store_apart<'b>(
+        &mut self,
+        leaf: Leaf<'b>,
+        len: u32,
+        memory: &mut Memory,
+    ) -> (Leaf<'b>, Option<(u32, u32)>)
         requires at { AtTask leaf len (driving self.old) memory.old }
         requires stores { AllStore leaf len memory.old }
         ensures same { self.new.seat.ghost_name ≡ self.old.seat.ghost_name }
@@ -450,7 +459,7 @@ impl<'a, G: Gate> Driver<'a, G> {
             rest: self.rest,
         };
         let mut own = mem::replace(memory, Memory::none());
-        let last = driver.store_on(leaf, len, &mut own);
+        let last = driver.store_by(leaf, len, &mut own);
         *memory = own;
         self.made = driver.made;
         self.rest = driver.rest;
@@ -458,9 +467,37 @@ impl<'a, G: Gate> Driver<'a, G> {
         last
     }
 
-    // The same by this driver.
+    // The same by this driver. Each rule has a loop of its own.
     #[inline(always)]
-    fn store_on<'b>(&mut self, leaf: Leaf<'b>, len: u32, memory: &mut Memory) -> (Leaf<'b>, bool)
+    fn store_by<'b>(
+        &mut self,
+        leaf: Leaf<'b>,
+        len: u32,
+        memory: &mut Memory,
+    ) -> (Leaf<'b>, Option<(u32, u32)>)
+        requires at { AtTask leaf len (driving self.old) memory.old }
+        requires stores { AllStore leaf len memory.old }
+        ensures same { self.new.seat.ghost_name ≡ self.old.seat.ghost_name }
+        ensures stored { StoredTo leaf.entry len (driving self.old) memory.old result
+            (driving self.new) memory.new }
+    {
+        match leaf.rule() {
+            Rule::Common => self.store_on(leaf, len, memory, Rule::Common),
+            Rule::Priority => self.store_on(leaf, len, memory, Rule::Priority),
+            Rule::Crew => self.store_on(leaf, len, memory, Rule::Crew),
+        }
+    }
+
+    // The same, by what is the rule.
+    #[inline(always)]
+    fn store_on<'b>(
+        &mut self,
+        leaf: Leaf<'b>,
+        len: u32,
+        memory: &mut Memory,
+        rule: Rule,
+    ) -> (Leaf<'b>, Option<(u32, u32)>)
+        requires rule { rule ≡ leaf.job.rule }
         requires at { AtTask leaf len (driving self.old) memory.old }
         requires stores { AllStore leaf len memory.old }
         ensures same { self.new.seat.ghost_name ≡ self.old.seat.ghost_name }
@@ -469,48 +506,51 @@ impl<'a, G: Gate> Driver<'a, G> {
     {
         let mut leaf = leaf;
         loop {
-            let other = self.store_at(&leaf, memory);
-            if other {
-                return (leaf, other);
+            let due = self.store_at(&leaf, memory, rule);
+            if due.is_some() {
+                return (leaf, due);
             }
             if leaf.rank() + 1 == len {
-                return (leaf, other);
+                return (leaf, due);
             }
             leaf = leaf.next();
         }
     }
 
-    // The second pass of the leaf's processor, whose store is remembered, but for the report:
-    // whether another value was found.
+    // The second pass of the leaf's processor, whose store is remembered, up to the report: the
+    // store, if one is due.
     #[inline(always)]
-    fn store_at(&mut self, leaf: &Leaf, memory: &mut Memory) -> bool
+    fn store_at(&mut self, leaf: &Leaf, memory: &mut Memory, rule: Rule) -> Option<(u32, u32)>
+        requires rule { rule ≡ leaf.now.job.rule }
         requires at { AtPart leaf.now (driving self.old) memory.old }
-        requires store { StoresPlainly leaf.now (memo_of memory.old (processor_of leaf.now)) }
+        requires store { HasStore leaf.now (memo_of memory.old (processor_of leaf.now)) }
         ensures same { self.new.seat.ghost_name ≡ self.old.seat.ghost_name }
         ensures swapped { Swapped leaf.now (driving self.old) memory.old result (driving self.new)
             memory.new }
     {
-        match memory.swap_store(self, leaf) {
-            Ok(other) => {
+        match memory.carry_until(self, leaf, rule) {
+            Ok(due) => {
                 self.seat.facts();
-                other
+                due
             }
             Err(_) => unreachable!(),
         }
     }
 
-    // Another value was found: the step is reported.
+    // The report that is due of this store is made, and what is left of it.
     #[inline(never)]
-    fn report(&mut self, leaf: &Leaf)
-        requires found { (before : Driving) × (memory : List Memo) × (now : List Memo)
-            × Swapped leaf.now before memory true (driving self.old) now }
+    fn report(&mut self, leaf: &Leaf, write: (u32, u32))
+        requires due { (before : Driving) × (memory : List Memo) × (now : List Memo)
+            × Swapped leaf.now before memory (Some write) (driving self.old) now }
         ensures same { self.new.seat.ghost_name ≡ self.old.seat.ghost_name }
         ensures reported { (before : Driving) (memory now : List Memo) →
-            Swapped leaf.now before memory true (driving self.old) now →
-            Swapped leaf.now before memory false (driving self.new) now }
+            Swapped leaf.now before memory (Some write) (driving self.old) now →
+            Swapped leaf.now before memory None (driving self.new) now }
     {
-        let _ = self.step(leaf.reporting());
-        self.seat.facts();
+        match report_store(self, leaf, write) {
+            Ok(()) => self.seat.facts(),
+            Err(_) => unreachable!(),
+        }
     }
 
     // The tasks of a block of this length, from the leaf's processor on, one by one.

@@ -1,31 +1,15 @@
--- The processors of a block in turn: how they go on, and how far they have nothing to do.
-use Rattle.std.proofs.Common.{◌≡◌, ℕ, zero, suc, ◌+◌, ◌-◌, ◌*◌, ◌≤◌, nat_lt, true, false, List}
+-- How far the processors of a block have nothing to do.
+use Rattle.std.proofs.Common.{◌≡◌, ℕ, zero, suc, ◌+◌, ◌-◌, ◌*◌, ◌≤◌, nat_lt, List}
 use Rattle.std.proofs.Common.{refl, sym, ap, ◌∙◌, arith}
-use Rattle.std.specs.Prelude.{min, max, slice_set}
+use Rattle.std.specs.Prelude.{min, max}
 use Rattle.std.proofs.lemmas.Bool.{le-ltb, lt-ltb}
 use Rattle.pram_job.specs.Job.{JobData}
 use Rattle.pram_words.specs.Words.{LayoutData, grain}
 use Rattle.walkx.specs.declared.memo.Memo.{Memo}
-use Rattle.walkx.specs.Memory.{gone_on, memo_of}
+use Rattle.walkx.specs.Memory.{memo_of}
 use Rattle.walkx.specs.Passing.{least_of}
-use Rattle.walkx.specs.Walk.{block_gone_on, block_reach, has_rank, least_reach, processor_at}
+use Rattle.walkx.specs.Walk.{block_reach, has_rank, least_reach, processor_at}
 use Rattle.walkx.specs.Walk.{reach_from_phase}
-
--- ---- they go on
-
-module _ (job : JobData) (y : LayoutData) (n : ℕ) where
-  pub none_goes : (more rank : ℕ) (memory : List Memo) → has_rank y n rank ≡ false →
-      block_gone_on more job y n rank memory ≡ memory
-  none_goes zero rank memory none = refl
-  none_goes (suc more) rank memory none = rw none refl
-
-  pub next_goes : (more left rank to i : ℕ) (memory : List Memo) → more ≡ suc left → to ≡ suc rank →
-      i ≡ processor_at y n rank → has_rank y n rank ≡ true →
-      block_gone_on more job y n rank memory
-      ≡ block_gone_on left job y n to (slice_set memory i (gone_on job i (memo_of memory i)))
-  next_goes more left rank to i memory is next at there = rw (is, next, at, there) refl
-
--- ---- how far
 
 min_swap : (a b c : ℕ) → min a (min b c) ≡ min b (min a c)
 min_swap a b c = omega arith

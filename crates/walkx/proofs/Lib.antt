@@ -61,6 +61,7 @@ pub mod OwnKnown
 pub mod Kept
 pub mod AsFar
 pub mod Ways
+pub mod Apart
 pub mod AsOne
 pub mod InLanes
 pub mod RowGone

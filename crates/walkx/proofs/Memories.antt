@@ -1,7 +1,7 @@
 -- What is remembered: its numbers fit.
 use Rattle.std.proofs.Common.{◌≡◌, ℕ, zero, suc, ◌-◌, ◌^◌, ◌<◌, ◌≤◌, nat_lt, List, [], ◌∷◌}
 use Rattle.std.proofs.Common.{Bool, true, false, length, slice_get, slice_index, slice_index_or, Option, Some, None}
-use Rattle.std.proofs.Common.{IfSome, refl, sym, ap, ◌∙◌, inl, inr, lit<, arith}
+use Rattle.std.proofs.Common.{IfSome, refl, ap, ◌∙◌, inl, inr, lit<, arith}
 use Rattle.std.specs.Prelude.{slice_set, replicate, map, is_some, nat_le, ◌||◌}
 use Rattle.std.specs.List.{AllByRecursion}
 use Rattle.std.proofs.lemmas.Bool.{cases_lt, cond_both, le-leb}
@@ -245,13 +245,6 @@ set_past [] i memo past = refl
 set_past (m ∷ memory) zero memo past = absurd (omega (arith, past))
 set_past (m ∷ memory) (suc i) memo past =
     ap (λ (memos : List Memo). m ∷ memos) (set_past memory i memo (omega (arith, past)))
-
-pub set_unknown : (memory : List Memo) (i : ℕ) (memo : Memo) → slice_get memory i ≡ None →
-    slice_set memory i memo ≡ memory
-set_unknown [] i memo none = refl
-set_unknown (m ∷ memory) zero memo none = absurd (none-some m (sym none))
-set_unknown (m ∷ memory) (suc i) memo none =
-    ap (λ (memos : List Memo). m ∷ memos) (set_unknown memory i memo none)
 
 pub memory_set : (job : JobData) (memory : List Memo) (i : ℕ) (memo : Memo) →
     FitsMemory job memory → FitsMemo job memo → FitsMemory job (slice_set memory i memo)

@@ -14,7 +14,7 @@ use Rattle.walkx.specs.Memory.{gone_on}
 use Rattle.walkx.specs.Rows.{RestIn}
 use Rattle.walkx.specs.Together.{goes_as_far, gone_from}
 use Rattle.walkx.specs.Walk.{block_reach, has_rank, processor_at, reach_from_phase}
-use Rattle.walkx.proofs.AsOne.{reach_is}
+use Rattle.walkx.proofs.AsOne.{reach_is, stays_all}
 use Rattle.walkx.proofs.Ways.{lanes_gone, ranks_all}
 
 module _ (at : PostData) (blocks : List Block) (q : ℕ) (lanes : Span) (old block : Block)
@@ -46,17 +46,25 @@ module _ (at : PostData) (blocks : List Block) (q : ℕ) (lanes : Span) (old blo
   abbrev now : List Memo
   now = memos_of (slice_set blocks q block)
 
-  module _ (phase reach : ℕ) (rest : RestIn job lanes phase reach block) where
+  -- where none of them goes on from there
+  module _ (stay : (k : ℕ) → lanes.start ≤ k → k < lanes.end →
+      gone_on job (lanes.first + k) (lane block k) ≡ lane block k) where
     each_stays : (k : ℕ) → lanes.start ≤ k → k < lanes.end →
         gone_on at.job (64 * q + k) (lane block k) ≡ lane block k
     each_stays k from to =
         subst (λ (j : JobData). gone_on j (64 * q + k) (lane block k) ≡ lane block k) job_is
-        (subst (λ (n : ℕ). gone_on job (n + k) (lane block k) ≡ lane block k) same
-        (rest.stay k from to))
+        (subst (λ (n : ℕ). gone_on job (n + k) (lane block k) ≡ lane block k) same (stay k from to))
 
-    pub row_stay : AllStay at now
-    row_stay = ranks_all at blocks q lanes.start lanes.end old block low is first ranks lanes.within
+    pub all_stay : AllStay at now
+    all_stay = ranks_all at blocks q lanes.start lanes.end old block low is first ranks lanes.within
         gone before after (λ i m. gone_on at.job i m ≡ m) each_stays
+
+    pub row_gone : now ≡ gone_from at 0 (memos_of blocks)
+    row_gone = sym (stays_all at now all_stay) ∙ row_far
+
+  module _ (phase reach : ℕ) (rest : RestIn job lanes phase reach block) where
+    pub row_stay : AllStay at now
+    row_stay = all_stay rest.stay
 
     pub row_reach : phase ≡ at.phase →
         max phase reach ≡ block_reach at.job at.layout at.node at.phase now

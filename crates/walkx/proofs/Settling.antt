@@ -20,6 +20,12 @@ settled_err (Ok d) after why is = absurd (cc)
 settled_err (Err Late) after why is = absurd (cc)
 settled_err (Err Held) after why is = refl
 
+pub settled_goes : (r : Result (Unit {0}) Left) (after : Script Then) →
+    comes after (λ (d : Unit {0}). after) r ≡ goes (λ (d : Unit {0}). after) (settled_or_late r)
+settled_goes (Ok d) after = refl
+settled_goes (Err Late) after = refl
+settled_goes (Err Held) after = refl
+
 -- where nothing was loaded, what is known is what it was
 pub left_known : (why : Left) (memo known : Memo) (late : Script Then) (next f : Memo → Script Then) →
     (why ≡ Late → known ≡ memo) →

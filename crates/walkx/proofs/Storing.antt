@@ -1,29 +1,32 @@
 -- A store that is remembered, and carried out.
-use Rattle.std.proofs.Common.{◌≡◌, ◌≢◌, ℕ, suc, ◌+◌, ◌-◌, ◌<◌, ◌≤◌, ◌/◌, ◌%◌, Bool, true, false, List, Option, Some, None, Ok, Err}
-use Rattle.std.proofs.Common.{Result, refl, sym, ap, subst, ◌∙◌, slice_get, length, arith}
+use Rattle.std.proofs.Common.{◌≡◌, ◌≢◌, ℕ, suc, ◌+◌, ◌-◌, ◌<◌, ◌≤◌, ◌/◌, ◌%◌, Bool, true, false}
+use Rattle.std.proofs.Common.{List, Option, Some, None, Ok, Err, Result, refl, sym, ap, subst, ◌∙◌}
+use Rattle.std.proofs.Common.{slice_get, length, arith}
 use Rattle.std.specs.Prelude.{if◌then◌else◌, is_some, slice_index, slice_index_or, slice_set}
+use Rattle.std.specs.Prelude.{IfOk, IfSome}
 use Rattle.std.proofs.lemmas.Bool.{eq-eqb}
 use Rattle.pram_job.specs.Job.{JobData}
 use Rattle.pram_job.specs.declared.instr.Rule.{Rule}
-use Rattle.pram_job.specs.declared.instr.Rule.TheVariants.{Common}
+use Rattle.pram_job.specs.declared.instr.Rule.TheVariants.{Common, Priority, Crew}
 use Rattle.pram_words.specs.Phases.{kind_at}
 use Rattle.pram_words.specs.declared.phases.Kind.TheVariants.{Verify}
 use Rattle.walkx.specs.declared.block.Block.{Block}
 use Rattle.walkx.specs.declared.left.Left.{Left}
 use Rattle.walkx.specs.declared.left.Left.TheVariants.{Late, Held}
+use Rattle.walkx.specs.declared.left.Stopped.{Stopped}
 use Rattle.walkx.specs.declared.memo.Memo.{Memo}
 use Rattle.walkx.specs.Driving.{Plays, Standing, comes, goes}
-use Rattle.walkx.specs.Inner.Posts.{PostData, at_rank, processor_of, step_of}
+use Rattle.walkx.specs.Inner.Posts.{IsCellOf, PostData, at_rank, processor_of, step_of}
 use Rattle.walkx.specs.Lanes.{lane, lane_in, memos_of}
 use Rattle.walkx.specs.Memory.{FitsMemo, has_store, is_past, memo_of}
-use Rattle.walkx.specs.Parts.{does_wide, reports_if}
+use Rattle.walkx.specs.Parts.{does_wide}
 use Rattle.walkx.specs.Passes.{if_write}
 use Rattle.walkx.specs.Passing.{idle}
 use Rattle.walkx.specs.Rows.{AllIn}
 use Rattle.walkx.specs.Scripts.{Script}
-use Rattle.walkx.specs.Storing.{AllStore, HasStore, StoresPlainly, Swaps, carried_in, found_or_late}
+use Rattle.walkx.specs.Storing.{AllStore, Carries, HasStore, carried_in, due_if, left_of, none_due}
 use Rattle.walkx.specs.Walk.{Then}
-use Rattle.walkx.specs.WideParts.{store_carried, stored, swaps}
+use Rattle.walkx.specs.WideParts.{carried_until, store_carried, store_left, stored}
 use Rattle.walkx.proofs.Kept.{keeps, still_to_do}
 use Rattle.walkx.proofs.Lanes.{memo_of_all, set_all}
 use Rattle.walkx.proofs.Memories.{memo_other}
@@ -31,6 +34,32 @@ use Rattle.walkx.proofs.Silent.{second_idle}
 use Rattle.walkx.proofs.Timing.{verify_is}
 use Rattle.walkx.proofs.Turning.{comes_to, moved}
 use Rattle.walkx.proofs.WidePasses.{carry_is, same_wide_kind}
+
+-- what is left of a store, if a report is due
+abbrev pub left_if : Rule → PostData → ℕ × ℕ → Script Then → Bool → Script Then
+left_if rule at write last other = if other then store_left rule at write last else last
+
+-- a store is carried out up to the report, and then this is left of it
+pub until_is : (rule : Rule) (at : PostData) (write : ℕ × ℕ) (after : Script Then)
+    (next : Unit {0} → Script Then) → store_carried rule at write after next
+    ≡ carried_until rule at write after (left_if rule at write (next tt))
+until_is Common at write after next = refl
+until_is Priority at write after next = refl
+until_is Crew at write after next = refl
+
+-- it was played up to the report, which is due or not
+pub until_on : {D : Type 0} (stands : Standing D) (rule : Rule) (at : PostData) (write : ℕ × ℕ)
+    (old new : D) (other is : Bool) → rule ≡ at.job.rule →
+    Plays stands old (carried_until rule at write) new (Ok other) → other ≡ is →
+    (from : D × Script Then) (after : Script Then) (next : Unit {0} → Script Then) →
+    stands from old (Some (store_carried at.job.rule at write after next)) →
+    stands from new (Some (left_if at.job.rule at write (next tt) is))
+until_on {D} stands rule at write old new other is same plays found from after next here =
+    let by = subst (λ (r : Rule). Plays stands old (carried_until r at write) new (Ok other)) same
+    plays in
+    subst (λ (o : Bool). stands from new (Some (left_if at.job.rule at write (next tt) o))) found
+    (by.on from after (left_if at.job.rule at write (next tt))
+    (moved stands from old _ _ (until_is at.job.rule at write after next) here))
 
 module _ (at : PostData) (memo : Memo) (is : HasStore at memo) where
   has : has_store (step_of at) memo ≡ true
@@ -61,13 +90,12 @@ module _ (at : PostData) (memo : Memo) (is : HasStore at memo) where
         ∙ ap (λ (m : Memo). store_carried at.job.rule at (cell, value) (next memo)
         (λ done. next m)) stored_is
 
-    -- under common
-    pub swaps_it : at.job.rule ≡ Common → does_wide at memo late next
-        ≡ swaps at cell value late (λ other. reports_if at other late
-        (λ done. next (carried_in at memo)))
-    swaps_it common = carries
-        ∙ ap (λ (r : Rule). store_carried r at (cell, value) (next memo)
-        (λ done. next (carried_in at memo))) common
+    -- up to the report
+    pub carries_until : does_wide at memo late next
+        ≡ carried_until at.job.rule at (cell, value) (next memo)
+        (left_if at.job.rule at (cell, value) (next (carried_in at memo)))
+    carries_until = carries
+        ∙ until_is at.job.rule at (cell, value) (next memo) (λ done. next (carried_in at memo))
 
 -- the store of a lane is its cell and its value
 abbrev write_in : Block → ℕ → ℕ × ℕ
@@ -101,49 +129,60 @@ module _ (memory : List Memo) (items : List Block) (i j : ℕ) (block : Block)
     lane_set new low others = rw (sym view, sym same) (set_all items i (i / 64) (i % 64) block new
         (lane new (i % 64)) refl refl low there refl others)
 
--- whether another value was found, late or not
-pub found_goes : (done : Result Bool Left) (next : Bool → Script Then) →
-    comes (next false) next done ≡ goes next (found_or_late done)
-found_goes (Ok other) next = refl
-found_goes (Err Late) next = refl
-found_goes (Err Held) next = refl
+-- what the worker came to: the store, if its report is due, and what is known
+abbrev pub due_as : ℕ × ℕ → Result Bool Left → Result (Option (ℕ × ℕ)) Stopped
+due_as write (Ok other) = Ok (due_if write other)
+due_as write (Err why) = none_due why
 
--- it was carried out, but for the report
-pub swaps_up : {D : Type 0} (stands : Standing D) (at : PostData) (memo : Memo)
-    (store : StoresPlainly at memo) (cell value : ℕ) → memo.store ≡ Some (cell, value) →
-    (old new : D) (memory now : List Memo) → memo_of memory (processor_of at) ≡ memo →
-    now ≡ slice_set memory (processor_of at) (carried_in at memo) → (done : Result Bool Left) →
-    Plays stands old (swaps at cell value) new done →
-    Swaps stands at old memory new now (found_or_late done)
-swaps_up {D} stands at memo store cell value some old new memory now is kept done plays = record {
-  kept = kept ∙ ap (λ (m : Memo). slice_set memory (processor_of at) (carried_in at m)) (sym is);
-  asks = subst (λ (m : Memo). idle at m ≡ None) (sym is) (store_asks at memo store.store);
-  on = λ from late next here. goes_on from late next here;
-}
-  where
-    goes_on : (from : D × Script Then) (late : Script Then) (next : Memo → Script Then) →
-        stands from old (Some (does_wide at (memo_of memory (processor_of at)) late next)) →
-        stands from new (goes (λ other. reports_if at other late
-        (λ done. next (carried_in at (memo_of memory (processor_of at))))) (found_or_late done))
-    goes_on from late next here =
-        subst (λ (m : Memo). stands from new (goes (λ other. reports_if at other late
-        (λ done. next (carried_in at m))) (found_or_late done))) (sym is)
-        (comes_to stands from new _ _ (found_goes done (λ other. reports_if at other late
-        (λ done. next (carried_in at memo))))
-        (plays.on from (reports_if at false late (λ done. next (carried_in at memo)))
-        (λ other. reports_if at other late (λ done. next (carried_in at memo)))
-        (moved stands from old _ _
-        (swaps_it at memo store.store cell value some late next store.rule)
-        (subst (λ (m : Memo). stands from old (Some (does_wide at m late next))) is here))))
+abbrev pub known_as : PostData → Memo → Result Bool Left → Memo
+known_as at memo (Ok other) = carried_in at memo
+known_as at memo (Err why) = memo
+
+due_goes : (at : PostData) (memo : Memo) (write : ℕ × ℕ) (next : Memo → Script Then)
+    (done : Result Bool Left) →
+    comes (next memo) (left_if at.job.rule at write (next (carried_in at memo))) done
+    ≡ goes (λ due. left_of at due (next (known_as at memo done))) (due_as write done)
+due_goes at memo write next (Ok true) = refl
+due_goes at memo write next (Ok false) = refl
+due_goes at memo write next (Err Late) = refl
+due_goes at memo write next (Err Held) = refl
+
+due_cell : (at : PostData) (write : ℕ × ℕ) → IsCellOf at write.0 → (done : Result Bool Left) →
+    IfOk (due_as write done) (λ due. IfSome due (λ w. IsCellOf at w.0))
+due_cell at write cell (Ok true) = cell
+due_cell at write cell (Ok false) = tt
+due_cell at write cell (Err Late) = tt
+due_cell at write cell (Err Held) = tt
+
+-- it was carried out up to the report
+pub carries_up : {D : Type 0} (stands : Standing D) (at : PostData) (memo : Memo)
+    (store : HasStore at memo) (write : ℕ × ℕ) → memo.store ≡ Some write →
+    IsCellOf at write.0 → (old new : D) (memory now : List Memo) →
+    memo_of memory (processor_of at) ≡ memo → (done : Result Bool Left) →
+    now ≡ slice_set memory (processor_of at) (known_as at memo done) →
+    (rule : Rule) → rule ≡ at.job.rule → Plays stands old (carried_until rule at write) new done →
+    Carries stands at old memory new now (due_as write done)
+carries_up {D} stands at memo store write some cell old new memory now is done kept rule same by =
+    let plays = subst (λ (r : Rule). Plays stands old (carried_until r at write) new done) same by in
+    record {
+      learned = known_as at memo done;
+      kept = kept;
+      asks = subst (λ (m : Memo). idle at m ≡ None) (sym is) (store_asks at memo store);
+      cell = due_cell at write cell done;
+      on = λ from late next here. comes_to stands from new _ _ (due_goes at memo write next done)
+          (plays.on from (next memo) (left_if at.job.rule at write (next (carried_in at memo)))
+          (moved stands from old _ _ (carries_until at memo store write.0 write.1 some late next)
+          (subst (λ (m : Memo). stands from old (Some (does_wide at m late next))) is here)));
+    }
 
 -- so it is of each of these lanes
 pub all_stores : (at : PostData) (len : ℕ) (memory : List Memo) (items : List Block) (i : ℕ)
     (block : Block) (start end : ℕ) → memos_of items ≡ memory → i ≡ processor_of at →
-    at.job.rule ≡ Common → kind_at at.phase ≡ Verify → slice_get items (i / 64) ≡ Some block →
+    kind_at at.phase ≡ Verify → slice_get items (i / 64) ≡ Some block →
     start ≡ i % 64 → start + (len - at.rank) ≡ end → end ≤ 64 →
     AllIn start end (λ k. ((lane block k).step ≡ step_of at)
     × (is_some (lane block k).store ≡ true)) → AllStore at len memory
-all_stores at len memory items i block start end view same rule second there begin length_is most
+all_stores at len memory items i block start end view same second there begin length_is most
     all rank later within =
     let j = processor_of (at_rank at rank) in
     let on : j ≡ i + (rank - at.rank) = omega (arith, same, later) in
@@ -153,17 +192,15 @@ all_stores at len memory items i block start end view same rule second there beg
     let is : memo_of memory j ≡ lane block (j % 64) = lane_known memory items j j block view refl
     (ap (slice_get items) row ∙ there) in
     let has = all (j % 64) (omega (arith, k)) (omega (arith, k, length_is, later, within)) in
-    subst (StoresPlainly (at_rank at rank)) (sym is) (record {
-      rule = rule;
-      store = record { second = second; step = has.0; some = has.1 };
-    })
+    subst (HasStore (at_rank at rank)) (sym is)
+    (record { second = second; step = has.0; some = has.1 })
 
 -- those of the next ones stay, where what is known of the leaf's is another thing
 pub stores_left : (at : PostData) (len : ℕ) (memory : List Memo) (memo : Memo) →
     AllStore at len memory →
     AllStore (at_rank at (suc at.rank)) len (slice_set memory (processor_of at) memo)
 stores_left at len memory memo all rank later within =
-    subst (StoresPlainly (at_rank at rank))
+    subst (HasStore (at_rank at rank))
     (sym (memo_other memory (processor_of at) (processor_of (at_rank at rank)) memo
     (λ same. omega (arith, same, later))))
     (all rank (omega (arith, later)) within)

@@ -27,5 +27,6 @@ pub mod Playing
 pub mod Rests
 pub mod Passing
 pub mod Together
+pub mod Apart
 pub mod AsOne
 pub mod Rows

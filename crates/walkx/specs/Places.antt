@@ -4,6 +4,7 @@ use Rattle.std.specs.Prelude.{slice_set, List, Some, Result}
 use Rattle.pram_job.specs.declared.instr.Instr.{Instr}
 use Rattle.pram_job.specs.declared.instr.Instr.TheVariants.{Ld}
 use Rattle.pram_job.specs.declared.instr.Place.{Place}
+use Rattle.pram_job.specs.Job.{JobData}
 use Rattle.pram_machine.specs.declared.requests.Request.{Request}
 use Rattle.pram_words.specs.Phases.{kind_at}
 use Rattle.pram_words.specs.declared.phases.Kind.{Kind}
@@ -45,11 +46,11 @@ turned at memo request = record {
 }
 
 -- and once it is taken in a step that it goes alone
-abbrev pub stepped : PostData → Memo → Request → Memo
-stepped at memo request = record memo {
+abbrev pub stepped : JobData → ℕ → Memo → Request → Memo
+stepped job i memo request = record memo {
   step = suc memo.step;
-  own = own_after at.job (processor_of at) memo.own request;
-  store = cell_write at.job request.put;
+  own = own_after job i memo.own request;
+  store = cell_write job request.put;
 }
 
 -- once its words tell what register r is

@@ -1,20 +1,15 @@
 -- Processors of a block go on alone by some steps, and the rest of their way stays as it is.
-use Rattle.std.specs.Prelude.{◌≡◌, ℕ, ◌-◌, List, slice_set}
+use Rattle.std.specs.Prelude.{◌≡◌, ℕ, ◌-◌, List}
 use Rattle.pram_job.specs.Job.{JobData}
 use Rattle.pram_words.specs.Words.{grain}
 use Rattle.walkx.specs.declared.memo.Memo.{Memo}
 use Rattle.walkx.specs.Inner.Posts.{PostData}
-use Rattle.walkx.specs.Memory.{gone_on, memo_of}
+use Rattle.walkx.specs.Memory.{gone_on}
 use Rattle.walkx.specs.Walk.{block_gone_on}
 
 -- where processor i gets at last
 abbrev pub goes_as_far : JobData → ℕ → Memo → Memo → Type 0
 goes_as_far job i before after = gone_on job i after ≡ gone_on job i before
-
--- it went on by some steps, or by none
-abbrev pub IsOnItsWay : JobData → ℕ → List Memo → List Memo → Type 0
-IsOnItsWay job i before after = (after ≡ slice_set before i (memo_of after i))
-    × goes_as_far job i (memo_of before i) (memo_of after i)
 
 -- where those of a block get, from this rank on
 abbrev pub gone_from : PostData → ℕ → List Memo → List Memo

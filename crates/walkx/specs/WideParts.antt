@@ -1,5 +1,5 @@
 -- The parts of the tasks of the wide form, by their results.
-use Rattle.std.specs.Prelude.{◌≡◌, ◌≤◌, ℕ, Bool, false, not, ◌||◌, ◌==◌, nat_lt, if◌then◌else◌}
+use Rattle.std.specs.Prelude.{◌≡◌, ◌≤◌, ℕ, Bool, true, false, not, ◌||◌, ◌==◌, nat_lt, if◌then◌else◌}
 use Rattle.std.specs.Prelude.{List, [], ◌∷◌, slice_get, slice_index, is_none}
 use Rattle.std.specs.Prelude.{Option, Some, None, option_map, Result, Ok, Err}
 use Rattle.pram_job.specs.Job.{JobData}
@@ -62,11 +62,10 @@ asked_with at known instr value = asked_by at.job (processor_of at) known.own in
 
 -- a turn of the processor: its data goes to a cell or to one of its registers, and its counter to
 -- an instruction, or it stops
-pub record IsShaped (at : PostData) (turn : Turn) : Type 0 where
-  pub place : (place value : ℕ) → put_of turn.put ≡ Some (place, value) →
-      IsDataPlace at.job (processor_of at) place
-  pub next : turn.next ≤ out_of_range at.job
-  pub sorted : IsSorted at.job turn.put
+pub record IsShaped (job : JobData) (i : ℕ) (turn : Turn) : Type 0 where
+  pub place : (place value : ℕ) → put_of turn.put ≡ Some (place, value) → IsDataPlace job i place
+  pub next : turn.next ≤ out_of_range job
+  pub sorted : IsSorted job turn.put
 
 -- ---- the first pass
 
@@ -232,6 +231,36 @@ abbrev pub store_carried : Rule → PostData → ℕ × ℕ → Part (Unit {0})
 store_carried Common = store_compared
 store_carried Priority = priority_store
 store_carried Crew = crew_store
+
+-- The same up to the report of another's write, and whether one is due: the claim was heard under
+-- crew, where all claims stand
+abbrev pub crew_looked : PostData → ℕ × ℕ → ℕ → Part Bool
+crew_looked at write found after next =
+    if differs_from at (claim_of at.job (processor_of at)) found then next true
+    else writes at write.0 write.1 after (λ done. next false)
+
+abbrev pub crew_until : PostData → ℕ × ℕ → Part Bool
+crew_until at write after next =
+    asks (claim_loaded at write.0) (λ found. crew_looked at write found after next)
+
+-- under priority none is
+abbrev pub priority_until : PostData → ℕ × ℕ → Part Bool
+priority_until at write after next = priority_store at write after (λ done. next false)
+
+-- by the rule
+abbrev pub carried_until : Rule → PostData → ℕ × ℕ → Part Bool
+carried_until Common at write = swaps at write.0 write.1
+carried_until Priority at write = priority_until at write
+carried_until Crew at write = crew_until at write
+
+-- What is left where one is due: the report, and then the write, where there was none yet.
+abbrev pub write_left : Rule → PostData → ℕ × ℕ → Script Then → Script Then
+write_left Common at write last = last
+write_left Priority at write last = last
+write_left Crew at write last = writes at write.0 write.1 last (λ done. last)
+
+abbrev pub store_left : Rule → PostData → ℕ × ℕ → Script Then → Script Then
+store_left rule at write last = reports_if at true last (λ done. write_left rule at write last)
 
 abbrev pub does_store : PostData → Memo → Part Memo
 does_store at memo after next = stores_of at memo (next memo)

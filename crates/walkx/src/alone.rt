@@ -1,7 +1,7 @@
 //! A processor that neither reads a cell nor stores goes on alone.
 ghost use Rattle.std.specs.Prelude.{◌≡◌, ◌≢◌, ◌<◌, ℕ, false, true, slice_get, IfSome, Some};
 ghost use Rattle.pram_machine.specs.Turns.{request_of};
-ghost use Rattle.walkx.specs.Inner.Posts.{IsLeafPost, processor_of};
+ghost use Rattle.walkx.specs.Inner.Posts.{processor_of};
 ghost use Rattle.walkx.specs.Lanes.{lane};
 ghost use Rattle.walkx.specs.Memory.{goes_alone, gone_on, is_load, one_alone, own_alone};
 ghost use Rattle.walkx.specs.Places.{stepped};
@@ -9,34 +9,37 @@ ghost use Rattle.walkx.specs.Together.{goes_as_far};
 ghost use Rattle.walkx.specs.WideParts.{IsShaped};
 
 use crate::block::Block;
-use crate::memo::{Memo, Own, store_of};
+use crate::memo::{Own, Stand, store_of};
 use crate::own_in::put_in;
 use crate::post::Leaf;
 use crate::request::fetch;
-use crate::wide_request::{is_load, turn_by};
-use pram_job::{Instr, Job, Rule};
+use crate::row_walk::fetch_at;
+use crate::rows::is_common;
+use crate::wide_request::{is_load, turn_by, turn_of};
+use pram_job::{Instr, Job};
 use pram_machine::Turn;
 
-/// As far as it can, for 64 steps at most. One that has stopped goes on to the end.
+/// Processor i, of lane k, goes on as far as it can, for 64 steps at most. One that has stopped goes
+/// on to the end.
 #[inline(never)]
-pub(crate) fn go_on(leaf: &Leaf, block: &mut Block, k: usize)
-    requires { k < 64 }
-    ensures same { lane block.new k ≡ gone_on leaf.now.job (processor_of leaf.now)
-        (lane block.old k) }
+pub(crate) fn go_on(job: &Job, i: u32, block: &mut Block, k: usize)
+    requires processor { i < job.now.procs }
+    requires lane { k < 64 }
+    ensures same { lane block.new k ≡ gone_on job.now i (lane block.old k) }
     ensures others { (j : ℕ) → j ≢ k → lane block.new j ≡ lane block.old j }
 {
-    let steps = leaf.job().steps();
+    let steps = job.steps();
     for _ in 0..64u32 {
         if block.has_store(k) || steps <= block.step[k] {
             return;
         }
-        match fetch(leaf, block.counter[k]) {
+        match fetch_at(job, block.counter[k]) {
             None => {
                 stand_after(block, k, steps);
                 return;
             }
             Some(instr) => {
-                if !go_one(leaf, block, k, instr) {
+                if !go_one(job, i, block, k, instr) {
                     return;
                 }
             }
@@ -56,74 +59,76 @@ fn stand_after(block: &mut Block, k: usize, steps: u32)
 
 // One step by its instruction, if it can.
 #[inline(always)]
-fn go_one(leaf: &Leaf, block: &mut Block, k: usize, instr: &Instr) -> bool
+fn go_one(job: &Job, i: u32, block: &mut Block, k: usize, instr: &Instr) -> bool
+    requires processor { i < job.now.procs }
     requires lane { k < 64 }
-    requires step { (lane block.old k).step < leaf.now.job.steps }
-    requires instr { slice_get leaf.now.job.code (lane block.old k).own.counter ≡ Some instr.now }
-    ensures value { result ≡ goes_alone leaf.now.job (processor_of leaf.now) (lane block.old k) }
-    ensures on { result ≡ true → lane block.new k ≡ one_alone leaf.now.job (processor_of leaf.now)
-        (lane block.old k) }
+    requires step { (lane block.old k).step < job.now.steps }
+    requires instr { slice_get job.now.code (lane block.old k).own.counter ≡ Some instr.now }
+    ensures value { result ≡ goes_alone job.now i (lane block.old k) }
+    ensures on { result ≡ true → lane block.new k ≡ one_alone job.now i (lane block.old k) }
     ensures not { result ≡ false → lane block.new k ≡ lane block.old k }
     ensures others { (j : ℕ) → j ≢ k → lane block.new j ≡ lane block.old j }
 {
-    let _ = leaf.job();
+    job.limits_hold();
     let step = block.step[k] + 1;
     if step % 64 == 0 || is_load(instr) {
         return false;
     }
-    let turn = turn_by(leaf, &block.own(k), instr, 0);
-    let store = store_of(leaf, turn);
-    if store.is_some() && leaf.rule() != Rule::Common {
+    let turn = turn_of(job, i, &block.own(k), instr, 0);
+    let store = store_of(job, turn);
+    if store.is_some() && !is_common(job) {
         return false;
     }
-    step_on(leaf, block, k, turn);
+    step_on(job, i, block, k, turn);
     true
 }
 
 // The turn is taken, and a step is gone.
 #[inline(always)]
-fn step_on(leaf: &Leaf, block: &mut Block, k: usize, turn: Turn)
+fn step_on(job: &Job, i: u32, block: &mut Block, k: usize, turn: Turn)
+    requires processor { i < job.now.procs }
     requires lane { k < 64 }
-    requires step { (lane block.old k).step < leaf.now.job.steps }
-    requires shape { IsShaped leaf.now turn }
-    ensures same { lane block.new k ≡ stepped leaf.now (lane block.old k) (request_of turn) }
+    requires step { (lane block.old k).step < job.now.steps }
+    requires shape { IsShaped job.now i turn }
+    ensures same { lane block.new k ≡ stepped job.now i (lane block.old k) (request_of turn) }
     ensures others { (j : ℕ) → j ≢ k → lane block.new j ≡ lane block.old j }
 {
-    let _ = leaf.job();
-    put_in(leaf, &mut block.registers, k, turn);
+    job.limits_hold();
+    put_in(job, i, &mut block.registers, k, turn);
     block.counter[k] = turn.next;
     block.step[k] += 1;
     let acted = block.acted[k];
-    block.set_store(k, acted, store_of(leaf, turn));
+    block.set_store(k, acted, store_of(job, turn));
 }
 
-/// One step, if it can and stands at this instruction.
+/// One step, if it can and stands there.
 #[inline(always)]
-pub(crate) fn go_one_at(leaf: &Leaf, block: &mut Block, k: usize, counter: u32, instr: &Instr)
+pub(crate) fn go_one_at(job: &Job, i: u32, block: &mut Block, k: usize, stand: Stand<'_>)
+    requires processor { i < job.now.procs }
     requires lane { k < 64 }
-    requires instr { slice_get leaf.now.job.code counter ≡ Some instr.now }
-    ensures far { goes_as_far leaf.now.job (processor_of leaf.now) (lane block.old k)
-        (lane block.new k) }
+    requires stand { slice_get job.now.code stand.counter ≡ Some stand.instr.now }
+    ensures far { goes_as_far job.now i (lane block.old k) (lane block.new k) }
     ensures others { (j : ℕ) → j ≢ k → lane block.new j ≡ lane block.old j }
 {
-    let steps = leaf.job().steps();
-    if block.counter[k] == counter && !block.has_store(k) && block.step[k] < steps {
-        go_one(leaf, block, k, instr);
+    let steps = job.steps();
+    if block.counter[k] == stand.counter && !block.has_store(k) && block.step[k] < steps {
+        go_one(job, i, block, k, stand.instr);
     }
 }
 
-/// It has nothing to do alone: it has a store to carry out, or is at the end, or stands at this
+/// Lane k has nothing to do alone: it has a store to carry out, or is at the end, or stands at this
 /// load.
 #[inline(always)]
-pub(crate) fn rests(job: &Job, memo: &Memo, load: Option<u32>) -> bool
-    requires { IfSome load (λ counter. is_load (slice_get job.now.code counter) ≡ true) }
-    ensures { result ≡ true → (i : ℕ) → gone_on job.now i memo.now ≡ memo.now }
+pub(crate) fn rests(job: &Job, block: &Block, k: usize, load: Option<u32>) -> bool
+    requires lane { k < 64 }
+    requires load { IfSome load (λ counter. is_load (slice_get job.now.code counter) ≡ true) }
+    ensures { result ≡ true → (i : ℕ) → gone_on job.now i (lane block.now k) ≡ lane block.now k }
 {
-    if memo.store.is_some() || job.steps() <= memo.step {
+    if block.has_store(k) || job.steps() <= block.step[k] {
         return true;
     }
     match load {
-        Some(counter) => memo.own.counter == counter,
+        Some(counter) => block.counter[k] == counter,
         None => false,
     }
 }

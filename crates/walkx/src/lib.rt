@@ -49,5 +49,6 @@ pub use post::{Leaf, Post};
 pub use reader::Reader;
 pub use record::Recorded;
 pub use steps::Steps;
+pub use wide_store::report_store;
 pub use words::{request_of, seen_step};
 pub use worker::Worker;

@@ -1,28 +1,28 @@
 //! What a worker remembers.
 ghost use Rattle.std.specs.Prelude.{◌≡◌, ◌==◌, suc, List, slice_get, slice_set, IfOk, IfSome, []};
-ghost use Rattle.std.specs.Prelude.{IsTrue, Some, None, ℕ, ◌-◌, ◌*◌, ◌<◌, ◌≤◌, length, nat_lt};
+ghost use Rattle.std.specs.Prelude.{IsTrue, Some, None, ℕ, ◌+◌, ◌-◌, ◌*◌, ◌%◌, ◌<◌, ◌≤◌, length, nat_lt};
 ghost use Rattle.pram_machine.specs.Instructions.{gives};
-ghost use Rattle.pram_machine.specs.Turns.{request_of};
+ghost use Rattle.pram_machine.specs.Turns.{IsSorted, request_of};
 ghost use Rattle.walkx.specs.declared.memo.Memo.{Memo};
 ghost use Rattle.walkx.specs.Driving.{IsNextPart};
 ghost use Rattle.pram_words.specs.Phases.{kind_at};
 ghost use Rattle.pram_words.specs.Words.{grain};
 ghost use Rattle.walkx.specs.Inner.Posts.{processor_of, step_of};
 ghost use Rattle.walkx.specs.AsOne.{AllStay};
-ghost use Rattle.walkx.specs.Lanes.{memos_of};
-ghost use Rattle.walkx.specs.Together.{IsOnItsWay, gone_from};
+ghost use Rattle.walkx.specs.Lanes.{lane, memos_of};
+ghost use Rattle.walkx.specs.Rows.{AllIn};
+ghost use Rattle.walkx.specs.Together.{gone_from};
 ghost use Rattle.walkx.specs.Memory.{FitsMemo, at_start, blank, has_store, is_past, memo_of};
-ghost use Rattle.walkx.specs.Memory.{gone_on, own_after, own_at_start, reach, settles_in};
+ghost use Rattle.walkx.specs.Memory.{own_after, own_at_start, reach, settles_in};
 ghost use Rattle.walkx.specs.OwnWrites.{cell_write};
 ghost use Rattle.walkx.specs.Parts.{does_wide};
 ghost use Rattle.walkx.specs.Plain.{AllClaimBy, AllLoadBy, ClaimsBy, LoadsBy};
-ghost use Rattle.walkx.specs.Storing.{AllStore, StoresPlainly, Swaps};
+ghost use Rattle.walkx.specs.Storing.{AllStore, Carries, HasStore};
 ghost use Rattle.walkx.specs.Passes.{memo_after};
 ghost use Rattle.walkx.specs.Passing.{IsStand, StandsAt, TakesUp, TakesUpIf, least_of};
 ghost use Rattle.walkx.specs.Walk.{block_gone_on, block_reach, has_rank, reach_from_phase};
 ghost use Rattle.walkx.specs.WideParts.{IsShaped, landed, stored};
 
-use crate::alone::{go_on, go_one_at};
 use crate::block::Block;
 use crate::claim_plain::{claim_plainly, plain_claims};
 use crate::left::Stopped;
@@ -34,11 +34,11 @@ use crate::request::fetch;
 use crate::row_walk::{go_far, lanes_from, span_of};
 use crate::span::Span;
 use crate::steps::Steps;
-use crate::stores::{all_stored, carry_known, swap_lane};
+use crate::stores::{all_stored, carry_known, carry_lane_until};
 use crate::tasks::wide_task;
-use crate::together::go_on_all;
+use crate::together::go_apart;
 use crate::turns::settle;
-use pram_job::{Instr, Rule};
+use pram_job::{Instr, Job, Rule};
 use pram_machine::{Put, Turn};
 use pram_words::Kind;
 use std::alloc::{AllocError, Global};
@@ -66,7 +66,7 @@ impl Own {
     /// It is this after a turn of the leaf's processor.
     #[inline(always)]
     pub(crate) fn take(&mut self, leaf: &Leaf, turn: Turn)
-        requires { IsShaped leaf.now turn }
+        requires { IsShaped leaf.now.job (processor_of leaf.now) turn }
         ensures { self.new ≡ own_after leaf.now.job (processor_of leaf.now) self.old
             (request_of turn) }
     {
@@ -170,7 +170,7 @@ impl Memo {
     #[inline(always)]
     pub(crate) fn take_up(&mut self, leaf: &Leaf, turn: Turn, settles: bool)
         requires first { kind_at leaf.now.phase ≡ Kind.Compute }
-        requires shape { IsShaped leaf.now turn }
+        requires shape { IsShaped leaf.now.job (processor_of leaf.now) turn }
         requires settles { settles ≡ settles_in leaf.now.job (step_of leaf.now) self.old.own }
         ensures { self.new ≡ memo_after leaf.now.job (step_of leaf.now) (processor_of leaf.now)
             self.old (request_of turn) }
@@ -181,7 +181,7 @@ impl Memo {
         if settles {
             self.told = self.own;
         }
-        self.store = store_of(leaf, turn);
+        self.store = store_of(leaf.job(), turn);
     }
 
     /// Its words tell in the leaf's step what it is. It stores nothing in it.
@@ -210,11 +210,11 @@ impl Memo {
 
 /// The cell and the value that a turn stores, if it stores.
 #[inline(always)]
-pub(crate) fn store_of(leaf: &Leaf, turn: Turn) -> Option<(u32, u32)>
-    requires { IsShaped leaf.now turn }
-    ensures { result ≡ cell_write leaf.now.job (request_of turn).put }
+pub(crate) fn store_of(job: &Job, turn: Turn) -> Option<(u32, u32)>
+    requires { IsSorted job.now turn.put }
+    ensures { result ≡ cell_write job.now (request_of turn).put }
 {
-    let _ = leaf;
+    let _ = job;
     match turn.put {
         Put::Cell(cell, value) => Some((cell, value)),
         _ => None,
@@ -280,23 +280,6 @@ impl Memory {
         })
     }
 
-    /// What is known of processor i, if it has a place.
-    #[inline(always)]
-    pub(crate) fn get(&self, i: usize) -> Option<Memo>
-        ensures { result ≡ slice_get self.now i }
-    {
-        match &self.blocks {
-            Some(blocks) => {
-                if i / 64 < blocks.len() {
-                    Some(blocks[i / 64].memo(i % 64))
-                } else {
-                    None
-                }
-            }
-            None => None,
-        }
-    }
-
     /// What is known of processor i.
     #[inline(always)]
     pub fn memo(&self, i: u32) -> Memo
@@ -334,42 +317,6 @@ impl Memory {
                 if i / 64 < blocks.len() {
                     let block = &mut blocks[i / 64];
                     block.set(i % 64, memo);
-                }
-            }
-            None => {}
-        }
-    }
-
-    /// The leaf's processor goes on alone, as far as it can.
-    #[inline(always)]
-    pub(crate) fn go_alone(&mut self, leaf: &Leaf)
-        ensures { self.new ≡ slice_set self.old (processor_of leaf.now) (gone_on leaf.now.job
-            (processor_of leaf.now) (memo_of self.old (processor_of leaf.now))) }
-    {
-        let i = leaf.processor() as usize;
-        match &mut self.blocks {
-            Some(blocks) => {
-                if i / 64 < blocks.len() {
-                    let block = &mut blocks[i / 64];
-                    go_on(leaf, block, i % 64);
-                }
-            }
-            None => {}
-        }
-    }
-
-    /// It goes on by a step, if it can and stands at this instruction.
-    #[inline(always)]
-    pub(crate) fn step_alone(&mut self, leaf: &Leaf, counter: u32, instr: &Instr)
-        requires { slice_get leaf.now.job.code counter ≡ Some instr.now }
-        ensures { IsOnItsWay leaf.now.job (processor_of leaf.now) self.old self.new }
-    {
-        let i = leaf.processor() as usize;
-        match &mut self.blocks {
-            Some(blocks) => {
-                if i / 64 < blocks.len() {
-                    let block = &mut blocks[i / 64];
-                    go_one_at(leaf, block, i % 64, counter, instr);
                 }
             }
             None => {}
@@ -491,21 +438,20 @@ impl Memory {
     }
 
     /// Whether the processors of a block of this length, from the leaf's on, all have their stores
-    /// of the step still to be carried out, under common.
+    /// of the step still to be carried out.
     #[inline(always)]
     pub fn stores_plainly(&self, leaf: &Leaf, len: u32) -> bool
         ensures { IsTrue result → AllStore leaf.now len self.now }
     {
-        match (leaf.kind(), leaf.rule()) {
-            (Kind::Verify, Rule::Common) => self.all_store(leaf, len),
+        match leaf.kind() {
+            Kind::Verify => self.all_store(leaf, len),
             _ => false,
         }
     }
 
-    // The same, in the second pass, under common.
+    // The same, in the second pass.
     fn all_store(&self, leaf: &Leaf, len: u32) -> bool
         requires second { kind_at leaf.now.phase ≡ Kind.Verify }
-        requires rule { leaf.now.job.rule ≡ Rule.Common }
         ensures { IsTrue result → AllStore leaf.now len self.now }
     {
         let i = leaf.processor();
@@ -528,22 +474,29 @@ impl Memory {
         }
     }
 
-    /// The second pass of the leaf's processor under common, whose store is remembered, but for the
-    /// report: whether another value was found.
+    /// The second pass of the leaf's processor, whose store is remembered, up to the report: the
+    /// store, if one is due. A caller that knows the rule gets code for that rule alone.
     #[inline(always)]
-    pub fn swap_store<S: Steps>(&mut self, steps: &mut S, leaf: &Leaf) -> Result<bool, Stopped>
-        requires store { StoresPlainly leaf.now (memo_of self.old (processor_of leaf.now)) }
+    pub fn carry_until<S: Steps>(
+        &mut self,
+        steps: &mut S,
+        leaf: &Leaf,
+        rule: Rule,
+    ) -> Result<Option<(u32, u32)>, Stopped>
+        requires rule { rule ≡ leaf.now.job.rule }
+        requires store { HasStore leaf.now (memo_of self.old (processor_of leaf.now)) }
         requires memo { FitsMemo leaf.now.job (memo_of self.old (processor_of leaf.now)) }
         requires next { IsNextPart (S.stands leaf.now) steps.old
             (does_wide leaf.now (memo_of self.old (processor_of leaf.now))) }
-        ensures { Swaps (S.stands leaf.now) leaf.now steps.old self.old steps.new self.new result }
+        ensures { Carries (S.stands leaf.now) leaf.now steps.old self.old steps.new self.new
+            result }
     {
         let i = leaf.processor() as usize;
         match &mut self.blocks {
             Some(blocks) => {
                 if i / 64 < blocks.len() {
                     let block = &mut blocks[i / 64];
-                    return swap_lane(steps, leaf, block, i % 64);
+                    return carry_lane_until(steps, leaf, block, i % 64, rule);
                 }
                 unreachable!()
             }
@@ -587,7 +540,31 @@ impl Memory {
         ensures reach { result ≡ block_reach post.now.job post.now.layout post.now.node
             post.now.phase self.new }
     {
-        go_on_all(post, self)
+        match self.go_as_one(post) {
+            Some(reach) => reach,
+            None => {
+                self.go_apart(post);
+                self.reach(post)
+            }
+        }
+    }
+
+    // The same where they do not stand together, without that phase.
+    fn go_apart(&mut self, post: &Post)
+        requires { post.now.layout.leaves ≤ post.now.node }
+        ensures { self.new ≡ gone_from post.now 0 self.old }
+    {
+        let lanes = span_of(post);
+        let q = (lanes.first / 64) as usize;
+        match &mut self.blocks {
+            Some(blocks) => {
+                if q < blocks.len() {
+                    let block = &mut blocks[q];
+                    go_apart(post.job, lanes, block);
+                }
+            }
+            None => {}
+        }
     }
 
     /// Up to which phase a block has nothing to do at the end of this one, by what is known of its
@@ -598,7 +575,29 @@ impl Memory {
         ensures { result ≡ block_reach post.now.job post.now.layout post.now.node post.now.phase
             self.now }
     {
-        reach_of_all(post, self)
+        let lanes = span_of(post);
+        let most = 3 * u64::from(post.job.steps());
+        post.phase.max(self.least_in(lanes, post.phase, most))
+    }
+
+    // Up to which phase the processors of these lanes have nothing to do, or up to this one.
+    #[inline(always)]
+    fn least_in(&self, lanes: Span, phase: u64, most: u64) -> u64
+        requires { lanes.first % 64 ≡ 0 }
+        ensures { result ≡ least_of most phase (lanes.end - lanes.start) (lanes.first + lanes.start)
+            self.now }
+    {
+        let q = (lanes.first / 64) as usize;
+        match &self.blocks {
+            Some(blocks) => {
+                if q < blocks.len() {
+                    least_reach(&blocks[q], lanes, phase, most)
+                } else {
+                    none_reach(lanes, most)
+                }
+            }
+            None => none_reach(lanes, most),
+        }
     }
 
     /// The instruction that the leaf's processor stands at in the first pass, where it is known
@@ -794,41 +793,35 @@ impl Memory {
     }
 }
 
-/// Up to which phase a block has nothing to do at the end of this one, this being known of its
-/// processors.
-pub(crate) fn reach_of_all(post: &Post, memory: &Memory) -> u64
-    requires { post.now.layout.leaves ≤ post.now.node }
-    ensures { result ≡ block_reach post.now.job post.now.layout post.now.node post.now.phase
-        memory.now }
-{
-    let first = post.first_processor() as usize;
-    let end = first + post.block_len() as usize;
-    let most = 3 * u64::from(post.job.steps());
-    post.phase
-        .max(least_reach(memory, first, end, post.phase, most))
-}
-
-// Up to which phase the processors from the first one up to this one have nothing to do, or up to
-// this phase.
+// Up to which phase these lanes have nothing to do, or up to this one.
 #[inline(never)]
-fn least_reach(memory: &Memory, first: usize, end: usize, phase: u64, most: u64) -> u64
-    requires { first ≤ end }
-    ensures { result ≡ least_of most phase (end - first) first memory.now }
+fn least_reach(block: &Block, lanes: Span, phase: u64, most: u64) -> u64
+    ensures { (memory : List Memo) → AllIn lanes.start lanes.end (λ k.
+        memo_of memory (lanes.first + k) ≡ lane block.now k) → result
+        ≡ least_of most phase (lanes.end - lanes.start) (lanes.first + lanes.start) memory }
 {
     let mut least = most;
-    for i in first..end {
-        least = least.min(reach_of(memory, i, phase));
+    for k in lanes.start..lanes.end {
+        least = least.min(reach_in(block, k, phase));
     }
     least
 }
 
-// That of a processor of which this is known, unless it acted in a later phase.
+// Up to which phase a lane has, unless it acted in a later phase than this.
 #[inline(always)]
-fn reach_of(memory: &Memory, i: usize, phase: u64) -> u64
-    ensures { result ≡ reach_from_phase phase (memo_of memory.now i) }
+fn reach_in(block: &Block, k: usize, phase: u64) -> u64
+    requires { k < 64 }
+    ensures { result ≡ reach_from_phase phase (lane block.now k) }
 {
-    match memory.get(i) {
-        Some(memo) if memo.acted <= phase => memo.reach(),
-        _ => 0,
-    }
+    let memo = block.memo(k);
+    if memo.acted <= phase { memo.reach() } else { 0 }
+}
+
+// Of lanes without memory nothing is known.
+#[inline(always)]
+fn none_reach(lanes: Span, most: u64) -> u64
+    ensures { (memory : List Memo) → length memory ≤ lanes.first → (phase : ℕ) → result
+        ≡ least_of most phase (lanes.end - lanes.start) (lanes.first + lanes.start) memory }
+{
+    if lanes.start < lanes.end { 0 } else { most }
 }

@@ -26,7 +26,7 @@ use crate::request::{fetch, read_place};
 use crate::steps::Steps;
 use crate::wide_own::{claim_store, settles_by, write_if};
 use crate::wide_request::turn_by;
-use pram_job::Instr;
+use pram_job::{Instr, Job};
 use pram_machine::{Put, Turn, cell_named};
 use pram_words::Kind;
 
@@ -192,27 +192,28 @@ fn decide_in<S: Steps>(
 #[inline(always)]
 fn take_turn(leaf: &Leaf, block: &mut Block, k: usize, turn: Turn)
     requires lane { k < 64 }
-    requires shape { IsShaped leaf.now turn }
+    requires shape { IsShaped leaf.now.job (processor_of leaf.now) turn }
     ensures same { lane block.new k ≡ turned leaf.now (lane block.old k) (request_of turn) }
     ensures others { (j : ℕ) → j ≢ k → lane block.new j ≡ lane block.old j }
 {
-    put_in(leaf, &mut block.registers, k, turn);
+    put_in(leaf.job(), leaf.processor(), &mut block.registers, k, turn);
     block.counter[k] = turn.next;
     block.step[k] = leaf.step();
-    block.set_store(k, leaf.phase(), store_of(leaf, turn));
+    block.set_store(k, leaf.phase(), store_of(leaf.job(), turn));
 }
 
 /// Its register is written, if it writes one.
 #[inline(always)]
-pub(crate) fn put_in(leaf: &Leaf, registers: &mut [[u32; 64]; 4], k: usize, turn: Turn)
+pub(crate) fn put_in(job: &Job, i: u32, registers: &mut [[u32; 64]; 4], k: usize, turn: Turn)
+    requires processor { i < job.now.procs }
     requires lane { k < 64 }
-    requires shape { IsShaped leaf.now turn }
-    ensures same { entries registers.new k ≡ registers_after leaf.now.job (processor_of leaf.now)
-        (entries registers.old k) (request_of turn).put }
+    requires shape { IsShaped job.now i turn }
+    ensures same { entries registers.new k ≡ registers_after job.now i (entries registers.old k)
+        (request_of turn).put }
     ensures others { (j : ℕ) → j ≢ k → entries registers.new j ≡ entries registers.old j }
 {
     if let Put::Register(place, value) = turn.put {
-        let r = (place - leaf.register_place(0)) as usize;
+        let r = (place - job.register_place(i, 0)) as usize;
         set_entry(registers, r, k, value);
     }
 }

@@ -6,8 +6,8 @@ ghost use Rattle.walkx.specs.Tasks.{is_late};
 ghost use Rattle.pram_machine.specs.Machine.{counter_place, register_place};
 ghost use Rattle.pram_words.specs.Phases.{kind_at};
 ghost use Rattle.pram_words.specs.Words.{counters_of, grain, length_of, number_of, places_of};
-ghost use Rattle.pram_words.specs.declared.words.Word.TheVariants.{Asked, Stored};
-ghost use Rattle.walkx.specs.Inner.Posts.{IsCell, IsLeafPost, IsLeafOf, IsPairAt, IsPost};
+ghost use Rattle.pram_words.specs.declared.words.Word.TheVariants.{Asked, Claim, Stored};
+ghost use Rattle.walkx.specs.Inner.Posts.{ClaimsFrom, IsCell, IsLeafPost, IsLeafOf, IsPairAt, IsPost};
 ghost use Rattle.walkx.specs.Inner.Posts.{PostData, at_rank, part_raised, post_data};
 ghost use Rattle.walkx.specs.Inner.Posts.{processor_of, step_of};
 ghost use Rattle.walkx.specs.Tasks.{claim_of};
@@ -161,6 +161,22 @@ impl<'a> Post<'a> {
         layout.grain().min(layout.procs().saturating_sub(first))
     }
 
+    // Where the claim words begin, if there are any: one a cell.
+    #[inline(always)]
+    fn first_claim(&self) -> u32
+        ensures { ClaimsFrom self.now.layout result }
+    {
+        self.limits_hold();
+        if self.job.cells() == 0 {
+            return 0;
+        }
+        match self.job.rule() {
+            Rule::Common => 0,
+            Rule::Priority => self.layout.claim_word(0),
+            Rule::Crew => self.layout.claim_word(0),
+        }
+    }
+
     /// This post, known to be a leaf of a processor.
     #[inline(always)]
     pub fn leaf(&self) -> Leaf<'a>
@@ -188,28 +204,7 @@ impl<'a> Post<'a> {
             processor: self.processor_at(rank),
             own: self.layout.own_words(self.processor_at(rank)),
             first_cell: self.layout.cells_word(),
-        }
-    }
-
-    /// The same, this being the first processor of the block.
-    #[inline(always)]
-    pub(crate) fn leaf_from(&self, first: u32, rank: u32) -> Leaf<'a>
-        requires leaf { IsLeafPost (at_rank self.now rank) }
-        requires first { first ≡ processor_at self.now.layout self.now.node 0 }
-        ensures { result ≡ at_rank self.now rank }
-    {
-        Leaf {
-            job: self.job,
-            layout: self.layout,
-            worker: self.worker,
-            node: self.node,
-            phase: self.phase,
-            step: step_of(self.phase),
-            kind: kind_of(self.phase),
-            rank,
-            processor: first + rank,
-            own: self.layout.own_words(first + rank),
-            first_cell: self.layout.cells_word(),
+            first_claim: self.first_claim(),
         }
     }
 }
@@ -228,6 +223,7 @@ pub struct Leaf<'a> {
     processor: u32,
     own: OwnWords,
     first_cell: u32,
+    first_claim: u32,
 }
 
 impl<'a> Model for Leaf<'a> {
@@ -235,9 +231,9 @@ impl<'a> Model for Leaf<'a> {
 
     ghost view = { λ p. post_data p.job.now p.layout.now p.worker p.node p.phase p.rank };
 
-    ghost invariant = { λ p. IsLeafOf
+    ghost invariant = { λ p. (IsLeafOf
         (post_data p.job.now p.layout.now p.worker p.node p.phase p.rank) p.step p.kind
-        p.processor p.own p.first_cell };
+        p.processor p.own p.first_cell) × ClaimsFrom p.layout.now p.first_claim };
 }
 
 impl<'a> Leaf<'a> {
@@ -344,8 +340,9 @@ impl<'a> Leaf<'a> {
         self.kind
     }
 
+    /// The rule of writing.
     #[inline(always)]
-    pub(crate) fn rule(&self) -> Rule
+    pub fn rule(&self) -> Rule
         ensures value { result ≡ self.now.job.rule }
         ensures limits { IsLeafPost self.now }
     {
@@ -476,13 +473,22 @@ impl<'a> Leaf<'a> {
         first_late <= first || first_late <= second
     }
 
+    // The claim word of a cell.
+    #[inline(always)]
+    fn claim_word(&self, cell: u32) -> u32
+        requires { IsCell self.now.layout cell }
+        ensures { result ≡ number_of self.now.layout (Claim cell) }
+    {
+        self.first_claim + cell
+    }
+
     /// A cell is claimed for the processor.
     #[inline(always)]
     pub(crate) fn claiming(&self, cell: u32) -> Op
         requires { IsCell self.now.layout cell }
         ensures { result ≡ claim_raised self.now cell }
     {
-        let word = self.layout.claim_word(cell);
+        let word = self.claim_word(cell);
         Op::Max(word, stamped(self.step(), self.claim()))
     }
 
@@ -492,12 +498,12 @@ impl<'a> Leaf<'a> {
         requires { IsCell self.now.layout cell }
         ensures { result ≡ claim_loaded self.now cell }
     {
-        Op::Load(self.layout.claim_word(cell))
+        Op::Load(self.claim_word(cell))
     }
 
     /// The step is reported as against the rule.
     #[inline(always)]
-    pub fn reporting(&self) -> Op
+    pub(crate) fn reporting(&self) -> Op
         ensures { result ≡ report_made self.now }
     {
         Op::Swap(self.layout.conflict_word(), 0, u64::from(self.step()))

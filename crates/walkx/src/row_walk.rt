@@ -1,6 +1,6 @@
 //! Processors of a row that all stand at one instruction go on alone as one.
 ghost use Rattle.std.specs.Prelude.{◌≡◌, ◌≢◌, ◌+◌, ◌-◌, ◌*◌, ◌/◌, ◌%◌, ◌<◌, ◌≤◌, ℕ, IsTrue, true, false};
-ghost use Rattle.std.specs.Prelude.{IfSome, Some, nat_lt, slice_get};
+ghost use Rattle.std.specs.Prelude.{IfSome, MatchOption, None, Some, nat_lt, slice_get};
 ghost use Rattle.std.specs.Prelude.{slice_index, slice_index_or};
 ghost use Rattle.walkx.specs.AsOne.{Stands};
 ghost use Rattle.walkx.specs.Inner.Posts.{processor_of};
@@ -242,10 +242,11 @@ fn go_steps(job: &Job, lanes: Span, start: Together, block: &mut Block) -> (Toge
     (at, None)
 }
 
-// The instruction at a counter, if there is one.
+/// The instruction at a counter, if there is one.
 #[inline(always)]
-fn fetch_at(job: &Job, counter: u32) -> Option<&Instr>
-    ensures { IfSome result (λ instr. slice_get job.now.code counter ≡ Some instr.now) }
+pub(crate) fn fetch_at(job: &Job, counter: u32) -> Option<&Instr>
+    ensures { MatchOption result (slice_get job.now.code counter ≡ None)
+        (λ instr. slice_get job.now.code counter ≡ Some instr.now) }
 {
     job.code().get(counter as usize)
 }

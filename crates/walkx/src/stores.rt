@@ -1,5 +1,5 @@
 //! Stores that are remembered: each is carried out by its lane's cell and value.
-ghost use Rattle.std.specs.Prelude.{◌≡◌, ◌≢◌, ◌<◌, ℕ, List, IsTrue, is_some, slice_set, true};
+ghost use Rattle.std.specs.Prelude.{◌≡◌, ◌≢◌, ◌<◌, ℕ, List, IsTrue, is_some, slice_index, slice_set, true};
 ghost use Rattle.pram_words.specs.Phases.{kind_at};
 ghost use Rattle.walkx.specs.declared.memo.Memo.{Memo};
 ghost use Rattle.walkx.specs.Driving.{IsNextPart, Plays, learns};
@@ -9,7 +9,7 @@ ghost use Rattle.walkx.specs.Memory.{FitsMemo, memo_of};
 ghost use Rattle.walkx.specs.Parts.{does_wide};
 ghost use Rattle.walkx.specs.Passing.{TakesUpIf};
 ghost use Rattle.walkx.specs.Rows.{AllIn};
-ghost use Rattle.walkx.specs.Storing.{HasStore, StoresPlainly, Swaps, found_or_late};
+ghost use Rattle.walkx.specs.Storing.{Carries, HasStore, due_if, none_due};
 
 use crate::block::Block;
 use crate::left::{Left, Stopped};
@@ -18,7 +18,8 @@ use crate::row_walk::{all_equal, all_so};
 use crate::span::Span;
 use crate::steps::Steps;
 use crate::turns::settle;
-use crate::wide_store::{carry_store, swap};
+use crate::wide_store::{carry_store, carry_until};
+use pram_job::Rule;
 use pram_words::Kind;
 
 /// The second pass of a lane's processor, where it is known what it does in it; else nothing is
@@ -65,40 +66,60 @@ fn carry_lane<S: Steps>(steps: &mut S, leaf: &Leaf, block: &mut Block, k: usize)
     Ok(())
 }
 
-/// The second pass of a lane's processor under common, whose store is remembered, but for the
-/// report: whether another value was found.
+/// The second pass of a lane's processor whose store is remembered, up to the report: the store, if
+/// one is due.
 #[inline(always)]
-pub(crate) fn swap_lane<S: Steps>(
+pub(crate) fn carry_lane_until<S: Steps>(
     steps: &mut S,
     leaf: &Leaf,
     block: &mut Block,
     k: usize,
-) -> Result<bool, Stopped>
+    rule: Rule,
+) -> Result<Option<(u32, u32)>, Stopped>
     requires lane { k < 64 }
-    requires store { StoresPlainly leaf.now (lane block.old k) }
+    requires rule { rule ≡ leaf.now.job.rule }
+    requires store { HasStore leaf.now (lane block.old k) }
     requires memo { FitsMemo leaf.now.job (lane block.old k) }
     requires next { IsNextPart (S.stands leaf.now) steps.old
         (does_wide leaf.now (lane block.old k)) }
     ensures others { (j : ℕ) → j ≢ k → lane block.new j ≡ lane block.old j }
-    ensures swaps { (memory : List Memo) → memo_of memory (processor_of leaf.now)
-        ≡ lane block.old k → Swaps (S.stands leaf.now) leaf.now steps.old memory steps.new
+    ensures carries { (memory : List Memo) → memo_of memory (processor_of leaf.now)
+        ≡ lane block.old k → Carries (S.stands leaf.now) leaf.now steps.old memory steps.new
         (slice_set memory (processor_of leaf.now) (lane block.new k)) result }
 {
-    let cell = block.cell[k];
-    let value = block.value[k];
-    block.carry(k, leaf.phase());
-    found(swap(steps, leaf, cell, value))
+    let phase = leaf.phase();
+    let write = (block.cell[k], block.value[k]);
+    match carry_until(steps, leaf, write, rule) {
+        Ok(other) => {
+            let due = due_in(block, k, other);
+            block.carry(k, phase);
+            Ok(due)
+        }
+        Err(why) => none_due(why),
+    }
 }
 
-// Whether another value was found, late or not.
+// The lane's store, if its report is due. It is read anew, so that a loop need not keep it.
 #[inline(always)]
-fn found(done: Result<bool, Left>) -> Result<bool, Stopped>
-    ensures { result ≡ found_or_late done }
+fn due_in(block: &Block, k: usize, other: bool) -> Option<(u32, u32)>
+    requires { k < 64 }
+    ensures { result ≡ due_if (slice_index block.now.cell k, slice_index block.now.value k) other }
 {
-    match done {
-        Ok(other) => Ok(other),
-        Err(Left::Late) => Ok(false),
-        Err(Left::Held) => Err(Stopped),
+    if other {
+        Some((block.cell[k], block.value[k]))
+    } else {
+        None
+    }
+}
+
+// Where it was left, none is due.
+#[inline(always)]
+fn none_due(why: Left) -> Result<Option<(u32, u32)>, Stopped>
+    ensures { result ≡ none_due why }
+{
+    match why {
+        Left::Late => Ok(None),
+        Left::Held => Err(Stopped),
     }
 }
 

@@ -1,114 +1,91 @@
-//! The processors of a block that go on alone: those that stand at one instruction in lockstep.
-ghost use Rattle.std.specs.Prelude.{◌≡◌, ◌*◌, ◌≤◌, true, IfSome, Some, slice_get, slice_set};
-ghost use Rattle.walkx.specs.Inner.Posts.{IsLeafPost, at_rank};
-ghost use Rattle.walkx.specs.Memory.{gone_on, is_load, memo_of};
+//! Processors of a block that do not stand together go on alone.
+ghost use Rattle.std.specs.Prelude.{◌≡◌, ◌+◌, ◌<◌, ◌≤◌, ℕ, true, IfSome, Some, slice_get};
+ghost use Rattle.walkx.specs.Apart.{GetAsFar};
+ghost use Rattle.walkx.specs.Lanes.{lane};
+ghost use Rattle.walkx.specs.Memory.{gone_on, is_load};
 ghost use Rattle.walkx.specs.Passing.{Spells};
-ghost use Rattle.walkx.specs.Together.{gone_from};
-ghost use Rattle.walkx.specs.Walk.{block_reach};
+ghost use Rattle.walkx.specs.Rows.{AllIn};
 
-use crate::alone::rests;
-use crate::memo::{Formed, Memory, Stand, reach_of_all};
-use crate::post::{Leaf, Post};
-use crate::request::fetch;
+use crate::alone::{go_on, go_one_at, rests};
+use crate::block::Block;
+use crate::memo::{Formed, Stand};
+use crate::row_walk::fetch_at;
+use crate::rows::is_common;
+use crate::span::Span;
 use crate::wide_request::is_load;
-use pram_job::{Instr, Place, Rule};
+use pram_job::{Instr, Job, Place};
 
-/// All go on, as far as each can. Up to which phase the block then has nothing to do.
-pub(crate) fn go_on_all(post: &Post, memory: &mut Memory) -> u64
-    requires leaf { post.now.layout.leaves ≤ post.now.node }
-    requires phase { post.now.phase ≤ 3 * post.now.job.steps }
-    ensures gone { memory.new ≡ gone_from post.now 0 memory.old }
-    ensures reach { result ≡ block_reach post.now.job post.now.layout post.now.node post.now.phase
-        memory.new }
+/// Each of these goes on as far as it can: those that stand at one instruction in lockstep, and then
+/// each by itself.
+#[inline(never)]
+pub(crate) fn go_apart(job: &Job, lanes: Span, block: &mut Block)
+    requires { AllIn lanes.start lanes.end (λ k. lanes.first + k < job.now.procs) }
+    ensures gone { AllIn lanes.start lanes.end (λ k. lane block.new k
+        ≡ gone_on job.now (lanes.first + k) (lane block.old k)) }
+    ensures before { (k : ℕ) → k < lanes.start → lane block.new k ≡ lane block.old k }
+    ensures after { (k : ℕ) → lanes.end ≤ k → lane block.new k ≡ lane block.old k }
 {
-    match memory.go_as_one(post) {
-        Some(reach) => reach,
-        None => {
-            go_apart(post, memory);
-            reach_of_all(post, memory)
-        }
-    }
-}
-
-// Those that stand at one instruction in lockstep, and then each by itself.
-fn go_apart(post: &Post, memory: &mut Memory)
-    requires leaf { post.now.layout.leaves ≤ post.now.node }
-    requires phase { post.now.phase ≤ 3 * post.now.job.steps }
-    ensures { memory.new ≡ gone_from post.now 0 memory.old }
-{
-    post.limits_hold();
-    let first = post.first_processor();
     let mut load = None;
-    for rank in 0..post.block_len() {
-        if !rests_in(post, memory, first + rank, load) {
-            load = go_together(post, rank, memory);
-            memory.go_alone(&post.leaf_at(rank));
+    for k in lanes.start..lanes.end {
+        if !rests(job, block, k, load) {
+            let from = Span {
+                first: lanes.first,
+                start: k,
+                end: lanes.end,
+            };
+            load = go_together(job, from, block);
+            go_on(job, lanes.first + k as u32, block, k);
         }
     }
 }
 
-// A processor has nothing to do alone, or stands at this load.
-#[inline(always)]
-fn rests_in(post: &Post, memory: &Memory, i: u32, load: Option<u32>) -> bool
-    requires { IfSome load (λ counter. is_load (slice_get post.now.job.code counter) ≡ true) }
-    ensures { result ≡ true → slice_set memory.now i (gone_on post.now.job i (memo_of memory.now i))
-        ≡ memory.now }
+// The first of these goes on, and with it those after it that stand where it does: the load that it
+// then stands at, if it does.
+fn go_together(job: &Job, lanes: Span, block: &mut Block) -> Option<u32>
+    requires some { lanes.start < lanes.end }
+    requires procs { AllIn lanes.start lanes.end (λ k. lanes.first + k < job.now.procs) }
+    ensures far { GetAsFar job.now lanes block.old block.new }
+    ensures load { IfSome result (λ counter. is_load (slice_get job.now.code counter) ≡ true) }
 {
-    match memory.get(i as usize) {
-        Some(memo) => rests(post.job, &memo, load),
-        None => true,
-    }
-}
-
-// The processor of a rank goes on, and with it those after it that stand where it does: the load
-// that it then stands at, if it does.
-fn go_together(post: &Post, rank: u32, memory: &mut Memory) -> Option<u32>
-    requires { IsLeafPost (at_rank post.now rank) }
-    ensures far { gone_from post.now rank memory.new ≡ gone_from post.now rank memory.old }
-    ensures load { IfSome result (λ counter. is_load (slice_get post.now.job.code counter)
-        ≡ true) }
-{
-    let leaf = post.leaf_at(rank);
     for _ in 0..64u32 {
-        let stand = stand_in(&leaf, memory)?;
+        let stand = stand_in(job, block, lanes.start)?;
         if is_load(stand.instr) {
             return Some(stand.counter);
         }
-        if !has_company(memory, leaf.processor(), stand.counter) {
+        if !has_company(block, lanes, stand.counter) {
             return None;
         }
-        go_by_form(post, rank, memory, stand);
+        go_by_form(job, lanes, block, stand);
     }
     None
 }
 
-// One of the next two processors stands there, too.
-fn has_company(memory: &Memory, i: u32, counter: u32) -> bool {
-    stands_in(memory, u64::from(i) + 1, counter) || stands_in(memory, u64::from(i) + 2, counter)
+// One of the two after the first of these stands there, too.
+#[inline(always)]
+fn has_company(block: &Block, lanes: Span, counter: u32) -> bool {
+    stands_in(block, lanes, lanes.start + 1, counter)
+        || stands_in(block, lanes, lanes.start + 2, counter)
 }
 
-// A processor stands there.
+// Lane k is one of these, and stands there.
 #[inline(always)]
-fn stands_in(memory: &Memory, i: u64, counter: u32) -> bool {
-    match memory.get(i as usize) {
-        Some(memo) => memo.own.counter == counter,
-        None => false,
-    }
+fn stands_in(block: &Block, lanes: Span, k: usize, counter: u32) -> bool {
+    k < lanes.end && block.counter[k] == counter
 }
 
-// The instruction that the leaf's processor stands at, if it can go on alone or stands at a load.
+// The instruction that lane k stands at, if it can go on alone or stands at a load.
 #[inline(always)]
-fn stand_in<'a>(leaf: &Leaf<'a>, memory: &Memory) -> Option<Stand<'a>>
-    ensures { IfSome result (λ stand. slice_get leaf.now.job.code stand.counter
+fn stand_in<'a>(job: &'a Job, block: &Block, k: usize) -> Option<Stand<'a>>
+    requires { k < 64 }
+    ensures { IfSome result (λ stand. slice_get job.now.code stand.counter
         ≡ Some stand.instr.now) }
 {
-    let memo = memory.get(leaf.processor() as usize)?;
-    if memo.store.is_some() || leaf.job().steps() <= memo.step || (memo.step + 1) % 64 == 0 {
+    if block.has_store(k) || job.steps() <= block.step[k] || (block.step[k] + 1) % 64 == 0 {
         return None;
     }
-    let counter = memo.own.counter;
-    let instr = fetch(leaf, counter)?;
-    if matches!(*instr, Instr::St(_, _)) && leaf.rule() != Rule::Common {
+    let counter = block.counter[k];
+    let instr = fetch_at(job, counter)?;
+    if matches!(*instr, Instr::St(_, _)) && !is_common(job) {
         return None;
     }
     Some(Stand { counter, instr })
@@ -116,55 +93,59 @@ fn stand_in<'a>(leaf: &Leaf<'a>, memory: &Memory) -> Option<Stand<'a>>
 
 // A step of each that stands there. Each form that has a row here has a loop of its own, in which no
 // other is looked at.
-fn go_by_form(post: &Post, rank: u32, memory: &mut Memory, stand: Stand<'_>)
-    requires leaf { IsLeafPost (at_rank post.now rank) }
-    requires stand { slice_get post.now.job.code stand.counter ≡ Some stand.instr.now }
-    ensures { gone_from post.now rank memory.new ≡ gone_from post.now rank memory.old }
+fn go_by_form(job: &Job, lanes: Span, block: &mut Block, stand: Stand<'_>)
+    requires procs { AllIn lanes.start lanes.end (λ k. lanes.first + k < job.now.procs) }
+    requires stand { slice_get job.now.code stand.counter ≡ Some stand.instr.now }
+    ensures { GetAsFar job.now lanes block.old block.new }
 {
     match *stand.instr {
-        Instr::Set(r, k) => go_each(post, rank, memory, &stand.by(|| Instr::Set(r, k))),
-        Instr::Pid(r) => go_each(post, rank, memory, &stand.by(|| Instr::Pid(r))),
-        Instr::Jz(r, index) => go_each(post, rank, memory, &stand.by(|| Instr::Jz(r, index))),
-        Instr::Jmp(index) => go_each(post, rank, memory, &stand.by(|| Instr::Jmp(index))),
-        Instr::Add(r, a, b) => go_each(post, rank, memory, &stand.by(|| Instr::Add(r, a, b))),
-        Instr::Sub(r, a, b) => go_each(post, rank, memory, &stand.by(|| Instr::Sub(r, a, b))),
-        Instr::Mul(r, a, b) => go_each(post, rank, memory, &stand.by(|| Instr::Mul(r, a, b))),
-        Instr::Shl(r, a, b) => go_each(post, rank, memory, &stand.by(|| Instr::Shl(r, a, b))),
-        Instr::Shr(r, a, b) => go_each(post, rank, memory, &stand.by(|| Instr::Shr(r, a, b))),
-        Instr::Div(r, a, b) => go_each(post, rank, memory, &stand.by(|| Instr::Div(r, a, b))),
-        Instr::Rem(r, a, b) => go_each(post, rank, memory, &stand.by(|| Instr::Rem(r, a, b))),
-        Instr::And(r, a, b) => go_each(post, rank, memory, &stand.by(|| Instr::And(r, a, b))),
-        Instr::Or(r, a, b) => go_each(post, rank, memory, &stand.by(|| Instr::Or(r, a, b))),
-        Instr::Xor(r, a, b) => go_each(post, rank, memory, &stand.by(|| Instr::Xor(r, a, b))),
-        Instr::Lt(r, a, b) => go_each(post, rank, memory, &stand.by(|| Instr::Lt(r, a, b))),
-        Instr::Eq(r, a, b) => go_each(post, rank, memory, &stand.by(|| Instr::Eq(r, a, b))),
+        Instr::Set(r, k) => go_each(job, lanes, block, &stand.by(|| Instr::Set(r, k))),
+        Instr::Pid(r) => go_each(job, lanes, block, &stand.by(|| Instr::Pid(r))),
+        Instr::Jz(r, index) => go_each(job, lanes, block, &stand.by(|| Instr::Jz(r, index))),
+        Instr::Jmp(index) => go_each(job, lanes, block, &stand.by(|| Instr::Jmp(index))),
+        Instr::Add(r, a, b) => go_each(job, lanes, block, &stand.by(|| Instr::Add(r, a, b))),
+        Instr::Sub(r, a, b) => go_each(job, lanes, block, &stand.by(|| Instr::Sub(r, a, b))),
+        Instr::Mul(r, a, b) => go_each(job, lanes, block, &stand.by(|| Instr::Mul(r, a, b))),
+        Instr::Shl(r, a, b) => go_each(job, lanes, block, &stand.by(|| Instr::Shl(r, a, b))),
+        Instr::Shr(r, a, b) => go_each(job, lanes, block, &stand.by(|| Instr::Shr(r, a, b))),
+        Instr::Div(r, a, b) => go_each(job, lanes, block, &stand.by(|| Instr::Div(r, a, b))),
+        Instr::Rem(r, a, b) => go_each(job, lanes, block, &stand.by(|| Instr::Rem(r, a, b))),
+        Instr::And(r, a, b) => go_each(job, lanes, block, &stand.by(|| Instr::And(r, a, b))),
+        Instr::Or(r, a, b) => go_each(job, lanes, block, &stand.by(|| Instr::Or(r, a, b))),
+        Instr::Xor(r, a, b) => go_each(job, lanes, block, &stand.by(|| Instr::Xor(r, a, b))),
+        Instr::Lt(r, a, b) => go_each(job, lanes, block, &stand.by(|| Instr::Lt(r, a, b))),
+        Instr::Eq(r, a, b) => go_each(job, lanes, block, &stand.by(|| Instr::Eq(r, a, b))),
         Instr::St(Place::Cell(a), b) => go_each(
-            post,
-            rank,
-            memory,
+            job,
+            lanes,
+            block,
             &stand.by(|| Instr::St(Place::Cell(a), b)),
         ),
         Instr::St(Place::Named(array, a), b) => go_each(
-            post,
-            rank,
-            memory,
+            job,
+            lanes,
+            block,
             &stand.by(|| Instr::St(Place::Named(array, a), b)),
         ),
-        instr => go_each(post, rank, memory, &stand.by(|| instr)),
+        instr => go_each(job, lanes, block, &stand.by(|| instr)),
     }
 }
 
 // The same. A loop in a function of its own has what it uses in registers.
 #[inline(never)]
-fn go_each<F: Fn() -> Instr>(post: &Post, rank: u32, memory: &mut Memory, by: &Formed<'_, F>)
-    requires leaf { IsLeafPost (at_rank post.now rank) }
-    requires stand { slice_get post.now.job.code by.now.stand.counter ≡ Some by.now.stand.instr.now }
+fn go_each<F: Fn() -> Instr>(job: &Job, lanes: Span, block: &mut Block, by: &Formed<'_, F>)
+    requires procs { AllIn lanes.start lanes.end (λ k. lanes.first + k < job.now.procs) }
+    requires stand { slice_get job.now.code by.now.stand.counter ≡ Some by.now.stand.instr.now }
     requires form { Spells F.Fn by.now.form by.now.stand.instr.now }
-    ensures { gone_from post.now rank memory.new ≡ gone_from post.now rank memory.old }
+    ensures { GetAsFar job.now lanes block.old block.new }
 {
     let instr = (by.form)();
-    let first = post.first_processor();
-    for other in rank..post.block_len() {
-        memory.step_alone(&post.leaf_from(first, other), by.stand.counter, &instr);
+    let counter = by.stand.counter;
+    for k in lanes.start..lanes.end {
+        let stand = Stand {
+            counter,
+            instr: &instr,
+        };
+        go_one_at(job, lanes.first + k as u32, block, k, stand);
     }
 }

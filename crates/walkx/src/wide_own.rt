@@ -133,7 +133,7 @@ fn settle_own<S: Steps>(
     turn: Turn,
     settles: bool,
 ) -> Result<(), Left>
-    requires shape { IsShaped leaf.now turn }
+    requires shape { IsShaped leaf.now.job (processor_of leaf.now) turn }
     requires reads { cell_next leaf.now.job known.now.own ≡ None }
     requires settles { settles ≡ settles_in leaf.now.job (step_of leaf.now) known.now.own }
     requires next { IsNextPart (S.stands leaf.now) steps.old
@@ -154,7 +154,7 @@ fn settle_own<S: Steps>(
 // The store of a turn is claimed. Under common no store is.
 #[inline(always)]
 pub(crate) fn claim_store<S: Steps>(steps: &mut S, leaf: &Leaf, turn: Turn) -> Result<(), Left>
-    requires shape { IsShaped leaf.now turn }
+    requires shape { IsShaped leaf.now.job (processor_of leaf.now) turn }
     requires next { IsNextPart (S.stands leaf.now) steps.old
         (store_claimed leaf.now.job.rule leaf.now (request_of turn)) }
     ensures none { claimed_cell leaf.now.job.rule leaf.now.job (request_of turn) ≡ None →
@@ -322,7 +322,7 @@ pub(crate) fn settles_by(leaf: &Leaf, instr: &Instr) -> bool
 // The cell that the turn claims, if it claims one.
 #[inline(always)]
 fn claimed(leaf: &Leaf, turn: Turn) -> Option<u32>
-    requires { IsShaped leaf.now turn }
+    requires { IsShaped leaf.now.job (processor_of leaf.now) turn }
     ensures value { result ≡ claimed_cell leaf.now.job.rule leaf.now.job (request_of turn) }
     ensures below { IfSome result (λ cell. cell < leaf.now.job.cells) }
     ensures cell { IfSome result (λ cell. IsCell leaf.now.layout cell) }

@@ -17,7 +17,7 @@ use crate::memo::{Memo, Own};
 use crate::parts::hear_both;
 use crate::post::Leaf;
 use crate::steps::Steps;
-use pram_job::Instr;
+use pram_job::{Instr, Job};
 use pram_machine::{Turn, decided_by};
 use pram_words::{newer, payload, stamp};
 
@@ -143,10 +143,21 @@ pub(crate) fn turn_by(leaf: &Leaf, own: &Own, instr: &Instr, value: u32) -> Turn
     requires instr { IsInstr leaf.now.job.cells (length leaf.now.job.code) instr.now }
     ensures value { request_of result ≡ asked_by leaf.now.job (processor_of leaf.now) own.now
         (Some instr.now) value }
-    ensures shape { IsShaped leaf.now result }
+    ensures shape { IsShaped leaf.now.job (processor_of leaf.now) result }
 {
-    let (job, processor) = (leaf.job(), leaf.processor());
-    decided_by(job, processor, own.counter, instr, &own.registers, value)
+    turn_of(leaf.job(), leaf.processor(), own, instr, value)
+}
+
+/// The same of processor i.
+#[inline(always)]
+pub(crate) fn turn_of(job: &Job, i: u32, own: &Own, instr: &Instr, value: u32) -> Turn
+    requires processor { i < job.now.procs }
+    requires counter { own.now.counter < length job.now.code }
+    requires instr { IsInstr job.now.cells (length job.now.code) instr.now }
+    ensures value { request_of result ≡ asked_by job.now i own.now (Some instr.now) value }
+    ensures shape { IsShaped job.now i result }
+{
+    decided_by(job, i, own.counter, instr, &own.registers, value)
 }
 
 /// The instruction is a load.

@@ -3,20 +3,23 @@
 ghost use Rattle.std.specs.Prelude.{◌≡◌, ◌≢◌, ◌<◌, true, length, IfOk, IfSome, Some, Err};
 ghost use Rattle.pram_job.specs.Job.{IsInstr};
 ghost use Rattle.pram_words.specs.Phases.{kind_at};
-ghost use Rattle.walkx.specs.Driving.{IsNextPart, Plays};
+ghost use Rattle.walkx.specs.Driving.{Ends, IsDue, IsNextPart, Leads, Plays};
 ghost use Rattle.walkx.specs.Inner.Posts.{IsCellOf, IsLeafPost};
 ghost use Rattle.walkx.specs.Memory.{FitsMemo, is_past};
-ghost use Rattle.walkx.specs.WideParts.{crew_store, kept_as, owned_written, priority_store};
-ghost use Rattle.walkx.specs.WideParts.{store_by, store_carried, store_compared, store_loaded};
-ghost use Rattle.walkx.specs.WideParts.{stores_of, swaps};
+ghost use Rattle.walkx.specs.Scripts.{Script};
+ghost use Rattle.walkx.specs.Walk.{Then};
+ghost use Rattle.walkx.specs.WideParts.{carried_until, crew_until, kept_as, owned_written};
+ghost use Rattle.walkx.specs.WideParts.{priority_store, priority_until, store_by, store_carried};
+ghost use Rattle.walkx.specs.WideParts.{store_left, store_loaded, stores_of, swaps, write_left};
 
 use crate::compare::{either_differs, report_if};
-use crate::left::Left;
+use crate::left::{Left, Stopped};
 use crate::memo::{Memo, Own, store_of};
 use crate::parts::{hear_both, older_swap, write_place};
 use crate::post::Leaf;
 use crate::request::fetch;
 use crate::steps::Steps;
+use crate::turns::settle;
 use crate::wide_request::{is_load, load_memo, turn_by};
 use pram_job::{Instr, Rule};
 use pram_words::Kind;
@@ -47,7 +50,7 @@ fn store_by(leaf: &Leaf, own: &Own, instr: &Instr) -> Result<(u32, u32), Left>
     if is_load(instr) {
         return Err(Left::Late);
     }
-    kept(leaf, store_of(leaf, turn_by(leaf, own, instr, 0)))
+    kept(leaf, store_of(leaf.job(), turn_by(leaf, own, instr, 0)))
 }
 
 /// The processor's store: remembered, or worked out.
@@ -121,42 +124,109 @@ pub(crate) fn carry_store<S: Steps>(
     ensures plays { Plays (S.stands leaf.now) steps.old
         (store_carried leaf.now.job.rule leaf.now write) steps.new result }
 {
-    match leaf.rule() {
-        Rule::Common => carry_common(steps, leaf, write),
-        Rule::Priority => carry_priority(steps, leaf, write),
-        Rule::Crew => carry_crew(steps, leaf, write),
+    let other = carry_until(steps, leaf, write, leaf.rule())?;
+    if other {
+        report_store(steps, leaf, write)?;
+        return Ok(());
+    }
+    Ok(())
+}
+
+/// The same up to the report of another's write: whether one is due.
+#[inline(always)]
+pub(crate) fn carry_until<S: Steps>(
+    steps: &mut S,
+    leaf: &Leaf,
+    write: (u32, u32),
+    rule: Rule,
+) -> Result<bool, Left>
+    requires rule { rule ≡ leaf.now.job.rule }
+    requires cell { IsCellOf leaf.now write.0 }
+    requires next { IsNextPart (S.stands leaf.now) steps.old (carried_until rule leaf.now write) }
+    ensures plays { Plays (S.stands leaf.now) steps.old (carried_until rule leaf.now write)
+        steps.new result }
+{
+    match rule {
+        Rule::Common => swap(steps, leaf, write.0, write.1),
+        Rule::Priority => write_first(steps, leaf, write),
+        Rule::Crew => write_looked(steps, leaf, write),
     }
 }
 
-// Under the rule common a store of another value is reported.
+/// And what is left of it where one is due: the report, and the write, where there was none yet.
 #[inline(always)]
-fn carry_common<S: Steps>(steps: &mut S, leaf: &Leaf, write: (u32, u32)) -> Result<(), Left>
+pub fn report_store<S: Steps>(steps: &mut S, leaf: &Leaf, write: (u32, u32)) -> Result<(), Stopped>
     requires cell { IsCellOf leaf.now write.0 }
-    requires next { IsNextPart (S.stands leaf.now) steps.old (store_compared leaf.now write) }
-    ensures plays { Plays (S.stands leaf.now) steps.old (store_compared leaf.now write) steps.new
-        result }
+    requires due { IsDue (S.stands leaf.now) steps.old
+        (store_left leaf.now.job.rule leaf.now write) }
+    ensures { (last : Script Then) → Leads (S.stands leaf.now) steps.old
+        (store_left leaf.now.job.rule leaf.now write last) (λ done. last) steps.new result }
 {
-    let (cell, value) = write;
-    let other = swap(steps, leaf, cell, value)?;
-    report_if(steps, leaf, other)
+    settle(finish_store(steps, leaf, write))
 }
 
-// Under the rule crew all claims stand, and another's is reported.
+// The same.
 #[inline(always)]
-fn carry_crew<S: Steps>(steps: &mut S, leaf: &Leaf, write: (u32, u32)) -> Result<(), Left>
+fn finish_store<S: Steps>(steps: &mut S, leaf: &Leaf, write: (u32, u32)) -> Result<(), Left>
+    requires cell { IsCellOf leaf.now write.0 }
+    requires due { IsDue (S.stands leaf.now) steps.old
+        (store_left leaf.now.job.rule leaf.now write) }
+    ensures ends { Ends (S.stands leaf.now) steps.old
+        (store_left leaf.now.job.rule leaf.now write) steps.new result }
+{
+    report_if(steps, leaf, true)?;
+    write_last(steps, leaf, write)
+}
+
+// The write, if there was none yet.
+#[inline(always)]
+fn write_last<S: Steps>(steps: &mut S, leaf: &Leaf, write: (u32, u32)) -> Result<(), Left>
+    requires cell { IsCellOf leaf.now write.0 }
+    requires due { IsDue (S.stands leaf.now) steps.old
+        (write_left leaf.now.job.rule leaf.now write) }
+    ensures ends { Ends (S.stands leaf.now) steps.old
+        (write_left leaf.now.job.rule leaf.now write) steps.new result }
+{
+    let (cell, value) = write;
+    match leaf.rule() {
+        Rule::Common => Ok(()),
+        Rule::Priority => Ok(()),
+        Rule::Crew => write_place(steps, leaf, cell, leaf.cell_word(cell), value),
+    }
+}
+
+// Under the rule crew all claims stand: another's is to be reported before the write.
+#[inline(always)]
+fn write_looked<S: Steps>(steps: &mut S, leaf: &Leaf, write: (u32, u32)) -> Result<bool, Left>
     requires rule { leaf.now.job.rule ≢ Rule.Common }
     requires cell { IsCellOf leaf.now write.0 }
-    requires next { IsNextPart (S.stands leaf.now) steps.old (crew_store leaf.now write) }
-    ensures plays { Plays (S.stands leaf.now) steps.old (crew_store leaf.now write) steps.new
+    requires next { IsNextPart (S.stands leaf.now) steps.old (crew_until leaf.now write) }
+    ensures plays { Plays (S.stands leaf.now) steps.old (crew_until leaf.now write) steps.new
         result }
 {
     let (cell, value) = write;
     let found = steps.make(leaf.claim_look(cell))?;
-    report_if(steps, leaf, leaf.differs(leaf.claim(), found))?;
-    write_place(steps, leaf, cell, leaf.cell_word(cell), value)
+    if leaf.differs(leaf.claim(), found) {
+        return Ok(true);
+    }
+    write_place(steps, leaf, cell, leaf.cell_word(cell), value)?;
+    Ok(false)
 }
 
-// Under the rule priority the one whose claim stands writes. A later claim means late.
+// Under the rule priority none is ever due.
+#[inline(always)]
+fn write_first<S: Steps>(steps: &mut S, leaf: &Leaf, write: (u32, u32)) -> Result<bool, Left>
+    requires rule { leaf.now.job.rule ≢ Rule.Common }
+    requires cell { IsCellOf leaf.now write.0 }
+    requires next { IsNextPart (S.stands leaf.now) steps.old (priority_until leaf.now write) }
+    ensures plays { Plays (S.stands leaf.now) steps.old (priority_until leaf.now write) steps.new
+        result }
+{
+    carry_priority(steps, leaf, write)?;
+    Ok(false)
+}
+
+// The one whose claim stands writes. A later claim means late.
 #[inline(always)]
 fn carry_priority<S: Steps>(steps: &mut S, leaf: &Leaf, write: (u32, u32)) -> Result<(), Left>
     requires rule { leaf.now.job.rule ≢ Rule.Common }

@@ -1,13 +1,12 @@
 -- A script that is played through a seat, and the ticks that come of it.
 use Rattle.std.specs.Prelude.{◌≡◌, ◌≤◌, ◌<◌, ℕ, Bool, true, false, ◌⊎◌, ◌+◌, ◌%◌, ◌^◌, nat_lt, suc}
-use Rattle.std.specs.Prelude.{List, [], ◌∷◌, length, slice_set, Option, Some, None}
+use Rattle.std.specs.Prelude.{List, [], ◌∷◌, length, slice_set, Option, Some, None, IfSome}
 use Rattle.walkx.specs.declared.operation.Op.{Op}
-use Rattle.walkx.specs.Inner.Posts.{IsLeafPost, PostData, at_rank, processor_of}
+use Rattle.walkx.specs.Inner.Posts.{IsCellOf, IsLeafPost, PostData, at_rank, processor_of}
 use Rattle.walkx.specs.Memory.{FitsMemory, memo_of}
-use Rattle.walkx.specs.Parts.{reports_if}
 use Rattle.walkx.specs.Passing.{idle}
 use Rattle.walkx.specs.Rests.{has_worked}
-use Rattle.walkx.specs.Storing.{AllStore}
+use Rattle.walkx.specs.Storing.{AllStore, left_of}
 use Rattle.walkx.specs.Bound.{told_all}
 use Rattle.walkx.specs.Inner.Workers.{WorkerData}
 use Rattle.walkx.specs.Records.{Knows}
@@ -185,22 +184,22 @@ abbrev pub Tried : PostData → Driving → List Memo → Driving → List Memo 
 Tried at before memory later now true = DonePart at before memory later now
 Tried at before memory later now false = (later ≡ before) × (now ≡ memory)
 
--- The task of the leaf's processor was done by a swap of its store, but for the report where another
--- value was found.
-pub record Swapped (at : PostData) (before : Driving) (memory : List Memo) (other : Bool)
-    (later : Driving) (now : List Memo) : Type 0 where
+-- The task of the leaf's processor was done by its store, up to the report, which may be due.
+pub record Swapped (at : PostData) (before : Driving) (memory : List Memo)
+    (due : Option (ℕ × ℕ)) (later : Driving) (now : List Memo) : Type 0 where
   pub learned : Memo
   pub kept : now ≡ slice_set memory (processor_of at) learned
   pub asks : idle at (memo_of memory (processor_of at)) ≡ None
+  pub cell : IfSome due (λ write. IsCellOf at write.0)
   pub sound : Sound at.job at.layout later.seat.record_of
   pub drives : Drives (task_at at)
       (before, script_of at.job at.layout (in_block at at.rank memory)) later
-      (reports_if at other (ends (begins 1)) (λ done. ends (has_worked at learned)))
+      (left_of at due (ends (has_worked at learned)))
 
 -- So it was for the processors of a block of this length from this leaf's to the last one: only of
--- that one another value may have been found, which is still to be reported.
+-- that one a report may be due.
 pub record StoredTo (at : PostData) (len : ℕ) (before : Driving) (memory : List Memo)
-    (last : PostData × Bool) (later : Driving) (now : List Memo) : Type 0 where
+    (last : PostData × Option (ℕ × ℕ)) (later : Driving) (now : List Memo) : Type 0 where
   pub same : last.0 ≡ at_rank at last.0.rank
   pub onward : at.rank ≤ last.0.rank
   pub mid : Driving

@@ -7,7 +7,7 @@ use Rattle.pram_words.specs.declared.phases.Kind.{Kind}
 use Rattle.pram_words.specs.Stamps.{stamped_word}
 use Rattle.pram_words.specs.Words.{AreOwn, LayoutData, grain, number_of, places_of}
 use Rattle.pram_words.specs.declared.layout.OwnWords.{OwnWords}
-use Rattle.pram_words.specs.declared.words.Word.TheVariants.{Asked, Stored}
+use Rattle.pram_words.specs.declared.words.Word.TheVariants.{Asked, Claim, Stored}
 use Rattle.walkx.specs.declared.operation.Op.{Op}
 use Rattle.walkx.specs.declared.operation.Op.TheVariants.{Max}
 use Rattle.walkx.specs.declared.memo.Memo.{Memo}
@@ -92,6 +92,11 @@ pub record IsPairAt (layout : LayoutData) (place word : ℕ) : Type 0 where
 -- a cell with a claim word
 abbrev pub IsCell : LayoutData → ℕ → Type 0
 IsCell layout cell = IsTrue layout.claims × (cell < layout.cells)
+
+-- the claim words of the cells begin at this one: one a cell
+abbrev pub ClaimsFrom : LayoutData → ℕ → Type 0
+ClaimsFrom layout first = (cell : ℕ) → IsCell layout cell →
+    number_of layout (Claim cell) ≡ first + cell
 
 -- a cell of the job: a place of the board, with a claim word but under the rule common
 pub record IsCellOf (at : PostData) (cell : ℕ) : Type 0 where

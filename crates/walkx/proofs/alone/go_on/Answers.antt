@@ -1,6 +1,5 @@
 use Rattle.std.proofs.Common.{ℕ, ◌+◌, ◌-◌, ◌≤◌, ◌<◌, sym, ap, ◌∙◌, refl, arith}
 use Rattle.walkx.specs.declared.memo.Memo.{Memo}
-use Rattle.walkx.specs.Inner.Posts.{processor_of}
 use Rattle.walkx.specs.Lanes.{lane}
 use Rattle.walkx.specs.Memory.{goes_on_alone}
 use Rattle.walkx.proofs.GoingAlone.{goes_one, last_stays, none_more, stays_here, stored_stays}
@@ -10,53 +9,53 @@ use Rattle.walkx.proofs.alone.go_on.Goals.{then-has_store-via-then-has_store, th
 
 pub returns-then-has_store-clause-same : goal.returns-then-has_store-clause-same
 returns-then-has_store-clause-same c =
-    let at = c.args.leaf.now in
+    let job = c.args.job.now in
     let memo = lane c.loop.block c.args.k in
     elim c.then-has_store.branch [
       | then-has_store-via-then-has_store w ↦
-          sym (stored_stays at.job (processor_of at) memo (64 - c.loop.counter)
+          sym (stored_stays job c.args.i memo (64 - c.loop.counter)
           (sym c.has_store.ensures ∙ w.if-has_store.true)) ∙ c.loop.invariant.0
       | then-has_store-via-else-has_store+then-steps-block w ↦
-          let last : at.job.steps ≤ memo.step =
+          let last : job.steps ≤ memo.step =
           omega (arith, w.if-steps-block.true, c.loop.invariant.1) in
-          sym (last_stays at.job (processor_of at) memo (64 - c.loop.counter) last)
+          sym (last_stays job c.args.i memo (64 - c.loop.counter) last)
           ∙ c.loop.invariant.0
     ]
 
 pub returns-in-None-clause-same : goal.returns-in-None-clause-same
 returns-in-None-clause-same c =
-    let at = c.args.leaf.now in
+    let job = c.args.job.now in
     let memo = lane c.loop.block c.args.k in
-    let before : memo.step < at.job.steps =
+    let before : memo.step < job.steps =
     omega (arith, c.if-steps-block.false, c.loop.invariant.1) in
     c.stand_after.ensures.same ∙ ap (λ (n : ℕ). record memo { step = n }) c.loop.invariant.1
-    ∙ sym (to_the_end at.job (processor_of at) memo (64 - c.loop.counter)
+    ∙ sym (to_the_end job c.args.i memo (64 - c.loop.counter)
     (64 - (c.loop.counter + 1)) (omega arith) (sym c.has_store.ensures ∙ c.if-has_store.false)
-    before c.in-None.ensures.value) ∙ c.loop.invariant.0
+    before c.in-None.ensures) ∙ c.loop.invariant.0
 
 pub returns-then-not-go_one-clause-same : goal.returns-then-not-go_one-clause-same
 returns-then-not-go_one-clause-same c =
-    let at = c.args.leaf.now in
+    let job = c.args.job.now in
     let memo = lane c.loop.block c.args.k in
-    let before : memo.step < at.job.steps =
+    let before : memo.step < job.steps =
     omega (arith, c.if-steps-block.false, c.loop.invariant.1) in
     c.if-not-go_one.ensures.not refl
-    ∙ sym (stays_here at.job (processor_of at) memo (64 - c.loop.counter)
+    ∙ sym (stays_here job c.args.i memo (64 - c.loop.counter)
     (64 - (c.loop.counter + 1)) (omega arith) (sym c.has_store.ensures ∙ c.if-has_store.false)
-    before c.in-Some.instr.now c.in-Some.ensures.value
+    before c.in-Some.instr.now c.in-Some.ensures
     (sym c.if-not-go_one.ensures.value)) ∙ c.loop.invariant.0
 
 pub loop-preserved : goal.loop-preserved
 loop-preserved c =
-    let at = c.args.leaf.now in
+    let job = c.args.job.now in
     let memo = lane c.loop.block c.args.k in
-    let before : memo.step < at.job.steps =
+    let before : memo.step < job.steps =
     omega (arith, c.if-steps-block.false, c.loop.invariant.1) in (
-      ap (λ (m : Memo). goes_on_alone (64 - (c.loop.counter + 1)) at.job (processor_of at) m)
+      ap (λ (m : Memo). goes_on_alone (64 - (c.loop.counter + 1)) job c.args.i m)
           (c.if-not-go_one.ensures.on refl)
-          ∙ sym (goes_one at.job (processor_of at) memo (64 - c.loop.counter)
+          ∙ sym (goes_one job c.args.i memo (64 - c.loop.counter)
           (64 - (c.loop.counter + 1)) (omega arith) (sym c.has_store.ensures ∙ c.if-has_store.false)
-          before c.in-Some.instr.now c.in-Some.ensures.value
+          before c.in-Some.instr.now c.in-Some.ensures
           (sym c.if-not-go_one.ensures.value)) ∙ c.loop.invariant.0,
       c.loop.invariant.1,
       λ j other. c.if-not-go_one.ensures.others j other ∙ c.loop.invariant.2 j other,
@@ -64,6 +63,6 @@ loop-preserved c =
 
 pub returns-clause-same : goal.returns-clause-same
 returns-clause-same c =
-    let at = c.args.leaf.now in
-    sym (none_more at.job (processor_of at) (lane c.loop.block c.args.k) (64 - c.loop.counter)
+    let job = c.args.job.now in
+    sym (none_more job c.args.i (lane c.loop.block c.args.k) (64 - c.loop.counter)
     (omega arith)) ∙ c.loop.invariant.0

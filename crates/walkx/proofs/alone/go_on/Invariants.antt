@@ -1,5 +1,4 @@
 use Rattle.std.proofs.Common.{◌≡◌, ◌≢◌, ◌-◌, ℕ}
-use Rattle.walkx.specs.Inner.Posts.{processor_of}
 use Rattle.walkx.specs.Lanes.{lane}
 use Rattle.walkx.specs.Memory.{goes_on_alone, gone_on}
 use Rattle.walkx.proofs.alone.go_on.Given as goal
@@ -7,7 +6,7 @@ use Rattle.walkx.proofs.alone.go_on.Given as goal
 -- what is left to go leads to the same
 abbrev pub invariant-loop : goal.invariant-loop
 invariant-loop l =
-    (goes_on_alone (64 - l.counter) l.fn.leaf.job (processor_of l.fn.leaf) (lane l.block l.fn.k)
-    ≡ gone_on l.fn.leaf.job (processor_of l.fn.leaf) (lane l.fn.block l.fn.k))
-    × (l.steps ≡ l.fn.leaf.job.steps)
+    (goes_on_alone (64 - l.counter) l.fn.job l.fn.i (lane l.block l.fn.k)
+    ≡ gone_on l.fn.job l.fn.i (lane l.fn.block l.fn.k))
+    × (l.steps ≡ l.fn.job.steps)
     × ((j : ℕ) → j ≢ l.fn.k → lane l.block j ≡ lane l.fn.block j)

@@ -1,9 +1,7 @@
 use Rattle.std.proofs.Common.{◌≡◌, ◌<◌, Some, false, slice_get, sym, ap, ◌∙◌, inl, inr, arith}
 use Rattle.std.specs.Prelude.{is_some}
 use Rattle.std.proofs.lemmas.Bool.{cases_Bool}
-use Rattle.pram_job.specs.Job.{JobData}
 use Rattle.walkx.specs.declared.memo.Memo.{Memo}
-use Rattle.walkx.specs.Inner.Posts.{processor_of}
 use Rattle.walkx.specs.Lanes.{lane}
 use Rattle.walkx.specs.Memory.{gone_on}
 use Rattle.walkx.proofs.AsFar.{one_on}
@@ -12,23 +10,18 @@ use Rattle.walkx.proofs.alone.go_one_at.Goals as goal
 
 pub returns-then-block-k-2-clause-far : goal.returns-then-block-k-2-clause-far
 returns-then-block-k-2-clause-far c =
-    let at = c.args.leaf.now in
+    let job = c.args.job.now in
+    let instr = c.args.stand.instr.now in
     let memo = lane c.args.block.now c.args.k in
-    let here : memo.own.counter ≡ c.args.counter = c.if-block-k.true in
-    let some : slice_get at.job.code memo.own.counter ≡ Some c.args.instr.now =
-    ap (slice_get at.job.code) here ∙ c.requires.instr in
+    let here : memo.own.counter ≡ c.args.stand.counter = c.if-block-k.true in
+    let some : slice_get job.code memo.own.counter ≡ Some instr =
+    ap (slice_get job.code) here ∙ c.requires.stand in
     let none : is_some memo.store ≡ false = sym c.if-not-has_store.ensures in
-    let before : memo.step < at.job.steps =
-    omega (
-      arith,
-      c.if-block-k-2.true,
-      c.steps-steps.ensures.value,
-      ap (λ (job : JobData). job.steps) c.job.ensures.value,
-    ) in
+    let before : memo.step < job.steps =
+    omega (arith, c.if-block-k-2.true, c.steps-steps.ensures.value) in
     elim (cases_Bool c.go_one.result) [
-      | inl went ↦ ap (λ (m : Memo). gone_on at.job (processor_of at) m) (c.go_one.ensures.on went)
-          ∙ one_on at.job (processor_of at) memo
-          c.args.instr.now some (still_goes at.job memo.own c.args.instr.now some)
-          none before (sym c.go_one.ensures.value ∙ went)
-      | inr stayed ↦ ap (λ (m : Memo). gone_on at.job (processor_of at) m) (c.go_one.ensures.not stayed)
+      | inl went ↦ ap (λ (m : Memo). gone_on job c.args.i m) (c.go_one.ensures.on went)
+          ∙ one_on job c.args.i memo instr some (still_goes job memo.own instr some) none before
+          (sym c.go_one.ensures.value ∙ went)
+      | inr stayed ↦ ap (λ (m : Memo). gone_on job c.args.i m) (c.go_one.ensures.not stayed)
     ]

@@ -1,9 +1,16 @@
-use Rattle.std.proofs.Common.{◌≡◌, ◌-◌}
+use Rattle.std.proofs.Common.{◌≡◌, ◌+◌, ◌-◌, List}
+use Rattle.walkx.specs.declared.memo.Memo.{Memo}
+use Rattle.walkx.specs.Lanes.{lane}
+use Rattle.walkx.specs.Memory.{memo_of}
 use Rattle.walkx.specs.Passing.{least_of}
+use Rattle.walkx.specs.Rows.{AllIn}
 use Rattle.walkx.proofs.memo.least_reach.Given as goal
 
 -- with those from this one on it is the same
-abbrev pub invariant-loop-i : goal.invariant-loop-i
-invariant-loop-i l =
-    least_of l.least l.fn.phase (l.fn.end - l.i) l.i l.fn.memory
-    ≡ least_of l.fn.most l.fn.phase (l.fn.end - l.fn.first) l.fn.first l.fn.memory
+abbrev pub invariant-loop-k : goal.invariant-loop-k
+invariant-loop-k l = (memory : List Memo) →
+    AllIn l.fn.lanes.start l.fn.lanes.end (λ k.
+    memo_of memory (l.fn.lanes.first + k) ≡ lane l.fn.block k) →
+    least_of l.least l.fn.phase (l.fn.lanes.end - l.k) (l.fn.lanes.first + l.k) memory
+    ≡ least_of l.fn.most l.fn.phase (l.fn.lanes.end - l.fn.lanes.start)
+    (l.fn.lanes.first + l.fn.lanes.start) memory

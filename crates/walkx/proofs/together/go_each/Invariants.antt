@@ -1,8 +1,6 @@
-use Rattle.std.proofs.Common.{◌≡◌}
-use Rattle.walkx.specs.Together.{gone_from}
+use Rattle.walkx.specs.Apart.{GetAsFar}
 use Rattle.walkx.proofs.together.go_each.Given as goal
 
--- what is left to go leads to the same
-abbrev pub invariant-loop-other : goal.invariant-loop-other
-invariant-loop-other g l =
-    gone_from l.fn.post l.fn.rank l.memory ≡ gone_from l.fn.post l.fn.rank l.fn.memory
+-- each gets as far as it did
+abbrev pub invariant-loop-k : goal.invariant-loop-k
+invariant-loop-k g l = GetAsFar l.fn.job l.fn.lanes l.fn.block l.block

@@ -1,8 +1,6 @@
-use Rattle.std.proofs.Common.{◌≡◌}
-use Rattle.walkx.specs.Together.{gone_from}
+use Rattle.walkx.specs.Apart.{GetAsFar}
 use Rattle.walkx.proofs.together.go_together.Given as goal
 
--- what is left to go leads to the same
+-- each gets as far as it did
 abbrev pub invariant-loop : goal.invariant-loop
-invariant-loop l =
-    gone_from l.fn.post l.fn.rank l.memory ≡ gone_from l.fn.post l.fn.rank l.fn.memory
+invariant-loop l = GetAsFar l.fn.job l.fn.lanes l.fn.block l.block

@@ -1,21 +1,5 @@
-use Rattle.std.proofs.Common.{◌≤◌, ap, subst, sym, ◌∙◌}
-use Rattle.pram_machine.specs.declared.requests.Request.{Request}
-use Rattle.pram_machine.specs.Machine.{out_of_range}
-use Rattle.pram_machine.proofs.Shapes.{decided_next, decided_place}
-use Rattle.walkx.specs.Inner.Posts.{processor_of}
 use Rattle.walkx.proofs.wide_request.turn_by.Goals as goal
 
 pub returns-clause-shape : goal.returns-clause-shape
 returns-clause-shape c =
-    let at = c.args.leaf.now in
-    let known = c.args.own.now in
-    let turn = rw (c.job-job.ensures.value, c.processor-processor.ensures.value) at c.decided_by.ensures in
-    record {
-      place = λ p v e. decided_place at.job (processor_of at) known.counter _ _ c.args.value
-          c.args.instr.now c.requires.instr p v
-          (sym (ap (λ (r : Request). r.put) turn.value) ∙ e);
-      next = subst (λ (r : Request). r.next ≤ out_of_range at.job) (sym turn.value)
-          (decided_next at.job (processor_of at) known.counter _ _ c.args.value c.args.instr.now
-          c.requires.instr c.requires.counter);
-      sorted = turn.sorted;
-    }
+    rw (c.job.ensures.value, c.processor.ensures.value) at c.turn_of.ensures.shape

@@ -3,7 +3,6 @@ use Rattle.walkx.specs.Inner.Posts.{processor_of}
 use Rattle.walkx.specs.Memory.{memo_of}
 use Rattle.walkx.specs.Rests.{has_worked}
 use Rattle.walkx.specs.Scripts.{ends}
-use Rattle.walkx.specs.Storing.{carried_in}
 use Rattle.walkx.specs.Walk.{begins, script_of}
 use Rattle.walkx.proofs.Storing.{store_asks}
 use Rattle.pram_board.specs.Inner.Plays.{driving, in_block, task_at}
@@ -11,14 +10,14 @@ use Rattle.pram_board.proofs.Storing.{swap_starts}
 use Rattle.pram_board.proofs.Working.{sound_at}
 use Rattle.pram_board.proofs.driver.Driver.store_at.Goals as goal
 
-pub swap_store-requires-clause-memo : goal.swap_store-requires-clause-memo
-swap_store-requires-clause-memo g c = c.requires.at.fits (processor_of c.args.leaf.now)
+pub carry_until-requires-clause-memo : goal.carry_until-requires-clause-memo
+carry_until-requires-clause-memo g c = c.requires.at.fits (processor_of c.args.leaf.now)
 
-pub swap_store-requires-clause-next : goal.swap_store-requires-clause-next
-swap_store-requires-clause-next g c =
+pub carry_until-requires-clause-next : goal.carry_until-requires-clause-next
+carry_until-requires-clause-next g c =
     let at = c.args.leaf.now in
     let memory = c.args.memory.now in
-    let none = store_asks at (memo_of memory (processor_of at)) c.requires.store.store in
+    let none = store_asks at (memo_of memory (processor_of at)) c.requires.store in
     record {
       from = (c.args.self.now, script_of at.job at.layout (in_block at at.rank memory));
       after = ends (begins 1);
@@ -60,9 +59,10 @@ returns-clause-swapped g c =
           (ends (begins 1)),
     )).1 in
     record {
-      learned = carried_in at (memo_of memory (processor_of at));
+      learned = swaps.learned;
       kept = swaps.kept;
       asks = swaps.asks;
-      sound = sound_at (task_at at) (driving c.swap_store.new.steps) drives.here c.facts.ensures;
+      cell = swaps.cell;
+      sound = sound_at (task_at at) (driving c.carry_until.new.steps) drives.here c.facts.ensures;
       drives = drives;
     }

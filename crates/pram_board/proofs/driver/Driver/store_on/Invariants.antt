@@ -4,8 +4,8 @@ use Rattle.walkx.specs.Storing.{AllStore}
 use Rattle.pram_board.specs.Inner.Plays.{AtTask, Moved, driving, in_block, task_at}
 use Rattle.pram_board.proofs.driver.Driver.store_on.Given as goal
 
-abbrev pub invariant-loop-leaf : goal.invariant-loop-leaf
-invariant-loop-leaf g l = record {
+abbrev pub invariant-loop-rule : goal.invariant-loop-rule
+invariant-loop-rule g l = record {
   seat : l.self.seat.ghost_name ≡ l.fn.self.seat.ghost_name;
   same : l.leaf ≡ at_rank l.fn.leaf l.leaf.rank;
   later : l.fn.leaf.rank ≤ l.leaf.rank;
@@ -16,5 +16,5 @@ invariant-loop-leaf g l = record {
       (in_block l.fn.leaf l.leaf.rank l.memory);
 }
 
-abbrev pub decreases-loop-leaf : goal.decreases-loop-leaf
-decreases-loop-leaf g l = l.len - l.leaf.rank
+abbrev pub decreases-loop-rule : goal.decreases-loop-rule
+decreases-loop-rule g l = l.len - l.leaf.rank

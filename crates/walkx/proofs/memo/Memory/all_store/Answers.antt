@@ -20,5 +20,5 @@ returns-then-q-len c = λ is.
     let length_is : i % 64 + (c.args.len - at.rank) ≡ i % 64 + more =
     omega (arith, c.saturating_sub-more.ensures, c.rank.ensures) in
     all_stores at c.args.len c.args.self.now items i block (i % 64) (i % 64 + more) view
-    c.processor-i.ensures.value c.requires.rule c.requires.second there refl length_is most
+    c.processor-i.ensures.value c.requires.second there refl length_is most
     (rw c.step.ensures.value at (c.all_stored.ensures is))

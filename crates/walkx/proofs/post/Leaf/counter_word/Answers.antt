@@ -6,4 +6,4 @@ use Rattle.walkx.proofs.post.Leaf.counter_word.Goals as goal
 
 pub returns : goal.returns
 returns c = subst (λ (p : PostData). IsPairAt p.layout (counter_place p.job (processor_of p))
-    c.self.inside.own.counter) c.self.view_is (own_counter _ _ _ _ _ _ c.self.invariant)
+    c.self.inside.own.counter) c.self.view_is (own_counter _ _ _ _ _ _ c.self.invariant.0)

@@ -8,7 +8,7 @@ pub overflow_add-result-3 : goal.overflow_add-result-3
 overflow_add-result-3 c =
     let further = next_leaf _ _ _ _ _ _
     (subst (λ (p : PostData). IsWide p.layout.form) (sym c.self.view_is) c.requires.wide)
-    c.self.invariant
+    c.self.invariant.0
     (subst (λ (p : PostData). IsLeafPost (at_rank p (suc p.rank))) (sym c.self.view_is)
     c.requires.leaf) in
     let small = (own_counter _ _ _ _ _ _ further).below in
@@ -18,15 +18,18 @@ pub overflow_add-result-4 : goal.overflow_add-result-4
 overflow_add-result-4 c =
     let further = next_leaf _ _ _ _ _ _
     (subst (λ (p : PostData). IsWide p.layout.form) (sym c.self.view_is) c.requires.wide)
-    c.self.invariant
+    c.self.invariant.0
     (subst (λ (p : PostData). IsLeafPost (at_rank p (suc p.rank))) (sym c.self.view_is)
     c.requires.leaf) in
     let small = (own_register _ _ _ _ _ _ further 0 (lit< tt)).below in
     omega (arith, small)
 
 pub invariant_of-result : goal.invariant_of-result
-invariant_of-result c = next_leaf _ _ _ _ _ _
-    (subst (λ (p : PostData). IsWide p.layout.form) (sym c.self.view_is) c.requires.wide)
-    c.self.invariant
-    (subst (λ (p : PostData). IsLeafPost (at_rank p (suc p.rank))) (sym c.self.view_is)
-    c.requires.leaf)
+invariant_of-result c = (
+  next_leaf _ _ _ _ _ _
+      (subst (λ (p : PostData). IsWide p.layout.form) (sym c.self.view_is) c.requires.wide)
+      c.self.invariant.0
+      (subst (λ (p : PostData). IsLeafPost (at_rank p (suc p.rank))) (sym c.self.view_is)
+      c.requires.leaf),
+  c.self.invariant.1,
+)

@@ -6,11 +6,11 @@ use Rattle.walkx.proofs.post.Leaf.register_word.Goals as goal
 
 pub overflow_add-result : goal.overflow_add-result
 overflow_add-result c =
-    let small = own_small _ _ _ _ _ _ c.self.invariant c.args.register c.requires in
+    let small = own_small _ _ _ _ _ _ c.self.invariant.0 c.args.register c.requires in
     omega (arith, small, c.from.ensures)
 
 pub returns : goal.returns
 returns c = rw c.from.ensures (subst (λ (p : PostData). IsPairAt p.layout
     (register_place p.job (processor_of p) c.args.register)
     (c.self.inside.own.registers + 2 * c.args.register)) c.self.view_is
-    (own_register _ _ _ _ _ _ c.self.invariant c.args.register c.requires))
+    (own_register _ _ _ _ _ _ c.self.invariant.0 c.args.register c.requires))

@@ -8,13 +8,13 @@ use Rattle.walkx.specs.Inner.Posts.{processor_of}
 use Rattle.walkx.specs.Lanes.{lane_in, memos_of}
 use Rattle.walkx.specs.Memory.{FitsMemo, at_start, memo_of}
 use Rattle.walkx.specs.Parts.{does_wide}
-use Rattle.walkx.specs.Storing.{StoresPlainly, Swaps}
+use Rattle.walkx.specs.Storing.{Carries, HasStore}
 use Rattle.walkx.proofs.Lanes.{memo_of_all}
 use Rattle.walkx.proofs.Storing.{lane_known, lane_set}
-use Rattle.walkx.proofs.memo.Memory.swap_store.Goals as goal
+use Rattle.walkx.proofs.memo.Memory.carry_until.Goals as goal
 
-pub swap_lane-requires-clause-store : goal.swap_lane-requires-clause-store
-swap_lane-requires-clause-store g c =
+pub carry_lane_until-requires-clause-store : goal.carry_lane_until-requires-clause-store
+carry_lane_until-requires-clause-store g c =
     let at = c.args.leaf.now in
     let items = c.in-Some.blocks.items in
     let i = c.processor-i.result in
@@ -24,11 +24,11 @@ swap_lane-requires-clause-store g c =
     omega (arith, c.in-Some.blocks.ok, c.len.ensures, c.if-i-len.true) in
     let there : slice_get items (i / 64) ≡ Some old =
     slice_get-get_or items (i / 64) old low ∙ ap Some (sym c.index_mut-block.ensures.value) in
-    subst (StoresPlainly at)
+    subst (HasStore at)
     (lane_known c.args.self.now items i _ old view c.processor-i.ensures.value there) c.requires.store
 
-pub swap_lane-requires-clause-memo : goal.swap_lane-requires-clause-memo
-swap_lane-requires-clause-memo g c =
+pub carry_lane_until-requires-clause-memo : goal.carry_lane_until-requires-clause-memo
+carry_lane_until-requires-clause-memo g c =
     let at = c.args.leaf.now in
     let items = c.in-Some.blocks.items in
     let i = c.processor-i.result in
@@ -41,8 +41,8 @@ swap_lane-requires-clause-memo g c =
     subst (FitsMemo at.job)
     (lane_known c.args.self.now items i _ old view c.processor-i.ensures.value there) c.requires.memo
 
-pub swap_lane-requires-clause-next : goal.swap_lane-requires-clause-next
-swap_lane-requires-clause-next g c =
+pub carry_lane_until-requires-clause-next : goal.carry_lane_until-requires-clause-next
+carry_lane_until-requires-clause-next g c =
     let at = c.args.leaf.now in
     let items = c.in-Some.blocks.items in
     let i = c.processor-i.result in
@@ -69,10 +69,10 @@ returns-then-i-len g c =
     slice_get-get_or items (i / 64) old low ∙ ap Some (sym c.index_mut-block.ensures.value) in
     let known = lane_known memory items i _ old view c.processor-i.ensures.value there in
     let kept = lane_set memory items i _ old view c.processor-i.ensures.value there
-    c.swap_lane.new.block low c.swap_lane.ensures.others in
-    subst (λ (now : List Memo). Swaps (g.S.Steps.stands at) at c.args.steps.now memory
-    c.swap_lane.new.steps now c.swap_lane.result) (sym kept)
-    (c.swap_lane.ensures.swaps memory known)
+    c.carry_lane_until.new.block low c.carry_lane_until.ensures.others in
+    subst (λ (now : List Memo). Carries (g.S.Steps.stands at) at c.args.steps.now memory
+    c.carry_lane_until.new.steps now c.carry_lane_until.result) (sym kept)
+    (c.carry_lane_until.ensures.carries memory known)
 
 pub unreachable-requires : goal.unreachable-requires
 unreachable-requires g c =
@@ -86,5 +86,5 @@ unreachable-requires g c =
     ap (λ (j : ℕ). memo_of c.args.self.now j) (sym c.processor-i.ensures.value)
     ∙ ap (λ (m : List Memo). memo_of m i) (sym view) ∙ memo_of_all items i
     ∙ ap (λ (o : Option Block). lane_in o (i % 64)) (slice_get_past items (i / 64) past) in
-    let plain : StoresPlainly at at_start = subst (StoresPlainly at) is c.requires.store in
-    absurd (let some : is_some at_start.store ≡ true = plain.store.some in cc)
+    let store : HasStore at at_start = subst (HasStore at) is c.requires.store in
+    absurd (let some : is_some at_start.store ≡ true = store.some in cc)
