@@ -2,7 +2,7 @@
 ghost use Rattle.std.specs.Prelude.{◌≡◌, ◌<◌, IfOk};
 ghost use Rattle.walkx.specs.Reads.{LooksFit};
 ghost use Rattle.walkx.specs.Serving.{FollowsScript, Serves};
-ghost use Rattle.walkx.specs.Walk.{IsLayoutOf};
+ghost use Rattle.walk_memory.specs.Blocks.{IsLayoutOf};
 
 use pram_job::Job;
 use pram_machine::Request;

@@ -11,7 +11,7 @@ use Rattle.pram_words.specs.declared.words.Word.TheVariants.{Stored}
 use Rattle.pram_words.specs.Stamps.{stamp_of, payload_of}
 use Rattle.pram_words.specs.Words.{LayoutData, IsWord}
 use Rattle.walkx.specs.Tasks.{differs}
-use Rattle.walkx.specs.Walk.{IsBoard}
+use Rattle.walk_memory.specs.Blocks.{IsBoard}
 use Rattle.lawful_walk.specs.Board.{held, root, stamp_at, finished, ClaimsFor, IsClaimed, Stands}
 use Rattle.lawful_walk.specs.Board.{claimed_before, claimed_now}
 use Rattle.lawful_walk.specs.Lands.{Lands, landing_before, last_landing, word_of_step}

@@ -17,9 +17,9 @@ use Rattle.pram_machine.specs.Machine.{counter, register}
 use Rattle.pram_machine.proofs.Shapes.{instr_is}
 use Rattle.pram_step.specs.Runs.{state_after}
 use Rattle.walkx.proofs.TaskAsking.{sources_fit}
-use Rattle.walkx.specs.declared.memo.Own.{Own}
-use Rattle.walkx.specs.Memory.{all_registers, asked, asked_by, cell_named, cell_next, is_load}
-use Rattle.walkx.specs.Memory.{is_load_row, loads_next, own_at}
+use Rattle.walk_memory.specs.declared.memo.Own.{Own}
+use Rattle.walk_memory.specs.Memory.{all_registers, asked, asked_by, cell_named, cell_next, is_load}
+use Rattle.walk_memory.specs.Memory.{is_load_row, loads_next, own_at}
 
 -- ---- the operands of an instruction
 

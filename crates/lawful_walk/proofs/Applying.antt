@@ -11,10 +11,11 @@ use Rattle.pram_words.specs.Stamps.{stamped_word}
 use Rattle.pram_words.specs.Words.{LayoutData}
 use Rattle.pram_words.specs.declared.layout.Form.TheVariants.{Compact}
 use Rattle.pram_words.specs.declared.words.Word.TheVariants.{Claim}
-use Rattle.walkx.proofs.Boards.{same_procs}
+use Rattle.walk_memory.proofs.Boards.{same_procs}
 use Rattle.walkx.specs.Scripts.{Script}
 use Rattle.walkx.specs.Tasks.{carries, claims, claim_of, apply_task, crew_apply_task, claim_task}
-use Rattle.walkx.specs.Walk.{Then, IsBoard}
+use Rattle.walkx.specs.Walk.{Then}
+use Rattle.walk_memory.specs.Blocks.{IsBoard}
 use Rattle.walkx.specs.declared.operation.Op.{Op}
 use Rattle.lawful_walk.specs.Lands.{phase_written}
 use Rattle.lawful_walk.proofs.Winners.{wins_all}

@@ -22,8 +22,9 @@ use Rattle.walkx.specs.declared.operation.Op.TheVariants.{Swap}
 use Rattle.walkx.specs.Operations.{words_after}
 use Rattle.walkx.specs.Scripts.{Script}
 use Rattle.walkx.specs.Tasks.{reports}
-use Rattle.walkx.specs.Walk.{Then, IsBoard}
-use Rattle.walkx.proofs.Boards.{same_cells}
+use Rattle.walkx.specs.Walk.{Then}
+use Rattle.walk_memory.specs.Blocks.{IsBoard}
+use Rattle.walk_memory.proofs.Boards.{same_cells}
 use Rattle.lawful_walk.specs.Board.{root, conflict, IsLate}
 use Rattle.lawful_walk.specs.Board.{CarriedCell, Stands}
 use Rattle.lawful_walk.proofs.Frames.{swap_same, swap_other}

@@ -23,10 +23,12 @@ use Rattle.walkx.specs.declared.operation.Op.TheVariants.{Swap}
 use Rattle.walkx.specs.Operations.{words_after}
 use Rattle.walkx.specs.Scripts.{Script, asks}
 use Rattle.walkx.specs.Tasks.{differs, is_late, reports}
-use Rattle.walkx.specs.Walk.{Then, IsBoard}
-use Rattle.walkx.specs.declared.memo.Memo.{Memo}
-use Rattle.walkx.specs.Memory.{IsTrueMemo}
-use Rattle.walkx.specs.Passes.{carried, carry_task, reports_other, writes_compared}
+use Rattle.walkx.specs.Walk.{Then}
+use Rattle.walk_memory.specs.Blocks.{IsBoard}
+use Rattle.walk_memory.specs.declared.memo.Memo.{Memo}
+use Rattle.walk_memory.specs.Memory.{IsTrueMemo}
+use Rattle.walk_memory.specs.Learned.{carried}
+use Rattle.walkx.specs.Passes.{carry_task, reports_other, writes_compared}
 use Rattle.lawful_walk.specs.Board.{held, root, conflict, stamp_at, finished, IsLate, HoldsNew}
 use Rattle.lawful_walk.specs.Board.{Grows, CarriedCell, Stands}
 use Rattle.lawful_walk.specs.Board.{Stays}

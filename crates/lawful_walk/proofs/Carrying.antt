@@ -10,10 +10,11 @@ use Rattle.pram_step.specs.History.{Asks, Wins, part_after}
 use Rattle.pram_words.specs.Phases.{step_at}
 use Rattle.pram_words.specs.Words.{LayoutData, places_of}
 use Rattle.pram_words.specs.declared.layout.Form.TheVariants.{Compact}
-use Rattle.walkx.proofs.Boards.{same_cells, same_procs}
+use Rattle.walk_memory.proofs.Boards.{same_cells, same_procs}
 use Rattle.walkx.specs.Scripts.{Script}
 use Rattle.walkx.specs.Tasks.{writes_place, carries}
-use Rattle.walkx.specs.Walk.{Then, IsBoard}
+use Rattle.walkx.specs.Walk.{Then}
+use Rattle.walk_memory.specs.Blocks.{IsBoard}
 use Rattle.walkx.specs.declared.operation.Op.{Op}
 use Rattle.lawful_walk.specs.Lands.{Lands, phase_written}
 use Rattle.lawful_walk.specs.Board.{IsLate, Carried, Stands}

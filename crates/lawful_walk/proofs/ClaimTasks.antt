@@ -24,12 +24,13 @@ use Rattle.walkx.specs.declared.operation.Op.{Op}
 use Rattle.walkx.specs.declared.operation.Op.TheVariants.{Load}
 use Rattle.walkx.specs.Scripts.{Script, asks}
 use Rattle.walkx.specs.Tasks.{claim_of, differs, reports, writes_place}
-use Rattle.walkx.specs.Walk.{Then, IsBoard}
-use Rattle.walkx.proofs.Boards.{same_cells, same_procs}
-use Rattle.walkx.specs.declared.memo.Memo.{Memo}
-use Rattle.walkx.specs.Memory.{IsTrueMemo}
-use Rattle.walkx.specs.Passes.{carried, crew_carry_task, reports_other}
-use Rattle.walkx.specs.Passes.{priority_carry_task}
+use Rattle.walkx.specs.Walk.{Then}
+use Rattle.walk_memory.specs.Blocks.{IsBoard}
+use Rattle.walk_memory.proofs.Boards.{same_cells, same_procs}
+use Rattle.walk_memory.specs.declared.memo.Memo.{Memo}
+use Rattle.walk_memory.specs.Memory.{IsTrueMemo}
+use Rattle.walk_memory.specs.Learned.{carried}
+use Rattle.walkx.specs.Passes.{crew_carry_task, reports_other, priority_carry_task}
 use Rattle.lawful_walk.specs.Board.{held, root, conflict, finished, IsLate}
 use Rattle.lawful_walk.specs.Board.{ClaimStays, ClaimsFor, CarriedCell, IsClaimed, Stands}
 use Rattle.lawful_walk.specs.Board.{claimed_before, claimed_now}

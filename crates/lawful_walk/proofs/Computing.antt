@@ -19,11 +19,12 @@ use Rattle.pram_words.specs.declared.layout.Form.TheVariants.{Compact}
 use Rattle.pram_words.specs.declared.phases.Kind.TheVariants.{Compute}
 use Rattle.pram_words.specs.declared.words.Word.TheVariants.{Asked}
 use Rattle.walkx.proofs.TaskAsking.{sources_fit}
-use Rattle.walkx.proofs.Boards.{same_cells, same_procs}
-use Rattle.walkx.proofs.Cells.{cell_is}
+use Rattle.walk_memory.proofs.Boards.{same_cells, same_procs}
+use Rattle.walk_memory.proofs.Cells.{cell_is}
 use Rattle.walkx.specs.Scripts.{Script, asks}
 use Rattle.walkx.specs.Tasks.{reads_registers, reads_cell, raises_request, executes, compute_task}
-use Rattle.walkx.specs.Walk.{Then, IsBoard}
+use Rattle.walkx.specs.Walk.{Then}
+use Rattle.walk_memory.specs.Blocks.{IsBoard}
 use Rattle.walkx.specs.declared.operation.Op.{Op}
 use Rattle.walkx.specs.declared.operation.Op.TheVariants.{Max}
 use Rattle.lawful_walk.proofs.Raising.{kind_of}

@@ -22,8 +22,8 @@ use Rattle.pram_words.specs.Words.{places_of}
 use Rattle.pram_words.specs.Phases.{next_phase}
 use Rattle.pram_words.proofs.NextPhases.{next_above}
 use Rattle.walkx.specs.Tasks.{claim_of}
-use Rattle.walkx.specs.Walk.{IsLayoutOf, IsBoard}
-use Rattle.walkx.proofs.Boards.{same_cells, same_procs}
+use Rattle.walk_memory.specs.Blocks.{IsLayoutOf, IsBoard}
+use Rattle.walk_memory.proofs.Boards.{same_cells, same_procs}
 use Rattle.lawful_walk.specs.Board.{held, root, conflict, leaf, leaf_of, stamp_at, finished, IsLate}
 use Rattle.lawful_walk.specs.Board.{HoldsNew, Raised, Claimed, ClaimStays, phase_in, CarriedCell}
 use Rattle.lawful_walk.specs.Board.{CarriedOwn, CompactDone, DoneIn, IsNew, IsPair, Stays, WideDone}

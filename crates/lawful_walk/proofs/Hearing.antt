@@ -16,11 +16,12 @@ use Rattle.pram_words.specs.declared.layout.Form.{Form}
 use Rattle.pram_words.specs.declared.layout.Form.TheVariants.{Compact}
 use Rattle.pram_words.specs.declared.phases.Kind.TheVariants.{Verify}
 use Rattle.pram_words.specs.declared.words.Word.TheVariants.{Conflict, Claim}
-use Rattle.walkx.proofs.Boards.{same_cells}
+use Rattle.walk_memory.proofs.Boards.{same_cells}
 use Rattle.walkx.specs.Operations.{words_after}
 use Rattle.walkx.specs.Scripts.{Script, asks}
 use Rattle.walkx.specs.Tasks.{hears_part, reads_place, reports, claims, claim_of}
-use Rattle.walkx.specs.Walk.{Then, IsBoard}
+use Rattle.walkx.specs.Walk.{Then}
+use Rattle.walk_memory.specs.Blocks.{IsBoard}
 use Rattle.walkx.specs.declared.operation.Op.{Op}
 use Rattle.walkx.specs.declared.operation.Op.TheVariants.{Max, Swap}
 use Rattle.lawful_walk.specs.Lands.{phase_claimed}

@@ -19,8 +19,8 @@ use Rattle.pram_words.specs.Stamps.{stamp_of, payload_of, stamped_word}
 use Rattle.pram_words.specs.Words.{LayoutData, IsLayout, IsWord, has_claims, places_of}
 use Rattle.pram_words.proofs.NextPhases.{next_above, next_rises}
 use Rattle.walkx.specs.Tasks.{claim_of}
-use Rattle.walkx.specs.Walk.{IsLayoutOf, IsBoard}
-use Rattle.walkx.proofs.Boards.{same_cells, same_procs}
+use Rattle.walk_memory.specs.Blocks.{IsLayoutOf, IsBoard}
+use Rattle.walk_memory.proofs.Boards.{same_cells, same_procs}
 use Rattle.lawful_walk.specs.Board.{held, root, conflict, leaf, stamp_at, finished, IsLate}
 use Rattle.lawful_walk.specs.Board.{HoldsNew, Raised, Claimed, ClaimStays, ClaimsFor, Grows}
 use Rattle.lawful_walk.specs.Board.{phase_in, Carried, CarriedCell, CarriedOwn, CarriedWon}

@@ -7,9 +7,10 @@ use Rattle.pram_words.specs.Words.{LayoutData, IsWord, number_of}
 use Rattle.pram_words.specs.declared.words.Word.{Word}
 use Rattle.walkx.specs.Operations.{words_after}
 use Rattle.walkx.specs.Scripts.{Script, asks, ends}
-use Rattle.walkx.specs.Walk.{Then, begins, enters, turns, worked, stops, IsBoard}
-use Rattle.walkx.specs.declared.memo.Memo.{Memo}
-use Rattle.walkx.specs.Memory.{IsTrueMemo}
+use Rattle.walkx.specs.Walk.{Then, begins, enters, turns, worked, stops}
+use Rattle.walk_memory.specs.Blocks.{IsBoard}
+use Rattle.walk_memory.specs.declared.memo.Memo.{Memo}
+use Rattle.walk_memory.specs.Memory.{IsTrueMemo}
 use Rattle.walkx.specs.declared.operation.Op.{Op}
 use Rattle.walkx.specs.declared.operation.Op.TheVariants.{Max}
 use Rattle.lawful_walk.proofs.Moments.{onward}

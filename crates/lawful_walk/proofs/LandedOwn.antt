@@ -12,9 +12,9 @@ use Rattle.pram_machine.specs.Machine.{counter_place, register}
 use Rattle.pram_machine.specs.Machine.{register_place}
 use Rattle.pram_step.specs.Runs.{requests_after, state_after}
 use Rattle.pram_step.proofs.LawWriters.{writer_cases}
-use Rattle.walkx.specs.declared.memo.Memo.{Memo}
-use Rattle.walkx.specs.declared.memo.Own.{Own}
-use Rattle.walkx.specs.Memory.{IsTrueMemo, cell_next, own_after, own_at, settled_at}
+use Rattle.walk_memory.specs.declared.memo.Memo.{Memo}
+use Rattle.walk_memory.specs.declared.memo.Own.{Own}
+use Rattle.walk_memory.specs.Memory.{IsTrueMemo, cell_next, own_after, own_at, settled_at}
 use Rattle.std.specs.Prelude.{is_some}
 use Rattle.walkx.specs.Passes.{is_put_to, lands_counter, lands_register}
 use Rattle.lawful_walk.specs.Lands.{is_changed, is_counter, is_written, owner, tells_step}

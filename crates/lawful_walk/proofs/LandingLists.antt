@@ -9,8 +9,8 @@ use Rattle.pram_machine.specs.declared.requests.Request.{Request}
 use Rattle.pram_machine.specs.Instructions.{request_in}
 use Rattle.pram_step.specs.Runs.{state_after}
 use Rattle.pram_words.specs.declared.layout.Form.TheVariants.{Wide}
-use Rattle.walkx.specs.declared.memo.Memo.{Memo}
-use Rattle.walkx.specs.Memory.{IsTrueMemo, all_registers, own_after, settles, settles_in}
+use Rattle.walk_memory.specs.declared.memo.Memo.{Memo}
+use Rattle.walk_memory.specs.Memory.{IsTrueMemo, all_registers, own_after, settles, settles_in}
 use Rattle.walkx.specs.Passes.{landings, lands_counter, lands_register, put_if, registers_landing}
 use Rattle.lawful_walk.specs.Lands.{Lands, asked, own, owner}
 use Rattle.lawful_walk.proofs.LandedOwn.{Due, counter_due, own_here}

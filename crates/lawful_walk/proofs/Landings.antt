@@ -16,7 +16,7 @@ use Rattle.pram_step.proofs.Past.{value_fits}
 use Rattle.pram_words.specs.declared.layout.Form.{Form}
 use Rattle.pram_words.specs.declared.layout.Form.TheVariants.{Compact, Wide}
 use Rattle.pram_words.specs.Stamps.{stamp_of, payload_of}
-use Rattle.walkx.specs.Memory.{settled_at, settles}
+use Rattle.walk_memory.specs.Memory.{settled_at, settles}
 use Rattle.lawful_walk.specs.Lands.{IsShared, Lands, IsLanded, asked, own, is_written, lands}
 use Rattle.lawful_walk.specs.Lands.{landing_before, lands_own, last_landing, owner, settled}
 use Rattle.lawful_walk.specs.Lands.{told_at, word_of_step}

@@ -5,8 +5,9 @@ use Rattle.std.proofs.Common.{sym, ap, ◌∙◌, arith}
 use Rattle.std.proofs.lemmas.Option.{none-some}
 use Rattle.pram_job.specs.Job.{JobData, IsJob}
 use Rattle.pram_words.specs.declared.layout.Form.TheVariants.{Wide}
-use Rattle.walkx.specs.Memory.{IsTrueMemo, own_alone, own_at, settled_at}
-use Rattle.walkx.specs.Passes.{loaded_memo, newest_of, own_places, told_by}
+use Rattle.walk_memory.specs.Memory.{IsTrueMemo, own_alone, own_at, settled_at}
+use Rattle.walk_memory.specs.Learned.{loaded_memo, newest_of, told_by}
+use Rattle.walkx.specs.Passes.{own_places}
 use Rattle.lawful_walk.proofs.Settles.{loads_none_since, settled_most}
 use Rattle.lawful_walk.specs.Lands.{settled}
 use Rattle.lawful_walk.proofs.Told.{newest_settled, told_settled}

@@ -8,16 +8,16 @@ use Rattle.pram_words.specs.Words.{LayoutData}
 use Rattle.walkx.specs.declared.operation.Ended.TheVariants as ended
 use Rattle.walkx.specs.Doing as doing
 use Rattle.walkx.specs.Records.{HasBlock, HasPart, Record}
-use Rattle.walkx.specs.declared.memo.Memo.{Memo}
-use Rattle.walkx.specs.Memory.{IsTrueMemo, IsTrueMemory}
+use Rattle.walk_memory.specs.declared.memo.Memo.{Memo}
+use Rattle.walk_memory.specs.Memory.{IsTrueMemo, IsTrueMemory}
 use Rattle.walkx.specs.Walk.{Fits, IsPhase, begun_phase, script_of, rest_of, ask_of, phase_begun}
-use Rattle.walkx.specs.Walk.{heard_of, Then, Walking, AllAdmitted, HearsAdmitted, IsBoard}
-use Rattle.walkx.specs.Walk.{IsInBlock, IsWide, Matches, has_rank, node_of, processor_at, next_op}
-use Rattle.walkx.specs.Walk.{part_script, worked}
+use Rattle.walkx.specs.Walk.{heard_of, Then, Walking, AllAdmitted, HearsAdmitted, IsInBlock}
+use Rattle.walkx.specs.Walk.{Matches, node_of, next_op, part_script, worked}
+use Rattle.walk_memory.specs.Blocks.{IsBoard, IsWide, has_rank, processor_at}
 use Rattle.walkx.proofs.TaskAsking.{AllAsk}
 use Rattle.walkx.proofs.Asking.{FitsThen, all_left, asks_after, first_admitted, part_asks}
-use Rattle.walkx.proofs.Boards.{same_procs}
-use Rattle.walkx.proofs.Firsts.{rank_parts}
+use Rattle.walk_memory.proofs.Boards.{same_procs}
+use Rattle.walk_memory.proofs.Ranks.{rank_parts}
 use Rattle.walkx.specs.Doing.{Doing}
 use Rattle.walkx.specs.Playing.{rank_of}
 use Rattle.walkx.specs.Scripts.{Script, asks, ends, heard_in, op_with, rest}

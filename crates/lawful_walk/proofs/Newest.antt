@@ -27,11 +27,10 @@ use Rattle.pram_step.proofs.LawCounters.{counter_next}
 use Rattle.pram_step.proofs.LawPlaces.{writes_place}
 use Rattle.pram_step.proofs.RequestList.{written_of_put}
 use Rattle.pram_words.specs.declared.layout.Form.TheVariants.{Wide}
-use Rattle.walkx.specs.Memory.{cell_next, is_load, is_load_row, loads_next, own_at, own_in}
-use Rattle.walkx.specs.Memory.{settled_at}
+use Rattle.walk_memory.specs.Memory.{cell_next, is_load, is_load_row, loads_next, own_at, own_in}
+use Rattle.walk_memory.specs.Memory.{settled_at, settles}
 use Rattle.lawful_walk.proofs.Alone.{none_next}
 use Rattle.std.specs.Prelude.{is_some}
-use Rattle.walkx.specs.Memory.{settles}
 use Rattle.lawful_walk.specs.Lands.{is_changed, is_counter, lands, last_landing, owner, tells_step}
 use Rattle.lawful_walk.proofs.Landings.{asked_written, has_landing, lands_above, landing_cases}
 use Rattle.lawful_walk.proofs.Landings.{last_least, landing_true, own_settles}

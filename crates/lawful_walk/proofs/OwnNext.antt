@@ -28,9 +28,9 @@ use Rattle.pram_step.proofs.LawNext.{after_first, after_none}
 use Rattle.pram_step.proofs.LawPlaces.{one_writer_value, writer_is, writes_place}
 use Rattle.pram_step.proofs.LawWriters.{writer_cases}
 use Rattle.pram_step.proofs.RequestList.{written_cases, written_of_put}
-use Rattle.walkx.specs.Memory.{all_registers, asked, is_load}
-use Rattle.walkx.specs.Memory.{is_load_row, loads_next, own_after, own_at, registers_after}
-use Rattle.walkx.specs.OwnWrites.{cell_write}
+use Rattle.walk_memory.specs.Memory.{all_registers, asked, is_load, is_load_row, loads_next}
+use Rattle.walk_memory.specs.Memory.{own_after, own_at, registers_after}
+use Rattle.walk_memory.specs.OwnWrites.{cell_write}
 use Rattle.lawful_walk.proofs.Alone.{alone_is, one_of}
 
 -- ---- a load stores nothing

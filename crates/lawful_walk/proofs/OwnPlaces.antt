@@ -16,9 +16,9 @@ use Rattle.pram_step.proofs.RequestList.{written_cases, written_of_put}
 use Rattle.pram_words.specs.declared.layout.Form.TheVariants.{Wide}
 use Rattle.pram_words.specs.declared.phases.Kind.{Kind}
 use Rattle.pram_words.specs.declared.phases.Kind.TheVariants.{Compute, Apply, Verify}
-use Rattle.walkx.specs.Memory.{IsIdle, store_in}
-use Rattle.walkx.specs.OwnWrites.{cell_write}
-use Rattle.walkx.proofs.OwnFits.{cell_write_is}
+use Rattle.walk_memory.specs.Memory.{IsIdle, store_in}
+use Rattle.walk_memory.specs.OwnWrites.{cell_write}
+use Rattle.walk_memory.proofs.OwnFits.{cell_write_is}
 use Rattle.lawful_walk.specs.Board.{Rests, StoresNone}
 use Rattle.lawful_walk.proofs.Winners.{own_none_of_settles}
 

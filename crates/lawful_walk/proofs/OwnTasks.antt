@@ -21,21 +21,23 @@ use Rattle.pram_words.specs.Phases.{phase_of, step_at}
 use Rattle.pram_words.specs.Stamps.{payload_of, stamped_word, newer_word}
 use Rattle.pram_words.specs.Words.{LayoutData, IsWord, number_of, places_of}
 use Rattle.pram_words.proofs.NextPhases.{next_step}
-use Rattle.walkx.specs.declared.memo.Memo.{Memo}
-use Rattle.walkx.specs.declared.memo.Own.{Own}
+use Rattle.walk_memory.specs.declared.memo.Memo.{Memo}
+use Rattle.walk_memory.specs.declared.memo.Own.{Own}
 use Rattle.walkx.specs.declared.operation.Op.{Op}
 use Rattle.walkx.specs.declared.operation.Op.TheVariants.{Max}
-use Rattle.walkx.specs.Memory.{IsIdle, IsTrueMemo, asked, at_start, cell_next, is_past, own_at}
-use Rattle.walkx.specs.Memory.{reach}
-use Rattle.walkx.specs.OwnWrites.{cell_write}
-use Rattle.walkx.specs.Passes.{claims_store, computes_own, if_write, knows, landings, memo_after}
-use Rattle.walkx.specs.Passes.{own_task, own_claim_task, writes_each, writes_own}
+use Rattle.walk_memory.specs.Memory.{IsIdle, IsTrueMemo, asked, at_start, cell_next, is_past}
+use Rattle.walk_memory.specs.Memory.{own_at, reach}
+use Rattle.walk_memory.specs.OwnWrites.{cell_write}
+use Rattle.walkx.specs.Passes.{claims_store, computes_own, if_write, knows, landings, own_task}
+use Rattle.walkx.specs.Passes.{own_claim_task, writes_each, writes_own}
+use Rattle.walk_memory.specs.Learned.{memo_after}
 use Rattle.walkx.specs.Scripts.{Script, asks}
 use Rattle.walkx.specs.Tasks.{claim_of, claims, is_late, reads_cell}
-use Rattle.walkx.specs.Walk.{Then, IsBoard}
-use Rattle.walkx.proofs.Beginnings.{start_true}
-use Rattle.walkx.proofs.Boards.{same_cells, same_procs}
-use Rattle.walkx.proofs.OwnFits.{cell_below}
+use Rattle.walkx.specs.Walk.{Then}
+use Rattle.walk_memory.specs.Blocks.{IsBoard}
+use Rattle.walk_memory.proofs.Beginnings.{start_true}
+use Rattle.walk_memory.proofs.Boards.{same_cells, same_procs}
+use Rattle.walk_memory.proofs.OwnFits.{cell_below}
 use Rattle.lawful_walk.specs.Board.{held, root, stamp_at, CarriedOwn, Claimed, DoneIn, IsLate}
 use Rattle.lawful_walk.specs.Board.{Rests, Stands}
 use Rattle.lawful_walk.specs.Lands.{Lands, phase_claimed, phase_written, told_at}

@@ -13,16 +13,18 @@ use Rattle.pram_words.specs.Phases.{step_at}
 use Rattle.pram_words.specs.Stamps.{stamp_of}
 use Rattle.pram_words.specs.Words.{LayoutData, IsWord, number_of, places_of}
 use Rattle.pram_words.proofs.NextPhases.{next_step}
-use Rattle.walkx.specs.declared.memo.Memo.{Memo}
+use Rattle.walk_memory.specs.declared.memo.Memo.{Memo}
 use Rattle.walkx.specs.declared.operation.Op.{Op}
 use Rattle.walkx.specs.declared.operation.Op.TheVariants.{Load}
-use Rattle.walkx.specs.Memory.{IsTrueMemo}
-use Rattle.walkx.specs.Passes.{hears_before, hears_words, is_beyond, knows, loaded_memo, loads_memo}
-use Rattle.walkx.specs.Passes.{own_places, word_before}
+use Rattle.walk_memory.specs.Memory.{IsTrueMemo}
+use Rattle.walkx.specs.Passes.{hears_before, hears_words, is_beyond, knows, loads_memo, own_places}
+use Rattle.walkx.specs.Passes.{word_before}
+use Rattle.walk_memory.specs.Learned.{loaded_memo}
 use Rattle.walkx.specs.Scripts.{Script}
 use Rattle.walkx.specs.Tasks.{is_late}
-use Rattle.walkx.specs.Walk.{Then, IsBoard}
-use Rattle.walkx.proofs.Boards.{same_cells, same_procs}
+use Rattle.walkx.specs.Walk.{Then}
+use Rattle.walk_memory.specs.Blocks.{IsBoard}
+use Rattle.walk_memory.proofs.Boards.{same_cells, same_procs}
 use Rattle.lawful_walk.specs.Board.{root, stamp_at, IsLate, Stands}
 use Rattle.lawful_walk.specs.Lands.{settled}
 use Rattle.lawful_walk.specs.Moments.{Moment}

@@ -22,8 +22,8 @@ use Rattle.pram_words.proofs.NextPhases.{has_next, next_above, next_is, next_lea
 use Rattle.pram_words.proofs.NextPhases.{next_step, next_within}
 use Rattle.walkx.specs.Operations.{words_after}
 use Rattle.walkx.specs.declared.operation.Op.TheVariants.{Max, Swap}
-use Rattle.walkx.specs.Walk.{IsBoard}
-use Rattle.walkx.proofs.Boards.{same_procs}
+use Rattle.walk_memory.specs.Blocks.{IsBoard}
+use Rattle.walk_memory.proofs.Boards.{same_procs}
 use Rattle.pram_step.specs.Runs.{AgreesAfter, state_after}
 use Rattle.pram_step.proofs.LawPlaces.{writer_is}
 use Rattle.lawful_walk.specs.Board.{held, root, conflict, leaf, leaf_of, stamp_at, finished, Grows}

@@ -11,7 +11,7 @@ use Rattle.pram_words.specs.Stamps.{stamp_of, payload_of, newer_payload}
 use Rattle.pram_words.specs.Words.{LayoutData, IsWord, number_of, places_of, IsLayout}
 use Rattle.pram_words.specs.declared.words.Word.{Word}
 use Rattle.pram_words.specs.declared.words.Word.TheVariants.{Conflict, Node, Stored}
-use Rattle.walkx.proofs.Boards.{same_cells}
+use Rattle.walk_memory.proofs.Boards.{same_cells}
 use Rattle.walkx.specs.Reads.{step_seen, lesser, told_at, read_script, reader_script}
 use Rattle.walkx.specs.Records.{Record, after}
 use Rattle.walkx.specs.Scripts.{Script, asks, ends, rest_after, rest, op_with, heard_in}

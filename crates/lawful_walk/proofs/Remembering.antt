@@ -6,27 +6,27 @@ use Rattle.std.proofs.lemmas.Bool.{cases_Bool, cond_both}
 use Rattle.pram_job.specs.Job.{JobData}
 use Rattle.pram_words.specs.Phases.{has_phase}
 use Rattle.pram_words.specs.Words.{LayoutData, grain}
-use Rattle.walkx.specs.declared.memo.Memo.{Memo}
+use Rattle.walk_memory.specs.declared.memo.Memo.{Memo}
 use Rattle.walkx.specs.declared.operation.Op.{Op}
 use Rattle.walkx.specs.Doing.{Doing}
 use Rattle.walkx.specs.Doing as doing
-use Rattle.walkx.specs.Memory.{IsTrueMemo, IsTrueMemory, gone_on, memo_of}
+use Rattle.walk_memory.specs.Memory.{IsTrueMemo, IsTrueMemory, gone_on, memo_of}
 use Rattle.walkx.specs.Playing.{hearing}
 use Rattle.walkx.specs.Records.{Has, Knows, Record, after}
 use Rattle.walkx.specs.Scripts.{Script, asks, ends, heard_in, rest, rest_after}
-use Rattle.walkx.specs.Walk.{Fits, IsBoard, IsGoing, IsPhase, IsWide, Then, Walking, ask_of}
-use Rattle.walkx.specs.Walk.{begins, begun_phase, block_gone_on, block_script, ends_block, enters}
-use Rattle.walkx.specs.Walk.{goes_on, has_rank, heard_of}
-use Rattle.walkx.specs.Walk.{if_ended, node_of, part_script, passes_over, phase_begun, processor_at}
-use Rattle.walkx.specs.Walk.{rest_of, script_by, script_of, stops, told, turns, worked, IsInBlock}
-use Rattle.walkx.proofs.Boards.{same_procs}
+use Rattle.walkx.specs.Walk.{Fits, IsGoing, IsPhase, Then, Walking, ask_of, begins, begun_phase}
+use Rattle.walkx.specs.Walk.{block_script, ends_block, enters, goes_on, heard_of, if_ended, node_of}
+use Rattle.walkx.specs.Walk.{part_script, passes_over, phase_begun, rest_of, script_by, script_of}
+use Rattle.walkx.specs.Walk.{stops, told, turns, worked, IsInBlock}
+use Rattle.walk_memory.specs.Blocks.{IsBoard, IsWide, block_gone_on, has_rank, processor_at}
+use Rattle.walk_memory.proofs.Boards.{same_procs}
 use Rattle.walkx.proofs.Ends.{AllEnds, Brings, worker_ends}
-use Rattle.walkx.proofs.Firsts.{rank_parts}
+use Rattle.walk_memory.proofs.Ranks.{rank_parts}
 use Rattle.walkx.proofs.Fitting.{heard_more}
 use Rattle.walkx.proofs.Going.{going_or_over, told_going, told_over}
 use Rattle.walkx.proofs.Alikes.{Alike, asks_first, comes_at_once}
 use Rattle.walkx.proofs.Knowing.{has_after, same_worked}
-use Rattle.walkx.proofs.Memories.{memo_set}
+use Rattle.walk_memory.proofs.Memories.{memo_set}
 use Rattle.walkx.proofs.Nodes.{node_range}
 use Rattle.walkx.proofs.PassingOver.{alone, going_first, part_alike}
 use Rattle.lawful_walk.proofs.Moving.{RankSafe, shown_of}

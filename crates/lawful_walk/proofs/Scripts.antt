@@ -7,7 +7,7 @@ use Rattle.walkx.proofs.Asking.{admitted_earlier}
 use Rattle.walkx.specs.Scripts.{Script, asks, ends, rest_after, rest, first_op, op_with, heard_in}
 use Rattle.walkx.specs.Tasks.{loads_both}
 use Rattle.walkx.specs.Walk.{Then, worked, HearsAdmitted, AllAdmitted}
-use Rattle.walkx.specs.declared.memo.Memo.{Memo}
+use Rattle.walk_memory.specs.declared.memo.Memo.{Memo}
 use Rattle.walkx.specs.declared.operation.Op.{Op}
 use Rattle.walkx.specs.declared.operation.Op.TheVariants.{Load, Max}
 use Rattle.lawful_walk.specs.Board.{held, Stands}

@@ -30,10 +30,10 @@ use Rattle.pram_words.specs.Words.{LayoutData, IsWord, IsStamped, number_of, pla
 use Rattle.pram_words.specs.Words.{most_asked, most_stored}
 use Rattle.pram_words.specs.declared.layout.Form.{Form}
 use Rattle.pram_words.specs.declared.layout.Form.TheVariants.{Compact, Wide}
-use Rattle.walkx.specs.Walk.{IsBoard}
+use Rattle.walk_memory.specs.Blocks.{IsBoard}
 use Rattle.walkx.specs.Tasks.{claim_of}
 use Rattle.walkx.specs.declared.operation.Op.TheVariants.{Max, Store, Swap}
-use Rattle.walkx.proofs.Boards.{same_cells, same_procs}
+use Rattle.walk_memory.proofs.Boards.{same_cells, same_procs}
 use Rattle.lawful_walk.specs.Board.{leaf_of, held, root, conflict, leaf, stamp_at, finished, Grows}
 use Rattle.lawful_walk.specs.Board.{IsAsked, phase_in, IsTree, IsNew, IsPair, newer_first}
 use Rattle.lawful_walk.specs.Board.{newer_second, new_first, new_second, IsClaimed, claimed_now}

@@ -7,7 +7,7 @@ use Rattle.pram_job.specs.Job.{JobData, IsJob}
 use Rattle.pram_machine.specs.Machine.{counter}
 use Rattle.pram_step.specs.Runs.{state_after}
 use Rattle.pram_step.proofs.LawCounters.{stopped_processor}
-use Rattle.walkx.specs.Memory.{has_stopped, loads_next, own_at, settled_at, settles}
+use Rattle.walk_memory.specs.Memory.{has_stopped, loads_next, own_at, settled_at, settles}
 
 -- ---- the last step in which a processor settled
 

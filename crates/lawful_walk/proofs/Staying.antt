@@ -1,7 +1,8 @@
 -- What stays so, step after step: a known worker is known, and a record is borne out.
 use Rattle.walkx.specs.declared.operation.Op.TheVariants.{Load}
 use Rattle.walkx.specs.Operations.{answer, words_after}
-use Rattle.walkx.specs.Walk.{IsBoard, ask_of}
+use Rattle.walk_memory.specs.Blocks.{IsBoard}
+use Rattle.walkx.specs.Walk.{ask_of}
 use Rattle.walkx.proofs.Asking.{all_ask}
 use Rattle.walkx.proofs.Fitting.{fits_told}
 use Rattle.walkx.proofs.Knowing.{knows_more, knows_next}

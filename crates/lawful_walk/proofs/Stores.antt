@@ -11,15 +11,16 @@ use Rattle.pram_words.specs.declared.layout.Form.TheVariants.{Wide}
 use Rattle.pram_words.specs.declared.phases.Kind.TheVariants.{Verify}
 use Rattle.pram_words.specs.Phases.{phase_of, step_at}
 use Rattle.pram_words.specs.Words.{LayoutData}
-use Rattle.walkx.specs.declared.memo.Memo.{Memo}
-use Rattle.walkx.specs.declared.memo.Own.{Own}
+use Rattle.walk_memory.specs.declared.memo.Memo.{Memo}
+use Rattle.walk_memory.specs.declared.memo.Own.{Own}
 use Rattle.walkx.specs.declared.operation.Op.{Op}
-use Rattle.walkx.specs.Memory.{IsTrueMemo, asked, has_store, is_past, loads_next, own_at, reach}
-use Rattle.walkx.specs.Memory.{store_in}
-use Rattle.walkx.specs.OwnWrites.{cell_write}
+use Rattle.walk_memory.specs.Memory.{IsTrueMemo, asked, has_store, is_past, loads_next, own_at}
+use Rattle.walk_memory.specs.Memory.{reach, store_in}
+use Rattle.walk_memory.specs.OwnWrites.{cell_write}
 use Rattle.walkx.specs.Passes.{if_write, loads_store, stores}
 use Rattle.walkx.specs.Scripts.{Script}
-use Rattle.walkx.specs.Walk.{Then, IsBoard}
+use Rattle.walkx.specs.Walk.{Then}
+use Rattle.walk_memory.specs.Blocks.{IsBoard}
 use Rattle.lawful_walk.specs.Board.{root}
 use Rattle.lawful_walk.specs.Writes.{Floor}
 use Rattle.lawful_walk.proofs.Known.{EndSafe, stale_end}

@@ -6,8 +6,9 @@ use Rattle.pram_machine.specs.Machine.{counter_place, register, register_place}
 use Rattle.pram_step.specs.Runs.{state_after}
 use Rattle.pram_words.specs.declared.layout.Form.TheVariants.{Wide}
 use Rattle.pram_words.specs.Stamps.{payload_of, stamp_of}
-use Rattle.walkx.specs.Memory.{own_at, settled_at}
-use Rattle.walkx.specs.Passes.{newest_of, own_places, told_by}
+use Rattle.walk_memory.specs.Memory.{own_at, settled_at}
+use Rattle.walk_memory.specs.Learned.{newest_of, told_by}
+use Rattle.walkx.specs.Passes.{own_places}
 use Rattle.lawful_walk.specs.Lands.{last_landing, settled}
 use Rattle.lawful_walk.proofs.Landings.{settled_tells, stamp_step, told_own}
 use Rattle.lawful_walk.proofs.Newest.{IsOwn, newest, own_is, own_last}

@@ -10,8 +10,8 @@ use Rattle.pram_step.specs.Runs.{state_after}
 use Rattle.pram_step.proofs.LawCounters.{counter_within}
 use Rattle.pram_step.proofs.LawFits.{state_fits}
 use Rattle.pram_step.proofs.Past.{asks_fit}
-use Rattle.walkx.specs.declared.memo.Memo.{Memo}
-use Rattle.walkx.specs.Memory.{FitsMemo, FitsOwn, IsTrueMemo, all_registers, own_at, store_in}
+use Rattle.walk_memory.specs.declared.memo.Memo.{Memo}
+use Rattle.walk_memory.specs.Memory.{FitsMemo, FitsOwn, IsTrueMemo, all_registers, own_at, store_in}
 use Rattle.lawful_walk.proofs.OwnPlaces.{cell_asks}
 
 module _ (job : JobData) (i : ℕ) (limits : IsJob job) (proc : i < job.procs) where

@@ -19,14 +19,14 @@ use Rattle.pram_step.proofs.LawCounters.{stopped_processor}
 use Rattle.pram_words.specs.declared.phases.Kind.{Kind}
 use Rattle.pram_words.specs.declared.phases.Kind.TheVariants.{Compute, Apply, Verify}
 use Rattle.pram_words.specs.Phases.{phase_of}
-use Rattle.walkx.specs.declared.memo.Memo.{Memo}
-use Rattle.walkx.specs.declared.memo.Own.{Own}
-use Rattle.walkx.specs.Memory.{IsIdle, IsTrueMemo, asked, asked_by, goes_alone}
-use Rattle.walkx.specs.Memory.{goes_on_alone, gone_on, has_stopped, has_store, is_common, is_load}
-use Rattle.walkx.specs.Memory.{loads_next, one_alone, own_after, own_alone, own_at, reach}
-use Rattle.walkx.specs.Memory.{settled_at, settles, settles_in, store_in}
-use Rattle.walkx.specs.OwnWrites.{cell_write}
-use Rattle.walkx.specs.Passes.{carried, memo_after}
+use Rattle.walk_memory.specs.declared.memo.Memo.{Memo}
+use Rattle.walk_memory.specs.declared.memo.Own.{Own}
+use Rattle.walk_memory.specs.Memory.{IsIdle, IsTrueMemo, asked, asked_by, goes_alone, goes_on_alone}
+use Rattle.walk_memory.specs.Memory.{gone_on, has_stopped, has_store, is_common, is_load}
+use Rattle.walk_memory.specs.Memory.{loads_next, one_alone, own_after, own_alone, own_at, reach}
+use Rattle.walk_memory.specs.Memory.{settled_at, settles, settles_in, store_in}
+use Rattle.walk_memory.specs.OwnWrites.{cell_write}
+use Rattle.walk_memory.specs.Learned.{carried, memo_after}
 use Rattle.lawful_walk.proofs.Alone.{alone_is}
 use Rattle.lawful_walk.proofs.OwnNext.{own_next, own_next_alone}
 use Rattle.lawful_walk.proofs.Settles.{settled_between, settled_new, settled_same}

@@ -20,24 +20,24 @@ use Rattle.pram_words.specs.declared.phases.Kind.TheVariants.{Compute, Apply, Ve
 use Rattle.pram_words.specs.declared.words.Word.TheVariants.{Node}
 use Rattle.walkx.specs.Doing as doing
 use Rattle.walkx.specs.Passes.{task_in}
-use Rattle.walkx.specs.declared.memo.Memo.{Memo}
-use Rattle.walkx.specs.Memory.{FitsMemory, IsTrueMemo, IsTrueMemory, at_start, memo_of, reach}
-use Rattle.walkx.proofs.Beginnings.{start_true}
-use Rattle.walkx.proofs.Boards.{in_range, same_procs}
+use Rattle.walk_memory.specs.declared.memo.Memo.{Memo}
+use Rattle.walk_memory.specs.Memory.{FitsMemory, IsTrueMemo, IsTrueMemory, at_start, memo_of, reach}
+use Rattle.walk_memory.proofs.Beginnings.{start_true}
+use Rattle.walk_memory.proofs.Boards.{in_range, same_procs}
 use Rattle.walkx.proofs.Nodes.{node_range}
 use Rattle.pram_words.specs.Forms.{by_form}
 use Rattle.walkx.specs.Walk.{IsPhase, script_by, begun_phase, part_script, phase_begun, turn_script}
-use Rattle.walkx.specs.Walk.{leaf_script, Then, begins, enters, worked, IsInBlock, IsWide, node_of}
-use Rattle.walkx.specs.Walk.{after_part, task_at}
-use Rattle.walkx.specs.Walk.{has_rank, processor_at, marks_node, stands_at, way_down, IsBoard}
-use Rattle.walkx.specs.Walk.{block_mark, block_reach, bounded_mark, empty_mark}
-use Rattle.walkx.specs.Walk.{inner_mark, jumps, last_phase, marks_block, marks_inner}
+use Rattle.walkx.specs.Walk.{leaf_script, Then, begins, enters, worked, IsInBlock, node_of}
+use Rattle.walkx.specs.Walk.{after_part, task_at, marks_node, stands_at, way_down, block_mark}
+use Rattle.walkx.specs.Walk.{bounded_mark, empty_mark, inner_mark, jumps, marks_block, marks_inner}
+use Rattle.walk_memory.specs.Blocks.{IsWide, has_rank, processor_at, IsBoard, block_reach}
+use Rattle.walk_memory.specs.Blocks.{last_phase}
 use Rattle.walkx.proofs.Forms.{form_both}
 use Rattle.walkx.proofs.Marks.{block_marks, block_reaches, both_parts, empty_marks}
 use Rattle.walkx.proofs.Marks.{inner_marks, inner_reaches, jumps_where, reach_at}
 use Rattle.walkx.proofs.Marks as marks
 use Rattle.walkx.proofs.Ends.{way_inside}
-use Rattle.walkx.proofs.Firsts.{rank_parts, rank_there}
+use Rattle.walk_memory.proofs.Ranks.{rank_parts, rank_there}
 use Rattle.walkx.specs.Doing.{Doing}
 use Rattle.walkx.specs.Scripts.{Script, asks, ends}
 use Rattle.walkx.specs.Tasks.{task_of}

@@ -18,11 +18,12 @@ use Rattle.pram_words.specs.Words.{LayoutData, IsWord, number_of, places_of}
 use Rattle.pram_words.specs.declared.layout.Form.{Form}
 use Rattle.pram_words.specs.declared.layout.Form.TheVariants.{Compact}
 use Rattle.pram_words.specs.declared.words.Word.TheVariants.{Stored, Claim}
-use Rattle.walkx.proofs.Boards.{same_cells, same_procs}
+use Rattle.walk_memory.proofs.Boards.{same_cells, same_procs}
 use Rattle.walkx.specs.Scripts.{Script, asks}
 use Rattle.walkx.specs.Tasks.{claim_of, differs, reports, hears_part, loads_both, verify_task}
 use Rattle.walkx.specs.Tasks.{crew_verify_task}
-use Rattle.walkx.specs.Walk.{Then, IsBoard}
+use Rattle.walkx.specs.Walk.{Then}
+use Rattle.walk_memory.specs.Blocks.{IsBoard}
 use Rattle.walkx.specs.declared.operation.Op.{Op}
 use Rattle.walkx.specs.declared.operation.Op.TheVariants.{Load}
 use Rattle.lawful_walk.specs.Lands.{phase_written, compact_phase_written, phase_claimed}

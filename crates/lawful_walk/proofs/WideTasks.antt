@@ -12,9 +12,10 @@ use Rattle.pram_words.specs.Phases.{step_at}
 use Rattle.pram_words.specs.Words.{LayoutData, has_claims}
 use Rattle.walkx.specs.declared.operation.Op.{Op}
 use Rattle.walkx.specs.Scripts.{Script}
-use Rattle.walkx.specs.Walk.{Then, IsBoard}
-use Rattle.walkx.specs.declared.memo.Memo.{Memo}
-use Rattle.walkx.specs.Memory.{IsTrueMemo}
+use Rattle.walkx.specs.Walk.{Then}
+use Rattle.walk_memory.specs.Blocks.{IsBoard}
+use Rattle.walk_memory.specs.declared.memo.Memo.{Memo}
+use Rattle.walk_memory.specs.Memory.{IsTrueMemo}
 use Rattle.walkx.specs.Passes.{wide_task_of}
 use Rattle.lawful_walk.specs.Board.{phase_in, root, Done, DoneIn}
 use Rattle.lawful_walk.specs.Writes.{Floor}

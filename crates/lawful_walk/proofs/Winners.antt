@@ -13,7 +13,7 @@ use Rattle.pram_step.proofs.LawWriters.{writer_cases}
 use Rattle.pram_step.proofs.Past.{asks_fit, value_fits, written_value}
 use Rattle.pram_words.specs.declared.layout.Form.{Form}
 use Rattle.pram_words.specs.declared.layout.Form.TheVariants.{Compact, Wide}
-use Rattle.walkx.specs.Memory.{settles}
+use Rattle.walk_memory.specs.Memory.{settles}
 use Rattle.lawful_walk.specs.Board.{OwnNone}
 use Rattle.lawful_walk.specs.Lands.{IsLanded, IsShared, Lands, asked, own, owner}
 use Rattle.lawful_walk.proofs.Landings.{above_form, own_settles}

@@ -16,10 +16,11 @@ use Rattle.pram_words.specs.Words.{LayoutData, IsWord, number_of}
 use Rattle.pram_words.specs.declared.layout.Form.{Form}
 use Rattle.pram_words.specs.declared.layout.Form.TheVariants.{Compact}
 use Rattle.pram_words.specs.declared.words.Word.TheVariants.{Claim}
-use Rattle.walkx.proofs.Boards.{same_cells}
+use Rattle.walk_memory.proofs.Boards.{same_cells}
 use Rattle.walkx.specs.Scripts.{Script, asks}
 use Rattle.walkx.specs.Tasks.{carries, claim_of, priority_apply_task}
-use Rattle.walkx.specs.Walk.{Then, IsBoard}
+use Rattle.walkx.specs.Walk.{Then}
+use Rattle.walk_memory.specs.Blocks.{IsBoard}
 use Rattle.walkx.specs.declared.operation.Op.{Op}
 use Rattle.walkx.specs.declared.operation.Op.TheVariants.{Load}
 use Rattle.lawful_walk.specs.Lands.{phase_written, phase_claimed}

@@ -11,11 +11,12 @@ use Rattle.pram_words.specs.Phases.{step_at}
 use Rattle.pram_words.specs.Stamps.{stamp_of, stamped_word, first_is_older, older, older_word}
 use Rattle.pram_words.specs.Words.{LayoutData, number_of, places_of}
 use Rattle.pram_words.specs.declared.words.Word.TheVariants.{Stored}
-use Rattle.walkx.proofs.Boards.{same_cells, same_procs}
+use Rattle.walk_memory.proofs.Boards.{same_cells, same_procs}
 use Rattle.walkx.specs.Operations.{words_after}
 use Rattle.walkx.specs.Scripts.{Script, asks}
 use Rattle.walkx.specs.Tasks.{is_late, writes_place}
-use Rattle.walkx.specs.Walk.{Then, IsBoard}
+use Rattle.walkx.specs.Walk.{Then}
+use Rattle.walk_memory.specs.Blocks.{IsBoard}
 use Rattle.walkx.specs.declared.operation.Op.{Op}
 use Rattle.walkx.specs.declared.operation.Op.TheVariants.{Load, Swap}
 use Rattle.lawful_walk.specs.Lands.{Lands, phase_written}

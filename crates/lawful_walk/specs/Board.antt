@@ -18,7 +18,7 @@ use Rattle.pram_words.specs.declared.layout.Form.{Form}
 use Rattle.pram_words.specs.declared.layout.Form.TheVariants.{Compact, Wide}
 use Rattle.pram_words.specs.Phases.{next_phase}
 use Rattle.walkx.specs.Tasks.{claim_of}
-use Rattle.walkx.specs.Walk.{IsLayoutOf}
+use Rattle.walk_memory.specs.Blocks.{IsLayoutOf}
 use Rattle.walkx.specs.Reads.{step_seen}
 use Rattle.lawful_walk.specs.Lands.{Lands, last_landing, settled, settled_before, phase_claimed}
 use Rattle.lawful_walk.specs.Lands.{phase_written}

@@ -13,7 +13,7 @@ use Rattle.pram_words.specs.declared.layout.Form.{Form}
 use Rattle.pram_words.specs.declared.layout.Form.TheVariants.{Compact, Wide}
 use Rattle.pram_words.specs.Stamps.{stamped_word}
 use Rattle.pram_words.specs.Forms.{by_form}
-use Rattle.walkx.specs.Memory.{cell_next, own_at, settled_at, settles}
+use Rattle.walk_memory.specs.Memory.{cell_next, own_at, settled_at, settles}
 
 -- ---- places of a processor's own, whose words lag in the wide form
 

@@ -19,7 +19,8 @@ use Rattle.walkx.specs.Operations.{words_after, answer}
 use Rattle.walkx.specs.Reads.{step_seen, reader_script}
 use Rattle.walkx.specs.Records.{Record, after, both, Has, Knows}
 use Rattle.walkx.specs.Scripts.{ends, rest, heard_in}
-use Rattle.walkx.specs.Walk.{Walking, Fits, IsBoard, IsGoing, ask_of, told}
+use Rattle.walkx.specs.Walk.{Walking, Fits, IsGoing, ask_of, told}
+use Rattle.walk_memory.specs.Blocks.{IsBoard}
 use Rattle.lawful_walk.specs.Board.{Stands, Grows, held, root, finished}
 use Rattle.lawful_walk.specs.Moments.{Backed, IsFixed, WasBacked, Sound, afters}
 use Rattle.lawful_walk.specs.Lands.{told_at}

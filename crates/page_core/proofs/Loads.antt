@@ -14,7 +14,7 @@ use Rattle.walkx.specs.Reads.{Looking, look_of, looked, looks_for}
 use Rattle.walkx.specs.Reads.{reader_script, read_script, step_seen}
 use Rattle.walkx.specs.Records.{Record, after}
 use Rattle.walkx.specs.Scripts.{Script, asks, ends, rest_after, rest, op_with, heard_in}
-use Rattle.walkx.specs.Walk.{IsLayoutOf}
+use Rattle.walk_memory.specs.Blocks.{IsLayoutOf}
 use Rattle.lawful_walk.specs.Board.{Stands}
 use Rattle.lawful_walk.specs.Moments.{Backed, afters}
 use Rattle.lawful_walk.specs.Walks.{IsLawfulRead}

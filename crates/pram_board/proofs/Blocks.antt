@@ -7,26 +7,27 @@ use Rattle.pram_job.specs.Job.{JobData}
 use Rattle.pram_words.proofs.Numbering.{grain_some}
 use Rattle.pram_words.specs.Phases.{kind_at}
 use Rattle.pram_words.specs.Words.{LayoutData, grain}
-use Rattle.walkx.specs.declared.memo.Memo.{Memo}
+use Rattle.walk_memory.specs.declared.memo.Memo.{Memo}
 use Rattle.walkx.specs.declared.operation.Op.{Op}
 use Rattle.walkx.specs.declared.turns.Turned.{Turned}
-use Rattle.walkx.specs.Inner.Posts.{IsLeafPost, PostData, processor_of, step_of}
+use Rattle.walk_memory.specs.Inner.Posts.{IsLeafPost, PostData, processor_of, step_of}
 use Rattle.walkx.specs.Inner.Posts.{then_raises}
-use Rattle.walkx.specs.Memory.{FitsMemo, FitsMemory, memo_of}
+use Rattle.walk_memory.specs.Memory.{FitsMemo, FitsMemory, memo_of}
 use Rattle.walkx.specs.Parts.{does_wide}
 use Rattle.walkx.specs.Passes.{wide_task_of}
 use Rattle.walkx.specs.Passing.{Passes, idle}
 use Rattle.walkx.specs.Rests.{has_worked, leads}
 use Rattle.walkx.specs.Scripts.{Script, asks, ends, first_op, heard_in, rest}
-use Rattle.walkx.specs.Walk.{IsWide, Then, Walking, block_mark, block_reach, has_rank}
-use Rattle.walkx.specs.Walk.{block_gone_on, ends_block, if_ended, passes_over, processor_at}
+use Rattle.walk_memory.specs.Blocks.{IsWide, block_reach, has_rank, block_gone_on, processor_at}
+use Rattle.walkx.specs.Walk.{Then, Walking, block_mark, ends_block, if_ended, passes_over}
 use Rattle.walkx.specs.Walk.{script_of, stands_in, turns}
 use Rattle.walkx.proofs.Alikes.{Alike, asks_first, comes_at_once, task_alike}
 use Rattle.walkx.proofs.Asking.{FitsThen, asks_after, script_asks}
-use Rattle.walkx.proofs.Boards.{step_most}
+use Rattle.walk_memory.proofs.Boards.{step_most}
 use Rattle.walkx.proofs.Ends.{AllEnds, ends_after, raise_ends}
-use Rattle.walkx.proofs.Firsts.{raise_first, rank_parts, rank_there}
-use Rattle.walkx.proofs.Memories.{memory_set}
+use Rattle.walkx.proofs.Firsts.{raise_first}
+use Rattle.walk_memory.proofs.Ranks.{rank_parts, rank_there}
+use Rattle.walk_memory.proofs.Memories.{memory_set}
 use Rattle.walkx.proofs.PassingOver.{alone}
 use Rattle.walkx.proofs.Stepping.{goes_past, none_left, stops_here}
 use Rattle.walkx.proofs.TaskAsking.{AllAsk}

@@ -19,8 +19,8 @@ use Rattle.pram_words.specs.declared.layout.Form.TheVariants.{Compact}
 use Rattle.walkx.specs.declared.operation.Op.TheVariants.{Load}
 use Rattle.walkx.specs.Records.{Record, after}
 use Rattle.walkx.specs.Requests.{AreWordsOf}
-use Rattle.walkx.specs.Walk.{IsBoard}
-use Rattle.walkx.proofs.Boards.{same_procs}
+use Rattle.walk_memory.specs.Blocks.{IsBoard}
+use Rattle.walk_memory.proofs.Boards.{same_procs}
 use Rattle.lawful_walk.specs.Moments.{Sound, WasBacked}
 use Rattle.lawful_walk.specs.Seen.{Heard}
 use Rattle.lawful_walk.proofs.Knowing.{conflict_now}

@@ -11,7 +11,7 @@ use Rattle.pram_words.specs.Stamps.{newer_payload}
 use Rattle.walkx.specs.declared.operation.Op.{Op}
 use Rattle.walkx.specs.declared.operation.Op.TheVariants.{Load}
 use Rattle.walkx.specs.Records.{Record, after}
-use Rattle.walkx.specs.Walk.{IsBoard}
+use Rattle.walk_memory.specs.Blocks.{IsBoard}
 use Rattle.lawful_walk.specs.Moments.{Sound, afters}
 use Rattle.lawful_walk.specs.Seen.{KnowsStep}
 use Rattle.lawful_walk.proofs.Sounding.{was_place}

@@ -8,9 +8,9 @@ use Rattle.pram_words.specs.Words.{LayoutData, IsLayout, number_of, length_of}
 use Rattle.walkx.specs.declared.operation.Op.{Op}
 use Rattle.walkx.specs.declared.operation.Op.TheVariants.{Load}
 use Rattle.walkx.specs.Records.{Record, after, Knows}
-use Rattle.walkx.specs.Walk.{Walking, Fits, IsBoard, IsLayoutOf}
-use Rattle.walkx.specs.Walk.{AsksAdmitted, HearsAdmitted, IsStepOn, ask_of}
-use Rattle.walkx.proofs.Boards.{root_most, conflict_most}
+use Rattle.walkx.specs.Walk.{Walking, Fits, AsksAdmitted, HearsAdmitted, IsStepOn, ask_of}
+use Rattle.walk_memory.specs.Blocks.{IsBoard, IsLayoutOf}
+use Rattle.walk_memory.proofs.Boards.{root_most, conflict_most}
 use Rattle.lawful_walk.specs.Board.{Stands}
 use Rattle.lawful_walk.specs.Moments.{Backed, Moment, Sound, WasBacked}
 use Rattle.lawful_walk.proofs.Admitted.{answer_admitted}

@@ -1,16 +1,16 @@
 -- Stores of a block that are remembered, one after the other.
 use Rattle.std.proofs.Common.{◌≡◌, ℕ, suc, false, List, Option, Some, None, refl, sym, subst}
 use Rattle.std.specs.Option.{is_some}
-use Rattle.walkx.specs.declared.memo.Memo.{Memo}
-use Rattle.walkx.specs.Inner.Posts.{PostData, at_rank, processor_of}
-use Rattle.walkx.specs.Memory.{memo_of}
+use Rattle.walk_memory.specs.declared.memo.Memo.{Memo}
+use Rattle.walk_memory.specs.Inner.Posts.{PostData, at_rank, processor_of}
+use Rattle.walk_memory.specs.Memory.{memo_of}
 use Rattle.walkx.specs.Parts.{does_wide}
 use Rattle.walkx.specs.Passing.{idle}
 use Rattle.walkx.specs.Rests.{has_worked}
 use Rattle.walkx.specs.Scripts.{Script, ends}
-use Rattle.walkx.specs.Storing.{AllStore}
+use Rattle.walk_memory.specs.Plain.{AllStore}
 use Rattle.walkx.specs.Walk.{Then, script_of}
-use Rattle.walkx.proofs.Storing.{stores_left}
+use Rattle.walk_memory.proofs.Storing.{stores_left}
 use Rattle.lawful_walk.specs.Moments.{Sound}
 use Rattle.pram_board.specs.declared.driver.Driver.{Driver}
 use Rattle.pram_board.specs.Inner.Plays.{AtPart, DonePart, DoneTo, Drives, Driving}

@@ -3,11 +3,12 @@ use Rattle.std.proofs.Common.{◌≡◌, ℕ, ◌<◌, ◌≤◌, ◌-◌, suc, 
 use Rattle.std.proofs.Common.{subst, ◌∙◌, arith}
 use Rattle.std.specs.Prelude.{nat_lt}
 use Rattle.std.proofs.lemmas.Bool.{lt-ltb, ltb-true}
-use Rattle.walkx.specs.declared.memo.Memo.{Memo}
-use Rattle.walkx.specs.Inner.Posts.{IsLeafPost, PostData, at_rank}
-use Rattle.walkx.specs.Memory.{FitsMemory}
-use Rattle.walkx.specs.Walk.{Walking, has_rank}
-use Rattle.walkx.proofs.Firsts.{rank_parts, rank_there}
+use Rattle.walk_memory.specs.declared.memo.Memo.{Memo}
+use Rattle.walk_memory.specs.Inner.Posts.{IsLeafPost, PostData, at_rank}
+use Rattle.walk_memory.specs.Memory.{FitsMemory}
+use Rattle.walkx.specs.Walk.{Walking}
+use Rattle.walk_memory.specs.Blocks.{has_rank}
+use Rattle.walk_memory.proofs.Ranks.{rank_parts, rank_there}
 use Rattle.pram_board.specs.declared.task.Task.{Task}
 use Rattle.pram_board.specs.Inner.Plays.{AtTask, DoneFrom, DoneMore, DoneTo, Driving, IsWalking}
 use Rattle.pram_board.specs.Inner.Plays.{Moved, PastTask, Tried, in_block, task_at}

@@ -5,16 +5,17 @@ use Rattle.pram_job.specs.Job.{JobData}
 use Rattle.pram_words.specs.Words.{LayoutData}
 use Rattle.walkx.specs.declared.operation.Op.{Op}
 use Rattle.walkx.specs.Bound.{told_all}
-use Rattle.walkx.specs.Inner.Posts.{PostData}
+use Rattle.walk_memory.specs.Inner.Posts.{PostData}
 use Rattle.walkx.specs.Records.{Record, Knows}
 use Rattle.walkx.specs.Rests.{leads, turn_of}
 use Rattle.walkx.specs.Scripts.{Script, asks, ends, rest_after, rest, first_op, heard_in}
-use Rattle.walkx.specs.declared.memo.Memo.{Memo}
+use Rattle.walk_memory.specs.declared.memo.Memo.{Memo}
 use Rattle.walkx.specs.Turns.{beginning, turning}
 use Rattle.walkx.specs.declared.turns.Turned.{Turned}
 use Rattle.walkx.specs.declared.turns.Turned.TheVariants as turned
-use Rattle.walkx.specs.Walk.{Then, begins, enters, turns, Walking, Fits, AllAdmitted, IsBoard}
-use Rattle.walkx.specs.Walk.{IsGoing, ask_of, goes_on, script_of, told, turn_script}
+use Rattle.walkx.specs.Walk.{Then, begins, enters, turns, Walking, Fits, AllAdmitted, IsGoing}
+use Rattle.walkx.specs.Walk.{ask_of, goes_on, script_of, told, turn_script}
+use Rattle.walk_memory.specs.Blocks.{IsBoard}
 use Rattle.walkx.proofs.Fitting.{fits_told}
 use Rattle.walkx.proofs.Going.{next_of, op_with_first, told_going}
 use Rattle.walkx.proofs.Knowing.{knows_next}

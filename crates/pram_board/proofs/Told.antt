@@ -10,7 +10,8 @@ use Rattle.walkx.specs.Doing.{Doing}
 use Rattle.walkx.specs.Doing as doing
 use Rattle.walkx.specs.Reads.{step_seen}
 use Rattle.walkx.specs.Records.{Record, after, Knows}
-use Rattle.walkx.specs.Walk.{Walking, Fits, IsGoing, end_of, AsksAdmitted, IsBoard, ask_of}
+use Rattle.walkx.specs.Walk.{Walking, Fits, IsGoing, end_of, AsksAdmitted, ask_of}
+use Rattle.walk_memory.specs.Blocks.{IsBoard}
 use Rattle.walkx.proofs.Knowing.{knows_next}
 use Rattle.lawful_walk.specs.Moments.{Sound}
 use Rattle.lawful_walk.specs.Walks.{ProgressWell}

@@ -7,7 +7,8 @@ use Rattle.walkx.specs.Bound.{most_steps}
 use Rattle.walkx.specs.Inner.Workers.{WorkerData}
 use Rattle.walkx.specs.Records.{Knows}
 use Rattle.walkx.specs.Serving.{Serves}
-use Rattle.walkx.specs.Walk.{Walking, Fits, IsBoard, end_of}
+use Rattle.walkx.specs.Walk.{Walking, Fits, end_of}
+use Rattle.walk_memory.specs.Blocks.{IsBoard}
 use Rattle.lawful_walk.specs.Moments.{Sound}
 use Rattle.pram_board.specs.declared.task.Task.{Task}
 use Rattle.pram_board.specs.Seats.{Desk, SeatData, IsLater}

@@ -7,7 +7,8 @@ use Rattle.pram_words.specs.Tree.{leaves_of}
 use Rattle.pram_words.proofs.Halvings.{leaves_most}
 use Rattle.walkx.specs.Bound.{told_all, history_of, most_steps}
 use Rattle.walkx.specs.Records.{Has, Knows}
-use Rattle.walkx.specs.Walk.{Walking, Fits, IsBoard, IsGoing, ask_of, told, end_of}
+use Rattle.walkx.specs.Walk.{Walking, Fits, IsGoing, ask_of, told, end_of}
+use Rattle.walk_memory.specs.Blocks.{IsBoard}
 use Rattle.lawful_walk.specs.Moments.{Sound, afters}
 use Rattle.lawful_walk.specs.Walks.{steps_heard}
 use Rattle.lawful_walk.proofs.Bounding.{history_known}

@@ -22,7 +22,7 @@ pub struct Board {
 impl Model for Board {
     ghost use Rattle.std.specs.Prelude.{◌≡◌};
     ghost use Rattle.pram_words.specs.Words.{length_of};
-    ghost use Rattle.walkx.specs.Walk.{IsBoard};
+    ghost use Rattle.walk_memory.specs.Blocks.{IsBoard};
     ghost use Rattle.pram_board.specs.Seats.{Desk, coded_desk};
 
     ghost Value = { Desk };
@@ -40,7 +40,7 @@ impl Board {
     ghost use Rattle.std.specs.Prelude.{◌≡◌, ◌≤◌, ◌<◌, ◌*◌, IfOk};
     ghost use Rattle.pram_words.specs.Words.{IsGrain, grain_for};
     ghost use Rattle.pram_words.specs.declared.layout.Form.TheVariants.{Compact, Wide};
-    ghost use Rattle.walkx.specs.Walk.{IsBoard, IsLayoutOf};
+    ghost use Rattle.walk_memory.specs.Blocks.{IsBoard, IsLayoutOf};
     ghost use Rattle.walkx.specs.declared.operation.Op.TheVariants.{Load, Swap};
     ghost use Rattle.lawful_walk.specs.Moments.{Sound};
     ghost use Rattle.pram_board.specs.Rules.{May};

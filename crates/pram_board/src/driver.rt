@@ -10,6 +10,7 @@ use pram_job::{Instr, Place, Rule};
 use pram_words::Kind;
 use std::mem;
 use stop_plan::Gate;
+use walkx::taking::{carry, carry_until, take_claim, take_load, take_up, take_up_at};
 use walkx::turns::{Turned, mark, turn};
 use walkx::{
     Claims, Formed, Leaf, Loads, Memory, Op, Post, Stand, Steps, Stopped, Worker, report_store,
@@ -53,15 +54,16 @@ impl<'a, G: Gate> Driver<'a, G> {
     ghost use Rattle.std.specs.Prelude.{◌≡◌, ◌<◌, ◌≤◌, ◌+◌, ◌%◌, ◌^◌, suc, None, false, true, List};
     ghost use Rattle.std.specs.Prelude.{◌≢◌, ℕ, Some, slice_get};
     ghost use Rattle.walkx.specs.declared.operation.Op.TheVariants.{Load, Swap};
-    ghost use Rattle.walkx.specs.declared.memo.Memo.{Memo};
-    ghost use Rattle.walkx.specs.Inner.Posts.{IsLeafPost, at_rank, processor_of};
+    ghost use Rattle.walk_memory.specs.declared.memo.Memo.{Memo};
+    ghost use Rattle.walk_memory.specs.Inner.Posts.{IsLeafPost, at_rank, processor_of};
     ghost use Rattle.pram_words.specs.Phases.{kind_at};
-    ghost use Rattle.walkx.specs.Memory.{FitsMemory, memo_of};
-    ghost use Rattle.walkx.specs.Passing.{IsStand, Spells};
-    ghost use Rattle.walkx.specs.Storing.{AllStore, HasStore};
-    ghost use Rattle.walkx.specs.Plain.{AllLoadBy, LoadsBy, AllClaimBy, ClaimsBy};
+    ghost use Rattle.walk_memory.specs.Memory.{FitsMemory, memo_of};
+    ghost use Rattle.walk_memory.specs.Stands.{IsStand, Spells};
+    ghost use Rattle.walk_memory.specs.Plain.{AllStore, HasStore, AllLoadBy, LoadsBy, AllClaimBy};
+    ghost use Rattle.walk_memory.specs.Plain.{ClaimsBy};
     ghost use Rattle.walkx.specs.Turns.{beginning, turning};
-    ghost use Rattle.walkx.specs.Walk.{end_of, has_rank};
+    ghost use Rattle.walkx.specs.Walk.{end_of};
+    ghost use Rattle.walk_memory.specs.Blocks.{has_rank};
     ghost use Rattle.pram_board.specs.Worked.{Worked, Works};
     ghost use Rattle.lawful_walk.specs.Moments.{Sound};
     ghost use Rattle.pram_board.specs.Rules.{May};
@@ -528,7 +530,7 @@ impl<'a, G: Gate> Driver<'a, G> {
         ensures swapped { Swapped leaf.now (driving self.old) memory.old result (driving self.new)
             memory.new }
     {
-        match memory.carry_until(self, leaf, rule) {
+        match carry_until(memory, self, leaf, rule) {
             Ok(due) => {
                 self.seat.facts();
                 due
@@ -691,7 +693,7 @@ impl<'a, G: Gate> Driver<'a, G> {
         ensures others { (i : ℕ) → i ≢ processor_of leaf.now →
             memo_of memory.new i ≡ memo_of memory.old i }
     {
-        match memory.take_load(self, leaf, loads) {
+        match take_load(memory, self, leaf, loads) {
             Ok(()) => self.seat.facts(),
             Err(_) => unreachable!(),
         }
@@ -758,7 +760,7 @@ impl<'a, G: Gate> Driver<'a, G> {
         ensures others { (i : ℕ) → i ≢ processor_of leaf.now →
             slice_get memory.new i ≡ slice_get memory.old i }
     {
-        match memory.take_claim(self, leaf, claims) {
+        match take_claim(memory, self, leaf, claims) {
             Ok(()) => self.seat.facts(),
             Err(_) => unreachable!(),
         }
@@ -897,7 +899,7 @@ impl<'a, G: Gate> Driver<'a, G> {
         ensures tried { Tried leaf.now (driving self.old) memory.old (driving self.new) memory.new
             result }
     {
-        match memory.take_up_at(self, leaf, counter, instr) {
+        match take_up_at(memory, self, leaf, counter, instr) {
             Ok(true) => {
                 self.seat.facts();
                 true
@@ -916,7 +918,7 @@ impl<'a, G: Gate> Driver<'a, G> {
         ensures done { DonePart leaf.now (driving self.old) memory.old (driving self.new)
             memory.new }
     {
-        match memory.carry(self, leaf) {
+        match carry(memory, self, leaf) {
             Ok(true) => self.seat.facts(),
             Ok(false) => self.part_apart(leaf, memory),
             Err(_) => unreachable!(),
@@ -955,7 +957,7 @@ impl<'a, G: Gate> Driver<'a, G> {
         ensures done { DonePart leaf.now (driving self.old) memory.old (driving self.new)
             memory.new }
     {
-        match memory.take_up(self, leaf) {
+        match take_up(memory, self, leaf) {
             Ok(()) => self.seat.facts(),
             Err(_) => unreachable!(),
         }

@@ -20,7 +20,7 @@ pub enum Stay {
 
 impl Board {
     ghost use Rattle.std.specs.Prelude.{◌≡◌, None, length};
-    ghost use Rattle.walkx.specs.Memory.{blank};
+    ghost use Rattle.walk_memory.specs.Memory.{blank};
     ghost use Rattle.walkx.specs.Walk.{end_of};
     ghost use Rattle.pram_board.specs.Inner.Next.{IsNextOperation};
     ghost use Rattle.pram_board.specs.Seats.{IsLater};

@@ -16,8 +16,9 @@ use Rattle.walkx.specs.Scripts.{rest_after}
 use Rattle.walkx.specs.Bound.{told_all, history_of, most_steps}
 use Rattle.walkx.specs.Operations.{answer}
 use Rattle.walkx.specs.Records.{Record, after, Has, Knows}
-use Rattle.walkx.specs.Walk.{Walking, IsBoard, IsGoing, HearsAdmitted, ask_of}
-use Rattle.walkx.specs.Walk.{told, rest_of, end_of, started, come_back}
+use Rattle.walkx.specs.Walk.{Walking, IsGoing, HearsAdmitted, ask_of, told, rest_of, end_of}
+use Rattle.walkx.specs.Walk.{started, come_back}
+use Rattle.walk_memory.specs.Blocks.{IsBoard}
 use Rattle.lawful_walk.specs.Board.{Stands, root, conflict}
 use Rattle.lawful_walk.specs.Moments.{Backed}
 use Rattle.lawful_walk.specs.Walks.{Moves}

@@ -9,7 +9,7 @@ use Rattle.pram_words.specs.declared.layout.Form.TheVariants.{Compact}
 use Rattle.pram_words.specs.declared.words.Word.{Word}
 use Rattle.pram_words.specs.declared.words.Word.TheVariants.{Position}
 use Rattle.pram_words.specs.Words.{IsGrain, grain_of, IsWord, layout_of}
-use Rattle.walkx.proofs.Beginnings.{start_true}
+use Rattle.walk_memory.proofs.Beginnings.{start_true}
 use Rattle.walkx.specs.Operations.{answer}
 use Rattle.walkx.specs.Records.{Record, empty, after, Knows}
 use Rattle.walkx.specs.Walk.{Walking, ask_of, told, started, come_back}

@@ -13,18 +13,19 @@ use Rattle.pram_words.specs.declared.words.Word.TheVariants.{Claim, Stored}
 use Rattle.pram_words.specs.Phases.{phase_of}
 use Rattle.pram_words.specs.Stamps.{stamped_word}
 use Rattle.pram_words.specs.Words.{LayoutData, number_of}
-use Rattle.walkx.specs.declared.memo.Memo.{Memo}
+use Rattle.walk_memory.specs.declared.memo.Memo.{Memo}
 use Rattle.walkx.specs.declared.operation.Op.{Op}
 use Rattle.walkx.specs.declared.operation.Op.TheVariants.{Load, Max}
-use Rattle.walkx.specs.Memory.{asked, at_start, cell_next, has_store, is_past}
-use Rattle.walkx.specs.OwnWrites.{cell_write}
+use Rattle.walk_memory.specs.Memory.{asked, at_start, cell_next, has_store, is_past}
+use Rattle.walk_memory.specs.OwnWrites.{cell_write}
 use Rattle.walkx.specs.Passes.{carry_task, claims_store, computes_own, crew_carry_task, if_write}
-use Rattle.walkx.specs.Passes.{knows, landings, memo_after, own_claim_task, own_task}
-use Rattle.walkx.specs.Passes.{priority_carry_task, stores, wide_task_of, writes_each, writes_own}
+use Rattle.walkx.specs.Passes.{knows, landings, own_claim_task, own_task, priority_carry_task}
+use Rattle.walkx.specs.Passes.{stores, wide_task_of, writes_each, writes_own}
+use Rattle.walk_memory.specs.Learned.{memo_after}
 use Rattle.walkx.specs.Scripts.{Script, ends, first_op}
 use Rattle.walkx.specs.Tasks.{claim_of, claims, reads_cell}
 use Rattle.walkx.specs.Walk.{Then}
-use Rattle.walkx.proofs.OwnFits.{cell_write_is}
+use Rattle.walk_memory.proofs.OwnFits.{cell_write_is}
 
 -- two scripts ask the same first, or come to the same
 pub data Alike (after : Memo → Script Then) (s : Script Memo) (t : Script Then) : Type 0 where

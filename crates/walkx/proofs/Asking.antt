@@ -16,22 +16,19 @@ use Rattle.walkx.specs.Doing.{Doing}
 use Rattle.walkx.specs.Doing as doing
 use Rattle.walkx.specs.Laws.{EachOperationIsAdmitted, WhoIsGoingSteps}
 use Rattle.walkx.specs.Scripts.{Script, asks, ends, rest_after, rest, first_op, op_with, heard_in}
-use Rattle.walkx.specs.Walk.{Then, Walking, Fits, IsBoard, IsGoing, IsPhase}
-use Rattle.walkx.specs.Walk.{AllAdmitted, AsksAdmitted, IsStepOn, node_of, script_by}
-use Rattle.walkx.specs.Walk.{script_of, rest_of, ask_of, next_op, end_of, phase_begun}
-use Rattle.walkx.specs.Walk.{after_part, block_script, enters, has_rank, part_script, processor_at}
-use Rattle.walkx.specs.Walk.{worked}
-use Rattle.walkx.specs.declared.memo.Memo.{Memo}
-use Rattle.walkx.specs.Memory.{FitsMemo, FitsMemory, at_start}
+use Rattle.walkx.specs.Walk.{Then, Walking, Fits, IsGoing, IsPhase, AllAdmitted, AsksAdmitted}
+use Rattle.walkx.specs.Walk.{IsStepOn, node_of, script_by, script_of, rest_of, ask_of, next_op}
+use Rattle.walkx.specs.Walk.{end_of, phase_begun, after_part, block_script, enters, part_script}
+use Rattle.walkx.specs.Walk.{worked, block_mark, empty_mark, inner_mark, jumps, jumps_first}
+use Rattle.walkx.specs.Walk.{marks_node, stands_at, way_down, begin_script, turn_script}
+use Rattle.walk_memory.specs.Blocks.{IsBoard, has_rank, processor_at, block_reach}
+use Rattle.walk_memory.specs.declared.memo.Memo.{Memo}
+use Rattle.walk_memory.specs.Memory.{FitsMemo, FitsMemory, at_start}
 use Rattle.walkx.proofs.Forms.{form_both}
-use Rattle.walkx.proofs.OwnFits.{start_fits}
-use Rattle.walkx.specs.Walk.{block_mark, block_reach, empty_mark, inner_mark, jumps, jumps_first}
-use Rattle.walkx.specs.Walk.{marks_node}
-use Rattle.walkx.specs.Walk.{stands_at, way_down, begin_script, turn_script}
-use Rattle.walkx.proofs.Boards.{admits, in_range}
-use Rattle.walkx.proofs.Boards.{step_most}
+use Rattle.walk_memory.proofs.OwnFits.{start_fits}
+use Rattle.walk_memory.proofs.Boards.{admits, in_range, step_most}
 use Rattle.walkx.proofs.Ends.{way_inside}
-use Rattle.walkx.proofs.Firsts.{rank_parts}
+use Rattle.walk_memory.proofs.Ranks.{rank_parts}
 use Rattle.walkx.proofs.Nodes.{node_range}
 use Rattle.walkx.proofs.Marks.{IsMark, block_marks, block_reaches, empty_marks, inner_marks}
 use Rattle.walkx.proofs.Marks.{inner_reaches, jump_from, jumps_where, phase_marks}

@@ -17,16 +17,16 @@ use Rattle.walkx.specs.Scripts.{Script}
 use Rattle.walkx.specs.Tasks.{claim_of, differs}
 use Rattle.pram_words.specs.declared.layout.Form.{Form}
 use Rattle.pram_words.specs.declared.layout.Form.TheVariants.{Compact, Wide}
-use Rattle.walkx.specs.OwnWrites.{cell_write}
-use Rattle.walkx.specs.Passes.{carried, carry_task, computes_own, crew_carry_task}
-use Rattle.walkx.specs.Passes.{hears_words, if_write, is_beyond, knows, landings, lands_counter}
-use Rattle.walkx.specs.Passes.{lands_register, loaded_memo, loads_memo, memo_after, own_claim_task}
-use Rattle.walkx.specs.Passes.{own_places, own_task, priority_carry_task, put_if}
-use Rattle.walkx.specs.Passes.{registers_landing, stores, task_in, wide_task_of, writes_each}
-use Rattle.walkx.specs.Passes.{writes_own}
-use Rattle.walkx.specs.declared.memo.Memo.{Memo}
-use Rattle.walkx.specs.Memory.{all_registers, asked, at_start, cell_next, has_store, is_past}
-use Rattle.walkx.specs.Memory.{loads_next, own_after, settles_in}
+use Rattle.walk_memory.specs.OwnWrites.{cell_write}
+use Rattle.walk_memory.specs.Learned.{carried, loaded_memo, memo_after}
+use Rattle.walkx.specs.Passes.{carry_task, computes_own, crew_carry_task, hears_words, if_write}
+use Rattle.walkx.specs.Passes.{is_beyond, knows, landings, lands_counter, lands_register}
+use Rattle.walkx.specs.Passes.{loads_memo, own_claim_task, own_places, own_task}
+use Rattle.walkx.specs.Passes.{priority_carry_task, put_if, registers_landing, stores, task_in}
+use Rattle.walkx.specs.Passes.{wide_task_of, writes_each, writes_own}
+use Rattle.walk_memory.specs.declared.memo.Memo.{Memo}
+use Rattle.walk_memory.specs.Memory.{all_registers, asked, at_start, cell_next, has_store, is_past}
+use Rattle.walk_memory.specs.Memory.{loads_next, own_after, settles_in}
 use Rattle.walkx.proofs.BoundTasks.{IsWithin, one_of, task_within, claims_within}
 use Rattle.walkx.proofs.BoundTasks.{loads_both_within, writes_place_within}
 use Rattle.walkx.proofs.BoundTasks.{reads_cell_within, reports_within}

@@ -16,7 +16,7 @@ use Rattle.walkx.specs.declared.operation.Op.TheVariants.{Load, Max}
 use Rattle.walkx.specs.Doing as doing
 use Rattle.walkx.specs.Scripts.{Script, asks, ends}
 use Rattle.walkx.specs.Walk.{Then, begins, turns, enters, worked, stops, back_script, begin_script}
-use Rattle.walkx.specs.Walk.{IsWide}
+use Rattle.walk_memory.specs.Blocks.{IsWide}
 use Rattle.walkx.proofs.Forms.{form_both, form_wide_of}
 use Rattle.walkx.specs.Bound.{low, MayHear}
 use Rattle.walkx.proofs.BoundWeight.{count, low_of, phases_weight, later_weight, tasks, turn_ops}

@@ -9,14 +9,14 @@ use Rattle.walkx.specs.Doing.{Doing}
 use Rattle.walkx.specs.Doing as doing
 use Rattle.walkx.specs.Scripts.{Script, asks, ends, rest_after, rest, first_op, op_with, heard_in}
 use Rattle.walkx.specs.Walk.{Then, begins, turns, enters, worked, stops, Walking, Fits, IsPhase}
-use Rattle.walkx.specs.Walk.{IsGoing}
-use Rattle.walkx.specs.declared.memo.Memo.{Memo}
-use Rattle.walkx.specs.Walk.{IsBoard, IsInBlock, node_of, script_by, script_of, rest_of}
+use Rattle.walkx.specs.Walk.{IsGoing, IsInBlock, node_of, script_by, script_of, rest_of}
 use Rattle.walkx.specs.Walk.{phase_begun, heard_of, ask_of, goes_on, told_by, told}
+use Rattle.walk_memory.specs.declared.memo.Memo.{Memo}
+use Rattle.walk_memory.specs.Blocks.{IsBoard}
 use Rattle.walkx.specs.Bound.{told_all, history_of, MayHear, IsHeard, most_steps}
 use Rattle.walkx.specs.Laws.{OwnStepsAreBounded}
 use Rattle.walkx.proofs.BoundWeight.{low_of, longest, later_weight, weight}
-use Rattle.walkx.proofs.Boards.{same_procs}
+use Rattle.walk_memory.proofs.Boards.{same_procs}
 use Rattle.walkx.proofs.BoundScripts.{Leads, To, phases_fewer, phase_enters, part_enters}
 use Rattle.walkx.proofs.BoundScripts.{back_leads, begin_leads}
 use Rattle.walkx.proofs.BoundTurn.{block_leads, turn_leads}

@@ -14,17 +14,17 @@ use Rattle.walkx.specs.declared.operation.Op.{Op}
 use Rattle.walkx.specs.declared.operation.Op.TheVariants.{Load, Store, Max, Swap}
 use Rattle.walkx.specs.Doing as doing
 use Rattle.walkx.specs.Scripts.{asks, ends}
-use Rattle.walkx.specs.Walk.{begins, turns, enters, worked, after_part, block_script, has_rank}
-use Rattle.walkx.specs.Walk.{IsWide, leaf_script, marks_node, part_script, processor_at, stands_at}
-use Rattle.walkx.specs.Walk.{Then, block_mark, block_reach, empty_mark, inner_mark, jumps}
-use Rattle.walkx.specs.Walk.{jumps_first, marks_inner, turn_script, way_down}
-use Rattle.walkx.specs.declared.memo.Memo.{Memo}
-use Rattle.walkx.specs.Memory.{at_start, memo_of}
+use Rattle.walkx.specs.Walk.{begins, turns, enters, worked, after_part, block_script, leaf_script}
+use Rattle.walkx.specs.Walk.{marks_node, part_script, stands_at, Then, block_mark, empty_mark}
+use Rattle.walkx.specs.Walk.{inner_mark, jumps, jumps_first, marks_inner, turn_script, way_down}
+use Rattle.walk_memory.specs.Blocks.{has_rank, IsWide, processor_at, block_reach}
+use Rattle.walk_memory.specs.declared.memo.Memo.{Memo}
+use Rattle.walk_memory.specs.Memory.{at_start, memo_of}
 use Rattle.pram_words.specs.declared.layout.Form.TheVariants.{Compact}
 use Rattle.walkx.proofs.BoundWeight.{count, low_of, later_weight, parts_left, phases_weight}
 use Rattle.walkx.proofs.BoundWeight.{turn_ops, turns_left}
 use Rattle.walkx.proofs.Forms.{form_both, form_cases, form_compact, form_wide_of}
-use Rattle.walkx.proofs.Firsts.{rank_parts}
+use Rattle.walk_memory.proofs.Ranks.{rank_parts}
 use Rattle.walkx.proofs.Marks.{block_least, empty_marks, inner_least}
 use Rattle.walkx.proofs.BoundTurns.{Grown, marked_less, up_less, down_less, enters_less, next_less}
 use Rattle.walkx.proofs.BoundTurns.{last_less}

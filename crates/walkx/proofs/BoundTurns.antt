@@ -12,7 +12,7 @@ use Rattle.walkx.specs.Bound.{low}
 use Rattle.walkx.proofs.BoundWeight.{count, low_of, lies_on_way, tasks, tasks_at, turn_ops}
 use Rattle.walkx.proofs.BoundWeight.{turns_at, turns_left, part_at, parts_left}
 use Rattle.walkx.proofs.Forms.{form_wide_of}
-use Rattle.walkx.specs.Walk.{IsWide}
+use Rattle.walk_memory.specs.Blocks.{IsWide}
 use Rattle.walkx.proofs.BoundWay.{own_way, not_below, way_up}
 
 -- a sum of terms that are no greater is no greater

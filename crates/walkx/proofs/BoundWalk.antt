@@ -9,7 +9,7 @@ use Rattle.walkx.specs.Doing as doing
 use Rattle.walkx.specs.Scripts.{Script, asks, ends, rest_after, first_op}
 use Rattle.walkx.specs.Walk.{Then, begins, turns, enters, worked, stops, Walking, node_of, rest_of}
 use Rattle.walkx.specs.Walk.{ends_block, goes_in, passes_over}
-use Rattle.walkx.specs.declared.memo.Memo.{Memo}
+use Rattle.walk_memory.specs.declared.memo.Memo.{Memo}
 use Rattle.walkx.specs.Turns.{beginning, turning}
 use Rattle.walkx.proofs.BoundTurns.{rank_falls}
 use Rattle.walkx.proofs.PassingOver.{goes_stops}

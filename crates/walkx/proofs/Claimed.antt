@@ -5,8 +5,8 @@ use Rattle.std.proofs.lemmas.Bool.{lt-ltb}
 use Rattle.pram_job.specs.declared.instr.Rule.{Rule}
 use Rattle.pram_job.specs.declared.instr.Rule.TheVariants.{Common, Priority, Crew}
 use Rattle.pram_machine.specs.declared.requests.Request.{Request}
-use Rattle.walkx.specs.Inner.Posts.{PostData, step_of, processor_of}
-use Rattle.walkx.specs.OwnWrites.{cell_write}
+use Rattle.walk_memory.specs.Inner.Posts.{PostData, step_of, processor_of}
+use Rattle.walk_memory.specs.OwnWrites.{cell_write}
 use Rattle.walkx.specs.Parts.{claim_raised}
 use Rattle.walkx.specs.Passes.{claims_store}
 use Rattle.walkx.specs.Scripts.{Script, asks}

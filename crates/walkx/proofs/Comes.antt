@@ -4,7 +4,7 @@ use Rattle.walkx.specs.declared.left.Stopped.{Stopped}
 use Rattle.walkx.specs.declared.operation.Op.{Op}
 use Rattle.walkx.specs.declared.playback.Playback.{Playback}
 use Rattle.walkx.specs.Driving.{Reaches}
-use Rattle.walkx.specs.Inner.Posts.{PostData}
+use Rattle.walk_memory.specs.Inner.Posts.{PostData}
 use Rattle.walkx.specs.Inner.Heard.{newest}
 use Rattle.walkx.specs.Playing.{AsksOperation, Played, stands_back}
 use Rattle.walkx.specs.Scripts.{Script, ends, first_op, heard_in, rest}

@@ -19,16 +19,15 @@ use Rattle.walkx.specs.declared.operation.Op.TheVariants.{Load}
 use Rattle.walkx.specs.Doing.{Doing}
 use Rattle.walkx.specs.Doing as doing
 use Rattle.walkx.specs.Scripts.{Script, asks, ends, rest_after, rest, op_with, heard_in}
-use Rattle.walkx.specs.declared.memo.Memo.{Memo}
-use Rattle.walkx.specs.Memory.{at_start}
-use Rattle.walkx.specs.Walk.{Then, begins, turns, enters, worked, stops, Walking}
-use Rattle.walkx.specs.Walk.{HearsAdmitted, HearsPhase, IsInBlock, IsWide, block_script, marks_node}
-use Rattle.walkx.proofs.Forms.{form_cases, not_both}
-use Rattle.walkx.specs.Walk.{AllAdmitted}
+use Rattle.walk_memory.specs.declared.memo.Memo.{Memo}
+use Rattle.walk_memory.specs.Memory.{at_start}
+use Rattle.walkx.specs.Walk.{Then, begins, turns, enters, worked, stops, Walking, HearsAdmitted}
+use Rattle.walkx.specs.Walk.{HearsPhase, IsInBlock, block_script, marks_node, AllAdmitted}
 use Rattle.walkx.specs.Walk.{script_by, script_of, rest_of, node_of, phase_begun, heard_of}
-use Rattle.walkx.specs.Walk.{turn_script, begin_script, part_script, after_part, has_rank}
-use Rattle.walkx.specs.Walk.{begun_phase, block_mark, block_reach, inner_mark, jumps, jumps_first}
-use Rattle.walkx.specs.Walk.{processor_at, way_down}
+use Rattle.walkx.specs.Walk.{turn_script, begin_script, part_script, after_part, begun_phase}
+use Rattle.walkx.specs.Walk.{block_mark, inner_mark, jumps, jumps_first, way_down}
+use Rattle.walk_memory.specs.Blocks.{IsWide, has_rank, block_reach, processor_at}
+use Rattle.walkx.proofs.Forms.{form_cases, not_both}
 use Rattle.walkx.proofs.BoundTasks.{IsWithin}
 use Rattle.walkx.proofs.BoundPasses.{form_within}
 

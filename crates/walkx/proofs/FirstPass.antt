@@ -11,18 +11,19 @@ use Rattle.pram_job.specs.Instructions.{row_of}
 use Rattle.pram_job.specs.Job.{JobData}
 use Rattle.pram_machine.specs.declared.requests.Request.{Request}
 use Rattle.pram_machine.specs.Instructions.{operand_in, read_at}
-use Rattle.walkx.specs.declared.memo.Memo.{Memo}
-use Rattle.walkx.specs.declared.memo.Own.{Own}
+use Rattle.walk_memory.specs.declared.memo.Memo.{Memo}
+use Rattle.walk_memory.specs.declared.memo.Own.{Own}
 use Rattle.walkx.specs.Driving.{Standing}
-use Rattle.walkx.specs.Inner.Posts.{PostData}
-use Rattle.walkx.specs.Memory.{at_start, cell_named, cell_next, is_load, is_load_row, settles_in}
+use Rattle.walk_memory.specs.Inner.Posts.{PostData}
+use Rattle.walk_memory.specs.Memory.{at_start, cell_named, cell_next, is_load, is_load_row}
+use Rattle.walk_memory.specs.Memory.{settles_in}
 use Rattle.walkx.specs.Parts.{reads}
 use Rattle.walkx.specs.Scripts.{Script}
 use Rattle.walkx.specs.Walk.{Then}
 use Rattle.walkx.specs.WideParts.{asked_with, claimed_cell, does_own_by, learned, made_after}
 use Rattle.walkx.specs.WideParts.{own_written, reads_next, store_claimed}
 use Rattle.walkx.proofs.Claimed.{claims_none}
-use Rattle.walkx.proofs.GoingAlone.{settles_by}
+use Rattle.walk_memory.proofs.GoingAlone.{settles_by}
 
 -- ---- a load, and other instructions
 

@@ -1,17 +1,17 @@
--- A task of the compact form asks for something, and what a rank in a block says.
-use Rattle.std.proofs.Common.{◌≡◌, ℕ, ◌<◌, nat_lt, IsTrue, true, Some, refl, inl, inr}
-use Rattle.std.proofs.lemmas.Bool.{cases_Bool, cond_both, lt-ltb, ltb-true}
+-- A task of the compact form asks for something.
+use Rattle.std.proofs.Common.{◌≡◌, ℕ, Some, refl}
+use Rattle.std.proofs.lemmas.Bool.{cond_both}
 use Rattle.pram_job.specs.Job.{JobData}
 use Rattle.pram_job.specs.declared.instr.Rule.{Rule}
 use Rattle.pram_job.specs.declared.instr.Rule.TheVariants.{Common, Priority, Crew}
 use Rattle.pram_words.specs.declared.phases.Kind.{Kind}
 use Rattle.pram_words.specs.declared.phases.Kind.TheVariants.{Compute, Apply, Verify}
-use Rattle.pram_words.specs.Words.{LayoutData, grain}
+use Rattle.pram_words.specs.Words.{LayoutData}
 use Rattle.walkx.specs.declared.operation.Op.{Op}
 use Rattle.walkx.specs.Scripts.{Script, first_op}
 use Rattle.walkx.specs.Tasks.{compute_task, apply_task, verify_task, claim_task}
 use Rattle.walkx.specs.Tasks.{priority_apply_task, crew_apply_task, crew_verify_task, task_of}
-use Rattle.walkx.specs.Walk.{Then, has_rank, jumps, jumps_first, marks_node, processor_at}
+use Rattle.walkx.specs.Walk.{Then, jumps, jumps_first, marks_node}
 
 pub task_first : (rule : Rule) (kind : Kind) (job : JobData) (y : LayoutData) (t i : ℕ)
     (after : Script Then) → (op : Op) × (first_op (task_of rule kind job y t i after) ≡ Some op)
@@ -35,16 +35,3 @@ pub raise_first : (y : LayoutData) (n m reach q : ℕ) →
     (op : Op) × (first_op (jumps_first y n q reach (marks_node y n m q)) ≡ Some op)
 raise_first y n m reach q = cond_both (jumps y n q reach) _ _
     (λ s. (op : Op) × (first_op s ≡ Some op)) (λ _. (_, refl)) (λ _. mark_first y n m q)
-
-pub rank_parts : (y : LayoutData) (n rank : ℕ) → IsTrue (has_rank y n rank) →
-    (rank < grain y) × (processor_at y n rank < y.procs)
-rank_parts y n rank there = elim (cases_Bool (nat_lt rank (grain y))) [
-  | inl e ↦ (let other : nat_lt (processor_at y n rank) y.procs ≡ true = rw e at there in
-      (ltb-true rank (grain y) e, ltb-true (processor_at y n rank) y.procs other))
-  | inr e ↦ absurd (let f = rw e at there in cc)
-]
-
-pub rank_there : (y : LayoutData) (n rank : ℕ) → rank < grain y → processor_at y n rank < y.procs →
-    has_rank y n rank ≡ true
-rank_there y n rank below proc =
-    rw (lt-ltb rank (grain y) below, lt-ltb (processor_at y n rank) y.procs proc) refl

@@ -8,26 +8,27 @@ use Rattle.pram_words.proofs.NextPhases.{has_next, next_above, next_within}
 use Rattle.pram_words.specs.Phases.{has_phase, next_phase}
 use Rattle.pram_words.specs.Words.{LayoutData, grain}
 use Rattle.pram_words.specs.declared.words.Word.TheVariants.{Node, Position}
-use Rattle.walkx.specs.declared.memo.Memo.{Memo}
+use Rattle.walk_memory.specs.declared.memo.Memo.{Memo}
 use Rattle.walkx.specs.declared.operation.Ended.{Ended}
 use Rattle.walkx.specs.declared.operation.Op.{Op}
 use Rattle.walkx.specs.Doing.{Doing}
 use Rattle.walkx.specs.Doing as doing
-use Rattle.walkx.specs.Memory.{FitsMemory}
+use Rattle.walk_memory.specs.Memory.{FitsMemory}
 use Rattle.walkx.specs.Playing.{hearing}
 use Rattle.walkx.specs.Laws.{NewWorkersFit, AnswersKeepFit}
 use Rattle.walkx.specs.Scripts.{Script, asks, ends, rest_after, rest, heard_in}
-use Rattle.walkx.specs.Walk.{Then, begins, turns, enters, worked, stops, Walking, Fits, IsBoard}
-use Rattle.walkx.specs.Walk.{IsGoing, IsInBlock, IsPhase, IsWide, begun_phase, goes_in, processor_at}
-use Rattle.walkx.specs.Walk.{Matches, AllAdmitted, script_by, script_of, rest_of, node_of, ask_of}
-use Rattle.walkx.specs.Walk.{goes_on, phase_begun, heard_of, turn_script, begin_script}
+use Rattle.walkx.specs.Walk.{Then, begins, turns, enters, worked, stops, Walking, Fits, IsGoing}
+use Rattle.walkx.specs.Walk.{IsInBlock, IsPhase, begun_phase, goes_in, Matches, AllAdmitted}
+use Rattle.walkx.specs.Walk.{script_by, script_of, rest_of, node_of, ask_of, goes_on, phase_begun}
+use Rattle.walkx.specs.Walk.{heard_of, turn_script, begin_script}
+use Rattle.walk_memory.specs.Blocks.{IsBoard, IsWide, processor_at}
 use Rattle.walkx.proofs.Asking.{FitsThen, all_left, asks_after, script_asks}
-use Rattle.walkx.proofs.Boards.{in_range}
+use Rattle.walk_memory.proofs.Boards.{in_range}
 use Rattle.walkx.proofs.Ends.{AllEnds, Brings, worker_ends}
-use Rattle.walkx.proofs.Firsts.{rank_parts}
+use Rattle.walk_memory.proofs.Ranks.{rank_parts}
 use Rattle.walkx.proofs.Going.{asks_of, going_or_over, matches_of, next_of}
 use Rattle.walkx.proofs.Going.{op_with_first, told_going, told_over}
-use Rattle.walkx.proofs.Memories.{memory_set, none_fits}
+use Rattle.walk_memory.proofs.Memories.{memory_set, none_fits}
 use Rattle.walkx.proofs.Nodes.{node_range}
 use Rattle.walkx.proofs.PassingOver.{goes_fit, goes_stops}
 use Rattle.walkx.proofs.TaskAsking.{AllAsk}

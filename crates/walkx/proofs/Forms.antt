@@ -3,7 +3,7 @@ use Rattle.std.proofs.Common.{◌≡◌, refl}
 use Rattle.pram_words.specs.declared.layout.Form.{Form}
 use Rattle.pram_words.specs.declared.layout.Form.TheVariants.{Compact, Wide}
 use Rattle.pram_words.specs.Forms.{by_form}
-use Rattle.walkx.specs.Walk.{IsWide}
+use Rattle.walk_memory.specs.Blocks.{IsWide}
 
 pub form_both : {A : Type 0} (form : Form) (compact wide : A) (P : A → Type 0) → P compact →
     P wide → P (by_form form compact wide)

@@ -1,6 +1,6 @@
 -- The words of a processor's own places, heard in turn.
 use Rattle.std.proofs.Common.{ℕ, List, [], ◌∷◌}
-use Rattle.walkx.specs.Inner.Posts.{PostData}
+use Rattle.walk_memory.specs.Inner.Posts.{PostData}
 use Rattle.walkx.specs.Parts.{register_at_post}
 use Rattle.walkx.specs.Scripts.{Script}
 use Rattle.walkx.specs.Walk.{Then}

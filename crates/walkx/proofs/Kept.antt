@@ -8,17 +8,18 @@ use Rattle.pram_job.specs.Job.{JobData}
 use Rattle.pram_words.specs.declared.phases.Kind.TheVariants.{Verify}
 use Rattle.pram_words.specs.Phases.{kind_at, phase_of}
 use Rattle.walkx.specs.declared.left.Left.TheVariants.{Late}
-use Rattle.walkx.specs.declared.memo.Memo.{Memo}
+use Rattle.walk_memory.specs.declared.memo.Memo.{Memo}
 use Rattle.walkx.specs.Driving.{comes}
-use Rattle.walkx.specs.Inner.Posts.{PostData, processor_of, step_of}
-use Rattle.walkx.specs.Memory.{FitsMemo, asked, asked_by, has_store, is_load, is_past, loads_next}
-use Rattle.walkx.specs.OwnWrites.{cell_write}
+use Rattle.walk_memory.specs.Inner.Posts.{PostData, processor_of, step_of}
+use Rattle.walk_memory.specs.Memory.{FitsMemo, asked, asked_by, has_store, is_load, is_past}
+use Rattle.walk_memory.specs.Memory.{loads_next}
+use Rattle.walk_memory.specs.OwnWrites.{cell_write}
 use Rattle.walkx.specs.Passes.{if_write}
 use Rattle.walkx.specs.Scripts.{Script}
 use Rattle.walkx.specs.Walk.{Then}
 use Rattle.walkx.specs.WideParts.{kept_as, store_by, store_loaded, stores_of}
-use Rattle.walkx.proofs.Puts.{cell_put_is}
-use Rattle.walkx.proofs.Timing.{verify_is}
+use Rattle.walk_memory.proofs.Puts.{cell_put_is}
+use Rattle.walk_memory.proofs.Timing.{verify_is}
 
 pub cell_below : (job : JobData) (o : Option (ℕ × ℕ)) →
     IfSome (cell_write job o) (λ write. write.0 < job.cells)

@@ -5,27 +5,27 @@ use Rattle.std.specs.Prelude.{slice_set}
 use Rattle.std.proofs.lemmas.Bool.{cases_Bool, cases_lt, cond_both}
 use Rattle.pram_job.specs.Job.{JobData}
 use Rattle.pram_words.specs.Words.{LayoutData, grain}
-use Rattle.walkx.specs.declared.memo.Memo.{Memo}
+use Rattle.walk_memory.specs.declared.memo.Memo.{Memo}
 use Rattle.walkx.specs.declared.operation.Op.{Op}
 use Rattle.walkx.specs.Doing.{Doing}
 use Rattle.walkx.specs.Doing as doing
 use Rattle.walkx.specs.Laws.{KnownStayKnown}
-use Rattle.walkx.specs.Memory.{IsTrueMemo, IsTrueMemory, memo_of}
+use Rattle.walk_memory.specs.Memory.{IsTrueMemo, IsTrueMemory, memo_of}
 use Rattle.walkx.specs.Records.{Record, empty, after, both, Has, HasPart, HasBlock, Knows}
 use Rattle.walkx.specs.Scripts.{Script, asks, ends, rest_after, rest, heard_in}
-use Rattle.walkx.specs.Walk.{Then, begins, turns, enters, worked, stops, Walking, IsGoing, IsInBlock}
-use Rattle.walkx.specs.Walk.{Fits, HearsAdmitted, IsBoard, IsWide, begun_phase, block_script}
-use Rattle.walkx.specs.Walk.{ends_block, has_rank, if_ended, part_script, passes_over, processor_at}
-use Rattle.walkx.specs.Walk.{script_by}
-use Rattle.walkx.specs.Walk.{script_of, told, rest_of, node_of, ask_of, goes_on, phase_begun, heard_of}
+use Rattle.walkx.specs.Walk.{Then, begins, turns, enters, worked, stops, Walking, IsGoing}
+use Rattle.walkx.specs.Walk.{IsInBlock, Fits, HearsAdmitted, begun_phase, block_script, ends_block}
+use Rattle.walkx.specs.Walk.{if_ended, part_script, passes_over, script_by, script_of, told}
+use Rattle.walkx.specs.Walk.{rest_of, node_of, ask_of, goes_on, phase_begun, heard_of}
+use Rattle.walk_memory.specs.Blocks.{IsBoard, IsWide, has_rank, processor_at}
 use Rattle.walkx.specs.Playing.{hearing}
-use Rattle.walkx.proofs.Boards.{root_formed, same_procs}
+use Rattle.walk_memory.proofs.Boards.{root_formed, same_procs}
 use Rattle.walkx.proofs.Ends.{AllEnds, Brings, NewestPhase, worker_ends}
-use Rattle.walkx.proofs.Firsts.{rank_parts}
+use Rattle.walk_memory.proofs.Ranks.{rank_parts}
 use Rattle.walkx.proofs.Fitting.{heard_more, stops_begin}
 use Rattle.walkx.proofs.Going.{going_or_over, told_going, told_over}
 use Rattle.walkx.proofs.Alikes.{Alike, asks_first, comes_at_once}
-use Rattle.walkx.proofs.Memories.{memo_other}
+use Rattle.walk_memory.proofs.Memories.{memo_other}
 use Rattle.walkx.proofs.PassingOver.{alone, going_first, part_alike}
 
 -- ---- what a record has

@@ -1,9 +1,9 @@
 -- What is known of a processor before a step: remembered, or loaded.
 use Rattle.std.proofs.Common.{◌≡◌, ◌==◌, suc, false, refl, Result}
 use Rattle.walkx.specs.declared.left.Left.{Left}
-use Rattle.walkx.specs.declared.memo.Memo.{Memo}
+use Rattle.walk_memory.specs.declared.memo.Memo.{Memo}
 use Rattle.walkx.specs.Driving.{IsNextPart, Plays, Standing}
-use Rattle.walkx.specs.Inner.Posts.{PostData, step_of}
+use Rattle.walk_memory.specs.Inner.Posts.{PostData, step_of}
 use Rattle.walkx.specs.Scripts.{Script}
 use Rattle.walkx.specs.Walk.{Then}
 use Rattle.walkx.specs.WideParts.{memo_known, memo_loaded}

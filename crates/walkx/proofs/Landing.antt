@@ -12,19 +12,20 @@ use Rattle.pram_machine.specs.Instructions.{gives}
 use Rattle.pram_machine.specs.Machine.{counter_place, register_place}
 use Rattle.pram_words.specs.Phases.{kind_at}
 use Rattle.pram_words.specs.declared.phases.Kind.TheVariants.{Compute}
-use Rattle.walkx.specs.declared.memo.Memo.{Memo}
+use Rattle.walk_memory.specs.declared.memo.Memo.{Memo}
 use Rattle.walkx.specs.Driving.{Standing}
-use Rattle.walkx.specs.Inner.Posts.{PostData, step_of, processor_of}
-use Rattle.walkx.specs.Memory.{all_registers, cell_named, cell_next, own_after, settles_in}
+use Rattle.walk_memory.specs.Inner.Posts.{PostData, step_of, processor_of}
+use Rattle.walk_memory.specs.Memory.{all_registers, cell_named, cell_next, own_after, settles_in}
 use Rattle.walkx.specs.Passes.{is_put_to, lands_counter, lands_register, put_if, registers_landing}
 use Rattle.walkx.specs.Passes.{writes_each}
 use Rattle.walkx.specs.Scripts.{Script}
 use Rattle.walkx.specs.Walk.{Then}
-use Rattle.walkx.specs.WideParts.{counter_due, landed, lands_from, learned, own_landed, own_written}
+use Rattle.walkx.specs.WideParts.{counter_due, lands_from, learned, own_landed, own_written}
 use Rattle.walkx.specs.WideParts.{register_due, tells_step, writes_if}
+use Rattle.walk_memory.specs.Turned.{landed}
 use Rattle.walkx.proofs.FirstPass.{loads_then, made_with, reads_some, settles_reading}
 use Rattle.walkx.proofs.Loaded.{load_claims, load_gives}
-use Rattle.walkx.proofs.Timing.{compute_is}
+use Rattle.walk_memory.proofs.Timing.{compute_is}
 use Rattle.walkx.proofs.Turning.{moved}
 
 -- one place, and the others

@@ -9,8 +9,8 @@ use Rattle.pram_job.specs.declared.instr.Place.{Place}
 use Rattle.pram_job.specs.Job.{JobData}
 use Rattle.pram_machine.specs.Instructions.{decided, gives}
 use Rattle.pram_machine.specs.Machine.{register_place}
-use Rattle.walkx.specs.declared.memo.Own.{Own}
-use Rattle.walkx.specs.Memory.{asked_by, cell_named}
+use Rattle.walk_memory.specs.declared.memo.Own.{Own}
+use Rattle.walk_memory.specs.Memory.{asked_by, cell_named}
 use Rattle.walkx.specs.WideParts.{claimed_cell}
 
 load_asks : (job : JobData) (i : ℕ) (own : Own) (register : ℕ) (place : Place) (cell value : ℕ) →

@@ -12,13 +12,12 @@ use Rattle.pram_words.specs.declared.layout.Form.{Form}
 use Rattle.pram_words.specs.declared.layout.Form.TheVariants.{Compact, Wide}
 use Rattle.pram_words.specs.Phases.{has_phase, step_at}
 use Rattle.pram_words.specs.Words.{LayoutData, grain}
-use Rattle.walkx.specs.declared.memo.Memo.{Memo}
-use Rattle.walkx.specs.Memory.{FitsMemo, FitsMemory, memo_of, reach}
-use Rattle.walkx.specs.Passing.{least_of}
-use Rattle.walkx.specs.Walk.{IsWide, block_mark, block_reach, bounded_mark, empty_mark, has_rank}
-use Rattle.walkx.specs.Walk.{inner_mark, jumps, last_phase, least_reach, processor_at}
-use Rattle.walkx.specs.Walk.{reach_from_phase}
-use Rattle.walkx.proofs.Firsts.{rank_parts, rank_there}
+use Rattle.walk_memory.specs.declared.memo.Memo.{Memo}
+use Rattle.walk_memory.specs.Memory.{FitsMemo, FitsMemory, memo_of, reach}
+use Rattle.walk_memory.specs.Blocks.{least_of, IsWide, block_reach, has_rank, last_phase}
+use Rattle.walk_memory.specs.Blocks.{least_reach, processor_at, reach_from_phase}
+use Rattle.walkx.specs.Walk.{block_mark, bounded_mark, empty_mark, inner_mark, jumps}
+use Rattle.walk_memory.proofs.Ranks.{rank_parts, rank_there}
 use Rattle.walkx.proofs.Forms.{form_both, form_cases, form_wide_of}
 
 -- a mark in this phase of a board with so many steps

@@ -5,13 +5,13 @@ use Rattle.pram_job.specs.declared.instr.Instr.{Instr}
 use Rattle.pram_job.specs.declared.instr.Rule.{Rule}
 use Rattle.pram_job.specs.declared.instr.Rule.TheVariants.{Common, Priority, Crew}
 use Rattle.pram_machine.specs.Instructions.{goes_to}
-use Rattle.walkx.specs.declared.memo.Memo.{Memo}
-use Rattle.walkx.specs.Inner.Posts.{PostData, step_of}
-use Rattle.walkx.specs.Memory.{is_past}
+use Rattle.walk_memory.specs.declared.memo.Memo.{Memo}
+use Rattle.walk_memory.specs.Inner.Posts.{PostData, step_of}
+use Rattle.walk_memory.specs.Memory.{is_past}
 use Rattle.walkx.specs.Scripts.{Script}
 use Rattle.walkx.specs.Walk.{Then}
 use Rattle.walkx.specs.WideParts.{does_own, does_own_by, learned, memo_known, own_known}
-use Rattle.walkx.proofs.GoingAlone.{no_more}
+use Rattle.walk_memory.proofs.GoingAlone.{no_more}
 
 module _ (at : PostData) (memo : Memo) (late : Script Then) (next : Memo → Script Then) where
   pub past_does : is_past at.phase memo ≡ true → does_own at memo late next ≡ next memo

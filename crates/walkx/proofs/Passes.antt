@@ -8,7 +8,7 @@ use Rattle.walkx.specs.declared.left.Left.{Left}
 use Rattle.walkx.specs.Driving.{Standing, Part, IsDue, Ends, IsNextPart, Plays}
 use Rattle.pram_job.specs.Job.{JobData}
 use Rattle.pram_words.specs.Words.{LayoutData}
-use Rattle.walkx.specs.Inner.Posts.{PostData, step_of, processor_of}
+use Rattle.walk_memory.specs.Inner.Posts.{PostData, step_of, processor_of}
 use Rattle.walkx.specs.Parts.{applies, claims_cell, compares, compares_claims, computes, does_in}
 use Rattle.walkx.specs.Scripts.{Script}
 use Rattle.walkx.specs.Tasks.{task_of, compute_task, apply_task, crew_apply_task}

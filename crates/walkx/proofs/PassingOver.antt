@@ -9,19 +9,21 @@ use Rattle.pram_words.specs.Phases.{kind_at, step_at}
 use Rattle.pram_words.specs.Words.{LayoutData, grain}
 use Rattle.pram_words.specs.declared.layout.Form.{Form}
 use Rattle.pram_words.specs.declared.layout.Form.TheVariants.{Compact, Wide}
-use Rattle.walkx.specs.declared.memo.Memo.{Memo}
+use Rattle.walk_memory.specs.declared.memo.Memo.{Memo}
 use Rattle.walkx.specs.declared.operation.Op.{Op}
-use Rattle.walkx.specs.Memory.{FitsMemo, FitsMemory, gone_on, memo_of}
+use Rattle.walk_memory.specs.Memory.{FitsMemo, FitsMemory, gone_on, memo_of}
 use Rattle.walkx.specs.Passes.{task_in}
 use Rattle.walkx.specs.Scripts.{Script, asks, ends, first_op}
-use Rattle.walkx.specs.Walk.{marks_node, IsBoard, IsWide, block_script, has_rank, if_ended}
-use Rattle.walkx.specs.Walk.{block_gone_on, block_mark, block_reach, ends_block, part_script}
-use Rattle.walkx.specs.Walk.{passes_over, processor_at, task_at, worked}
-use Rattle.walkx.proofs.Boards.{same_procs, step_most}
-use Rattle.walkx.proofs.Firsts.{raise_first, rank_parts}
+use Rattle.walkx.specs.Walk.{marks_node, block_script, if_ended, block_mark, ends_block}
+use Rattle.walkx.specs.Walk.{part_script, passes_over, task_at, worked}
+use Rattle.walk_memory.specs.Blocks.{IsBoard, IsWide, has_rank, block_gone_on, block_reach}
+use Rattle.walk_memory.specs.Blocks.{processor_at}
+use Rattle.walk_memory.proofs.Boards.{same_procs, step_most}
+use Rattle.walkx.proofs.Firsts.{raise_first}
+use Rattle.walk_memory.proofs.Ranks.{rank_parts}
 use Rattle.walkx.proofs.Alikes.{Alike, asks_first, comes_at_once, task_alike}
-use Rattle.walkx.proofs.Memories.{memory_set}
-use Rattle.walkx.proofs.OwnFits.{gone_on_fits}
+use Rattle.walk_memory.proofs.Memories.{memory_set}
+use Rattle.walk_memory.proofs.OwnFits.{gone_on_fits}
 use Rattle.walkx.proofs.TaskAsking.{AllAsk}
 use Rattle.walkx.proofs.WideAsking.{wide_asks}
 

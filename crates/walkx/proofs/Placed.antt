@@ -11,28 +11,29 @@ use Rattle.pram_machine.specs.Instructions.{gives}
 use Rattle.pram_machine.specs.Machine.{register_place}
 use Rattle.pram_words.specs.Phases.{kind_at}
 use Rattle.pram_words.specs.declared.phases.Kind.TheVariants.{Compute}
-use Rattle.walkx.specs.declared.block.Block.{Block}
+use Rattle.walk_memory.specs.declared.block.Block.{Block}
 use Rattle.walkx.specs.declared.land_at.Landing.{Landing}
 use Rattle.walkx.specs.declared.left.Left.{Left}
 use Rattle.walkx.specs.declared.left.Left.TheVariants.{Late, Held}
-use Rattle.walkx.specs.declared.memo.Memo.{Memo}
+use Rattle.walk_memory.specs.declared.memo.Memo.{Memo}
 use Rattle.walkx.specs.Driving.{IsNextPart, Plays, Standing, comes, learns, settled_or_late}
-use Rattle.walkx.specs.Inner.Posts.{PostData, processor_of, step_of}
-use Rattle.walkx.specs.Lanes.{lane, lane_in, memos_of}
-use Rattle.walkx.specs.Memory.{all_registers, is_past, memo_of, settles_in}
+use Rattle.walk_memory.specs.Inner.Posts.{PostData, processor_of, step_of}
+use Rattle.walk_memory.specs.Lanes.{lane, lane_in, memos_of}
+use Rattle.walk_memory.specs.Memory.{all_registers, is_past, memo_of, settles_in}
 use Rattle.walkx.specs.Passing.{Passes, TakesUp, idle}
 use Rattle.walkx.specs.Places.{DoneInLane, LandedTo, tells_all, tells_counter, tells_register}
-use Rattle.walkx.specs.Places.{told_registers, told_to, turned}
+use Rattle.walkx.specs.Places.{told_registers, told_to}
+use Rattle.walk_memory.specs.Turned.{turned}
 use Rattle.walkx.specs.Scripts.{Script}
 use Rattle.walkx.specs.Walk.{Then}
 use Rattle.walkx.specs.WideParts.{counter_landed, lands_from, learned, own_landed, own_written}
 use Rattle.walkx.specs.WideParts.{register_landed}
-use Rattle.walkx.proofs.Lanes.{four_set, memo_of_all, set_all}
-use Rattle.walkx.proofs.Memories.{memo_again}
+use Rattle.walk_memory.proofs.Lanes.{four_set, memo_of_all, set_all}
+use Rattle.walk_memory.proofs.Memories.{memo_again}
 use Rattle.walkx.proofs.OwnKnown.{past_does}
 use Rattle.walkx.proofs.Silent.{where_past}
 use Rattle.walkx.proofs.TakingUp.{takes_up}
-use Rattle.walkx.proofs.Timing.{compute_is}
+use Rattle.walk_memory.proofs.Timing.{compute_is}
 use Rattle.walkx.proofs.Turning.{moved}
 use Rattle.walkx.proofs.WidePasses.{own_is, same_wide_kind}
 

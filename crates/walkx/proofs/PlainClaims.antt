@@ -1,27 +1,27 @@
 -- Claims of which little is to be done.
-use Rattle.std.proofs.Common.{◌≡◌, ◌≢◌, ℕ, suc, ◌+◌, ◌%◌, false, zero, List, [], ◌∷◌, Option, Some, None}
+use Rattle.std.proofs.Common.{◌≡◌, ◌≢◌, ℕ, suc, ◌+◌, ◌%◌, false, List, Option, Some, None}
 use Rattle.std.proofs.Common.{slice_get, slice_index, refl, sym, ap, subst, ◌∙◌, arith}
-use Rattle.std.specs.Prelude.{IsSome, slice_set, unwrap_or}
+use Rattle.std.specs.Prelude.{IsSome, unwrap_or}
 use Rattle.std.proofs.lemmas.Bool.{lt-ltb}
 use Rattle.pram_job.specs.declared.instr.Instr.{Instr}
 use Rattle.pram_job.specs.declared.instr.Instr.TheVariants.{St}
 use Rattle.pram_job.specs.declared.instr.Rule.{Rule}
 use Rattle.pram_job.specs.declared.instr.Rule.TheVariants.{Common, Priority, Crew}
 use Rattle.pram_machine.specs.declared.requests.Request.{Request}
-use Rattle.walkx.specs.declared.load_in.Claims.{Claims}
-use Rattle.walkx.specs.declared.memo.Memo.{Memo}
-use Rattle.walkx.specs.Inner.Posts.{PostData, at_rank, processor_of, step_of}
-use Rattle.walkx.specs.Memory.{at_start, cell_named, is_common, settles_in}
+use Rattle.walk_memory.specs.declared.load_in.Claims.{Claims}
+use Rattle.walk_memory.specs.declared.memo.Memo.{Memo}
+use Rattle.walk_memory.specs.Inner.Posts.{PostData, at_rank, processor_of, step_of}
+use Rattle.walk_memory.specs.Memory.{at_start, cell_named, is_common, settles_in}
 use Rattle.walkx.specs.Parts.{claim_raised}
-use Rattle.walkx.specs.Plain.{AllClaimBy, ClaimsPlainly, claimed}
+use Rattle.walk_memory.specs.Plain.{AllClaimBy, ClaimsPlainly, claimed}
 use Rattle.walkx.specs.Scripts.{Script, asks}
 use Rattle.walkx.specs.Walk.{Then}
 use Rattle.walkx.specs.WideParts.{asked_with, claimed_cell, learned, own_written, store_claimed}
 use Rattle.walkx.proofs.Claimed.{claims_some}
 use Rattle.walkx.proofs.FirstPass.{reads_none}
-use Rattle.walkx.proofs.GoingAlone.{settles_by}
-use Rattle.walkx.proofs.InLanes.{asks_store}
-use Rattle.walkx.proofs.Timing.{compute_is}
+use Rattle.walk_memory.proofs.GoingAlone.{settles_by}
+use Rattle.walk_memory.proofs.InLanes.{asks_store}
+use Rattle.walk_memory.proofs.Timing.{compute_is}
 
 module _ (at : PostData) (memo : Memo) (cell value : ℕ) (is : ClaimsPlainly at memo cell value) where
   abbrev pub claiming : Instr
@@ -62,35 +62,6 @@ module _ (at : PostData) (memo : Memo) (cell value : ℕ) (is : ClaimsPlainly at
       store_claimed at.job.rule at claim late next
       ≡ asks (claim_raised at cell) (λ found. next tt)
   claim_stores late next = claims_some at claim late next at.job.rule cell is.below claim_cell
-
--- the same at another rank
-pub claim_at : (at : PostData) (rank : ℕ) (memo : Memo) (cell value : ℕ) →
-    ClaimsPlainly at memo cell value → ClaimsPlainly (at_rank at rank) memo cell value
-claim_at at rank memo cell value is = record {
-  first = is.first;
-  before = is.before;
-  place = is.place;
-  operand = is.operand;
-  code = is.code;
-  reaches = is.reaches;
-  holds = is.holds;
-  below = is.below;
-  rule = is.rule;
-  lags = is.lags;
-}
-
-pub none_there : (o : Option Memo) → o ≡ None → IsSome o → ⊥
-none_there None e some = absurd (cc)
-none_there (Some m) e some = absurd (cc)
-
-pub get_set_other : (memory : List Memo) (i k : ℕ) (memo : Memo) → (i ≡ k → ⊥) →
-    slice_get (slice_set memory i memo) k ≡ slice_get memory k
-get_set_other [] i k memo other = refl
-get_set_other (m ∷ memory) zero zero memo other = absurd (other refl)
-get_set_other (m ∷ memory) zero (suc k) memo other = refl
-get_set_other (m ∷ memory) (suc i) zero memo other = refl
-get_set_other (m ∷ memory) (suc i) (suc k) memo other =
-    get_set_other memory i k memo (λ e. other (ap suc e))
 
 -- after the claim of one, those of the others of its block are as they were
 pub claims_left : (at : PostData) (len : ℕ) (memory now : List Memo) (claims : Claims) →

@@ -13,10 +13,11 @@ use Rattle.pram_machine.specs.Instructions.{goes_to}
 use Rattle.pram_machine.specs.Machine.{counter_place, register_place}
 use Rattle.pram_words.specs.declared.phases.Kind.TheVariants.{Compute, Apply, Verify}
 use Rattle.pram_words.specs.Phases.{phase_of}
-use Rattle.walkx.specs.declared.memo.Memo.{Memo}
-use Rattle.walkx.specs.Inner.Posts.{PostData, step_of, processor_of}
-use Rattle.walkx.specs.Memory.{cell_named, cell_next, has_store, is_past, own_after, reach, settles_in}
-use Rattle.walkx.specs.OwnWrites.{cell_write}
+use Rattle.walk_memory.specs.declared.memo.Memo.{Memo}
+use Rattle.walk_memory.specs.Inner.Posts.{PostData, step_of, processor_of}
+use Rattle.walk_memory.specs.Memory.{cell_named, cell_next, has_store, is_past, own_after, reach}
+use Rattle.walk_memory.specs.Memory.{settles_in}
+use Rattle.walk_memory.specs.OwnWrites.{cell_write}
 use Rattle.walkx.specs.Passes.{carry_task, claims_store, crew_carry_task, lands_counter}
 use Rattle.walkx.specs.Passes.{lands_register, own_claim_task, own_task, priority_carry_task, put_if}
 use Rattle.walkx.specs.Passes.{wide_task_of, writes_each, writes_own}
@@ -24,8 +25,8 @@ use Rattle.walkx.specs.Passing.{idle_in, if_so}
 use Rattle.walkx.specs.Scripts.{Script, ends}
 use Rattle.walkx.specs.Walk.{if_ended}
 use Rattle.walkx.specs.WideParts.{asked_with, claimed_cell, learned}
-use Rattle.walkx.proofs.GoingAlone.{no_more}
-use Rattle.walkx.proofs.Puts.{cell_put_is}
+use Rattle.walk_memory.proofs.GoingAlone.{no_more}
+use Rattle.walk_memory.proofs.Puts.{cell_put_is}
 
 pub some_of : {A : Type 0} (o : Option A) → is_some o ≡ true → (x : A) × (o ≡ Some x)
 some_of None is = absurd (cc)

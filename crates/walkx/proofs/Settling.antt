@@ -1,6 +1,6 @@
 -- The end of a task, late or not.
 use Rattle.std.proofs.Common.{◌≡◌, Some, None, Result, Ok, Err, refl, sym, ap}
-use Rattle.walkx.specs.declared.memo.Memo.{Memo}
+use Rattle.walk_memory.specs.declared.memo.Memo.{Memo}
 use Rattle.walkx.specs.Scripts.{Script}
 use Rattle.walkx.specs.Walk.{Then}
 use Rattle.walkx.specs.declared.left.Left.{Left}

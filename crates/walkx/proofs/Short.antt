@@ -12,12 +12,12 @@ use Rattle.walkx.specs.declared.operation.Op.{Op}
 use Rattle.walkx.specs.Doing.{Doing}
 use Rattle.walkx.specs.Doing as doing
 use Rattle.walkx.specs.Scripts.{Script, asks, ends, rest_after, rest, first_op}
-use Rattle.walkx.specs.declared.memo.Memo.{Memo}
-use Rattle.walkx.specs.Memory.{at_start, memo_of}
-use Rattle.walkx.specs.Walk.{Then, IsWide, after_part, begin_script, block_script, enters, has_rank}
-use Rattle.walkx.specs.Walk.{block_mark, block_reach, empty_mark, inner_mark, jumps, jumps_first}
-use Rattle.walkx.specs.Walk.{leaf_script, marks_node, part_script, processor_at, script_by}
-use Rattle.walkx.specs.Walk.{turn_script, worked}
+use Rattle.walk_memory.specs.declared.memo.Memo.{Memo}
+use Rattle.walk_memory.specs.Memory.{at_start, memo_of}
+use Rattle.walkx.specs.Walk.{Then, after_part, begin_script, block_script, enters, block_mark}
+use Rattle.walkx.specs.Walk.{empty_mark, inner_mark, jumps, jumps_first, leaf_script, marks_node}
+use Rattle.walkx.specs.Walk.{part_script, script_by, turn_script, worked}
+use Rattle.walk_memory.specs.Blocks.{IsWide, has_rank, block_reach, processor_at}
 use Rattle.walkx.proofs.BoundPasses.{compact_within, form_within}
 use Rattle.walkx.proofs.Forms.{form_cases, form_compact, form_wide_of}
 use Rattle.walkx.proofs.BoundTasks.{IsWithin}

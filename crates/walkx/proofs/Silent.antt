@@ -8,16 +8,16 @@ use Rattle.pram_machine.specs.declared.requests.Request.{Request}
 use Rattle.pram_machine.specs.Instructions.{goes_to}
 use Rattle.pram_words.specs.declared.phases.Kind.TheVariants.{Compute, Verify}
 use Rattle.pram_words.specs.Phases.{kind_at}
-use Rattle.walkx.specs.declared.memo.Memo.{Memo}
-use Rattle.walkx.specs.Inner.Posts.{PostData, step_of}
-use Rattle.walkx.specs.Memory.{cell_named, is_load, is_past, settles_in}
+use Rattle.walk_memory.specs.declared.memo.Memo.{Memo}
+use Rattle.walk_memory.specs.Inner.Posts.{PostData, step_of}
+use Rattle.walk_memory.specs.Memory.{cell_named, is_load, is_past, settles_in}
 use Rattle.walkx.specs.Passing.{Passes, idle_in, if_so}
 use Rattle.walkx.specs.WideParts.{asked_with, claimed_cell, learned}
 use Rattle.walkx.proofs.FirstPass.{reads_none}
-use Rattle.walkx.proofs.GoingAlone.{settles_by}
+use Rattle.walk_memory.proofs.GoingAlone.{settles_by}
 use Rattle.walkx.proofs.Resting.{claim_asks, decided_rests, none_of, not_past, past_rests, reads_ask}
 use Rattle.walkx.proofs.Resting.{second_is, settles_ask, some_of, stopped_rests, unknown_asks}
-use Rattle.walkx.proofs.Timing.{compute_is, verify_is}
+use Rattle.walk_memory.proofs.Timing.{compute_is, verify_is}
 
 module _ (at : PostData) (memo : Memo) (instr : Instr) (before : suc memo.step ≡ step_of at)
     (some : slice_get at.job.code memo.own.counter ≡ Some instr) where

@@ -7,11 +7,12 @@ use Rattle.pram_words.specs.declared.layout.Form.{Form}
 use Rattle.pram_words.specs.declared.layout.Form.TheVariants.{Compact, Wide}
 use Rattle.pram_words.specs.Phases.{kind_at, step_at}
 use Rattle.pram_words.specs.Words.{LayoutData}
-use Rattle.walkx.specs.declared.memo.Memo.{Memo}
-use Rattle.walkx.specs.Memory.{memo_of}
+use Rattle.walk_memory.specs.declared.memo.Memo.{Memo}
+use Rattle.walk_memory.specs.Memory.{memo_of}
 use Rattle.walkx.specs.Passes.{task_in, wide_task_of}
 use Rattle.walkx.specs.Scripts.{Script, asks, ends}
-use Rattle.walkx.specs.Walk.{IsWide, has_rank, if_ended, passes_over, processor_at, task_at}
+use Rattle.walk_memory.specs.Blocks.{IsWide, has_rank, processor_at}
+use Rattle.walkx.specs.Walk.{if_ended, passes_over, task_at}
 
 abbrev alone : JobData → LayoutData → ℕ → ℕ → ℕ → Memo → Script Memo
 alone job y n q rank memo = task_at job y n q rank memo (λ m. ends m)

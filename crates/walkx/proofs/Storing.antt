@@ -1,37 +1,29 @@
 -- A store that is remembered, and carried out.
-use Rattle.std.proofs.Common.{◌≡◌, ◌≢◌, ℕ, suc, ◌+◌, ◌-◌, ◌<◌, ◌≤◌, ◌/◌, ◌%◌, Bool, true, false}
-use Rattle.std.proofs.Common.{List, Option, Some, None, Ok, Err, Result, refl, sym, ap, subst, ◌∙◌}
-use Rattle.std.proofs.Common.{slice_get, length, arith}
-use Rattle.std.specs.Prelude.{if◌then◌else◌, is_some, slice_index, slice_index_or, slice_set}
-use Rattle.std.specs.Prelude.{IfOk, IfSome}
+use Rattle.std.proofs.Common.{◌≡◌, ℕ, ◌-◌, Bool, true, false, List, Option}
+use Rattle.std.proofs.Common.{Some, None, Ok, Err, Result, refl, sym, ap, subst, ◌∙◌}
+use Rattle.std.specs.Prelude.{if◌then◌else◌, slice_set, IfOk, IfSome}
 use Rattle.std.proofs.lemmas.Bool.{eq-eqb}
-use Rattle.pram_job.specs.Job.{JobData}
 use Rattle.pram_job.specs.declared.instr.Rule.{Rule}
 use Rattle.pram_job.specs.declared.instr.Rule.TheVariants.{Common, Priority, Crew}
-use Rattle.pram_words.specs.Phases.{kind_at}
-use Rattle.pram_words.specs.declared.phases.Kind.TheVariants.{Verify}
-use Rattle.walkx.specs.declared.block.Block.{Block}
 use Rattle.walkx.specs.declared.left.Left.{Left}
 use Rattle.walkx.specs.declared.left.Left.TheVariants.{Late, Held}
 use Rattle.walkx.specs.declared.left.Stopped.{Stopped}
-use Rattle.walkx.specs.declared.memo.Memo.{Memo}
+use Rattle.walk_memory.specs.declared.memo.Memo.{Memo}
 use Rattle.walkx.specs.Driving.{Plays, Standing, comes, goes}
-use Rattle.walkx.specs.Inner.Posts.{IsCellOf, PostData, at_rank, processor_of, step_of}
-use Rattle.walkx.specs.Lanes.{lane, lane_in, memos_of}
-use Rattle.walkx.specs.Memory.{FitsMemo, has_store, is_past, memo_of}
+use Rattle.walk_memory.specs.Inner.Posts.{IsCellOf, PostData, processor_of, step_of}
+use Rattle.walk_memory.specs.Memory.{has_store, is_past, memo_of}
 use Rattle.walkx.specs.Parts.{does_wide}
 use Rattle.walkx.specs.Passes.{if_write}
 use Rattle.walkx.specs.Passing.{idle}
-use Rattle.walkx.specs.Rows.{AllIn}
 use Rattle.walkx.specs.Scripts.{Script}
-use Rattle.walkx.specs.Storing.{AllStore, Carries, HasStore, carried_in, due_if, left_of, none_due}
+use Rattle.walk_memory.specs.Plain.{HasStore}
+use Rattle.walkx.specs.Storing.{Carries, carried_in, due_if, left_of, none_due}
 use Rattle.walkx.specs.Walk.{Then}
-use Rattle.walkx.specs.WideParts.{carried_until, store_carried, store_left, stored}
+use Rattle.walkx.specs.WideParts.{carried_until, store_carried, store_left}
+use Rattle.walk_memory.specs.Turned.{stored}
 use Rattle.walkx.proofs.Kept.{keeps, still_to_do}
-use Rattle.walkx.proofs.Lanes.{memo_of_all, set_all}
-use Rattle.walkx.proofs.Memories.{memo_other}
 use Rattle.walkx.proofs.Silent.{second_idle}
-use Rattle.walkx.proofs.Timing.{verify_is}
+use Rattle.walk_memory.proofs.Timing.{verify_is}
 use Rattle.walkx.proofs.Turning.{comes_to, moved}
 use Rattle.walkx.proofs.WidePasses.{carry_is, same_wide_kind}
 
@@ -97,38 +89,6 @@ module _ (at : PostData) (memo : Memo) (is : HasStore at memo) where
     carries_until = carries
         ∙ until_is at.job.rule at (cell, value) (next memo) (λ done. next (carried_in at memo))
 
--- the store of a lane is its cell and its value
-abbrev write_in : Block → ℕ → ℕ × ℕ
-write_in block k = (slice_index block.cell k, slice_index block.value k)
-
-pub lane_store : (block : Block) (k : ℕ) → is_some (lane block k).store ≡ true →
-    (lane block k).store ≡ Some (slice_index block.cell k, slice_index block.value k)
-lane_store block k is = by (slice_index_or block.stored k false) is
-  where
-    by : (b : Bool) → is_some (if b then Some (write_in block k) else None) ≡ true →
-        (if b then Some (write_in block k) else None) ≡ Some (write_in block k)
-    by true e = refl
-    by false e = absurd (cc)
-
--- the cell of a store that is remembered
-pub cell_fits : (job : JobData) (memo : Memo) (write : ℕ × ℕ) → FitsMemo job memo →
-    memo.store ≡ Some write → write.0 < job.cells
-cell_fits job memo write fits some = (rw some at fits.store).0
-
--- what is known of a processor is what its lane holds, and is to hold
-module _ (memory : List Memo) (items : List Block) (i j : ℕ) (block : Block)
-    (view : memos_of items ≡ memory) (same : i ≡ j) (there : slice_get items (i / 64) ≡ Some block)
-  where
-    pub lane_known : memo_of memory j ≡ lane block (i % 64)
-    lane_known = rw (sym view, sym same) (memo_of_all items i
-        ∙ ap (λ (o : Option Block). lane_in o (i % 64)) there)
-
-    pub lane_set : (new : Block) → i / 64 < length items →
-        ((k : ℕ) → k ≢ i % 64 → lane new k ≡ lane block k) →
-        memos_of (slice_set items (i / 64) new) ≡ slice_set memory j (lane new (i % 64))
-    lane_set new low others = rw (sym view, sym same) (set_all items i (i / 64) (i % 64) block new
-        (lane new (i % 64)) refl refl low there refl others)
-
 -- what the worker came to: the store, if its report is due, and what is known
 abbrev pub due_as : ℕ × ℕ → Result Bool Left → Result (Option (ℕ × ℕ)) Stopped
 due_as write (Ok other) = Ok (due_if write other)
@@ -174,33 +134,3 @@ carries_up {D} stands at memo store write some cell old new memory now is done k
           (moved stands from old _ _ (carries_until at memo store write.0 write.1 some late next)
           (subst (λ (m : Memo). stands from old (Some (does_wide at m late next))) is here)));
     }
-
--- so it is of each of these lanes
-pub all_stores : (at : PostData) (len : ℕ) (memory : List Memo) (items : List Block) (i : ℕ)
-    (block : Block) (start end : ℕ) → memos_of items ≡ memory → i ≡ processor_of at →
-    kind_at at.phase ≡ Verify → slice_get items (i / 64) ≡ Some block →
-    start ≡ i % 64 → start + (len - at.rank) ≡ end → end ≤ 64 →
-    AllIn start end (λ k. ((lane block k).step ≡ step_of at)
-    × (is_some (lane block k).store ≡ true)) → AllStore at len memory
-all_stores at len memory items i block start end view same second there begin length_is most
-    all rank later within =
-    let j = processor_of (at_rank at rank) in
-    let on : j ≡ i + (rank - at.rank) = omega (arith, same, later) in
-    let row : j / 64 ≡ i / 64 = omega (arith, on, begin, length_is, most, later, within) in
-    let k : j % 64 ≡ start + (rank - at.rank) =
-    omega (arith, on, begin, length_is, most, later, within) in
-    let is : memo_of memory j ≡ lane block (j % 64) = lane_known memory items j j block view refl
-    (ap (slice_get items) row ∙ there) in
-    let has = all (j % 64) (omega (arith, k)) (omega (arith, k, length_is, later, within)) in
-    subst (HasStore (at_rank at rank)) (sym is)
-    (record { second = second; step = has.0; some = has.1 })
-
--- those of the next ones stay, where what is known of the leaf's is another thing
-pub stores_left : (at : PostData) (len : ℕ) (memory : List Memo) (memo : Memo) →
-    AllStore at len memory →
-    AllStore (at_rank at (suc at.rank)) len (slice_set memory (processor_of at) memo)
-stores_left at len memory memo all rank later within =
-    subst (HasStore (at_rank at rank))
-    (sym (memo_other memory (processor_of at) (processor_of (at_rank at rank)) memo
-    (λ same. omega (arith, same, later))))
-    (all rank (omega (arith, later)) within)

@@ -10,23 +10,23 @@ use Rattle.pram_words.specs.Phases.{kind_at, phase_of}
 use Rattle.pram_words.specs.declared.phases.Kind.{Kind}
 use Rattle.pram_words.specs.declared.phases.Kind.TheVariants.{Compute, Verify}
 use Rattle.walkx.specs.declared.left.Left.{Left}
-use Rattle.walkx.specs.declared.memo.Memo.{Memo}
+use Rattle.walk_memory.specs.declared.memo.Memo.{Memo}
 use Rattle.walkx.specs.Driving.{IsNextPart, Plays, Standing, learns, settled_or_late}
-use Rattle.walkx.specs.Inner.Posts.{PostData, processor_of, step_of}
-use Rattle.walkx.specs.Memory.{is_past, memo_of}
+use Rattle.walk_memory.specs.Inner.Posts.{PostData, processor_of, step_of}
+use Rattle.walk_memory.specs.Memory.{is_past, memo_of}
 use Rattle.walkx.specs.Parts.{does_wide, does_wide_in}
 use Rattle.walkx.specs.Passes.{carry_task, crew_carry_task, priority_carry_task, wide_task_of}
 use Rattle.walkx.specs.Passing.{Passes, TakesUp, TakesUpIf, idle, idle_in}
 use Rattle.walkx.specs.Scripts.{Script}
 use Rattle.walkx.specs.Walk.{Then}
 use Rattle.walkx.specs.WideParts.{does_own_by}
-use Rattle.walkx.proofs.Memories.{memo_again}
+use Rattle.walk_memory.proofs.Memories.{memo_again}
 use Rattle.walkx.proofs.OwnKnown.{known_does, stands_does}
 use Rattle.walkx.proofs.Passes.{next_as, plays_as}
 use Rattle.walkx.proofs.Resting.{not_past}
 use Rattle.walkx.proofs.Settling.{learned_goes}
 use Rattle.walkx.proofs.Silent.{where_over}
-use Rattle.walkx.proofs.Timing.{compute_is, verify_is}
+use Rattle.walk_memory.proofs.Timing.{compute_is, verify_is}
 use Rattle.walkx.proofs.WidePasses.{own_is, same_wide_kind}
 
 -- the first pass by the instruction that the processor is known to stand at

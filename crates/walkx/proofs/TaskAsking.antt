@@ -41,11 +41,11 @@ use Rattle.walkx.specs.Tasks.{loads_both, reads_place, writes_place, reads_regis
 use Rattle.walkx.specs.Tasks.{claim_of, differs, raises_request, executes, compute_task, hears_part}
 use Rattle.walkx.specs.Tasks.{claims, carries, apply_task, crew_apply_task, reports, verify_task}
 use Rattle.walkx.specs.Tasks.{crew_verify_task, claim_task, priority_apply_task, task_of}
-use Rattle.walkx.specs.Walk.{IsBoard, HearsAdmitted}
-use Rattle.walkx.specs.Walk.{AsksAdmitted, IsStepOn}
-use Rattle.walkx.proofs.Boards.{admits, in_range, is_below, place_shape, same_cells}
-use Rattle.walkx.proofs.Boards.{same_procs, asked_part, stamps}
-use Rattle.walkx.proofs.Cells.{cell_is}
+use Rattle.walk_memory.specs.Blocks.{IsBoard}
+use Rattle.walkx.specs.Walk.{HearsAdmitted, AsksAdmitted, IsStepOn}
+use Rattle.walk_memory.proofs.Boards.{admits, in_range, is_below, place_shape, same_cells}
+use Rattle.walk_memory.proofs.Boards.{same_procs, asked_part, stamps}
+use Rattle.walk_memory.proofs.Cells.{cell_is}
 
 -- whatever admitted answers it hears, what the script asks is an atomic step on the board, and
 -- admitted, and this holds of what comes of it

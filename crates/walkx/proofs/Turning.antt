@@ -6,16 +6,18 @@ use Rattle.pram_words.specs.declared.words.Word.TheVariants.{Node}
 use Rattle.walkx.specs.declared.operation.Op.TheVariants.{Swap}
 use Rattle.pram_words.specs.declared.layout.Form.{Form}
 use Rattle.pram_words.specs.declared.layout.Form.TheVariants.{Compact, Wide}
-use Rattle.walkx.specs.declared.memo.Memo.{Memo}
+use Rattle.walk_memory.specs.declared.memo.Memo.{Memo}
 use Rattle.walkx.specs.declared.turns.Turned.{Turned}
 use Rattle.walkx.specs.Driving.{Standing}
-use Rattle.walkx.specs.Inner.Posts.{PostData, then_marks, then_next, then_raises}
-use Rattle.walkx.specs.Memory.{at_start}
+use Rattle.walk_memory.specs.Inner.Posts.{PostData}
+use Rattle.walkx.specs.Inner.Posts.{then_marks, then_next, then_raises}
+use Rattle.walk_memory.specs.Memory.{at_start}
 use Rattle.walkx.specs.Parts.{does_compact, does_wide}
 use Rattle.walkx.specs.Passes.{task_in}
 use Rattle.walkx.specs.Rests.{entered, has_worked, part_rest}
 use Rattle.walkx.specs.Scripts.{Script, asks, ends}
-use Rattle.walkx.specs.Walk.{Then, IsWide, bounded_mark, jumps, last_phase, part_script}
+use Rattle.walkx.specs.Walk.{Then, bounded_mark, jumps, part_script}
+use Rattle.walk_memory.specs.Blocks.{IsWide, last_phase}
 use Rattle.walkx.proofs.Forms.{form_compact}
 use Rattle.walkx.proofs.Marks.{jumps_wide}
 use Rattle.walkx.proofs.WidePasses.{in_compact}
@@ -76,19 +78,6 @@ moved stands from d s u is here = subst (λ (x : Script Then). stands from d (So
 pub comes_to : {D : Type 0} (stands : Standing D) (from : D × Script Then) (d : D)
     (s u : Option (Script Then)) → s ≡ u → stands from d s → stands from d u
 comes_to stands from d s u is here = subst (stands from d) is here
-
--- what is the same stands at the same node
-pub node_is : {at other : PostData} → at ≡ other → at.node ≡ other.node
-node_is same = ap (λ (p : PostData). p.node) same
-
-pub form_is : {at other : PostData} → at ≡ other → other.layout.form ≡ at.layout.form
-form_is same = sym (ap (λ (p : PostData). p.layout.form) same)
-
-pub phase_is : {at other : PostData} → at ≡ other → at.phase ≡ other.phase
-phase_is same = ap (λ (p : PostData). p.phase) same
-
-pub rank_is : {at other : PostData} → at ≡ other → at.rank ≡ other.rank
-rank_is same = ap (λ (p : PostData). p.rank) same
 
 -- the task of the processor is next
 pub task_next : {D : Type 0} (stands : Standing D) (from : D × Script Then) (d : D)

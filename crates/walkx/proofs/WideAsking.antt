@@ -1,5 +1,5 @@
 -- What the tasks of the wide form ask is on the board, and what they write is admitted there.
-use Rattle.walkx.specs.OwnWrites.{cell_write}
+use Rattle.walk_memory.specs.OwnWrites.{cell_write}
 use Rattle.pram_job.specs.Job.{JobData}
 use Rattle.pram_job.specs.declared.instr.Rule.{Rule}
 use Rattle.pram_job.specs.declared.instr.Rule.TheVariants.{Common, Priority, Crew}
@@ -21,20 +21,22 @@ use Rattle.std.proofs.Common.{◌||◌, nat_lt, IsTrue, List, [], Bool, true, fa
 use Rattle.std.proofs.Common.{slice_index, Option, Some, None, refl}
 use Rattle.std.proofs.Common.{sym, subst, inl, inr, lit<, arith}
 use Rattle.std.proofs.lemmas.Bool.{cond_both, cases_Bool}
-use Rattle.walkx.specs.Passes.{carried, carry_task, computes_own, crew_carry_task, hears_before}
-use Rattle.walkx.specs.Passes.{if_write, is_beyond, knows, landings, lands_counter, lands_register}
-use Rattle.walkx.specs.Passes.{loaded_memo, loads_memo, memo_after, own_claim_task, own_task}
-use Rattle.walkx.specs.Passes.{priority_carry_task, put_if, registers_landing, reports_other}
-use Rattle.walkx.specs.Passes.{stores, task_in, wide_task_of, word_before, writes_each, writes_own}
-use Rattle.walkx.proofs.Boards.{admits, same_cells, same_procs, stamps}
+use Rattle.walk_memory.specs.Learned.{carried, loaded_memo, memo_after}
+use Rattle.walkx.specs.Passes.{carry_task, computes_own, crew_carry_task, hears_before, if_write}
+use Rattle.walkx.specs.Passes.{is_beyond, knows, landings, lands_counter, lands_register}
+use Rattle.walkx.specs.Passes.{loads_memo, own_claim_task, own_task, priority_carry_task, put_if}
+use Rattle.walkx.specs.Passes.{registers_landing, reports_other, stores, task_in, wide_task_of}
+use Rattle.walkx.specs.Passes.{word_before, writes_each, writes_own}
+use Rattle.walk_memory.proofs.Boards.{admits, same_cells, same_procs, stamps}
 use Rattle.walkx.specs.Scripts.{Script, asks}
 use Rattle.walkx.specs.Tasks.{claim_of, claims, differs, is_late}
-use Rattle.walkx.specs.Walk.{IsBoard}
-use Rattle.walkx.specs.declared.memo.Memo.{Memo}
-use Rattle.walkx.specs.Memory.{FitsMemo, FitsOwn, all_registers, asked, at_start, cell_next}
-use Rattle.walkx.specs.Memory.{has_store, is_past, loads_next, own_after, settles_in}
-use Rattle.walkx.proofs.OwnFits.{FitsStore, after_fits, asked_shape, carried_fits, cell_below}
-use Rattle.walkx.proofs.OwnFits.{index_fits, loaded_fits, own_after_fits, start_fits, store_fits}
+use Rattle.walk_memory.specs.Blocks.{IsBoard}
+use Rattle.walk_memory.specs.declared.memo.Memo.{Memo}
+use Rattle.walk_memory.specs.Memory.{FitsMemo, FitsOwn, all_registers, asked, at_start, cell_next}
+use Rattle.walk_memory.specs.Memory.{has_store, is_past, loads_next, own_after, settles_in}
+use Rattle.walk_memory.proofs.OwnFits.{FitsStore, after_fits, asked_shape, carried_fits, cell_below}
+use Rattle.walk_memory.proofs.OwnFits.{index_fits, loaded_fits, own_after_fits, start_fits}
+use Rattle.walk_memory.proofs.OwnFits.{store_fits}
 use Rattle.std.specs.List.{AllByRecursion}
 use Rattle.walkx.specs.declared.operation.Op.TheVariants.{Swap}
 use Rattle.walkx.proofs.TaskAsking.{AllAsk, both_ask, cell_asks, claim_word, claims_ask}

@@ -7,15 +7,15 @@ use Rattle.pram_words.specs.declared.layout.Form.TheVariants.{Compact}
 use Rattle.pram_words.specs.declared.phases.Kind.{Kind}
 use Rattle.pram_words.specs.declared.phases.Kind.TheVariants.{Compute, Apply, Verify}
 use Rattle.pram_words.specs.Phases.{kind_at, phase_of}
-use Rattle.walkx.specs.declared.memo.Memo.{Memo}
-use Rattle.walkx.specs.Inner.Posts.{PostData, step_of, processor_of}
+use Rattle.walk_memory.specs.declared.memo.Memo.{Memo}
+use Rattle.walk_memory.specs.Inner.Posts.{PostData, step_of, processor_of}
 use Rattle.walkx.specs.Parts.{does_compact, does_wide_in}
 use Rattle.walkx.specs.Passes.{task_in, wide_task_of, own_task, own_claim_task, carry_task}
 use Rattle.walkx.specs.Passes.{crew_carry_task, priority_carry_task}
 use Rattle.walkx.specs.Scripts.{Script}
 use Rattle.walkx.specs.WideParts.{does_own, does_store}
 use Rattle.walkx.specs.Walk.{Then}
-use Rattle.walkx.proofs.Timing.{compute_is}
+use Rattle.walk_memory.proofs.Timing.{compute_is}
 
 -- ---- by the form
 

@@ -10,28 +10,29 @@ use Rattle.walkx.specs.declared.operation.Activity.{Activity}
 use Rattle.walkx.specs.declared.operation.Activity.TheVariants as activity
 use Rattle.walkx.specs.declared.operation.Ended.{Ended}
 use Rattle.walkx.specs.declared.operation.Op.{Op}
-use Rattle.walkx.specs.declared.memo.Memo.{Memo}
+use Rattle.walk_memory.specs.declared.memo.Memo.{Memo}
 use Rattle.walkx.specs.Doing.{Doing}
 use Rattle.walkx.specs.Doing as doing
-use Rattle.walkx.specs.Inner.Posts.{PostData, post_data}
+use Rattle.walk_memory.specs.Inner.Posts.{PostData, post_data}
 use Rattle.walkx.specs.Inner.Heard.{newest}
 use Rattle.walkx.specs.Inner.Workers.{WorkerData, doing_in, worker_data}
 use Rattle.walkx.specs.Playing.{GoesOn, IsBlockPlace, IsPlayable, ScriptComesTo, op_after}
 use Rattle.walkx.specs.Playing.{come_to, hearing, phase_of_doing, stand_of}
 use Rattle.walkx.specs.Serving.{IsHeldAt, Serves}
 use Rattle.walkx.specs.Activities.{activity_of}
-use Rattle.walkx.specs.Memory.{FitsMemory, IsTrueMemory, blank}
-use Rattle.walkx.proofs.Memories.{all_start}
-use Rattle.walkx.proofs.OwnFits.{start_fits}
+use Rattle.walk_memory.specs.Memory.{FitsMemory, IsTrueMemory, blank}
+use Rattle.walk_memory.proofs.Memories.{all_start}
+use Rattle.walk_memory.proofs.OwnFits.{start_fits}
 use Rattle.walkx.specs.Records.{Record, Knows}
 use Rattle.walkx.specs.Turns.{beginning}
 use Rattle.walkx.specs.Rests.{IsWithin, script_in, then_of}
 use Rattle.walkx.specs.Scripts.{Script, asks, ends, rest_after, rest, first_op, heard_in}
-use Rattle.walkx.specs.Walk.{Then, Walking, Fits, AllAdmitted, HearsAdmitted, IsBoard, IsGoing}
-use Rattle.walkx.specs.Walk.{IsPhase, ask_of, end_of, begin_script, goes_on, heard_of, node_of}
-use Rattle.walkx.specs.Walk.{phase_begun, remembering, rest_of, script_of, told, started, come_back}
+use Rattle.walkx.specs.Walk.{Then, Walking, Fits, AllAdmitted, HearsAdmitted, IsGoing, IsPhase}
+use Rattle.walkx.specs.Walk.{ask_of, end_of, begin_script, goes_on, heard_of, node_of, phase_begun}
+use Rattle.walkx.specs.Walk.{remembering, rest_of, script_of, told, started, come_back}
+use Rattle.walk_memory.specs.Blocks.{IsBoard}
 use Rattle.walkx.proofs.Asking.{all_left}
-use Rattle.walkx.proofs.Beginnings.{start_true}
+use Rattle.walk_memory.proofs.Beginnings.{start_true}
 use Rattle.walkx.proofs.Ends.{AllEnds, Brings, worker_ends}
 use Rattle.walkx.proofs.Fitting.{Within, enters_fits, fits_told, heard_more, new_workers_fit}
 use Rattle.walkx.proofs.Fitting.{worked_fits}

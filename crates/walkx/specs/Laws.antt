@@ -3,11 +3,11 @@ use Rattle.std.specs.Prelude.{◌≡◌, ℕ, ◌<◌, List, length, None}
 use Rattle.pram_job.specs.Job.{JobData}
 use Rattle.pram_words.specs.Words.{LayoutData}
 use Rattle.walkx.specs.Bound.{told_all, history_of, IsHeard, most_steps}
-use Rattle.walkx.specs.Memory.{IsTrueMemory}
+use Rattle.walk_memory.specs.Memory.{IsTrueMemory}
 use Rattle.walkx.specs.Records.{Record, after, Knows}
-use Rattle.walkx.specs.Walk.{Walking, Fits, IsBoard, IsGoing}
-use Rattle.walkx.specs.Walk.{HearsAdmitted, HearsPhase, AsksAdmitted, IsStepOn, ask_of, told}
-use Rattle.walkx.specs.Walk.{end_of, started, come_back}
+use Rattle.walkx.specs.Walk.{Walking, Fits, IsGoing, HearsAdmitted, HearsPhase, AsksAdmitted}
+use Rattle.walkx.specs.Walk.{IsStepOn, ask_of, told, end_of, started, come_back}
+use Rattle.walk_memory.specs.Blocks.{IsBoard}
 
 -- those fit that are newly started or come back
 abbrev pub NewWorkersFit : Type 0

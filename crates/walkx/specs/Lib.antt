@@ -3,9 +3,6 @@ pub mod Scripts
 pub mod Doing
 pub mod Activities
 pub mod Tasks
-pub mod OwnWrites
-pub mod Memory
-pub mod Lanes
 pub mod Passes
 pub mod Walk
 pub mod Turns
@@ -20,13 +17,8 @@ pub mod Laws
 pub mod Driving
 pub mod Parts
 pub mod WideParts
-pub mod Plain
 pub mod Storing
 pub mod Places
 pub mod Playing
 pub mod Rests
 pub mod Passing
-pub mod Together
-pub mod Apart
-pub mod AsOne
-pub mod Rows

@@ -22,10 +22,11 @@ use Rattle.walkx.specs.Tasks.{compute_task}
 use Rattle.pram_words.specs.Stamps.{older, older_word}
 use Rattle.walkx.specs.Tasks.{is_late, loads_both, writes_place, hears_part}
 use Rattle.walkx.specs.Tasks.{if_data, carries, claim_of, claims, differs, reports, task_of}
-use Rattle.walkx.specs.declared.memo.Memo.{Memo}
+use Rattle.walk_memory.specs.declared.memo.Memo.{Memo}
 use Rattle.walkx.specs.Passes.{wide_task_of}
 use Rattle.walkx.specs.Walk.{Then}
-use Rattle.walkx.specs.Inner.Posts.{PostData, step_of, processor_of, part_raised}
+use Rattle.walk_memory.specs.Inner.Posts.{PostData, step_of, processor_of}
+use Rattle.walkx.specs.Inner.Posts.{part_raised}
 use Rattle.walkx.specs.Driving.{Part}
 
 -- both words of a place

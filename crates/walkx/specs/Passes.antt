@@ -3,9 +3,8 @@
 -- from its own places. In the first pass, compute, its own places are written where it settles, and
 -- a store is claimed; in the second one, carry, it is carried out. What follows is told what the
 -- worker then knows of the processor.
-use Rattle.std.specs.Prelude.{ℕ, suc, ◌-◌, ◌*◌, ◌++◌, Bool, not, ◌&&◌, ◌||◌, ◌==◌, nat_lt, max}
-use Rattle.std.specs.Prelude.{if◌then◌else◌, List, [], ◌∷◌, is_some, map, slice_index}
-use Rattle.std.specs.Prelude.{Option, Some, None, false}
+use Rattle.std.specs.Prelude.{ℕ, suc, ◌++◌, Bool, not, ◌&&◌, ◌||◌, ◌==◌, nat_lt, if◌then◌else◌}
+use Rattle.std.specs.Prelude.{List, [], ◌∷◌, is_some, map, slice_index, Option, Some, None, false}
 use Rattle.pram_job.specs.declared.instr.Rule.{Rule}
 use Rattle.pram_job.specs.declared.instr.Rule.TheVariants.{Common, Priority, Crew}
 use Rattle.pram_job.specs.Job.{JobData}
@@ -22,13 +21,13 @@ use Rattle.pram_words.specs.declared.layout.Form.TheVariants.{Compact, Wide}
 use Rattle.pram_words.specs.Words.{LayoutData, number_of}
 use Rattle.walkx.specs.declared.operation.Op.TheVariants.{Load, Swap}
 use Rattle.walkx.specs.Scripts.{Script, asks}
-use Rattle.walkx.specs.Tasks.{is_late, loads_both, writes_place, reads_cell}
-use Rattle.walkx.specs.Tasks.{claim_of, claims, differs, reports, task_of}
-use Rattle.walkx.specs.declared.memo.Memo.{Memo}
-use Rattle.walkx.specs.declared.memo.Own.{Own}
-use Rattle.walkx.specs.Memory.{all_registers, asked, at_start, cell_next, has_store}
-use Rattle.walkx.specs.Memory.{is_past, loads_next, own_after, own_alone, settles_in}
-use Rattle.walkx.specs.OwnWrites.{cell_write}
+use Rattle.walkx.specs.Tasks.{is_late, loads_both, writes_place, reads_cell, claim_of, claims}
+use Rattle.walkx.specs.Tasks.{differs, reports, task_of}
+use Rattle.walk_memory.specs.declared.memo.Memo.{Memo}
+use Rattle.walk_memory.specs.Memory.{all_registers, asked, at_start, cell_next, has_store, is_past}
+use Rattle.walk_memory.specs.Memory.{loads_next, own_after, settles_in}
+use Rattle.walk_memory.specs.OwnWrites.{cell_write}
+use Rattle.walk_memory.specs.Learned.{loaded_memo, memo_after, carried}
 
 -- ---- a processor's own places, before step t
 
@@ -57,25 +56,7 @@ hears_words layout t (place ∷ places) words late next =
 abbrev pub own_places : JobData → ℕ → List ℕ
 own_places job i = counter_place job i ∷ map (register_place job i) all_registers
 
--- what they tell, and the step after which it was so
-abbrev pub told_by : List ℕ → Own
-told_by [] = record { counter = 0; registers = [] }
-told_by (word ∷ words) = record { counter = payload_of word; registers = map payload_of words }
-
-abbrev pub newest_of : List ℕ → ℕ
-newest_of [] = 0
-newest_of (word ∷ words) = max (stamp_of word) (newest_of words)
-
--- what is then known of it before step t: it went on alone since
-abbrev pub loaded_memo : JobData → ℕ → ℕ → List ℕ → Memo
-loaded_memo job t i words = record {
-  acted = 3 * (t - 1);
-  step = t - 1;
-  own = own_alone job i (t - 1 - newest_of words) (told_by words);
-  told = told_by words;
-  store = None;
-}
-
+-- what they tell is then known of it, which went on alone since
 abbrev pub loads_memo : {R : Type 0} → JobData → LayoutData → ℕ → ℕ → Script R →
     (Memo → Script R) → Script R
 loads_memo job layout t i late next =
@@ -134,16 +115,6 @@ abbrev pub writes_own : {R : Type 0} → JobData → LayoutData → ℕ → ℕ 
 writes_own job layout t i known request after =
     writes_each layout t (landings job t i known request) after
 
--- what is known after it
-abbrev pub memo_after : JobData → ℕ → ℕ → Memo → Request → Memo
-memo_after job t i known request = record {
-  acted = phase_of t Compute;
-  step = t;
-  own = own_after job i known.own request;
-  told = if settles_in job t known.own then own_after job i known.own request else known.told;
-  store = cell_write job request.put;
-}
-
 -- what is done with a write, if there is one, or what follows
 abbrev pub if_write : {R : Type 0} → Option (ℕ × ℕ) → Script R → (ℕ → ℕ → Script R) → Script R
 if_write None none some = none
@@ -193,11 +164,6 @@ stores job layout t i memo after next =
     if is_past (phase_of t Verify) memo then after
     else (if has_store t memo then if_write memo.store after next
     else loads_store job layout t i after next)
-
--- it is carried out
-abbrev pub carried : ℕ → Memo → Memo
-carried t memo =
-    if has_store t memo then record memo { acted = phase_of t Verify; store = None } else memo
 
 -- the step is reported where a word is of it and has another payload
 abbrev pub reports_other : {R : Type 0} → LayoutData → ℕ → Bool → Script R → Script R

@@ -1,57 +1,18 @@
 -- The first pass of a processor, where what is known of it lies in a lane of a block.
-use Rattle.std.specs.Prelude.{◌≡◌, ◌≢◌, ℕ, zero, suc, ◌<◌, drop, length, slice_get, slice_index}
-use Rattle.std.specs.Prelude.{slice_set, List, Some, Result}
-use Rattle.pram_job.specs.declared.instr.Instr.{Instr}
-use Rattle.pram_job.specs.declared.instr.Instr.TheVariants.{Ld}
-use Rattle.pram_job.specs.declared.instr.Place.{Place}
-use Rattle.pram_job.specs.Job.{JobData}
-use Rattle.pram_machine.specs.declared.requests.Request.{Request}
-use Rattle.pram_words.specs.Phases.{kind_at}
-use Rattle.pram_words.specs.declared.phases.Kind.{Kind}
-use Rattle.walkx.specs.declared.block.Block.{Block}
+use Rattle.std.specs.Prelude.{◌≡◌, ◌≢◌, ℕ, zero, suc, ◌<◌, drop, length, slice_index, slice_set}
+use Rattle.std.specs.Prelude.{List, Some, Result}
+use Rattle.walk_memory.specs.declared.block.Block.{Block}
 use Rattle.walkx.specs.declared.land_at.Landing.{Landing}
 use Rattle.walkx.specs.declared.left.Left.{Left}
-use Rattle.walkx.specs.declared.memo.Memo.{Memo}
+use Rattle.walk_memory.specs.declared.memo.Memo.{Memo}
 use Rattle.walkx.specs.Driving.{Plays, Standing, learns}
-use Rattle.walkx.specs.Inner.Posts.{PostData, processor_of, step_of}
-use Rattle.walkx.specs.Lanes.{lane}
-use Rattle.walkx.specs.Memory.{all_registers, cell_named, own_after}
-use Rattle.walkx.specs.OwnWrites.{cell_write}
+use Rattle.walk_memory.specs.Inner.Posts.{PostData}
+use Rattle.walk_memory.specs.Lanes.{lane}
+use Rattle.walk_memory.specs.Memory.{all_registers}
 use Rattle.walkx.specs.Parts.{does_wide}
 use Rattle.walkx.specs.Scripts.{Script}
 use Rattle.walkx.specs.Walk.{Then}
 use Rattle.walkx.specs.WideParts.{lands_from, own_landed}
-
--- in the first pass, a processor of which this is known before the step stands at this instruction
-pub record StandsKnown (at : PostData) (memo : Memo) (instr : Instr) : Type 0 where
-  pub first : kind_at at.phase ≡ Kind.Compute
-  pub before : suc memo.step ≡ step_of at
-  pub code : slice_get at.job.code memo.own.counter ≡ Some instr
-
--- the same at a load of this cell into register r
-pub record LoadsKnown (at : PostData) (memo : Memo) (r cell : ℕ) : Type 0 where
-  pub place : Place
-  pub stands : StandsKnown at memo (Ld r place)
-  pub reads : cell_named at.job memo.own (Some (Ld r place)) ≡ Some cell
-  pub below : cell < at.job.cells
-
--- what is known once its turn is taken, but for what its words tell
-abbrev pub turned : PostData → Memo → Request → Memo
-turned at memo request = record {
-  acted = at.phase;
-  step = step_of at;
-  own = own_after at.job (processor_of at) memo.own request;
-  told = memo.told;
-  store = cell_write at.job request.put;
-}
-
--- and once it is taken in a step that it goes alone
-abbrev pub stepped : JobData → ℕ → Memo → Request → Memo
-stepped job i memo request = record memo {
-  step = suc memo.step;
-  own = own_after job i memo.own request;
-  store = cell_write job request.put;
-}
 
 -- once its words tell what register r is
 abbrev pub tells_register : Memo → ℕ → Memo

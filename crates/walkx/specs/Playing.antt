@@ -11,12 +11,12 @@ use Rattle.walkx.specs.declared.playback.Playback.{Playback}
 use Rattle.walkx.specs.Doing.{Doing}
 use Rattle.walkx.specs.Doing as doing
 use Rattle.walkx.specs.Inner.Heard.{newest}
-use Rattle.walkx.specs.Inner.Posts.{IsLeafPost, IsPost, PostData, post_data}
+use Rattle.walk_memory.specs.Inner.Posts.{IsLeafPost, IsPost, PostData, post_data}
 use Rattle.walkx.specs.Rests.{IsBlockPost, then_of}
 use Rattle.walkx.specs.Scripts.{Script, ends, first_op, heard_in, rest}
-use Rattle.walkx.specs.Memory.{FitsMemory}
-use Rattle.walkx.specs.Walk.{Then, Walking, AllAdmitted, IsInBlock, goes_in, node_of, processor_at}
-use Rattle.walkx.specs.Walk.{script_of}
+use Rattle.walk_memory.specs.Memory.{FitsMemory}
+use Rattle.walkx.specs.Walk.{Then, Walking, AllAdmitted, IsInBlock, goes_in, node_of, script_of}
+use Rattle.walk_memory.specs.Blocks.{processor_at}
 
 -- this many of the answers were played back, and this is left of the script
 pub record Played (at : PostData) (from : Playback × Script Then) (playback : Playback)

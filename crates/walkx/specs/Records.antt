@@ -6,10 +6,10 @@ use Rattle.walkx.specs.declared.operation.Op.{Op}
 use Rattle.walkx.specs.Doing.{Doing}
 use Rattle.walkx.specs.Doing as doing
 use Rattle.walkx.specs.Scripts.{ends, rest, heard_in}
-use Rattle.walkx.specs.declared.memo.Memo.{Memo}
-use Rattle.walkx.specs.Memory.{IsTrueMemo, IsTrueMemory}
+use Rattle.walk_memory.specs.declared.memo.Memo.{Memo}
+use Rattle.walk_memory.specs.Memory.{IsTrueMemo, IsTrueMemory}
 use Rattle.walkx.specs.Walk.{worked, Walking, begun_phase, heard_of, node_of, part_script}
-use Rattle.walkx.specs.Walk.{processor_at}
+use Rattle.walk_memory.specs.Blocks.{processor_at}
 
 -- none; a record followed by one step with its answer; two records joined, with no order between
 -- them

@@ -13,12 +13,13 @@ use Rattle.walkx.specs.declared.operation.Activity.TheVariants as activity
 use Rattle.walkx.specs.declared.operation.Ended.TheVariants as ended
 use Rattle.walkx.specs.declared.turns.Turned.{Turned}
 use Rattle.walkx.specs.declared.turns.Turned.TheVariants as turned
-use Rattle.walkx.specs.declared.memo.Memo.{Memo}
-use Rattle.walkx.specs.Memory.{at_start}
+use Rattle.walk_memory.specs.declared.memo.Memo.{Memo}
+use Rattle.walk_memory.specs.Memory.{at_start}
 use Rattle.walkx.specs.Walk.{Then, begins, turns, enters, worked, stops, back_script, begin_script}
 use Rattle.walkx.specs.Walk.{block_script, leaf_script, part_script, stands_at, turn_script}
-use Rattle.walkx.specs.Walk.{IsWide, marks_inner, way_down}
-use Rattle.walkx.specs.Inner.Posts.{PostData}
+use Rattle.walkx.specs.Walk.{marks_inner, way_down}
+use Rattle.walk_memory.specs.Blocks.{IsWide}
+use Rattle.walk_memory.specs.Inner.Posts.{PostData}
 
 abbrev pub moves : PostData → ℕ → Script Then
 moves at to = stands_at at.layout at.worker to at.phase

@@ -1,32 +1,18 @@
 -- Stores that are remembered, and carried out in the second pass.
-use Rattle.std.specs.Prelude.{◌≡◌, ℕ, ◌<◌, ◌≤◌, Bool, true, List, slice_set, is_some, IfOk, IfSome}
-use Rattle.std.specs.Prelude.{Option, Some, None, Result, Ok, Err, if◌then◌else◌}
-use Rattle.pram_words.specs.Phases.{kind_at}
-use Rattle.pram_words.specs.declared.phases.Kind.{Kind}
+use Rattle.std.specs.Prelude.{◌≡◌, ℕ, Bool, List, slice_set, IfOk, IfSome, Option, Some, None}
+use Rattle.std.specs.Prelude.{Result, Ok, Err, if◌then◌else◌}
 use Rattle.walkx.specs.declared.left.Left.{Left}
 use Rattle.walkx.specs.declared.left.Left.TheVariants.{Late, Held}
 use Rattle.walkx.specs.declared.left.Stopped.{Stopped}
-use Rattle.walkx.specs.declared.memo.Memo.{Memo}
+use Rattle.walk_memory.specs.declared.memo.Memo.{Memo}
 use Rattle.walkx.specs.Driving.{Standing, goes}
-use Rattle.walkx.specs.Inner.Posts.{IsCellOf, PostData, at_rank, processor_of, step_of}
-use Rattle.walkx.specs.Memory.{memo_of}
+use Rattle.walk_memory.specs.Inner.Posts.{IsCellOf, PostData, processor_of}
+use Rattle.walk_memory.specs.Memory.{memo_of}
 use Rattle.walkx.specs.Parts.{does_wide}
 use Rattle.walkx.specs.Passing.{idle}
 use Rattle.walkx.specs.Scripts.{Script}
 use Rattle.walkx.specs.Walk.{Then}
 use Rattle.walkx.specs.WideParts.{store_left}
-
--- in the second pass, a processor of which this is known has its store of the step still to be
--- carried out
-pub record HasStore (at : PostData) (memo : Memo) : Type 0 where
-  pub second : kind_at at.phase ≡ Kind.Verify
-  pub step : memo.step ≡ step_of at
-  pub some : is_some memo.store ≡ true
-
--- each processor of the block, from the leaf's up to this rank
-abbrev pub AllStore : PostData → ℕ → List Memo → Type 0
-AllStore at len memory = (rank : ℕ) → at.rank ≤ rank → rank < len →
-    HasStore (at_rank at rank) (memo_of memory (processor_of (at_rank at rank)))
 
 -- what is known once it is carried out
 abbrev pub carried_in : PostData → Memo → Memo

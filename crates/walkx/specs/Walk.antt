@@ -1,29 +1,26 @@
 -- The walk: the scripts back, begin and turn, and a worker that goes through them.
-use Rattle.std.specs.Prelude.{◌≡◌, ℕ, ◌+◌, ◌-◌, ◌*◌, ◌/◌, ◌%◌, ◌<◌}
-use Rattle.std.specs.Prelude.{◌≤◌, ◌&&◌, ◌==◌, nat_le, nat_lt, if◌then◌else◌, List, [], ◌∷◌}
-use Rattle.std.specs.Prelude.{false, max, min}
-use Rattle.std.specs.Prelude.{zero, suc, Bool, IsTrue, ◌++◌, Option, Some, None, IfSome, unwrap_or}
-use Rattle.std.specs.Prelude.{slice_set}
+use Rattle.std.specs.Prelude.{◌≡◌, ℕ, ◌+◌, ◌-◌, ◌*◌, ◌/◌, ◌%◌, ◌<◌, ◌≤◌, ◌&&◌, ◌==◌, nat_le, nat_lt}
+use Rattle.std.specs.Prelude.{if◌then◌else◌, List, [], ◌∷◌, false, min, zero, suc, Bool, IsTrue}
+use Rattle.std.specs.Prelude.{◌++◌, Option, Some, None, IfSome, unwrap_or, slice_set}
 use Rattle.std.specs.List.{AllByRecursion}
-use Rattle.pram_job.specs.Job.{JobData, IsJob}
+use Rattle.pram_job.specs.Job.{JobData}
 use Rattle.pram_words.specs.Phases.{step_at, kind_at, has_phase, next_phase, phase_before}
 use Rattle.pram_words.specs.Ways.{first_leaf_in, turns_right_in}
-use Rattle.pram_words.specs.Words.{LayoutData, IsLayout, Admits, grain, number_of, length_of}
-use Rattle.pram_words.specs.Words.{layout_of}
+use Rattle.pram_words.specs.Words.{LayoutData, Admits, grain, number_of, length_of}
 use Rattle.pram_words.specs.declared.words.Word.TheVariants.{Conflict, Node, Position}
 use Rattle.walkx.specs.declared.operation.Ended.{Ended}
-use Rattle.walkx.specs.declared.operation.Ended.TheVariants as ended
 use Rattle.walkx.specs.declared.operation.Op.{Op}
 use Rattle.walkx.specs.declared.operation.Op.TheVariants.{Load, Store, Max, Swap, Over}
 use Rattle.walkx.specs.Doing.{Doing}
-use Rattle.walkx.specs.Doing as doing
 use Rattle.walkx.specs.Scripts.{Script, asks, ends, rest_after, rest, first_op, heard_in}
 use Rattle.pram_words.specs.Forms.{by_form}
-use Rattle.pram_words.specs.declared.layout.Form.{Form}
-use Rattle.pram_words.specs.declared.layout.Form.TheVariants.{Compact, Wide}
-use Rattle.walkx.specs.declared.memo.Memo.{Memo}
-use Rattle.walkx.specs.Memory.{FitsMemory, at_start, blank, gone_on, memo_of, reach}
+use Rattle.walk_memory.specs.declared.memo.Memo.{Memo}
+use Rattle.walk_memory.specs.Memory.{FitsMemory, at_start, blank, memo_of}
 use Rattle.walkx.specs.Passes.{task_in}
+use Rattle.walk_memory.specs.Blocks.{last_phase, processor_at, has_rank, block_reach, block_gone_on}
+use Rattle.walk_memory.specs.Blocks.{IsWide}
+use Rattle.walkx.specs.declared.operation.Ended.TheVariants as ended
+use Rattle.walkx.specs.Doing as doing
 
 -- ---- the scripts
 
@@ -68,10 +65,6 @@ abbrev pub marks_node : LayoutData → ℕ → ℕ → ℕ → Script Then
 marks_node layout node mark phase =
     asks (Max (number_of layout (Node node)) mark) (λ found. ends (turns node phase))
 
--- the last phase of the step
-abbrev pub last_phase : ℕ → ℕ
-last_phase phase = 3 * step_at phase
-
 -- In the wide form a mark may be above the phase. The root's is the step's last phase at most, since
 -- a conflict is looked for there.
 abbrev pub bounded_mark : ℕ → ℕ → ℕ → ℕ
@@ -98,14 +91,6 @@ jumps_first layout node phase mark next =
     if jumps layout node phase mark
     then asks (Swap (number_of layout (Node node)) (phase - 1) mark) (λ found. next) else next
 
--- the processor of a rank in the block of leaf n, and whether there is one
-abbrev pub processor_at : LayoutData → ℕ → ℕ → ℕ
-processor_at layout node rank = grain layout * (node - layout.leaves) + rank
-
-abbrev pub has_rank : LayoutData → ℕ → ℕ → Bool
-has_rank layout node rank =
-    nat_lt rank (grain layout) && nat_lt (processor_at layout node rank) layout.procs
-
 -- in the compact form a leaf has one processor, and is marked after its task
 abbrev pub after_part : LayoutData → ℕ → ℕ → ℕ → Memo → Script Then
 after_part layout node phase rank memo =
@@ -122,25 +107,7 @@ unfoldable pub part_script : JobData → LayoutData → ℕ → ℕ → ℕ → 
 part_script job layout node phase rank memo =
     task_at job layout node phase rank memo (after_part layout node phase rank)
 
--- Up to which phase the processors of a block have nothing to do, from this rank on, by what is known
--- of them. Of one that acted in a later phase nothing is known.
-abbrev pub reach_from_phase : ℕ → Memo → ℕ
-reach_from_phase phase memo = if nat_le memo.acted phase then reach memo else 0
-
-abbrev pub least_reach : ℕ → JobData → LayoutData → ℕ → ℕ → ℕ → List Memo → ℕ
-least_reach zero job layout node phase rank memory = 3 * job.steps
-least_reach (suc more) job layout node phase rank memory =
-    if has_rank layout node rank
-    then min (reach_from_phase phase (memo_of memory (processor_at layout node rank)))
-    (least_reach more job layout node phase (suc rank) memory)
-    else 3 * job.steps
-
--- and the block, where this phase is done
-abbrev pub block_reach : JobData → LayoutData → ℕ → ℕ → List Memo → ℕ
-block_reach job layout node phase memory =
-    max phase (least_reach (grain layout) job layout node phase 0 memory)
-
--- so it is marked
+-- a block is marked up to where its processors have nothing to do
 abbrev pub block_mark : JobData → LayoutData → ℕ → ℕ → List Memo → ℕ
 block_mark job layout node phase memory =
     bounded_mark node phase (block_reach job layout node phase memory)
@@ -250,16 +217,6 @@ passes_over (suc more) job layout node phase rank memory =
     (λ memo. passes_over more job layout node phase (suc rank)
     (slice_set memory (processor_at layout node rank) memo)) else (rank, memory)
 
--- after the last one's task the processors of a block go on alone, from this rank on
-abbrev pub block_gone_on : ℕ → JobData → LayoutData → ℕ → ℕ → List Memo → List Memo
-block_gone_on zero job layout node rank memory = memory
-block_gone_on (suc more) job layout node rank memory =
-    if has_rank layout node rank
-    then block_gone_on more job layout node (suc rank) (slice_set memory
-    (processor_at layout node rank) (gone_on job (processor_at layout node rank)
-    (memo_of memory (processor_at layout node rank))))
-    else memory
-
 abbrev pub ends_block : JobData → LayoutData → ℕ → ℕ × List Memo → ℕ × List Memo
 ends_block job layout node passed = if has_rank layout node passed.0 then passed
     else (passed.0, block_gone_on (grain layout) job layout node 0 passed.1)
@@ -356,16 +313,6 @@ IsStepOn layout (Max word value) = word < length_of layout
 IsStepOn layout (Swap word old new) = word < length_of layout
 IsStepOn layout (Over end) = ⊥
 
--- the layout is the job's
-abbrev pub IsLayoutOf : JobData → LayoutData → Type 0
-IsLayoutOf job layout = layout ≡ layout_of job layout.form layout.workers
-
--- a job within its limits, and its board
-pub record IsBoard (job : JobData) (board : LayoutData) : Type 0 where
-  pub limits : IsJob job
-  pub layout : IsLayout board
-  pub is : IsLayoutOf job board
-
 -- the worker is not over
 abbrev pub IsGoing : Doing → Type 0
 IsGoing (doing.Over end) = ⊥
@@ -378,10 +325,6 @@ IsPhase job layout (doing.Turn phase) =
 IsPhase job layout (doing.Part phase rank) =
     (1 ≤ phase) × (phase ≤ 3 * job.steps) × IsTrue (has_phase layout.form phase)
 IsPhase job layout _ = Unit {0}
-
-abbrev pub IsWide : Form → Type 0
-IsWide Compact = ⊥
-IsWide (Wide block) = Unit {0}
 
 -- the node is a leaf, in the wide form, and the rank one of its block, or the end of it
 abbrev pub IsInBlock : LayoutData → ℕ → Doing → Type 0

@@ -1,29 +1,29 @@
 -- The parts of the tasks of the wide form, by their results.
-use Rattle.std.specs.Prelude.{◌≡◌, ◌≤◌, ℕ, Bool, true, false, not, ◌||◌, ◌==◌, nat_lt, if◌then◌else◌}
-use Rattle.std.specs.Prelude.{List, [], ◌∷◌, slice_get, slice_index, is_none}
-use Rattle.std.specs.Prelude.{Option, Some, None, option_map, Result, Ok, Err}
+use Rattle.std.specs.Prelude.{ℕ, Bool, true, false, not, ◌||◌, ◌==◌, nat_lt, if◌then◌else◌, List}
+use Rattle.std.specs.Prelude.{[], ◌∷◌, slice_get, slice_index, is_none, Option, Some, None}
+use Rattle.std.specs.Prelude.{option_map, Result, Ok, Err}
 use Rattle.pram_job.specs.Job.{JobData}
 use Rattle.pram_job.specs.declared.instr.Instr.{Instr}
 use Rattle.pram_job.specs.declared.instr.Rule.{Rule}
 use Rattle.pram_job.specs.declared.instr.Rule.TheVariants.{Common, Priority, Crew}
 use Rattle.pram_machine.specs.declared.requests.Request.{Request}
-use Rattle.pram_machine.specs.declared.turn.Turn.{Turn}
-use Rattle.pram_machine.specs.Turns.{IsSorted, put_of}
-use Rattle.pram_machine.specs.Machine.{IsDataPlace, counter_place, out_of_range, register_place}
+use Rattle.pram_machine.specs.Machine.{counter_place, register_place}
 use Rattle.pram_words.specs.Stamps.{stamp_of, payload_of}
 use Rattle.walkx.specs.Driving.{Part}
-use Rattle.walkx.specs.Inner.Posts.{PostData, step_of, processor_of}
-use Rattle.walkx.specs.OwnWrites.{cell_write}
-use Rattle.walkx.specs.Parts.{both_of, claim_loaded, differs_from}
-use Rattle.walkx.specs.Parts.{either_differs, reports_if, swap_of, writes}
+use Rattle.walk_memory.specs.Inner.Posts.{PostData, step_of, processor_of}
+use Rattle.walk_memory.specs.OwnWrites.{cell_write}
+use Rattle.walkx.specs.Parts.{both_of, claim_loaded, differs_from, either_differs, reports_if}
+use Rattle.walkx.specs.Parts.{swap_of, writes}
 use Rattle.walkx.specs.declared.left.Left.{Left}
 use Rattle.walkx.specs.declared.left.Left.TheVariants.{Late}
-use Rattle.walkx.specs.declared.memo.Memo.{Memo}
-use Rattle.walkx.specs.declared.memo.Own.{Own}
-use Rattle.walkx.specs.Memory.{all_registers, asked_by, at_start, cell_named, is_load, is_past}
-use Rattle.walkx.specs.Passes.{carried, claims_store, hears_before, hears_words, is_beyond, knows}
-use Rattle.walkx.specs.Passes.{loads_memo, loads_store, memo_after, own_places, stores, word_before}
-use Rattle.walkx.specs.Passes.{writes_own}
+use Rattle.walk_memory.specs.declared.memo.Memo.{Memo}
+use Rattle.walk_memory.specs.declared.memo.Own.{Own}
+use Rattle.walk_memory.specs.Memory.{all_registers, asked_by, at_start, cell_named, is_load}
+use Rattle.walk_memory.specs.Memory.{is_past}
+use Rattle.walkx.specs.Passes.{claims_store, hears_before, hears_words, is_beyond, knows}
+use Rattle.walkx.specs.Passes.{loads_memo, loads_store, own_places, stores, word_before, writes_own}
+use Rattle.walk_memory.specs.Turned.{stored}
+use Rattle.walk_memory.specs.Learned.{memo_after}
 use Rattle.walkx.specs.Scripts.{Script, asks}
 use Rattle.walkx.specs.Tasks.{claim_of, is_late, reads_cell}
 use Rattle.walkx.specs.Walk.{Then}
@@ -59,13 +59,6 @@ reads_next at cell after next = reads_cell at.layout (step_of at) cell after nex
 -- what it asks for by this instruction at its counter, the cell having held this
 abbrev pub asked_with : PostData → Memo → Option Instr → ℕ → Request
 asked_with at known instr value = asked_by at.job (processor_of at) known.own instr value
-
--- a turn of the processor: its data goes to a cell or to one of its registers, and its counter to
--- an instruction, or it stops
-pub record IsShaped (job : JobData) (i : ℕ) (turn : Turn) : Type 0 where
-  pub place : (place value : ℕ) → put_of turn.put ≡ Some (place, value) → IsDataPlace job i place
-  pub next : turn.next ≤ out_of_range job
-  pub sorted : IsSorted job turn.put
 
 -- ---- the first pass
 
@@ -111,16 +104,6 @@ lands_from at taken tells (r ∷ registers) after next =
 
 abbrev pub own_landed : PostData → Memo → Option ℕ → Part (Unit {0})
 own_landed at taken tells after next = lands_from at taken tells all_registers after next
-
--- what is known once they are written, where its turn stores nothing
-abbrev pub landed : PostData → Memo → Memo
-landed at taken = record {
-  acted = at.phase;
-  step = step_of at;
-  own = taken.own;
-  told = taken.own;
-  store = None;
-}
 
 -- a store is claimed, by the rule
 abbrev pub store_claimed : Rule → PostData → Request → Part (Unit {0})
@@ -182,10 +165,6 @@ abbrev pub stores_of : PostData → Memo → Part (ℕ × ℕ)
 stores_of at memo after next =
     stores at.job at.layout (step_of at) (processor_of at) memo after
     (λ cell value. next (cell, value))
-
--- what is known once it is carried out
-abbrev pub stored : PostData → Memo → Memo
-stored at memo = carried (step_of at) memo
 
 -- the cell is written, unless it was in this step or later: whether another value of the step was
 -- found there

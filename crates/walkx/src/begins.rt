@@ -3,7 +3,7 @@ ghost use Rattle.std.specs.Prelude.{◌≡◌, ◌*◌, ◌%◌, ◌≤◌, ◌=
 ghost use Rattle.pram_words.specs.Phases.{next_phase};
 ghost use Rattle.pram_words.specs.Words.{Admits, number_of};
 ghost use Rattle.pram_words.specs.declared.words.Word.TheVariants.{Conflict, Node, Position};
-ghost use Rattle.walkx.specs.Inner.Posts.{IsPost};
+ghost use Rattle.walk_memory.specs.Inner.Posts.{IsPost};
 ghost use Rattle.walkx.specs.Scripts.{ends};
 ghost use Rattle.walkx.specs.Walk.{begins, turns};
 ghost use Rattle.walkx.specs.Driving.{IsHere, Reaches};
@@ -12,8 +12,8 @@ ghost use Rattle.walkx.specs.Rests.{back_of, begin_of, after_conflict, conflict_
 use crate::left::Stopped;
 use crate::next::Next;
 use crate::operation::{Ended, Op};
-use crate::post::Post;
 use crate::steps::Steps;
+use walk_memory::Post;
 
 /// A worker that comes back stands where its position word says.
 #[inline(always)]
@@ -91,7 +91,7 @@ fn is_whole(root: u64) -> bool
 
 // The worker stands where its position word says.
 #[inline(always)]
-#[tactic(auto, using(crate::proofs::Boards::position_most))]
+#[tactic(auto, using(walk_memory::proofs::Boards::position_most))]
 fn at_node(post: &Post, found: u64) -> Next
     requires { Admits post.now.layout post.now.job (number_of post.now.layout
         (Position post.now.worker)) found }
@@ -112,7 +112,7 @@ fn next_turn(post: &Post, root: u64) -> Next
 
 // What follows the conflict, the root being this.
 #[inline(always)]
-#[tactic(auto, using(crate::proofs::Boards::conflict_most))]
+#[tactic(auto, using(walk_memory::proofs::Boards::conflict_most))]
 fn begun(post: &Post, root: u64, conflict: u64) -> Next
     requires root { root ≤ 3 * post.now.job.steps }
     requires conflict { Admits post.now.layout post.now.job (number_of post.now.layout Conflict)

@@ -7,8 +7,8 @@ ghost use Rattle.walkx.specs.Parts.{applies, carries_out, writes_data};
 use crate::claim::ready;
 use crate::left::Left;
 use crate::parts::{hear_part, is_none, write_place};
-use crate::post::Leaf;
 use crate::steps::Steps;
+use walk_memory::Leaf;
 
 /// The data of a request is written, if there is any.
 #[inline(always)]

@@ -1,14 +1,14 @@
 //! Claims to cells.
-ghost use Rattle.std.specs.Prelude.{◌≡◌, ◌≢◌, ◌≤◌, IfOk};
-ghost use Rattle.pram_words.specs.Words.{counters_of};
+ghost use Rattle.std.specs.Prelude.{◌≢◌, ◌≤◌, IfOk};
 ghost use Rattle.walkx.specs.Driving.{Ends, IsDue, IsNextPart, Plays};
 ghost use Rattle.walkx.specs.Parts.{claims_cell, claims_data, owns, readies};
 
+use crate::judging::{claim_look, claiming, is_cell, is_past, owner_place};
 use crate::left::Left;
 use crate::parts::hear_part;
-use crate::post::Leaf;
 use crate::steps::Steps;
 use pram_job::Rule;
+use walk_memory::Leaf;
 
 /// The cell of a data place is claimed, if it is one.
 #[inline(always)]
@@ -18,8 +18,8 @@ pub(crate) fn claim_data<S: Steps>(steps: &mut S, leaf: &Leaf, place: u32) -> Re
     ensures plays { Plays (S.stands leaf.now) steps.old (claims_data leaf.now place) steps.new
         result }
 {
-    if leaf.is_cell(place) {
-        steps.make(leaf.claiming(place - 1))?;
+    if is_cell(leaf, place) {
+        steps.make(claiming(leaf, place - 1))?;
     }
     Ok(())
 }
@@ -33,14 +33,14 @@ pub(crate) fn owned<S: Steps>(steps: &mut S, leaf: &Leaf, place: u32) -> Result<
     ensures most { IfOk result (λ p. p ≤ place) }
     ensures plays { Plays (S.stands leaf.now) steps.old (owns leaf.now place) steps.new result }
 {
-    if !leaf.is_cell(place) {
+    if !is_cell(leaf, place) {
         return Ok(place);
     }
-    let found = steps.make(leaf.claim_look(place - 1))?;
-    if leaf.is_past(found) {
+    let found = steps.make(claim_look(leaf, place - 1))?;
+    if is_past(leaf, found) {
         return Err(Left::Late);
     }
-    Ok(leaf.owner_place(place, found))
+    Ok(owner_place(leaf, place, found))
 }
 
 /// The data place that is to be written by the rule.

@@ -1,15 +1,16 @@
 //! The verify tasks: what stands in a place, or in a claim, is compared.
-ghost use Rattle.std.specs.Prelude.{◌≡◌, ◌≢◌, ◌<◌, ◌≤◌, ◌==◌};
+ghost use Rattle.std.specs.Prelude.{◌≡◌, ◌≢◌, ◌<◌, ◌≤◌};
 ghost use Rattle.pram_words.specs.Words.{counters_of, places_of};
 ghost use Rattle.walkx.specs.Driving.{Ends, IsDue, IsNextPart, Plays};
 ghost use Rattle.walkx.specs.Parts.{compares, compares_claim, compares_claims, compares_data};
 ghost use Rattle.walkx.specs.Parts.{compares_place, either_differs, reports_if};
 
+use crate::judging::{claim_for, claim_look, differs, is_cell, reporting};
 use crate::left::Left;
 use crate::parts::{hear_both, hear_part, is_none};
-use crate::post::Leaf;
 use crate::steps::Steps;
 use pram_job::Rule;
+use walk_memory::Leaf;
 
 /// The step is reported, if it is against the rule.
 #[inline(always)]
@@ -19,7 +20,7 @@ pub(crate) fn report_if<S: Steps>(steps: &mut S, leaf: &Leaf, conflict: bool) ->
         result }
 {
     if conflict {
-        steps.make(leaf.reporting())?;
+        steps.make(reporting(leaf))?;
     }
     Ok(())
 }
@@ -70,11 +71,11 @@ pub(crate) fn compare_claim<S: Steps>(steps: &mut S, leaf: &Leaf, place: u32) ->
     ensures plays { Plays (S.stands leaf.now) steps.old (compares_claim leaf.now place) steps.new
         result }
 {
-    if !leaf.is_cell(place) {
+    if !is_cell(leaf, place) {
         return Ok(());
     }
-    let found = steps.make(leaf.claim_look(place - 1))?;
-    report_if(steps, leaf, leaf.differs(leaf.claim(), found))
+    let found = steps.make(claim_look(leaf, place - 1))?;
+    report_if(steps, leaf, differs(leaf, claim_for(leaf), found))
 }
 
 /// The verify task of the rule crew.
@@ -93,5 +94,5 @@ pub(crate) fn compare_claims<S: Steps>(steps: &mut S, leaf: &Leaf) -> Result<(),
 pub(crate) fn either_differs(leaf: &Leaf, value: u32, first: u64, second: u64) -> bool
     ensures { result ≡ either_differs leaf.now value (first, second) }
 {
-    leaf.differs(value, first) || leaf.differs(value, second)
+    differs(leaf, value, first) || differs(leaf, value, second)
 }

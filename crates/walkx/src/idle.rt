@@ -5,12 +5,10 @@ ghost use Rattle.pram_words.specs.Words.{grain};
 ghost use Rattle.walkx.specs.Passing.{idle, idle_in, if_so, passed, passed_alone};
 ghost use Rattle.walkx.specs.Rests.{IsBlockPost};
 
-use crate::memo::{Memo, Memory};
-use crate::post::{Leaf, Post};
-use crate::request::fetch;
 use crate::turns::has_rank;
 use crate::wide_own::{passes_by, stay};
 use pram_words::Kind;
+use walk_memory::{Leaf, Memo, Memory, Post, fetch};
 
 /// From the rank of the post on, passes over the processors whose task asks nothing, and remembers
 /// what is then known of them. Answers the rank of the first other one, or that after the last

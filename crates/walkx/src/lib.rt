@@ -1,38 +1,30 @@
 //! A worker and a reader, asked and told one atomic step at a time.
 #![tactic(auto)]
 
-mod alone;
-mod as_one;
 mod begins;
-mod block;
 mod carry;
 mod claim;
 mod claim_plain;
 mod compare;
 mod idle;
+mod judging;
 mod land_at;
 pub mod laws;
 mod left;
-mod load_in;
-pub mod memo;
 mod next;
 mod operation;
 mod own_in;
 mod parts;
 mod plain;
 mod playback;
-mod post;
 mod reader;
 mod record;
 mod request;
-mod row_walk;
-mod rows;
 mod scripts;
-mod span;
 mod steps;
 mod stores;
+pub mod taking;
 mod tasks;
-mod together;
 pub mod turns;
 mod wide_own;
 mod wide_request;
@@ -42,13 +34,11 @@ mod worker;
 
 pub use laws::own_steps_are_bounded;
 pub use left::Stopped;
-pub use load_in::{Claims, Loads};
-pub use memo::{Formed, Memo, Memory, Own, Stand};
 pub use operation::{Activity, Ended, Op, ReadOp, Reading};
-pub use post::{Leaf, Post};
 pub use reader::Reader;
 pub use record::Recorded;
 pub use steps::Steps;
+pub use walk_memory::{Claims, Formed, Leaf, Loads, Memo, Memory, Own, Post, Stand};
 pub use wide_store::report_store;
 pub use words::{request_of, seen_step};
 pub use worker::Worker;

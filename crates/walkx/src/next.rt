@@ -1,6 +1,6 @@
 //! What comes of a script.
-use crate::memo::Memo;
 use crate::operation::Ended;
+use walk_memory::Memo;
 
 /// What comes of a script.
 #[derive(Clone, Copy, Debug, PartialEq, Eq)]

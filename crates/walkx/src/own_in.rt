@@ -1,34 +1,26 @@
 //! The first pass of a processor whose step is known, where its lane lies.
-ghost use Rattle.std.specs.Prelude.{◌≡◌, ◌≢◌, ◌<◌, ℕ, MatchOption, OnOk, None, Some};
-ghost use Rattle.std.specs.Prelude.{IfSome, IsTrue, length, suc};
-ghost use Rattle.pram_words.specs.Phases.{kind_at};
-ghost use Rattle.pram_machine.specs.Instructions.{gives};
-ghost use Rattle.pram_machine.specs.Turns.{request_of};
+ghost use Rattle.std.specs.Prelude.{◌≡◌, ◌≢◌, ◌<◌, ℕ, OnOk, None, Some};
+ghost use Rattle.std.specs.Prelude.{length};
 ghost use Rattle.walkx.specs.Driving.{IsNextPart, Plays};
-ghost use Rattle.walkx.specs.Inner.Posts.{processor_of, step_of};
-ghost use Rattle.walkx.specs.Lanes.{entries, lane};
-ghost use Rattle.walkx.specs.Memory.{cell_named, registers_after};
+ghost use Rattle.walk_memory.specs.Lanes.{lane};
+ghost use Rattle.walk_memory.specs.Memory.{cell_named};
 ghost use Rattle.walkx.specs.Parts.{does_wide};
 ghost use Rattle.walkx.specs.Passing.{Passes, idle};
-ghost use Rattle.walkx.specs.Places.{DoneInLane, LoadsKnown, StandsKnown, tells_all, tells_counter};
-ghost use Rattle.walkx.specs.Places.{tells_register, turned};
-ghost use Rattle.walkx.specs.WideParts.{IsShaped, counter_due, counter_landed, own_landed};
+ghost use Rattle.walkx.specs.Places.{DoneInLane, tells_all, tells_counter, tells_register};
+ghost use Rattle.walk_memory.specs.Stands.{LoadsKnown, StandsKnown};
+ghost use Rattle.walkx.specs.WideParts.{counter_due, counter_landed, own_landed};
 ghost use Rattle.walkx.specs.WideParts.{register_due, register_landed};
 
-use crate::block::{Block, set_entry};
 use crate::land_at::Landing;
 use crate::left::Left;
-use crate::load_in::LoadIn;
-use crate::memo::store_of;
-use crate::plain::forget;
-use crate::post::Leaf;
-use crate::request::{fetch, read_place};
+use crate::request::read_place;
 use crate::steps::Steps;
 use crate::wide_own::{claim_store, settles_by, write_if};
-use crate::wide_request::turn_by;
-use pram_job::{Instr, Job};
-use pram_machine::{Put, Turn, cell_named};
-use pram_words::Kind;
+use pram_job::Instr;
+use pram_machine::cell_named;
+use walk_memory::{
+    Block, Leaf, LoadIn, forget, load_of, set_entry, take_turn, take_value, turn_by,
+};
 
 /// The first pass of the leaf's processor, by its instruction.
 #[inline(always)]
@@ -49,53 +41,6 @@ pub(crate) fn own_in<S: Steps>(
     match load_of(leaf, block, k, instr) {
         Some(load) => load_in(steps, leaf, block, load),
         None => decide_in(steps, leaf, block, k, instr),
-    }
-}
-
-/// The instruction that the leaf's processor stands at, where it is known before the step.
-#[inline(always)]
-pub(crate) fn known_in<'a>(leaf: &Leaf<'a>, block: &Block, k: usize) -> Option<&'a Instr>
-    requires lane { k < 64 }
-    requires first { kind_at leaf.now.phase ≡ Kind.Compute }
-    ensures { IfSome result (λ instr. StandsKnown leaf.now (lane block.now k) instr.now) }
-{
-    let memo = block.memo(k);
-    if memo.is_before(leaf.step()) {
-        fetch(leaf, memo.own.counter)
-    } else {
-        None
-    }
-}
-
-/// It is known before the step, and stands at this counter.
-#[inline(always)]
-pub(crate) fn stands_in(leaf: &Leaf, block: &Block, k: usize, counter: u32) -> bool
-    requires lane { k < 64 }
-    ensures before { IsTrue result → suc (lane block.now k).step ≡ step_of leaf.now }
-    ensures there { IsTrue result → (lane block.now k).own.counter ≡ counter }
-{
-    let memo = block.memo(k);
-    memo.is_before(leaf.step()) && memo.own.counter == counter
-}
-
-// What it loads, if it loads.
-#[inline(always)]
-fn load_of(leaf: &Leaf, block: &Block, k: usize, instr: &Instr) -> Option<LoadIn>
-    requires lane { k < 64 }
-    requires stands { StandsKnown leaf.now (lane block.now k) instr.now }
-    ensures { MatchOption result
-        (cell_named leaf.now.job (lane block.now k).own (Some instr.now) ≡ None)
-        (λ load. (load.lane ≡ k) × LoadsKnown leaf.now (lane block.now k) load.register load.cell) }
-{
-    let own = block.own(k);
-    let cell = cell_named(leaf.job(), instr, &own.registers)?;
-    match *instr {
-        Instr::Ld(register, _) => Some(LoadIn {
-            lane: k,
-            register,
-            cell,
-        }),
-        _ => unreachable!(),
     }
 }
 
@@ -131,24 +76,6 @@ fn load_in<S: Steps>(
             tells,
         },
     )
-}
-
-// The register took this value.
-#[inline(always)]
-fn take_value(leaf: &Leaf, block: &mut Block, load: LoadIn, value: u32)
-    requires { (lane block.old load.lane).own.counter < length leaf.now.job.code }
-    ensures same { lane block.new load.lane ≡ turned leaf.now (lane block.old load.lane)
-        (gives leaf.now.job (processor_of leaf.now) (lane block.old load.lane).own.counter
-        load.register value) }
-    ensures others { (j : ℕ) → j ≢ load.lane → lane block.new j ≡ lane block.old j }
-{
-    let _ = leaf.job();
-    let k = load.lane;
-    block.acted[k] = leaf.phase();
-    block.step[k] = leaf.step();
-    block.counter[k] += 1;
-    set_entry(&mut block.registers, load.register as usize, k, value);
-    block.stored[k] = false;
 }
 
 // The first pass, where it reads no cell: a store is claimed, and in each 64th step, and in a load,
@@ -188,36 +115,6 @@ fn decide_in<S: Steps>(
     }
 }
 
-// The turn is taken.
-#[inline(always)]
-fn take_turn(leaf: &Leaf, block: &mut Block, k: usize, turn: Turn)
-    requires lane { k < 64 }
-    requires shape { IsShaped leaf.now.job (processor_of leaf.now) turn }
-    ensures same { lane block.new k ≡ turned leaf.now (lane block.old k) (request_of turn) }
-    ensures others { (j : ℕ) → j ≢ k → lane block.new j ≡ lane block.old j }
-{
-    put_in(leaf.job(), leaf.processor(), &mut block.registers, k, turn);
-    block.counter[k] = turn.next;
-    block.step[k] = leaf.step();
-    block.set_store(k, leaf.phase(), store_of(leaf.job(), turn));
-}
-
-/// Its register is written, if it writes one.
-#[inline(always)]
-pub(crate) fn put_in(job: &Job, i: u32, registers: &mut [[u32; 64]; 4], k: usize, turn: Turn)
-    requires processor { i < job.now.procs }
-    requires lane { k < 64 }
-    requires shape { IsShaped job.now i turn }
-    ensures same { entries registers.new k ≡ registers_after job.now i (entries registers.old k)
-        (request_of turn).put }
-    ensures others { (j : ℕ) → j ≢ k → entries registers.new j ≡ entries registers.old j }
-{
-    if let Put::Register(place, value) = turn.put {
-        let r = (place - job.register_place(i, 0)) as usize;
-        set_entry(registers, r, k, value);
-    }
-}
-
 // Those of the lane's words are written that no longer tell what it is, and the one that tells the
 // step: a register, or the counter.
 #[inline(always)]
@@ -235,6 +132,7 @@ fn land_in<S: Steps>(
     ensures plays { Plays (S.stands leaf.now) steps.old
         (own_landed leaf.now (lane block.old landing.lane) landing.tells) steps.new result }
 {
+    let _ = block.own(landing.lane);
     for r in 0..4u8 {
         land_register_in(steps, leaf, block, landing, r)?;
     }

@@ -1,16 +1,17 @@
 //! Parts of a task.
 ghost use Rattle.std.specs.Prelude.{◌≡◌, ℕ, ◌+◌, ◌^◌, ◌<◌, ◌≤◌, ◌==◌, IfOk};
-ghost use Rattle.pram_words.specs.Words.{most_asked, places_of};
+ghost use Rattle.pram_words.specs.Words.{most_asked};
 ghost use Rattle.walkx.specs.Driving.{IsNextPart, Plays};
 ghost use Rattle.walkx.specs.declared.operation.Op.TheVariants.{Swap};
-ghost use Rattle.walkx.specs.Inner.Posts.{IsPairAt};
+ghost use Rattle.walk_memory.specs.Inner.Posts.{IsPairAt};
 ghost use Rattle.walkx.specs.Parts.{both_of, hears_request, swap_of, writes};
 
+use crate::judging::{is_late, is_of};
 use crate::left::Left;
 use crate::operation::Op;
-use crate::post::Leaf;
 use crate::steps::Steps;
 use pram_words::{first_is_older, payload, stamped};
+use walk_memory::Leaf;
 
 /// Part j of the request, as long as it is of the step.
 #[inline(always)]
@@ -22,7 +23,7 @@ pub(crate) fn hear_part<S: Steps>(steps: &mut S, leaf: &Leaf, j: u32) -> Result<
         result }
 {
     let found = steps.make(Op::Load(leaf.request_word(j)))?;
-    if leaf.is_of(found) {
+    if is_of(leaf, found) {
         Ok(payload(found))
     } else {
         Err(Left::Late)
@@ -61,7 +62,7 @@ pub(crate) fn write_place<S: Steps>(
         result }
 {
     let (first, second) = hear_both(steps, leaf, place, word)?;
-    if leaf.is_late(first, second) {
+    if is_late(leaf, first, second) {
         return Ok(());
     }
     let (at, old, new) = older_swap(leaf, word, value, first, second);

@@ -1,19 +1,18 @@
 //! The driver of a worker that is asked and told.
 ghost use Rattle.std.specs.Prelude.{◌≡◌, length};
 ghost use Rattle.walkx.specs.Inner.Heard.{newest};
-ghost use Rattle.walkx.specs.Memory.{FitsMemory};
+ghost use Rattle.walk_memory.specs.Memory.{FitsMemory};
 ghost use Rattle.walkx.specs.Playing.{ScriptComesTo};
 ghost use Rattle.walkx.specs.Rests.{IsWithin, script_in};
 ghost use Rattle.walkx.specs.Scripts.{heard_in, rest};
 ghost use Rattle.walkx.specs.Walk.{AllAdmitted};
 
 use crate::left::Stopped;
-use crate::memo::Memory;
 use crate::next::Next;
 use crate::operation::{Activity, Ended, Op};
-use crate::post::Post;
 use crate::scripts::play;
 use crate::steps::Steps;
+use walk_memory::{Memory, Post};
 
 /// Plays back the answers that were heard in a script, and is held at the first operation that has
 /// none.

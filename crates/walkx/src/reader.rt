@@ -5,14 +5,14 @@ ghost use Rattle.walkx.specs.Inner.Glances.{StandsAfterGlance, most_looked, read
 ghost use Rattle.walkx.specs.Inner.Glances.{reads_both, script_of_glance};
 ghost use Rattle.walkx.specs.Reads.{LooksOnBoard, lesser, looks_for, told_at};
 ghost use Rattle.walkx.specs.Scripts.{ends};
-ghost use Rattle.walkx.specs.Walk.{IsBoard};
+ghost use Rattle.walk_memory.specs.Blocks.{IsBoard};
 
 use crate::operation::{ReadOp, Reading};
-use crate::post::within_limits;
 use crate::words::seen_step;
 use pram_job::Job;
 use pram_words::{Layout, newer_payload, payload, stamp};
 use std::marker::Model;
+use walk_memory::within_limits;
 
 /// What a reader asks next, and what for.
 #[derive(Clone, Copy)]
@@ -58,7 +58,7 @@ impl Reader {
     ghost use Rattle.pram_words.specs.Words.{LayoutData};
     ghost use Rattle.walkx.specs.Serving.{FollowsScript};
     ghost use Rattle.walkx.specs.Reads.{HeardAdmitted, LooksFit, LooksOnBoard, answered, op_by};
-    ghost use Rattle.walkx.specs.Walk.{IsLayoutOf};
+    ghost use Rattle.walk_memory.specs.Blocks.{IsLayoutOf};
 
     /// A reader of this cell.
     pub fn new(cell: u32) -> Reader

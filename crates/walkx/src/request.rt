@@ -1,24 +1,25 @@
 //! The compute task.
-ghost use Rattle.std.specs.Prelude.{◌≡◌, ◌<◌, ◌^◌, length, slice_get, IfOk, IfSome, MatchOption};
+ghost use Rattle.std.specs.Prelude.{◌≡◌, ◌<◌, ◌^◌, length, IfOk, IfSome};
 ghost use Rattle.std.specs.Prelude.{None, Some};
 ghost use Rattle.pram_job.specs.Job.{IsInstr};
 ghost use Rattle.pram_machine.specs.Instructions.{HasShape, cell_read, decided, place_part};
 ghost use Rattle.pram_machine.specs.Machine.{register_place};
 ghost use Rattle.pram_words.specs.Words.{places_of};
-ghost use Rattle.walkx.specs.Inner.Posts.{IsLeafPost, IsPairAt, processor_of};
+ghost use Rattle.walk_memory.specs.Inner.Posts.{IsLeafPost, IsPairAt, processor_of};
 ghost use Rattle.walkx.specs.Driving.{Ends, IsDue, IsNextPart, Plays};
 ghost use Rattle.walkx.specs.Parts.{computes, decides_at, executes_at, raises, raises_part, reads};
 ghost use Rattle.walkx.specs.Parts.{reads_cell_of, reads_operands};
 
+use crate::judging::{is_late, raise};
 use crate::left::Left;
 use crate::parts::hear_both;
-use crate::post::Leaf;
 use crate::steps::Steps;
 use pram_job::Instr;
 use pram_machine::{
     Found, Request, Sources, cell_read, decided, goes_to, place_part, sources_of, value_part,
 };
 use pram_words::newer_payload;
+use walk_memory::{Leaf, fetch};
 
 /// What a place held before the step.
 #[inline(always)]
@@ -33,7 +34,7 @@ pub(crate) fn read_place<S: Steps>(
     ensures plays { Plays (S.stands leaf.now) steps.old (reads leaf.now place) steps.new result }
 {
     let (first, second) = hear_both(steps, leaf, place, word)?;
-    if leaf.is_late(first, second) {
+    if is_late(leaf, first, second) {
         Err(Left::Late)
     } else {
         Ok(newer_payload(first, second))
@@ -112,7 +113,7 @@ pub(crate) fn raise_part<S: Steps>(
     ensures plays { Plays (S.stands leaf.now) steps.old (raises_part leaf.now j payload) steps.new
         result }
 {
-    steps.make(leaf.raise(j, payload))?;
+    steps.make(raise(leaf, j, payload))?;
     Ok(())
 }
 
@@ -185,17 +186,6 @@ pub(crate) fn compute<S: Steps>(steps: &mut S, leaf: &Leaf) -> Result<(), Left>
     }
 }
 
-/// The instruction at a counter, if there is one.
-#[inline(always)]
-pub(crate) fn fetch<'a>(leaf: &Leaf<'a>, counter: u32) -> Option<&'a Instr>
-    ensures value { MatchOption result (slice_get leaf.now.job.code counter ≡ None)
-        (λ instr. slice_get leaf.now.job.code counter ≡ Some instr.now) }
-    ensures fits { IfSome result (λ instr. (counter < length leaf.now.job.code)
-        × IsInstr leaf.now.job.cells (length leaf.now.job.code) instr.now) }
-{
-    leaf.job().code().get(counter as usize)
-}
-
 // The cell that an instruction reads, if it reads one.
 #[inline(always)]
 fn cell_of(leaf: &Leaf, instr: Instr, a: u32) -> Option<u32>
@@ -208,7 +198,7 @@ fn cell_of(leaf: &Leaf, instr: Instr, a: u32) -> Option<u32>
 
 // The request of an instruction, these having been found.
 #[inline(always)]
-#[tactic(auto, using(crate::proofs::Boards::place_shape))]
+#[tactic(auto, using(walk_memory::proofs::Boards::place_shape))]
 fn request(leaf: &Leaf, counter: u32, instr: Instr, found: Found) -> Request
     requires counter { counter < length leaf.now.job.code }
     requires instr { IsInstr leaf.now.job.cells (length leaf.now.job.code) instr }

@@ -2,16 +2,15 @@
 ghost use Rattle.std.specs.Prelude.{◌≡◌};
 ghost use Rattle.walkx.specs.Driving.{IsHere, Reaches};
 ghost use Rattle.walkx.specs.Rests.{IsBlockPost, IsWithin, block_of, leads, script_in, then_of};
-ghost use Rattle.walkx.specs.Memory.{FitsMemory};
+ghost use Rattle.walk_memory.specs.Memory.{FitsMemory};
 
 use crate::begins::{back, begin};
 use crate::left::Stopped;
-use crate::memo::Memory;
 use crate::next::Next;
 use crate::operation::Activity;
-use crate::post::Post;
 use crate::steps::Steps;
 use crate::turns::{Turned, has_rank, mark, part, turn};
+use walk_memory::{Memory, Post};
 
 /// The script of an activity, at the node and in the phase where the worker stands.
 #[inline(always)]

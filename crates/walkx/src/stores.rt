@@ -1,26 +1,23 @@
 //! Stores that are remembered: each is carried out by its lane's cell and value.
-ghost use Rattle.std.specs.Prelude.{◌≡◌, ◌≢◌, ◌<◌, ℕ, List, IsTrue, is_some, slice_index, slice_set, true};
+ghost use Rattle.std.specs.Prelude.{◌≡◌, ◌≢◌, ◌<◌, ℕ, List, slice_index, slice_set, true};
 ghost use Rattle.pram_words.specs.Phases.{kind_at};
-ghost use Rattle.walkx.specs.declared.memo.Memo.{Memo};
+ghost use Rattle.walk_memory.specs.declared.memo.Memo.{Memo};
 ghost use Rattle.walkx.specs.Driving.{IsNextPart, Plays, learns};
-ghost use Rattle.walkx.specs.Inner.Posts.{processor_of};
-ghost use Rattle.walkx.specs.Lanes.{lane};
-ghost use Rattle.walkx.specs.Memory.{FitsMemo, memo_of};
+ghost use Rattle.walk_memory.specs.Inner.Posts.{processor_of};
+ghost use Rattle.walk_memory.specs.Lanes.{lane};
+ghost use Rattle.walk_memory.specs.Memory.{FitsMemo, memo_of};
 ghost use Rattle.walkx.specs.Parts.{does_wide};
 ghost use Rattle.walkx.specs.Passing.{TakesUpIf};
-ghost use Rattle.walkx.specs.Rows.{AllIn};
-ghost use Rattle.walkx.specs.Storing.{Carries, HasStore, due_if, none_due};
+ghost use Rattle.walkx.specs.Storing.{Carries, due_if, none_due};
+ghost use Rattle.walk_memory.specs.Plain.{HasStore};
 
-use crate::block::Block;
 use crate::left::{Left, Stopped};
-use crate::post::Leaf;
-use crate::row_walk::{all_equal, all_so};
-use crate::span::Span;
 use crate::steps::Steps;
 use crate::turns::settle;
 use crate::wide_store::{carry_store, carry_until};
 use pram_job::Rule;
 use pram_words::Kind;
+use walk_memory::{Block, Leaf};
 
 /// The second pass of a lane's processor, where it is known what it does in it; else nothing is
 /// done.
@@ -121,13 +118,4 @@ fn none_due(why: Left) -> Result<Option<(u32, u32)>, Stopped>
         Left::Late => Ok(None),
         Left::Held => Err(Stopped),
     }
-}
-
-/// Each of these lanes has a store of this step, if so.
-#[inline(always)]
-pub(crate) fn all_stored(block: &Block, lanes: Span, step: u32) -> bool
-    ensures { IsTrue result → AllIn lanes.start lanes.end (λ k. ((lane block.now k).step ≡ step)
-        × (is_some (lane block.now k).store ≡ true)) }
-{
-    all_equal(&block.step, lanes, step) && all_so(&block.stored, lanes, true)
 }

@@ -2,7 +2,7 @@
 ghost use Rattle.std.specs.Prelude.{◌≡◌, true};
 ghost use Rattle.pram_words.specs.Phases.{kind_at};
 ghost use Rattle.walkx.specs.Driving.{Ends, IsDue, IsNextPart, Plays, learns};
-ghost use Rattle.walkx.specs.Memory.{FitsMemo, is_past};
+ghost use Rattle.walk_memory.specs.Memory.{FitsMemo, is_past};
 ghost use Rattle.walkx.specs.Parts.{does_compact, does_wide, does_wide_in};
 ghost use Rattle.walkx.specs.Passing.{Passes, idle};
 
@@ -10,14 +10,13 @@ use crate::carry::apply;
 use crate::claim::claim_cell;
 use crate::compare::{compare, compare_claims};
 use crate::left::Left;
-use crate::memo::Memo;
-use crate::post::Leaf;
 use crate::request::compute;
 use crate::steps::Steps;
 use crate::wide_own::own;
 use crate::wide_store::{carry_store, store};
 use pram_job::Rule;
 use pram_words::Kind;
+use walk_memory::{Leaf, Memo};
 
 /// The task of the phase in the compact form.
 #[inline(always)]

@@ -1,23 +1,23 @@
 //! Turns.
-ghost use Rattle.std.specs.Prelude.{◌≡◌, ℕ, ◌+◌, ◌-◌, ◌*◌, ◌%◌, ◌<◌, ◌≤◌, ◌&&◌, ◌==◌};
+ghost use Rattle.std.specs.Prelude.{◌≡◌, ◌+◌, ◌-◌, ◌*◌, ◌%◌, ◌<◌, ◌≤◌, ◌&&◌, ◌==◌};
 ghost use Rattle.std.specs.Prelude.{nat_le, nat_lt, IfOk, Option, None};
 ghost use Rattle.pram_words.specs.Words.{number_of};
 ghost use Rattle.pram_words.specs.declared.words.Word.TheVariants.{Node, Position};
-ghost use Rattle.walkx.specs.Inner.Posts.{IsLeafPost, IsPost, then_marks, then_raises};
-ghost use Rattle.walkx.specs.Memory.{FitsMemo, at_start};
-ghost use Rattle.walkx.specs.Walk.{IsWide, bounded_mark, empty_mark, has_rank, last_phase};
-ghost use Rattle.walkx.specs.Walk.{way_down};
+ghost use Rattle.walk_memory.specs.Inner.Posts.{IsLeafPost, IsPost};
+ghost use Rattle.walkx.specs.Inner.Posts.{then_marks, then_raises};
+ghost use Rattle.walk_memory.specs.Memory.{FitsMemo, at_start};
+ghost use Rattle.walk_memory.specs.Blocks.{IsWide, has_rank, last_phase};
+ghost use Rattle.walkx.specs.Walk.{bounded_mark, empty_mark, way_down};
 ghost use Rattle.walkx.specs.Driving.{IsHere, Leads, Reaches, learns_all, settled_or_late};
 ghost use Rattle.walkx.specs.Rests.{entered, has_worked, inner_marks, inner_of, leads, leaves_up};
 ghost use Rattle.walkx.specs.Rests.{moves, part_rest, turn_of};
 
 use crate::left::{Left, Stopped};
-use crate::memo::Memo;
 use crate::operation::Op;
-use crate::post::Post;
 use crate::steps::Steps;
 use crate::tasks::{compact_task, wide_task};
 use pram_words::{Form, left, parent, right};
+use walk_memory::{Memo, Post};
 
 /// What comes of a turn.
 #[derive(Clone, Copy, Debug, PartialEq, Eq)]

@@ -5,23 +5,25 @@ ghost use Rattle.pram_machine.specs.Instructions.{goes_to};
 ghost use Rattle.pram_machine.specs.Turns.{request_of};
 ghost use Rattle.pram_words.specs.Phases.{kind_at};
 ghost use Rattle.walkx.specs.Driving.{IsNextPart, Plays, learns};
-ghost use Rattle.walkx.specs.Inner.Posts.{IsCell, IsPairAt, processor_of, step_of};
-ghost use Rattle.walkx.specs.Memory.{cell_named, cell_next, is_load, settles_in};
-ghost use Rattle.walkx.specs.Passing.{IsStand, Passes, idle_in, if_so};
-ghost use Rattle.walkx.specs.WideParts.{IsShaped, claimed_cell, counter_due, counter_landed};
-ghost use Rattle.walkx.specs.WideParts.{does_own, does_own_by, learned, own_landed, own_written};
+ghost use Rattle.walk_memory.specs.Inner.Posts.{IsCell, IsPairAt, processor_of, step_of};
+ghost use Rattle.walk_memory.specs.Memory.{cell_named, cell_next, is_load, settles_in};
+ghost use Rattle.walk_memory.specs.Stands.{IsStand};
+ghost use Rattle.walkx.specs.Passing.{Passes, idle_in, if_so};
+ghost use Rattle.walk_memory.specs.Turned.{IsShaped};
+ghost use Rattle.walkx.specs.WideParts.{claimed_cell, counter_due, counter_landed, does_own};
+ghost use Rattle.walkx.specs.WideParts.{does_own_by, learned, own_landed, own_written};
 ghost use Rattle.walkx.specs.WideParts.{register_due, register_landed, store_claimed, writes_if};
 
+use crate::judging::claiming;
 use crate::left::Left;
-use crate::memo::Memo;
 use crate::parts::write_place;
-use crate::post::Leaf;
-use crate::request::{fetch, read_place};
+use crate::request::read_place;
 use crate::steps::Steps;
-use crate::wide_request::{is_load, know, turn_by};
+use crate::wide_request::know;
 use pram_job::{Instr, Rule};
 use pram_machine::{Put, Turn, cell_named};
 use pram_words::Kind;
+use walk_memory::{Leaf, Memo, fetch, is_load, turn_by};
 
 // A place of the processor's own, of which this is the first word, is written, if it is to be.
 #[inline(always)]
@@ -165,7 +167,7 @@ pub(crate) fn claim_store<S: Steps>(steps: &mut S, leaf: &Leaf, turn: Turn) -> R
     match claimed(leaf, turn) {
         None => Ok(()),
         Some(cell) => {
-            steps.make(leaf.claiming(cell))?;
+            steps.make(claiming(leaf, cell))?;
             Ok(())
         }
     }

@@ -1,25 +1,20 @@
 //! What a processor of the wide form asks for in a step, worked out from what is remembered of it,
 //! or from its own places.
-ghost use Rattle.std.specs.Prelude.{◌≡◌, suc, ◌<◌, length, None, Some, Ok, Err, [], ◌∷◌, IfOk};
-ghost use Rattle.pram_job.specs.Job.{IsInstr};
+ghost use Rattle.std.specs.Prelude.{◌≡◌, suc, ◌<◌, None, Ok, Err};
 ghost use Rattle.pram_machine.specs.Machine.{register_place};
-ghost use Rattle.pram_machine.specs.Turns.{request_of};
 ghost use Rattle.walkx.specs.Driving.{IsNextPart, Plays, loads};
-ghost use Rattle.walkx.specs.Inner.Posts.{IsPairAt, processor_of, step_of};
-ghost use Rattle.walkx.specs.Memory.{asked_by, is_load};
-ghost use Rattle.walkx.specs.Passes.{is_beyond, loaded_memo, word_before};
-ghost use Rattle.walkx.specs.WideParts.{IsShaped, heard_before, hears_own, memo_known};
+ghost use Rattle.walk_memory.specs.Inner.Posts.{IsPairAt, processor_of, step_of};
+ghost use Rattle.walkx.specs.Passes.{is_beyond, word_before};
+ghost use Rattle.walk_memory.specs.Learned.{loaded_memo};
+ghost use Rattle.walkx.specs.WideParts.{heard_before, hears_own, memo_known};
 ghost use Rattle.walkx.specs.WideParts.{memo_loaded};
 
-use crate::alone::own_alone;
+use crate::judging::{is_of, is_past};
 use crate::left::Left;
-use crate::memo::{Memo, Own};
 use crate::parts::hear_both;
-use crate::post::Leaf;
 use crate::steps::Steps;
-use pram_job::{Instr, Job};
-use pram_machine::{Turn, decided_by};
 use pram_words::{newer, payload, stamp};
+use walk_memory::{Leaf, Memo, Own, own_alone};
 
 // The word of a place of the processor's own that was written before the step. Whoever finds it
 // written later is late.
@@ -43,7 +38,7 @@ fn hear_before<S: Steps>(steps: &mut S, leaf: &Leaf, place: u32, word: u32) -> R
 fn is_beyond(leaf: &Leaf, first: u64, second: u64) -> bool
     ensures { result ≡ is_beyond (step_of leaf.now) first second }
 {
-    leaf.is_past(first) || leaf.is_past(second)
+    is_past(leaf, first) || is_past(leaf, second)
 }
 
 // A word of the step stands beside it.
@@ -51,9 +46,9 @@ fn is_beyond(leaf: &Leaf, first: u64, second: u64) -> bool
 fn word_before(leaf: &Leaf, first: u64, second: u64) -> u64
     ensures { result ≡ word_before (step_of leaf.now) first second }
 {
-    if leaf.is_of(first) {
+    if is_of(leaf, first) {
         second
-    } else if leaf.is_of(second) {
+    } else if is_of(leaf, second) {
         first
     } else {
         newer(first, second)
@@ -134,36 +129,4 @@ pub(crate) fn know<S: Steps>(steps: &mut S, leaf: &Leaf, memo: &mut Memo) -> Res
         *memo = load_memo(steps, leaf)?;
     }
     Ok(())
-}
-
-/// What it asks for, the cell having held this.
-#[inline(always)]
-pub(crate) fn turn_by(leaf: &Leaf, own: &Own, instr: &Instr, value: u32) -> Turn
-    requires counter { own.now.counter < length leaf.now.job.code }
-    requires instr { IsInstr leaf.now.job.cells (length leaf.now.job.code) instr.now }
-    ensures value { request_of result ≡ asked_by leaf.now.job (processor_of leaf.now) own.now
-        (Some instr.now) value }
-    ensures shape { IsShaped leaf.now.job (processor_of leaf.now) result }
-{
-    turn_of(leaf.job(), leaf.processor(), own, instr, value)
-}
-
-/// The same of processor i.
-#[inline(always)]
-pub(crate) fn turn_of(job: &Job, i: u32, own: &Own, instr: &Instr, value: u32) -> Turn
-    requires processor { i < job.now.procs }
-    requires counter { own.now.counter < length job.now.code }
-    requires instr { IsInstr job.now.cells (length job.now.code) instr.now }
-    ensures value { request_of result ≡ asked_by job.now i own.now (Some instr.now) value }
-    ensures shape { IsShaped job.now i result }
-{
-    decided_by(job, i, own.counter, instr, &own.registers, value)
-}
-
-/// The instruction is a load.
-#[inline(always)]
-pub(crate) fn is_load(instr: &Instr) -> bool
-    ensures { result ≡ is_load (Some instr.now) }
-{
-    matches!(*instr, Instr::Ld(_, _))
 }

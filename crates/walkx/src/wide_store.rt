@@ -4,8 +4,8 @@ ghost use Rattle.std.specs.Prelude.{◌≡◌, ◌≢◌, ◌<◌, true, length,
 ghost use Rattle.pram_job.specs.Job.{IsInstr};
 ghost use Rattle.pram_words.specs.Phases.{kind_at};
 ghost use Rattle.walkx.specs.Driving.{Ends, IsDue, IsNextPart, Leads, Plays};
-ghost use Rattle.walkx.specs.Inner.Posts.{IsCellOf, IsLeafPost};
-ghost use Rattle.walkx.specs.Memory.{FitsMemo, is_past};
+ghost use Rattle.walk_memory.specs.Inner.Posts.{IsCellOf, IsLeafPost};
+ghost use Rattle.walk_memory.specs.Memory.{FitsMemo, is_past};
 ghost use Rattle.walkx.specs.Scripts.{Script};
 ghost use Rattle.walkx.specs.Walk.{Then};
 ghost use Rattle.walkx.specs.WideParts.{carried_until, crew_until, kept_as, owned_written};
@@ -13,16 +13,15 @@ ghost use Rattle.walkx.specs.WideParts.{priority_store, priority_until, store_by
 ghost use Rattle.walkx.specs.WideParts.{store_left, store_loaded, stores_of, swaps, write_left};
 
 use crate::compare::{either_differs, report_if};
+use crate::judging::{claim_for, claim_look, differs, is_late, is_own, is_past};
 use crate::left::{Left, Stopped};
-use crate::memo::{Memo, Own, store_of};
 use crate::parts::{hear_both, older_swap, write_place};
-use crate::post::Leaf;
-use crate::request::fetch;
 use crate::steps::Steps;
 use crate::turns::settle;
-use crate::wide_request::{is_load, load_memo, turn_by};
+use crate::wide_request::load_memo;
 use pram_job::{Instr, Rule};
 use pram_words::Kind;
+use walk_memory::{Leaf, Memo, Own, fetch, is_load, store_of, turn_by};
 
 // The processor's store, worked out from its own places.
 #[inline(never)]
@@ -76,7 +75,7 @@ pub(crate) fn store<S: Steps>(steps: &mut S, leaf: &Leaf, memo: &Memo) -> Result
 
 // This store, if there is one; else nothing is left of the task.
 #[inline(always)]
-#[tactic(auto, using(crate::proofs::CellParts::cell_of))]
+#[tactic(auto, using(walk_memory::proofs::ClaimWords::cell_of))]
 fn kept(leaf: &Leaf, store: Option<(u32, u32)>) -> Result<(u32, u32), Left>
     requires { IfSome store (λ write. write.0 < leaf.now.job.cells) }
     ensures value { result ≡ kept_as store }
@@ -103,12 +102,12 @@ pub(crate) fn swap<S: Steps>(
 {
     let word = leaf.cell_word(cell);
     let (first, second) = hear_both(steps, leaf, cell, word)?;
-    if leaf.is_late(first, second) {
+    if is_late(leaf, first, second) {
         return Ok(either_differs(leaf, value, first, second));
     }
     let (at, old, new) = older_swap(leaf, word, value, first, second);
     let found = steps.swap(at, old, new)?;
-    Ok(leaf.differs(value, found))
+    Ok(differs(leaf, value, found))
 }
 
 /// A store is carried out by the rule.
@@ -205,8 +204,8 @@ fn write_looked<S: Steps>(steps: &mut S, leaf: &Leaf, write: (u32, u32)) -> Resu
         result }
 {
     let (cell, value) = write;
-    let found = steps.make(leaf.claim_look(cell))?;
-    if leaf.differs(leaf.claim(), found) {
+    let found = steps.make(claim_look(leaf, cell))?;
+    if differs(leaf, claim_for(leaf), found) {
         return Ok(true);
     }
     write_place(steps, leaf, cell, leaf.cell_word(cell), value)?;
@@ -235,8 +234,8 @@ fn carry_priority<S: Steps>(steps: &mut S, leaf: &Leaf, write: (u32, u32)) -> Re
     ensures plays { Plays (S.stands leaf.now) steps.old (priority_store leaf.now write) steps.new
         result }
 {
-    let found = steps.make(leaf.claim_look(write.0))?;
-    if leaf.is_past(found) {
+    let found = steps.make(claim_look(leaf, write.0))?;
+    if is_past(leaf, found) {
         return Err(Left::Late);
     }
     write_owned(steps, leaf, write, found)
@@ -256,7 +255,7 @@ fn write_owned<S: Steps>(
         steps.new result }
 {
     let (cell, value) = write;
-    if leaf.is_own(found) {
+    if is_own(leaf, found) {
         write_place(steps, leaf, cell, leaf.cell_word(cell), value)
     } else {
         Ok(())

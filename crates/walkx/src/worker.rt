@@ -1,14 +1,13 @@
 //! The worker.
 use crate::idle::pass_over;
-use crate::memo::Memory;
 use crate::next::Next;
 use crate::operation::{Activity, Ended, Op};
 use crate::playback::play_back;
-use crate::post::{Post, within_limits};
 use pram_job::Job;
 use pram_words::Layout;
 use std::marker::Model;
 use std::mem;
+use walk_memory::{Memory, Post, within_limits};
 
 /// A worker. It asks for one atomic step at a time, and is told the answer.
 #[derive(Drop)]
@@ -42,16 +41,16 @@ impl Worker {
     ghost use Rattle.pram_words.specs.Words.{LayoutData};
     ghost use Rattle.walkx.specs.Activities.{activity_of};
     ghost use Rattle.walkx.specs.Inner.Workers.{worker_data};
-    ghost use Rattle.walkx.specs.Memory.{FitsMemory, IsTrueMemory, blank};
+    ghost use Rattle.walk_memory.specs.Memory.{FitsMemory, IsTrueMemory, blank};
     ghost use Rattle.walkx.specs.Playing.{ScriptComesTo, IsPlayable, op_after, come_to, hearing};
-    ghost use Rattle.walkx.specs.Inner.Posts.{post_data};
+    ghost use Rattle.walk_memory.specs.Inner.Posts.{post_data};
     ghost use Rattle.walkx.specs.Playing.{GoesOn, IsBlockPlace, stand_of};
     ghost use Rattle.walkx.specs.Records.{Record, Knows};
     ghost use Rattle.walkx.specs.Serving.{IsNewWorker, Serves};
     ghost use Rattle.walkx.specs.Turns.{beginning, turn_begun};
-    ghost use Rattle.walkx.specs.Walk.{AsksAdmitted, HearsAdmitted, IsBoard, IsLayoutOf};
-    ghost use Rattle.walkx.specs.Walk.{IsStepOn, ask_of, come_back, end_of, goes_in, rest_of};
-    ghost use Rattle.walkx.specs.Walk.{remembering, started, told};
+    ghost use Rattle.walkx.specs.Walk.{AsksAdmitted, HearsAdmitted, IsStepOn, ask_of, come_back};
+    ghost use Rattle.walkx.specs.Walk.{end_of, goes_in, rest_of, remembering, started, told};
+    ghost use Rattle.walk_memory.specs.Blocks.{IsBoard, IsLayoutOf};
 
     /// Worker w, at its first leaf.
     pub fn start(w: u32) -> Worker

@@ -2,11 +2,12 @@
 use Rattle.std.specs.Prelude.{◌≡◌, ◌≤◌, ◌<◌, ℕ, Bool, true, false, ◌⊎◌, ◌+◌, ◌%◌, ◌^◌, nat_lt, suc}
 use Rattle.std.specs.Prelude.{List, [], ◌∷◌, length, slice_set, Option, Some, None, IfSome}
 use Rattle.walkx.specs.declared.operation.Op.{Op}
-use Rattle.walkx.specs.Inner.Posts.{IsCellOf, IsLeafPost, PostData, at_rank, processor_of}
-use Rattle.walkx.specs.Memory.{FitsMemory, memo_of}
+use Rattle.walk_memory.specs.Inner.Posts.{IsCellOf, IsLeafPost, PostData, at_rank, processor_of}
+use Rattle.walk_memory.specs.Memory.{FitsMemory, memo_of}
 use Rattle.walkx.specs.Passing.{idle}
 use Rattle.walkx.specs.Rests.{has_worked}
-use Rattle.walkx.specs.Storing.{AllStore, left_of}
+use Rattle.walk_memory.specs.Plain.{AllStore}
+use Rattle.walkx.specs.Storing.{left_of}
 use Rattle.walkx.specs.Bound.{told_all}
 use Rattle.walkx.specs.Inner.Workers.{WorkerData}
 use Rattle.walkx.specs.Records.{Knows}
@@ -14,9 +15,10 @@ use Rattle.walkx.specs.Scripts.{Script, ends, rest, first_op, heard_in}
 use Rattle.walkx.specs.Turns.{beginning, turning}
 use Rattle.walkx.specs.declared.turns.Turned.{Turned}
 use Rattle.walkx.specs.declared.turns.Turned.TheVariants as turned
-use Rattle.walkx.specs.declared.memo.Memo.{Memo}
-use Rattle.walkx.specs.Walk.{Then, Walking, Fits, IsBoard, IsGoing, AllAdmitted, end_of, goes_in}
-use Rattle.walkx.specs.Walk.{begins, has_rank, script_of}
+use Rattle.walk_memory.specs.declared.memo.Memo.{Memo}
+use Rattle.walkx.specs.Walk.{Then, Walking, Fits, IsGoing, AllAdmitted, end_of, goes_in, begins}
+use Rattle.walkx.specs.Walk.{script_of}
+use Rattle.walk_memory.specs.Blocks.{IsBoard, has_rank}
 use Rattle.pram_board.specs.declared.driver.Driver.{Driver}
 use Rattle.pram_board.specs.declared.task.Task.{Task}
 use Rattle.pram_board.specs.Seats.{Desk, SeatData, hears_all}

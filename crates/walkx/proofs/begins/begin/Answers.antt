@@ -1,5 +1,5 @@
 use Rattle.std.proofs.Common.{sym, ap, ◌∙◌}
-use Rattle.walkx.proofs.Boards.{root_most}
+use Rattle.walk_memory.proofs.Boards.{root_most}
 use Rattle.walkx.proofs.Passing.{passed}
 use Rattle.walkx.proofs.Turning.{moved}
 use Rattle.walkx.specs.Scripts.{ends}

@@ -1,5 +1,5 @@
 use Rattle.walkx.proofs.Passing.{passed}
-use Rattle.walkx.specs.Inner.Posts.{processor_of}
+use Rattle.walk_memory.specs.Inner.Posts.{processor_of}
 use Rattle.pram_machine.specs.Machine.{counter_place}
 use Rattle.walkx.specs.Parts.{writes}
 use Rattle.walkx.proofs.carry.carry.Goals as goal

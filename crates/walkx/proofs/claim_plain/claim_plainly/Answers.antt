@@ -1,7 +1,7 @@
 use Rattle.std.proofs.Common.{◌≤◌, length, ◌∙◌, arith}
 use Rattle.std.proofs.lemmas.Option.{slice_get_within}
 use Rattle.walkx.specs.declared.left.Left.TheVariants.{Held}
-use Rattle.walkx.specs.Lanes.{lane}
+use Rattle.walk_memory.specs.Lanes.{lane}
 use Rattle.walkx.specs.WideParts.{learned}
 use Rattle.walkx.proofs.FirstPass.{claimed, decides_first}
 use Rattle.walkx.proofs.Passing.{passed}

@@ -24,7 +24,7 @@ pub report_if-requires : goal.report_if-requires
 report_if-requires g c =
     let at = c.args.leaf.now in
     let r = c.requires.next in
-    rw (c.differs.ensures, c.claim.ensures) (record {
+    rw (c.differs.ensures, c.claim_for.ensures) (record {
       next = record {
         from = r.from;
         after = r.after;

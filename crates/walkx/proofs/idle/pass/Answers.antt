@@ -1,7 +1,7 @@
 use Rattle.std.proofs.Common.{◌≡◌, ◌+◌, ◌-◌, true, sym, ◌∙◌, arith}
 use Rattle.pram_words.specs.Words.{grain}
-use Rattle.walkx.specs.Walk.{has_rank}
-use Rattle.walkx.proofs.Firsts.{rank_parts}
+use Rattle.walk_memory.specs.Blocks.{has_rank}
+use Rattle.walk_memory.proofs.Ranks.{rank_parts}
 use Rattle.walkx.proofs.Stepping.{goes_past, none_left, stops_here}
 use Rattle.walkx.proofs.idle.pass.Goals as goal
 

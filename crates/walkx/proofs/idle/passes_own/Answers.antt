@@ -1,7 +1,7 @@
 use Rattle.std.proofs.Common.{◌≡◌, ◌==◌, suc, true, false, sym, ◌∙◌}
 use Rattle.std.proofs.lemmas.Bool.{eqb-true}
-use Rattle.walkx.specs.Inner.Posts.{step_of}
-use Rattle.walkx.specs.Memory.{is_past}
+use Rattle.walk_memory.specs.Inner.Posts.{step_of}
+use Rattle.walk_memory.specs.Memory.{is_past}
 use Rattle.walkx.proofs.Silent.{past_idle, stopped_idle, unknown_idle}
 use Rattle.walkx.proofs.idle.passes_own.Goals as goal
 

@@ -1,15 +1,15 @@
 use Rattle.std.proofs.Common.{◌≡◌, Err, Some, None, true, false, refl, sym, ap, ◌∙◌}
 use Rattle.pram_machine.specs.declared.requests.Request.{Request}
 use Rattle.pram_machine.specs.Turns.{request_of}
-use Rattle.walkx.specs.declared.memo.Memo.{Memo}
-use Rattle.walkx.specs.declared.memo.Own.{Own}
-use Rattle.walkx.specs.Inner.Posts.{processor_of, step_of}
-use Rattle.walkx.specs.Lanes.{lane}
-use Rattle.walkx.specs.Memory.{asked_by, settles_in}
+use Rattle.walk_memory.specs.declared.memo.Memo.{Memo}
+use Rattle.walk_memory.specs.declared.memo.Own.{Own}
+use Rattle.walk_memory.specs.Inner.Posts.{processor_of, step_of}
+use Rattle.walk_memory.specs.Lanes.{lane}
+use Rattle.walk_memory.specs.Memory.{asked_by, settles_in}
 use Rattle.walkx.specs.Places.{tells_all}
 use Rattle.walkx.specs.WideParts.{asked_with, learned}
 use Rattle.walkx.proofs.FirstPass.{claimed, decides_first, next_is}
-use Rattle.walkx.proofs.GoingAlone.{settles_by}
+use Rattle.walk_memory.proofs.GoingAlone.{settles_by}
 use Rattle.walkx.proofs.Landing.{quiet_taken, settled_landed}
 use Rattle.walkx.proofs.Passing.{passed}
 use Rattle.walkx.proofs.Placed.{lags_written, ok_learns, turned_quiet, turned_settled}

@@ -1,5 +1,5 @@
-use Rattle.std.proofs.Common.{◌≡◌, ℕ, ◌+◌, suc, List, length, slice_index, subst, ◌∙◌, arith}
-use Rattle.std.proofs.lemmas.List.{length-map}
+use Rattle.std.proofs.Common.{◌≡◌, ℕ, ◌+◌, suc, length, sym, ap, subst, ◌∙◌, arith}
+use Rattle.walk_memory.specs.declared.memo.Own.{Own}
 use Rattle.walkx.specs.Places.{LandedTo}
 use Rattle.walkx.proofs.Passing.{passed}
 use Rattle.walkx.proofs.Placed.{counter_next, counter_plays, counter_tells, on_ok, register_done}
@@ -43,13 +43,12 @@ land_counter_in-requires g c =
 pub returns-clause-told : goal.returns-clause-told
 returns-clause-told g c =
     let block = c.args.block.now in
-    let k = c.args.landing.lane in
     let four : c.loop-r.r ≡ 4 = omega (arith, c.loop-r-test.false, c.loop-r.auto.r-end) in
-    let lo : length block.registers ≡ 4 = omega arith in
+    let held : length c.own.result.registers ≡ 4 = omega arith in
     on_ok c.land_counter_in.result
     (counter_tells (g.S.Steps.stands c.args.leaf.now) c.args.leaf.now c.args.steps.now
     block c.args.landing c.loop-r.r c.loop-r.steps c.loop-r.block c.loop-r.invariant four _
-    (length-map block.registers (λ (r : List ℕ). slice_index r k) ∙ lo)
+    (ap (λ (o : Own). length o.registers) (sym c.own.ensures) ∙ held)
     c.land_counter_in.ensures.told)
 
 pub returns-clause-plays : goal.returns-clause-plays

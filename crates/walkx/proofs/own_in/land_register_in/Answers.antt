@@ -1,6 +1,6 @@
 use Rattle.std.proofs.Common.{◌≡◌, ℕ, List, length, slice_index, sym, ◌∙◌, arith}
 use Rattle.std.proofs.lemmas.List.{length-map}
-use Rattle.walkx.proofs.InLanes.{entry_is}
+use Rattle.walk_memory.proofs.InLanes.{entry_is}
 use Rattle.walkx.proofs.own_in.land_register_in.Goals as goal
 
 pub write_if-requires-clause-next : goal.write_if-requires-clause-next

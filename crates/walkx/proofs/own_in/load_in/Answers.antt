@@ -2,10 +2,10 @@ use Rattle.std.proofs.Common.{◌≡◌, Err, refl, ap, ◌∙◌}
 use Rattle.std.proofs.lemmas.Option.{slice_get_within}
 use Rattle.pram_job.specs.declared.instr.Instr.TheVariants.{Ld}
 use Rattle.pram_machine.specs.Instructions.{gives}
-use Rattle.walkx.specs.declared.memo.Memo.{Memo}
-use Rattle.walkx.specs.Inner.Posts.{processor_of, step_of}
-use Rattle.walkx.specs.Lanes.{lane}
-use Rattle.walkx.specs.Memory.{at_start}
+use Rattle.walk_memory.specs.declared.memo.Memo.{Memo}
+use Rattle.walk_memory.specs.Inner.Posts.{processor_of, step_of}
+use Rattle.walk_memory.specs.Lanes.{lane}
+use Rattle.walk_memory.specs.Memory.{at_start}
 use Rattle.walkx.specs.Places.{tells_all}
 use Rattle.walkx.specs.WideParts.{learned}
 use Rattle.walkx.proofs.FirstPass.{made_with, reads_first, settles_reading}

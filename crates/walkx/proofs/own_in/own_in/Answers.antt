@@ -1,5 +1,5 @@
 use Rattle.pram_job.specs.declared.instr.Instr.TheVariants.{Ld}
-use Rattle.walkx.specs.Lanes.{lane}
+use Rattle.walk_memory.specs.Lanes.{lane}
 use Rattle.walkx.proofs.Silent.{where_reads}
 use Rattle.walkx.proofs.TakingUp.{own_idle}
 use Rattle.walkx.proofs.own_in.own_in.Goals as goal

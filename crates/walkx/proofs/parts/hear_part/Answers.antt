@@ -1,7 +1,7 @@
 use Rattle.std.proofs.Common.{arith, sym, ◌∙◌, ◌==◌, if◌then◌else◌}
 use Rattle.pram_words.specs.Stamps.{stamp_of, payload_of}
-use Rattle.walkx.proofs.Boards.{asked_part}
-use Rattle.walkx.specs.Inner.Posts.{step_of, processor_of}
+use Rattle.walk_memory.proofs.Boards.{asked_part}
+use Rattle.walk_memory.specs.Inner.Posts.{step_of, processor_of}
 use Rattle.walkx.proofs.parts.hear_part.Goals as goal
 
 pub make-requires : goal.make-requires

@@ -1,9 +1,9 @@
 use Rattle.std.proofs.Common.{ℕ, Err, refl, sym, ap, ◌∙◌}
 use Rattle.pram_job.specs.declared.instr.Instr.TheVariants.{Ld}
 use Rattle.pram_machine.specs.Instructions.{gives}
-use Rattle.walkx.specs.Inner.Posts.{processor_of}
-use Rattle.walkx.specs.Lanes.{lane}
-use Rattle.walkx.specs.Memory.{at_start}
+use Rattle.walk_memory.specs.Inner.Posts.{processor_of}
+use Rattle.walk_memory.specs.Lanes.{lane}
+use Rattle.walk_memory.specs.Memory.{at_start}
 use Rattle.walkx.specs.Parts.{writes}
 use Rattle.walkx.specs.WideParts.{learned}
 use Rattle.walkx.proofs.FirstPass.{made_with, reads_first}

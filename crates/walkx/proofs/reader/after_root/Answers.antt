@@ -1,6 +1,6 @@
 use Rattle.std.proofs.Common.{arith}
 use Rattle.walkx.specs.Reads.{reader_script}
-use Rattle.walkx.proofs.Boards.{root_most}
+use Rattle.walk_memory.proofs.Boards.{root_most}
 use Rattle.walkx.proofs.reader.after_root.Goals as goal
 
 pub seen_step-requires : goal.seen_step-requires

@@ -1,12 +1,12 @@
 use Rattle.std.proofs.Common.{◌≡◌, List, Ok, Err, rules, refl, sym, ap, subst, ◌∙◌}
 use Rattle.std.specs.Prelude.{slice_set}
-use Rattle.walkx.specs.declared.memo.Memo.{Memo}
-use Rattle.walkx.specs.Inner.Posts.{processor_of}
-use Rattle.walkx.specs.Lanes.{lane}
-use Rattle.walkx.specs.Memory.{is_past}
+use Rattle.walk_memory.specs.declared.memo.Memo.{Memo}
+use Rattle.walk_memory.specs.Inner.Posts.{processor_of}
+use Rattle.walk_memory.specs.Lanes.{lane}
+use Rattle.walk_memory.specs.Memory.{is_past}
 use Rattle.walkx.specs.Passing.{TakesUp, TakesUpIf}
-use Rattle.walkx.specs.Storing.{HasStore}
-use Rattle.walkx.proofs.Memories.{memo_again}
+use Rattle.walk_memory.specs.Plain.{HasStore}
+use Rattle.walk_memory.proofs.Memories.{memo_again}
 use Rattle.walkx.proofs.Storing.{store_asks}
 use Rattle.walkx.proofs.TakingUp.{past_if, takes_up}
 use Rattle.walkx.proofs.stores.carry_known.Goals as goal

@@ -1,11 +1,12 @@
 use Rattle.std.proofs.Common.{ℕ, Err}
 use Rattle.std.specs.Prelude.{slice_index}
-use Rattle.walkx.specs.Lanes.{lane}
+use Rattle.walk_memory.specs.Lanes.{lane}
 use Rattle.walkx.specs.Storing.{carried_in}
-use Rattle.walkx.proofs.CellParts.{cell_of}
+use Rattle.walk_memory.proofs.ClaimWords.{cell_of}
 use Rattle.walkx.proofs.Passing.{passed}
 use Rattle.walkx.proofs.Settling.{learned_comes}
-use Rattle.walkx.proofs.Storing.{carries, cell_fits, lane_store}
+use Rattle.walkx.proofs.Storing.{carries}
+use Rattle.walk_memory.proofs.Storing.{cell_fits, lane_store}
 use Rattle.walkx.proofs.Turning.{comes_to, moved}
 use Rattle.walkx.proofs.stores.carry_lane.Goals as goal
 

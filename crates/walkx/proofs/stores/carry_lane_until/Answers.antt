@@ -2,12 +2,13 @@ use Rattle.std.proofs.Common.{◌≡◌, ℕ, None, Ok, Err, refl, sym, ap, subs
 use Rattle.std.specs.Prelude.{slice_index, slice_set}
 use Rattle.pram_job.specs.declared.instr.Rule.{Rule}
 use Rattle.walkx.specs.Driving.{IsNextPart}
-use Rattle.walkx.specs.Inner.Posts.{processor_of}
-use Rattle.walkx.specs.Lanes.{lane}
+use Rattle.walk_memory.specs.Inner.Posts.{processor_of}
+use Rattle.walk_memory.specs.Lanes.{lane}
 use Rattle.walkx.specs.Storing.{carried_in}
 use Rattle.walkx.specs.WideParts.{carried_until}
-use Rattle.walkx.proofs.CellParts.{cell_of}
-use Rattle.walkx.proofs.Storing.{carries_until, carries_up, cell_fits, lane_store, left_if}
+use Rattle.walk_memory.proofs.ClaimWords.{cell_of}
+use Rattle.walkx.proofs.Storing.{carries_until, carries_up, left_if}
+use Rattle.walk_memory.proofs.Storing.{cell_fits, lane_store}
 use Rattle.walkx.proofs.Turning.{moved}
 use Rattle.walkx.proofs.stores.carry_lane_until.Goals as goal
 

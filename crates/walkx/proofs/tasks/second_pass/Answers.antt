@@ -1,5 +1,6 @@
 use Rattle.std.proofs.Common.{Err, refl}
-use Rattle.walkx.specs.WideParts.{store_carried, stored}
+use Rattle.walkx.specs.WideParts.{store_carried}
+use Rattle.walk_memory.specs.Turned.{stored}
 use Rattle.walkx.proofs.Passes.{next_as, plays_as}
 use Rattle.walkx.proofs.Passing.{passed}
 use Rattle.walkx.proofs.Settling.{learned_comes}

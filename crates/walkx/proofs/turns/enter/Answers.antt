@@ -3,10 +3,11 @@ use Rattle.walkx.specs.Scripts.{ends}
 use Rattle.walkx.specs.Walk.{turn_script, turns}
 use Rattle.walkx.specs.Rests.{after_node}
 use Rattle.walkx.proofs.Passing.{passed}
-use Rattle.walkx.specs.Memory.{at_start}
+use Rattle.walk_memory.specs.Memory.{at_start}
 use Rattle.walkx.specs.Walk.{enters, part_script}
 use Rattle.walkx.proofs.Forms.{form_compact, form_wide_of}
-use Rattle.walkx.proofs.Turning.{moved, node_is, form_is, part_first, wide_is}
+use Rattle.walkx.proofs.Turning.{moved, part_first, wide_is}
+use Rattle.walk_memory.proofs.Posts.{node_is, form_is}
 use Rattle.walkx.proofs.turns.enter.Goals as goal
 
 pub make-requires : goal.make-requires

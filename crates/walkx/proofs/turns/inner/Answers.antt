@@ -6,7 +6,7 @@ use Rattle.walkx.specs.Scripts.{asks, ends}
 use Rattle.walkx.proofs.Passing.{passed}
 use Rattle.walkx.specs.Rests.{after_children}
 use Rattle.walkx.specs.Walk.{turns}
-use Rattle.walkx.proofs.Turning.{node_is}
+use Rattle.walk_memory.proofs.Posts.{node_is}
 use Rattle.walkx.proofs.turns.inner.Goals as goal
 
 pub make-requires : goal.make-requires

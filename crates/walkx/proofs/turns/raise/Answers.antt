@@ -1,6 +1,6 @@
 use Rattle.walkx.specs.Scripts.{ends}
 use Rattle.walkx.specs.Walk.{turns}
-use Rattle.walkx.proofs.Turning.{node_is}
+use Rattle.walk_memory.proofs.Posts.{node_is}
 use Rattle.walkx.proofs.turns.raise.Goals as goal
 
 pub make-requires : goal.make-requires

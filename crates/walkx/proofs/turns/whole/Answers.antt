@@ -2,7 +2,8 @@ use Rattle.std.proofs.Common.{sym, ◌∙◌}
 use Rattle.walkx.specs.Inner.Posts.{then_marks}
 use Rattle.walkx.proofs.Passing.{passed}
 use Rattle.walkx.proofs.Settling.{settled_err, settled_ok}
-use Rattle.walkx.proofs.Turning.{comes_to, compact_does, moved, phase_is}
+use Rattle.walkx.proofs.Turning.{comes_to, compact_does, moved}
+use Rattle.walk_memory.proofs.Posts.{phase_is}
 use Rattle.walkx.proofs.turns.whole.Goals as goal
 
 pub compact_task-requires : goal.compact_task-requires

@@ -1,8 +1,8 @@
 use Rattle.std.proofs.Common.{◌≡◌, suc, true, false, Err, ap, sym, ◌∙◌}
 use Rattle.std.proofs.Common.{refl}
 use Rattle.pram_machine.specs.Instructions.{goes_to}
-use Rattle.walkx.specs.declared.memo.Memo.{Memo}
-use Rattle.walkx.specs.Memory.{is_past}
+use Rattle.walk_memory.specs.declared.memo.Memo.{Memo}
+use Rattle.walk_memory.specs.Memory.{is_past}
 use Rattle.walkx.specs.WideParts.{learned, own_known}
 use Rattle.walkx.proofs.OwnKnown.{known_does, past_does, stands_does, stopped_does}
 use Rattle.walkx.proofs.Passing.{passed}

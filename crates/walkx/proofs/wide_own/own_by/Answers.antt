@@ -1,6 +1,6 @@
 use Rattle.std.proofs.Common.{◌≡◌, Some, sym, ◌∙◌}
 use Rattle.pram_machine.proofs.Shapes.{instr_is}
-use Rattle.walkx.specs.Memory.{cell_named}
+use Rattle.walk_memory.specs.Memory.{cell_named}
 use Rattle.walkx.proofs.Silent.{where_reads}
 use Rattle.walkx.proofs.wide_own.own_by.Goals as goal
 

@@ -2,10 +2,10 @@ use Rattle.std.proofs.Common.{Err, sym, ◌∙◌}
 use Rattle.std.proofs.lemmas.Option.{slice_get_within}
 use Rattle.pram_machine.proofs.Shapes.{instr_is}
 use Rattle.pram_machine.specs.Turns.{request_of}
-use Rattle.walkx.specs.Inner.Posts.{step_of}
+use Rattle.walk_memory.specs.Inner.Posts.{step_of}
 use Rattle.walkx.specs.WideParts.{learned}
 use Rattle.walkx.proofs.FirstPass.{claimed, decides_first, next_is}
-use Rattle.walkx.proofs.GoingAlone.{settles_by}
+use Rattle.walk_memory.proofs.GoingAlone.{settles_by}
 use Rattle.walkx.proofs.Passing.{passed}
 use Rattle.walkx.proofs.Settling.{learned_comes}
 use Rattle.walkx.proofs.Silent.{where_decides}

@@ -1,8 +1,8 @@
 use Rattle.std.proofs.Common.{Err, refl, ◌∙◌}
 use Rattle.std.proofs.lemmas.Option.{slice_get_within}
 use Rattle.pram_machine.specs.Instructions.{gives}
-use Rattle.walkx.specs.Inner.Posts.{processor_of}
-use Rattle.walkx.specs.Memory.{at_start}
+use Rattle.walk_memory.specs.Inner.Posts.{processor_of}
+use Rattle.walk_memory.specs.Memory.{at_start}
 use Rattle.walkx.specs.WideParts.{learned}
 use Rattle.walkx.proofs.FirstPass.{made_with, reads_first}
 use Rattle.walkx.proofs.Landing.{load_lands, load_learned}

@@ -1,6 +1,6 @@
 use Rattle.std.proofs.Common.{◌≡◌, ◌==◌, suc, false, sym, ◌∙◌}
 use Rattle.walkx.proofs.Passing.{passed}
-use Rattle.walkx.specs.Inner.Posts.{step_of}
+use Rattle.walk_memory.specs.Inner.Posts.{step_of}
 use Rattle.walkx.proofs.Knows.{loads_next, loads_plays}
 use Rattle.walkx.proofs.wide_request.know.Goals as goal
 

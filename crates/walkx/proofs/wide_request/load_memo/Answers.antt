@@ -1,7 +1,7 @@
 use Rattle.std.proofs.Common.{ℕ, List}
 use Rattle.walkx.proofs.Passing.{passed}
-use Rattle.walkx.specs.Inner.Posts.{processor_of, step_of}
-use Rattle.walkx.specs.Passes.{loaded_memo}
+use Rattle.walk_memory.specs.Inner.Posts.{processor_of, step_of}
+use Rattle.walk_memory.specs.Learned.{loaded_memo}
 use Rattle.walkx.proofs.wide_request.load_memo.Goals as goal
 
 pub hear_own-requires : goal.hear_own-requires

@@ -1,6 +1,6 @@
 use Rattle.std.proofs.Common.{◌≡◌, true, false, sym, ◌∙◌}
-use Rattle.walkx.specs.Inner.Posts.{step_of}
-use Rattle.walkx.specs.Memory.{has_store, is_past}
+use Rattle.walk_memory.specs.Inner.Posts.{step_of}
+use Rattle.walk_memory.specs.Memory.{has_store, is_past}
 use Rattle.walkx.proofs.Kept.{keeps, kept_comes, loads, past_stores, still_to_do, store_below}
 use Rattle.walkx.proofs.Turning.{comes_to, moved}
 use Rattle.walkx.proofs.wide_store.store.Goals as goal

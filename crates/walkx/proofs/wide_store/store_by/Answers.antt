@@ -2,7 +2,7 @@ use Rattle.std.proofs.Common.{◌<◌, subst, sym}
 use Rattle.std.specs.Prelude.{IfSome}
 use Rattle.pram_job.specs.Job.{JobData}
 use Rattle.pram_machine.specs.Turns.{request_of}
-use Rattle.walkx.specs.OwnWrites.{cell_write}
+use Rattle.walk_memory.specs.OwnWrites.{cell_write}
 use Rattle.walkx.proofs.Kept.{cell_below}
 use Rattle.walkx.proofs.wide_store.store_by.Goals as goal
 

@@ -1,6 +1,6 @@
 use Rattle.std.proofs.Common.{◌≡◌, false, sym, ◌∙◌}
 use Rattle.walkx.proofs.Passing.{passed}
-use Rattle.walkx.specs.Inner.Posts.{processor_of}
+use Rattle.walk_memory.specs.Inner.Posts.{processor_of}
 use Rattle.walkx.specs.Parts.{differs_from}
 use Rattle.walkx.specs.Tasks.{claim_of}
 use Rattle.walkx.specs.WideParts.{crew_looked}
@@ -42,7 +42,7 @@ write_place-requires-clause-next g c =
     let r = c.requires.next in
     let found = c.in_ok-found.found in
     let own : differs_from at (claim_of at.job (processor_of at)) found ≡ false =
-    rw c.claim.ensures at (sym c.differs.ensures ∙ c.if-differs.false) in
+    rw c.claim_for.ensures at (sym c.differs.ensures ∙ c.if-differs.false) in
     record {
       from = r.from;
       after = r.after;
@@ -57,7 +57,7 @@ returns-in_err-write_place g c =
     let write = c.args.write in
     let found = c.in_ok-found.found in
     let own : differs_from at (claim_of at.job (processor_of at)) found ≡ false =
-    rw c.claim.ensures at (sym c.differs.ensures ∙ c.if-differs.false) in
+    rw c.claim_for.ensures at (sym c.differs.ensures ∙ c.if-differs.false) in
     rw (passed c.from_residual-in_err-write_place.result _
     c.from_residual-in_err-write_place.ensures.1) (record {
       plays = record {
@@ -73,7 +73,7 @@ returns g c =
     let write = c.args.write in
     let found = c.in_ok-found.found in
     let own : differs_from at (claim_of at.job (processor_of at)) found ≡ false =
-    rw c.claim.ensures at (sym c.differs.ensures ∙ c.if-differs.false) in
+    rw c.claim_for.ensures at (sym c.differs.ensures ∙ c.if-differs.false) in
     record {
       plays = record {
         on = λ from after next here. c.in_ok-write_place.ensures.plays.on from after

@@ -1,7 +1,7 @@
 use Rattle.std.proofs.Common.{◌+◌, ◌<◌, ap, ◌∙◌, arith}
 use Rattle.pram_words.specs.Words.{length_of}
 use Rattle.walkx.specs.declared.operation.Op.TheVariants.{Load}
-use Rattle.walkx.proofs.Boards.{length_small}
+use Rattle.walk_memory.proofs.Boards.{length_small}
 use Rattle.pram_board.specs.Seats.{SeatData, hears}
 use Rattle.pram_board.proofs.Memory.{loaded, two_loads}
 use Rattle.pram_board.proofs.Steps.{may_load}

@@ -1,6 +1,6 @@
 use Rattle.std.proofs.Common.{sym, subst, ◌∙◌}
 use Rattle.pram_job.specs.Job.{JobData}
-use Rattle.walkx.specs.Walk.{IsLayoutOf}
+use Rattle.walk_memory.specs.Blocks.{IsLayoutOf}
 use Rattle.lawful_walk.specs.Board.{Stands}
 use Rattle.pram_board.proofs.Keeps.{opens}
 use Rattle.pram_board.proofs.Steps.{starts}

@@ -1,7 +1,7 @@
 use Rattle.std.proofs.Common.{◌≡◌, ◌<◌, subst, ap, arith}
 use Rattle.pram_words.specs.Words.{length_of, number_of}
 use Rattle.pram_words.specs.declared.words.Word.TheVariants.{Asked}
-use Rattle.walkx.proofs.Boards.{same_procs}
+use Rattle.walk_memory.proofs.Boards.{same_procs}
 use Rattle.pram_board.specs.Seats.{Desk}
 use Rattle.pram_board.proofs.Faults.{part_heard}
 use Rattle.pram_board.proofs.Memory.{no_loads, one_load}

@@ -3,7 +3,7 @@ use Rattle.walkx.specs.declared.operation.ReadOp.{ReadOp}
 use Rattle.walkx.specs.declared.operation.ReadOp.TheVariants as read
 use Rattle.walkx.specs.declared.operation.Op.TheVariants.{Load}
 use Rattle.walkx.specs.Serving.{FollowsScript}
-use Rattle.walkx.proofs.Boards.{same_cells}
+use Rattle.walk_memory.proofs.Boards.{same_cells}
 use Rattle.walkx.specs.Reads.{HeardAdmitted, LooksFit, LooksOnBoard, look_of, looked, looks_for}
 use Rattle.walkx.specs.Records.{after}
 use Rattle.lawful_walk.specs.Moments.{Sound}

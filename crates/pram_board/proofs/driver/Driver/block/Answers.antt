@@ -1,6 +1,6 @@
 use Rattle.std.proofs.Common.{◌≡◌, ◌<◌, ℕ, refl, subst, ◌∙◌, arith}
 use Rattle.std.proofs.lemmas.Bool.{lt-ltb}
-use Rattle.walkx.proofs.Firsts.{rank_parts}
+use Rattle.walk_memory.proofs.Ranks.{rank_parts}
 use Rattle.pram_board.specs.Inner.Plays.{IsWalking, driving, in_block, task_at}
 use Rattle.pram_board.proofs.Working.{led_more}
 use Rattle.pram_board.proofs.driver.Driver.block.Goals as goal

@@ -1,10 +1,10 @@
 use Rattle.std.proofs.Common.{List, slice_get, refl, sym, ap, ◌∙◌}
-use Rattle.walkx.specs.declared.memo.Memo.{Memo}
-use Rattle.walkx.specs.Inner.Posts.{processor_of}
+use Rattle.walk_memory.specs.declared.memo.Memo.{Memo}
+use Rattle.walk_memory.specs.Inner.Posts.{processor_of}
 use Rattle.walkx.specs.Passing.{idle}
 use Rattle.walkx.specs.Scripts.{ends}
 use Rattle.walkx.specs.Walk.{begins, script_of}
-use Rattle.walkx.proofs.PlainClaims.{get_set_other}
+use Rattle.walk_memory.proofs.PlainClaims.{get_set_other}
 use Rattle.pram_board.specs.Inner.Plays.{driving, in_block, task_at}
 use Rattle.pram_board.proofs.Blocks.{after_task, memo, passes_driving, task_done, task_starts}
 use Rattle.pram_board.proofs.Working.{sound_at}

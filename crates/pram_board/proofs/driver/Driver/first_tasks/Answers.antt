@@ -1,6 +1,6 @@
 use Rattle.std.proofs.Common.{◌≡◌, ◌<◌, suc, ℕ, refl, ap, subst, ◌∙◌, arith}
 use Rattle.pram_words.specs.Phases.{kind_at}
-use Rattle.walkx.specs.Inner.Posts.{PostData}
+use Rattle.walk_memory.specs.Inner.Posts.{PostData}
 use Rattle.pram_board.specs.Inner.Plays.{Moved, driving, in_block, task_at}
 use Rattle.pram_board.proofs.Tasks.{leaf_after, not_moved, same_after, task_after, went_on}
 use Rattle.pram_board.proofs.driver.Driver.first_tasks.Goals as goal

@@ -1,6 +1,6 @@
 use Rattle.std.proofs.Common.{◌<◌, suc, ℕ, refl, sym, ap, subst, ◌∙◌, arith}
-use Rattle.walkx.specs.Inner.Posts.{PostData}
-use Rattle.walkx.proofs.Plainly.{loads_left}
+use Rattle.walk_memory.specs.Inner.Posts.{PostData}
+use Rattle.walk_memory.proofs.Plainly.{loads_left}
 use Rattle.pram_board.specs.Inner.Plays.{DoneTo, driving}
 use Rattle.pram_board.proofs.Tasks.{at_next, done_from, is_within, leaf_at, not_moved, same_next}
 use Rattle.pram_board.proofs.driver.Driver.load_all.Goals as goal

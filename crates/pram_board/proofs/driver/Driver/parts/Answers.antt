@@ -1,5 +1,5 @@
 use Rattle.std.proofs.Common.{◌≡◌, ◌<◌, suc, ℕ, refl, ap, subst, ◌∙◌, arith}
-use Rattle.walkx.specs.Inner.Posts.{PostData}
+use Rattle.walk_memory.specs.Inner.Posts.{PostData}
 use Rattle.pram_board.specs.Inner.Plays.{Moved, driving, in_block, task_at}
 use Rattle.pram_board.proofs.Tasks.{at_next, done_from, is_within, leaf_at, not_moved, same_next}
 use Rattle.pram_board.proofs.driver.Driver.parts.Goals as goal

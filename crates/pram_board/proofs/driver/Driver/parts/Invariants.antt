@@ -1,5 +1,5 @@
 use Rattle.std.proofs.Common.{◌≡◌, ◌≤◌, ◌-◌}
-use Rattle.walkx.specs.Inner.Posts.{at_rank}
+use Rattle.walk_memory.specs.Inner.Posts.{at_rank}
 use Rattle.pram_board.specs.Inner.Plays.{AtTask, Moved, driving, in_block, task_at}
 use Rattle.pram_board.proofs.driver.Driver.parts.Given as goal
 

@@ -1,7 +1,7 @@
 use Rattle.std.proofs.Common.{◌≡◌, ◌<◌, suc, ℕ, refl, sym, ap, subst, ◌∙◌, arith}
-use Rattle.walkx.specs.Inner.Posts.{IsLeafPost, PostData, at_rank}
-use Rattle.walkx.specs.Storing.{AllStore}
-use Rattle.walkx.specs.Walk.{IsWide}
+use Rattle.walk_memory.specs.Inner.Posts.{IsLeafPost, PostData, at_rank}
+use Rattle.walk_memory.specs.Plain.{AllStore}
+use Rattle.walk_memory.specs.Blocks.{IsWide}
 use Rattle.pram_board.specs.Inner.Plays.{Moved, driving, in_block, task_at}
 use Rattle.pram_board.proofs.Tasks.{leaf_after, not_moved, same_after, task_after, went_on}
 use Rattle.pram_board.proofs.driver.Driver.plain_stores.Goals as goal

@@ -1,6 +1,6 @@
 use Rattle.std.proofs.Common.{◌≡◌, ◌<◌, ◌≤◌, ◌-◌, suc, sym, subst, refl, ℕ, ap, ◌∙◌, arith}
-use Rattle.walkx.specs.Inner.Posts.{PostData}
-use Rattle.walkx.specs.Passing.{IsStand}
+use Rattle.walk_memory.specs.Inner.Posts.{PostData}
+use Rattle.walk_memory.specs.Stands.{IsStand}
 use Rattle.pram_board.specs.Inner.Plays.{DoneMore, Tried, driving}
 use Rattle.pram_board.proofs.Tasks.{at_next, done_from, done_none, done_untried, is_past, is_within}
 use Rattle.pram_board.proofs.Tasks.{leaf_at, not_moved, same_next, task_next}

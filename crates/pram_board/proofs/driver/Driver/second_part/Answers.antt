@@ -1,5 +1,5 @@
 use Rattle.std.proofs.Common.{◌≡◌, List, Bool, true, false, Ok, refl, sym, ap, subst, ◌∙◌}
-use Rattle.walkx.specs.declared.memo.Memo.{Memo}
+use Rattle.walk_memory.specs.declared.memo.Memo.{Memo}
 use Rattle.walkx.specs.Passing.{idle}
 use Rattle.walkx.specs.Scripts.{ends}
 use Rattle.walkx.specs.Walk.{begins, script_of}

@@ -1,5 +1,5 @@
 use Rattle.std.proofs.Common.{sym, subst}
-use Rattle.walkx.specs.Storing.{AllStore}
+use Rattle.walk_memory.specs.Plain.{AllStore}
 use Rattle.pram_board.proofs.driver.Driver.store_apart.Goals as goal
 
 pub store_by-last-requires-clause-stores : goal.store_by-last-requires-clause-stores

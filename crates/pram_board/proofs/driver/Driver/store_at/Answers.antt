@@ -1,6 +1,6 @@
 use Rattle.std.proofs.Common.{refl}
-use Rattle.walkx.specs.Inner.Posts.{processor_of}
-use Rattle.walkx.specs.Memory.{memo_of}
+use Rattle.walk_memory.specs.Inner.Posts.{processor_of}
+use Rattle.walk_memory.specs.Memory.{memo_of}
 use Rattle.walkx.specs.Rests.{has_worked}
 use Rattle.walkx.specs.Scripts.{ends}
 use Rattle.walkx.specs.Walk.{begins, script_of}

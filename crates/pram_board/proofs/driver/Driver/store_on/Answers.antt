@@ -1,5 +1,5 @@
 use Rattle.std.proofs.Common.{◌≡◌, ◌<◌, ℕ, suc, Option, None, refl, sym, ap, subst, ◌∙◌, arith}
-use Rattle.walkx.specs.Inner.Posts.{PostData}
+use Rattle.walk_memory.specs.Inner.Posts.{PostData}
 use Rattle.pram_board.specs.Inner.Plays.{AtPart, Swapped, driving}
 use Rattle.pram_board.proofs.Storing.{is_none, still_stores, swap_done}
 use Rattle.pram_board.proofs.Tasks.{at_next, done_from, is_within, leaf_at, not_moved, same_next}

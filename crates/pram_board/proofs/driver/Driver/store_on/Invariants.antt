@@ -1,6 +1,6 @@
 use Rattle.std.proofs.Common.{◌≡◌, ◌≤◌, ◌-◌}
-use Rattle.walkx.specs.Inner.Posts.{at_rank}
-use Rattle.walkx.specs.Storing.{AllStore}
+use Rattle.walk_memory.specs.Inner.Posts.{at_rank}
+use Rattle.walk_memory.specs.Plain.{AllStore}
 use Rattle.pram_board.specs.Inner.Plays.{AtTask, Moved, driving, in_block, task_at}
 use Rattle.pram_board.proofs.driver.Driver.store_on.Given as goal
 

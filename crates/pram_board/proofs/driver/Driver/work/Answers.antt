@@ -1,5 +1,6 @@
 use Rattle.std.proofs.Common.{◌≡◌, None, arith, sym, subst, ◌∙◌}
-use Rattle.walkx.specs.Walk.{IsBoard, end_of}
+use Rattle.walk_memory.specs.Blocks.{IsBoard}
+use Rattle.walkx.specs.Walk.{end_of}
 use Rattle.lawful_walk.specs.Moments.{Sound}
 use Rattle.pram_board.specs.Inner.Plays.{driving}
 use Rattle.pram_board.specs.Seats.{Desk}

@@ -1,5 +1,5 @@
 use Rattle.std.proofs.Common.{List, [], None, length, refl, subst, sym}
-use Rattle.walkx.specs.declared.memo.Memo.{Memo}
+use Rattle.walk_memory.specs.declared.memo.Memo.{Memo}
 use Rattle.walkx.specs.declared.operation.Activity.TheVariants as activity
 use Rattle.walkx.specs.Inner.Workers.{worker_data}
 use Rattle.walkx.specs.Serving.{IsNewWorker}

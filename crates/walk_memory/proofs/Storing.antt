@@ -1,0 +1,78 @@
+-- A store that is remembered.
+use Rattle.std.proofs.Common.{◌≡◌, ◌≢◌, ℕ, suc, ◌+◌, ◌-◌, ◌<◌, ◌≤◌, ◌/◌, ◌%◌, Bool, true, false, List, Option}
+use Rattle.std.proofs.Common.{Some, None, refl, sym, ap, subst, ◌∙◌, slice_get, length, arith}
+use Rattle.std.specs.Prelude.{if◌then◌else◌, is_some, slice_index, slice_index_or, slice_set}
+use Rattle.pram_job.specs.Job.{JobData}
+use Rattle.pram_words.specs.Phases.{kind_at}
+use Rattle.pram_words.specs.declared.phases.Kind.TheVariants.{Verify}
+use Rattle.walk_memory.specs.declared.block.Block.{Block}
+use Rattle.walk_memory.specs.declared.memo.Memo.{Memo}
+use Rattle.walk_memory.specs.Inner.Posts.{PostData, at_rank, processor_of, step_of}
+use Rattle.walk_memory.specs.Lanes.{lane, lane_in, memos_of}
+use Rattle.walk_memory.specs.Memory.{FitsMemo, memo_of}
+use Rattle.walk_memory.specs.Plain.{AllStore, HasStore}
+use Rattle.walk_memory.specs.Rows.{AllIn}
+use Rattle.walk_memory.proofs.Lanes.{memo_of_all, set_all}
+use Rattle.walk_memory.proofs.Memories.{memo_other}
+
+-- the store of a lane is its cell and its value
+abbrev write_in : Block → ℕ → ℕ × ℕ
+write_in block k = (slice_index block.cell k, slice_index block.value k)
+
+pub lane_store : (block : Block) (k : ℕ) → is_some (lane block k).store ≡ true →
+    (lane block k).store ≡ Some (slice_index block.cell k, slice_index block.value k)
+lane_store block k is = by (slice_index_or block.stored k false) is
+  where
+    by : (b : Bool) → is_some (if b then Some (write_in block k) else None) ≡ true →
+        (if b then Some (write_in block k) else None) ≡ Some (write_in block k)
+    by true e = refl
+    by false e = absurd (cc)
+
+-- the cell of a store that is remembered
+pub cell_fits : (job : JobData) (memo : Memo) (write : ℕ × ℕ) → FitsMemo job memo →
+    memo.store ≡ Some write → write.0 < job.cells
+cell_fits job memo write fits some = (rw some at fits.store).0
+
+-- what is known of a processor is what its lane holds, and is to hold
+module _ (memory : List Memo) (items : List Block) (i j : ℕ) (block : Block)
+    (view : memos_of items ≡ memory) (same : i ≡ j) (there : slice_get items (i / 64) ≡ Some block)
+  where
+    pub lane_known : memo_of memory j ≡ lane block (i % 64)
+    lane_known = rw (sym view, sym same) (memo_of_all items i
+        ∙ ap (λ (o : Option Block). lane_in o (i % 64)) there)
+
+    pub lane_set : (new : Block) → i / 64 < length items →
+        ((k : ℕ) → k ≢ i % 64 → lane new k ≡ lane block k) →
+        memos_of (slice_set items (i / 64) new) ≡ slice_set memory j (lane new (i % 64))
+    lane_set new low others = rw (sym view, sym same) (set_all items i (i / 64) (i % 64) block new
+        (lane new (i % 64)) refl refl low there refl others)
+
+-- those of the next ones stay, where what is known of the leaf's is another thing
+pub stores_left : (at : PostData) (len : ℕ) (memory : List Memo) (memo : Memo) →
+    AllStore at len memory →
+    AllStore (at_rank at (suc at.rank)) len (slice_set memory (processor_of at) memo)
+stores_left at len memory memo all rank later within =
+    subst (HasStore (at_rank at rank))
+    (sym (memo_other memory (processor_of at) (processor_of (at_rank at rank)) memo
+    (λ same. omega (arith, same, later))))
+    (all rank (omega (arith, later)) within)
+
+-- lanes have stores, and so their processors
+pub all_stores : (at : PostData) (len : ℕ) (memory : List Memo) (items : List Block) (i : ℕ)
+    (block : Block) (start end : ℕ) → memos_of items ≡ memory → i ≡ processor_of at →
+    kind_at at.phase ≡ Verify → slice_get items (i / 64) ≡ Some block →
+    start ≡ i % 64 → start + (len - at.rank) ≡ end → end ≤ 64 →
+    AllIn start end (λ k. ((lane block k).step ≡ step_of at)
+    × (is_some (lane block k).store ≡ true)) → AllStore at len memory
+all_stores at len memory items i block start end view same second there begin length_is most
+    all rank later within =
+    let j = processor_of (at_rank at rank) in
+    let on : j ≡ i + (rank - at.rank) = omega (arith, same, later) in
+    let row : j / 64 ≡ i / 64 = omega (arith, on, begin, length_is, most, later, within) in
+    let k : j % 64 ≡ start + (rank - at.rank) =
+    omega (arith, on, begin, length_is, most, later, within) in
+    let is : memo_of memory j ≡ lane block (j % 64) = lane_known memory items j j block view refl
+    (ap (slice_get items) row ∙ there) in
+    let has = all (j % 64) (omega (arith, k)) (omega (arith, k, length_is, later, within)) in
+    subst (HasStore (at_rank at rank)) (sym is)
+    (record { second = second; step = has.0; some = has.1 })

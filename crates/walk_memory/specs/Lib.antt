@@ -1,0 +1,13 @@
+pub mod OwnWrites
+pub mod Memory
+pub mod Lanes
+pub mod Inner
+pub mod Blocks
+pub mod Stands
+pub mod Learned
+pub mod Turned
+pub mod Together
+pub mod Apart
+pub mod AsOne
+pub mod Rows
+pub mod Plain

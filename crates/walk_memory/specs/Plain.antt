@@ -1,0 +1,106 @@
+-- Loads of which little is to be done.
+use Rattle.std.specs.Prelude.{◌≡◌, ℕ, suc, ◌+◌, ◌%◌, ◌<◌, ◌≤◌, List, length, slice_get, slice_index}
+use Rattle.std.specs.Prelude.{slice_set, IsSome, Some, None, ◌==◌, false, true, is_some}
+use Rattle.pram_job.specs.declared.instr.Instr.TheVariants.{Ld, St}
+use Rattle.pram_job.specs.declared.instr.Operand.{Operand}
+use Rattle.pram_job.specs.declared.instr.Place.{Place}
+use Rattle.pram_machine.specs.Instructions.{index_of, reached}
+use Rattle.pram_words.specs.Phases.{kind_at}
+use Rattle.pram_words.specs.declared.phases.Kind.{Kind}
+use Rattle.walk_memory.specs.declared.load_in.Claims.{Claims}
+use Rattle.walk_memory.specs.declared.load_in.Loads.{Loads}
+use Rattle.walk_memory.specs.declared.memo.Memo.{Memo}
+use Rattle.walk_memory.specs.Inner.Posts.{PostData, at_rank, processor_of, step_of}
+use Rattle.walk_memory.specs.Memory.{cell_named, is_common, memo_of}
+use Rattle.walk_memory.specs.Rows.{held_in}
+
+-- In the first pass, a processor of which this is known before the step stands at a load of this
+-- cell into register r, and its words tell what it is after it, but for that register.
+pub record LoadsPlainly (at : PostData) (memo : Memo) (r cell : ℕ) : Type 0 where
+  pub first : kind_at at.phase ≡ Kind.Compute
+  pub before : suc memo.step ≡ step_of at
+  pub place : Place
+  pub code : slice_get at.job.code memo.own.counter ≡ Some (Ld r place)
+  pub reads : cell_named at.job memo.own (Some (Ld r place)) ≡ Some cell
+  pub below : cell < at.job.cells
+  pub four : length memo.own.registers ≡ 4
+  pub counter : memo.told.counter ≡ memo.own.counter + 1
+  pub told : (value : ℕ) →
+      slice_set memo.told.registers r value ≡ slice_set memo.own.registers r value
+
+-- what is known once the register took this value
+abbrev pub loaded : PostData → Memo → ℕ → ℕ → Memo
+loaded at memo r value = record {
+  acted = at.phase;
+  step = step_of at;
+  own = record {
+    counter = memo.told.counter;
+    registers = slice_set memo.own.registers r value;
+  };
+  told = record {
+    counter = memo.told.counter;
+    registers = slice_set memo.told.registers r value;
+  };
+  store = None;
+}
+
+-- these are the loads of the post's processor, by what is remembered of it
+abbrev pub LoadsBy : PostData → List Memo → Loads → Type 0
+LoadsBy at memory loads = LoadsPlainly at (memo_of memory (processor_of at)) loads.register
+    (slice_index loads.cells (processor_of at % 64))
+
+-- and of each processor of its block of this length, from its rank on
+abbrev pub AllLoadBy : PostData → ℕ → List Memo → Loads → Type 0
+AllLoadBy at len memory loads =
+    (rank : ℕ) → at.rank ≤ rank → rank < len → LoadsBy (at_rank at rank) memory loads
+
+-- ---- claims
+
+-- In the first pass, but under common, a processor of which this is known before the step stands at
+-- a store of this value to this cell, and does not settle in the step.
+pub record ClaimsPlainly (at : PostData) (memo : Memo) (cell value : ℕ) : Type 0 where
+  pub first : kind_at at.phase ≡ Kind.Compute
+  pub before : suc memo.step ≡ step_of at
+  pub place : Place
+  pub operand : Operand
+  pub code : slice_get at.job.code memo.own.counter ≡ Some (St place operand)
+  pub reaches :
+      reached at.job place (held_in (index_of place) memo.own.registers) ≡ Some cell
+  pub holds : held_in operand memo.own.registers ≡ value
+  pub below : cell < at.job.cells
+  pub rule : is_common at.job.rule ≡ false
+  pub lags : (step_of at % 64 == 0) ≡ false
+
+-- what is known once it is claimed
+abbrev pub claimed : PostData → Memo → ℕ → ℕ → Memo
+claimed at memo cell value = record {
+  acted = at.phase;
+  step = step_of at;
+  own = record { counter = memo.own.counter + 1; registers = memo.own.registers };
+  told = memo.told;
+  store = Some (cell, value);
+}
+
+-- these are the claims of the post's processor, by what is remembered of it
+pub record ClaimsBy (at : PostData) (memory : List Memo) (claims : Claims) : Type 0 where
+  pub there : IsSome (slice_get memory (processor_of at))
+  pub plain : ClaimsPlainly at (memo_of memory (processor_of at))
+      (slice_index claims.cells (processor_of at % 64))
+      (slice_index claims.values (processor_of at % 64))
+
+-- and of each processor of its block of this length, from its rank on
+abbrev pub AllClaimBy : PostData → ℕ → List Memo → Claims → Type 0
+AllClaimBy at len memory claims =
+    (rank : ℕ) → at.rank ≤ rank → rank < len → ClaimsBy (at_rank at rank) memory claims
+
+-- in the second pass, a processor of which this is known has its store of the step still to be
+-- carried out
+pub record HasStore (at : PostData) (memo : Memo) : Type 0 where
+  pub second : kind_at at.phase ≡ Kind.Verify
+  pub step : memo.step ≡ step_of at
+  pub some : is_some memo.store ≡ true
+
+-- each processor of the block, from the leaf's up to this rank
+abbrev pub AllStore : PostData → ℕ → List Memo → Type 0
+AllStore at len memory = (rank : ℕ) → at.rank ≤ rank → rank < len →
+    HasStore (at_rank at rank) (memo_of memory (processor_of (at_rank at rank)))

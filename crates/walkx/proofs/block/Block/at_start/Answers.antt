@@ -1,5 +1,0 @@
-use Rattle.walkx.proofs.Lanes.{start_lane}
-use Rattle.walkx.proofs.block.Block.at_start.Goals as goal
-
-pub returns : goal.returns
-returns c = start_lane 64

@@ -1,7 +1,0 @@
-use Rattle.std.proofs.Common.{◌≡◌, true, get_or}
-use Rattle.walkx.specs.Rows.{AllIn}
-use Rattle.walkx.proofs.row_walk.all_of_phase.Given as goal
-
--- so it is in the lanes so far
-abbrev pub invariant-loop-k : goal.invariant-loop-k
-invariant-loop-k l = l.all ≡ true → AllIn l.fn.lanes.start l.k (λ k. get_or l.fn.x k 0 ≡ l.fn.phase)

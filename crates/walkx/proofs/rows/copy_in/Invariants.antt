@@ -1,7 +1,0 @@
-use Rattle.std.proofs.Common.{get_or}
-use Rattle.walkx.specs.Rows.{Written}
-use Rattle.walkx.proofs.rows.copy_in.Given as goal
-
--- the lanes so far are written
-abbrev pub invariant-loop-k : goal.invariant-loop-k
-invariant-loop-k l = Written l.fn.lanes.start l.k (λ k. get_or l.fn.x k 0) l.fn.to l.to

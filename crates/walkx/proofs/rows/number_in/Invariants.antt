@@ -1,7 +1,0 @@
-use Rattle.std.proofs.Common.{◌+◌}
-use Rattle.walkx.specs.Rows.{Written}
-use Rattle.walkx.proofs.rows.number_in.Given as goal
-
--- the lanes so far are written
-abbrev pub invariant-loop-k : goal.invariant-loop-k
-invariant-loop-k l = Written l.fn.lanes.start l.k (λ k. l.fn.lanes.first + k) l.fn.to l.to

@@ -1,5 +1,0 @@
-use Rattle.walkx.proofs.wide_request.turn_by.Goals as goal
-
-pub returns-clause-shape : goal.returns-clause-shape
-returns-clause-shape c =
-    rw (c.job.ensures.value, c.processor.ensures.value) at c.turn_of.ensures.shape

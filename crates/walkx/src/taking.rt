@@ -1,0 +1,270 @@
+//! Tasks of a block's processors, with what is remembered of them.
+ghost use Rattle.std.specs.Prelude.{◌≡◌};
+ghost use Rattle.pram_words.specs.Phases.{kind_at};
+ghost use Rattle.walkx.specs.Driving.{IsNextPart};
+ghost use Rattle.walk_memory.specs.Inner.Posts.{processor_of};
+ghost use Rattle.walk_memory.specs.Memory.{FitsMemo, memo_of};
+ghost use Rattle.walkx.specs.Parts.{does_wide};
+ghost use Rattle.walk_memory.specs.Stands.{IsStand};
+ghost use Rattle.walkx.specs.Passing.{TakesUp, TakesUpIf};
+ghost use Rattle.walk_memory.specs.Plain.{ClaimsBy, LoadsBy, HasStore};
+ghost use Rattle.walkx.specs.Storing.{Carries};
+
+use crate::claim_plain::claim_plainly;
+use crate::left::Stopped;
+use crate::own_in::own_in;
+use crate::plain::load_plainly;
+use crate::steps::Steps;
+use crate::stores::{carry_known, carry_lane_until};
+use crate::tasks::wide_task;
+use crate::turns::settle;
+use pram_job::{Instr, Rule};
+use pram_words::Kind;
+use walk_memory::{ClaimIn, Claims, Leaf, LoadIn, Loads, Memory, known_in, stands_in};
+
+/// The task of a processor of a block, with what is remembered of it, whether it asks something
+/// or not.
+#[inline(always)]
+pub fn take_up<S: Steps>(memory: &mut Memory, steps: &mut S, leaf: &Leaf) -> Result<(), Stopped>
+    requires memo { FitsMemo leaf.now.job (memo_of memory.old (processor_of leaf.now)) }
+    requires next { IsNextPart (S.stands leaf.now) steps.old
+        (does_wide leaf.now (memo_of memory.old (processor_of leaf.now))) }
+    ensures { TakesUp (S.stands leaf.now) leaf.now steps.old memory.old steps.new memory.new
+        result }
+{
+    if take_known(memory, steps, leaf)? {
+        return Ok(());
+    }
+    take_copied(memory, steps, leaf)
+}
+
+// In the first pass, where the processor is past it or its step is known, that is done where its
+// lane lies; else nothing is.
+#[inline(always)]
+fn take_known<S: Steps>(memory: &mut Memory, steps: &mut S, leaf: &Leaf) -> Result<bool, Stopped>
+    requires next { IsNextPart (S.stands leaf.now) steps.old
+        (does_wide leaf.now (memo_of memory.old (processor_of leaf.now))) }
+    ensures { TakesUpIf (S.stands leaf.now) leaf.now steps.old memory.old steps.new memory.new
+        result }
+{
+    match leaf.kind() {
+        Kind::Compute => take_first(memory, steps, leaf),
+        _ => Ok(false),
+    }
+}
+
+// The same, in the first pass.
+#[inline(always)]
+fn take_first<S: Steps>(memory: &mut Memory, steps: &mut S, leaf: &Leaf) -> Result<bool, Stopped>
+    requires first { kind_at leaf.now.phase ≡ Kind.Compute }
+    requires next { IsNextPart (S.stands leaf.now) steps.old
+        (does_wide leaf.now (memo_of memory.old (processor_of leaf.now))) }
+    ensures { TakesUpIf (S.stands leaf.now) leaf.now steps.old memory.old steps.new memory.new
+        result }
+{
+    let i = leaf.processor() as usize;
+    match &mut memory.blocks {
+        Some(blocks) => {
+            if i / 64 < blocks.len() {
+                if blocks[i / 64].memo(i % 64).is_past(leaf.phase()) {
+                    return Ok(true);
+                }
+                if let Some(instr) = known_in(leaf, &blocks[i / 64], i % 64) {
+                    let done = own_in(steps, leaf, &mut blocks[i / 64], i % 64, instr);
+                    settle(done)?;
+                    return Ok(true);
+                }
+            }
+            Ok(false)
+        }
+        None => Ok(false),
+    }
+}
+
+// Its task by a copy of what is known of it.
+#[inline(never)]
+fn take_copied<S: Steps>(memory: &mut Memory, steps: &mut S, leaf: &Leaf) -> Result<(), Stopped>
+    requires memo { FitsMemo leaf.now.job (memo_of memory.old (processor_of leaf.now)) }
+    requires next { IsNextPart (S.stands leaf.now) steps.old
+        (does_wide leaf.now (memo_of memory.old (processor_of leaf.now))) }
+    ensures { TakesUp (S.stands leaf.now) leaf.now steps.old memory.old steps.new memory.new
+        result }
+{
+    let i = leaf.processor();
+    let mut memo = memory.memo(i);
+    let done = wide_task(steps, leaf, &mut memo);
+    memory.put(i, &memo);
+    settle(done)
+}
+
+/// As `take_up`, in the second pass, where it is known what the leaf's processor does in it; else
+/// nothing is done.
+#[inline(always)]
+pub fn carry<S: Steps>(memory: &mut Memory, steps: &mut S, leaf: &Leaf) -> Result<bool, Stopped>
+    requires memo { FitsMemo leaf.now.job (memo_of memory.old (processor_of leaf.now)) }
+    requires next { IsNextPart (S.stands leaf.now) steps.old
+        (does_wide leaf.now (memo_of memory.old (processor_of leaf.now))) }
+    ensures { TakesUpIf (S.stands leaf.now) leaf.now steps.old memory.old steps.new memory.new
+        result }
+{
+    match leaf.kind() {
+        Kind::Verify => carry_second(memory, steps, leaf),
+        _ => Ok(false),
+    }
+}
+
+// The same, in the second pass.
+#[inline(always)]
+fn carry_second<S: Steps>(memory: &mut Memory, steps: &mut S, leaf: &Leaf) -> Result<bool, Stopped>
+    requires second { kind_at leaf.now.phase ≡ Kind.Verify }
+    requires memo { FitsMemo leaf.now.job (memo_of memory.old (processor_of leaf.now)) }
+    requires next { IsNextPart (S.stands leaf.now) steps.old
+        (does_wide leaf.now (memo_of memory.old (processor_of leaf.now))) }
+    ensures { TakesUpIf (S.stands leaf.now) leaf.now steps.old memory.old steps.new memory.new
+        result }
+{
+    let i = leaf.processor() as usize;
+    match &mut memory.blocks {
+        Some(blocks) => {
+            if i / 64 < blocks.len() {
+                let block = &mut blocks[i / 64];
+                return carry_known(steps, leaf, block, i % 64);
+            }
+            Ok(false)
+        }
+        None => Ok(false),
+    }
+}
+
+/// The second pass of the leaf's processor, whose store is remembered, up to the report: the
+/// store, if one is due. A caller that knows the rule gets code for that rule alone.
+#[inline(always)]
+pub fn carry_until<S: Steps>(
+    memory: &mut Memory,
+    steps: &mut S,
+    leaf: &Leaf,
+    rule: Rule,
+) -> Result<Option<(u32, u32)>, Stopped>
+    requires rule { rule ≡ leaf.now.job.rule }
+    requires store { HasStore leaf.now (memo_of memory.old (processor_of leaf.now)) }
+    requires memo { FitsMemo leaf.now.job (memo_of memory.old (processor_of leaf.now)) }
+    requires next { IsNextPart (S.stands leaf.now) steps.old
+        (does_wide leaf.now (memo_of memory.old (processor_of leaf.now))) }
+    ensures { Carries (S.stands leaf.now) leaf.now steps.old memory.old steps.new memory.new
+        result }
+{
+    let i = leaf.processor() as usize;
+    match &mut memory.blocks {
+        Some(blocks) => {
+            if i / 64 < blocks.len() {
+                let block = &mut blocks[i / 64];
+                return carry_lane_until(steps, leaf, block, i % 64, rule);
+            }
+            unreachable!()
+        }
+        None => unreachable!(),
+    }
+}
+
+/// As `take_up`, where the leaf's processor is known to stand at this instruction of the first
+/// pass, which is the one at this counter; else nothing is done. A caller that knows the
+/// instruction's form gets code for that form alone.
+#[inline(always)]
+pub fn take_up_at<S: Steps>(
+    memory: &mut Memory,
+    steps: &mut S,
+    leaf: &Leaf,
+    counter: u32,
+    instr: &Instr,
+) -> Result<bool, Stopped>
+    requires stand { IsStand leaf.now counter instr.now }
+    requires memo { FitsMemo leaf.now.job (memo_of memory.old (processor_of leaf.now)) }
+    requires next { IsNextPart (S.stands leaf.now) steps.old
+        (does_wide leaf.now (memo_of memory.old (processor_of leaf.now))) }
+    ensures { TakesUpIf (S.stands leaf.now) leaf.now steps.old memory.old steps.new memory.new
+        result }
+{
+    let i = leaf.processor() as usize;
+    match &mut memory.blocks {
+        Some(blocks) => {
+            if i / 64 < blocks.len() && stands_in(leaf, &blocks[i / 64], i % 64, counter) {
+                let done = own_in(steps, leaf, &mut blocks[i / 64], i % 64, instr);
+                settle(done)?;
+                return Ok(true);
+            }
+            Ok(false)
+        }
+        None => Ok(false),
+    }
+}
+
+/// As `take_up`, where the leaf's processor loads plainly.
+#[inline(always)]
+pub fn take_load<S: Steps>(
+    memory: &mut Memory,
+    steps: &mut S,
+    leaf: &Leaf,
+    loads: &Loads,
+) -> Result<(), Stopped>
+    requires plain { LoadsBy leaf.now memory.old loads.now }
+    requires next { IsNextPart (S.stands leaf.now) steps.old
+        (does_wide leaf.now (memo_of memory.old (processor_of leaf.now))) }
+    ensures { TakesUp (S.stands leaf.now) leaf.now steps.old memory.old steps.new memory.new
+        result }
+{
+    let i = leaf.processor() as usize;
+    match &mut memory.blocks {
+        Some(blocks) => {
+            if i / 64 < blocks.len() {
+                let block = &mut blocks[i / 64];
+                let lane = i % 64;
+                let register = loads.register;
+                let cell = loads.cells[lane];
+                let done = load_plainly(
+                    steps,
+                    leaf,
+                    block,
+                    LoadIn {
+                        lane,
+                        register,
+                        cell,
+                    },
+                );
+                return settle(done);
+            }
+            unreachable!()
+        }
+        None => unreachable!(),
+    }
+}
+
+/// As `take_up`, where the leaf's processor claims plainly.
+#[inline(always)]
+pub fn take_claim<S: Steps>(
+    memory: &mut Memory,
+    steps: &mut S,
+    leaf: &Leaf,
+    claims: &Claims,
+) -> Result<(), Stopped>
+    requires plain { ClaimsBy leaf.now memory.old claims.now }
+    requires next { IsNextPart (S.stands leaf.now) steps.old
+        (does_wide leaf.now (memo_of memory.old (processor_of leaf.now))) }
+    ensures { TakesUp (S.stands leaf.now) leaf.now steps.old memory.old steps.new memory.new
+        result }
+{
+    let i = leaf.processor() as usize;
+    match &mut memory.blocks {
+        Some(blocks) => {
+            if i / 64 < blocks.len() {
+                let block = &mut blocks[i / 64];
+                let lane = i % 64;
+                let cell = claims.cells[lane];
+                let value = claims.values[lane];
+                let done = claim_plainly(steps, leaf, block, ClaimIn { lane, cell, value });
+                return settle(done);
+            }
+            unreachable!()
+        }
+        None => unreachable!(),
+    }
+}
