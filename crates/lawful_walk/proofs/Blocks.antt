@@ -7,17 +7,16 @@ use Rattle.std.proofs.Common.{arith}
 use Rattle.std.proofs.lemmas.Bool.{cond_both, cases_Bool, eqb-true, eqb-false, leb-true}
 use Rattle.pram_job.specs.Job.{JobData}
 use Rattle.pram_step.specs.History.{part_after}
-use Rattle.pram_step.specs.Runs.{AgreesAfter, state_after}
+use Rattle.pram_step.specs.Runs.{state_after}
 use Rattle.pram_words.proofs.NextPhases.{next_inside, next_step}
 use Rattle.pram_words.specs.Phases.{kind_at, step_at}
 use Rattle.pram_words.specs.Stamps.{stamp_of, payload_of, newer_payload}
 use Rattle.pram_words.specs.Words.{LayoutData, IsWord, number_of, places_of}
 use Rattle.pram_words.specs.declared.layout.Form.{Form}
 use Rattle.pram_words.specs.declared.layout.Form.TheVariants.{Compact, Wide}
-use Rattle.pram_words.specs.declared.phases.Kind.TheVariants.{Verify}
-use Rattle.pram_words.specs.declared.words.Word.TheVariants.{Conflict, Node, Asked, Stored}
+use Rattle.pram_words.specs.declared.words.Word.TheVariants.{Node, Asked, Stored}
 use Rattle.walkx.specs.Scripts.{Script, asks}
-use Rattle.walkx.specs.Tasks.{is_late, hears_part, reads_place, reports}
+use Rattle.walkx.specs.Tasks.{is_late, hears_part, reads_place}
 use Rattle.walkx.specs.Walk.{Then, marks_node}
 use Rattle.walkx.specs.declared.operation.Op.{Op}
 use Rattle.walkx.specs.declared.operation.Op.TheVariants.{Load, Max, Swap}
@@ -183,7 +182,7 @@ module _ (job : JobData) (y : LayoutData) (w q : ℕ) (aim : Aim) (x : ℕ)
           (place_as_heard job y x p a b first.words m.words words first.stands m.stands stands
           first.since m.since place fl.reached low first.heard m.heard early).value
 
-  -- ---- a leaf is marked, and a conflict is reported
+  -- ---- a leaf is marked
 
   pub marks_safe : (n m : ℕ) → y.leaves ≤ n → n < 2 * y.leaves → IsLeafMark job y q n m →
       (n ≡ 1 → m ≤ 3 * x + 3) → (history : List (Op × ℕ)) →
@@ -218,18 +217,4 @@ module _ (job : JobData) (y : LayoutData) (w q : ℕ) (aim : Aim) (x : ℕ)
         (later job y history P (Swap (number_of y (Node 1)) (q - 1) m) found lasts
         (so job y history (λ words. P words × (aim.given words → MayJump job y words q x m)) P
         (λ words stands h. h.0) sees)),
-  )
-
-  pub reports_safe : kind_at q ≡ Verify → (after : Script Then) (history : List (Op × ℕ)) →
-      Sees job y history (λ words. P words × (AgreesAfter job x → ⊥)) →
-      ((found : ℕ) →
-      Safe job y w q aim after ((Swap (number_of y Conflict) 0 (suc x), found) ∷ history)) →
-      Safe job y w q aim (reports y (suc x) after) history
-  reports_safe kind after history sees next = (
-    so job y history (λ words. P words × (AgreesAfter job x → ⊥))
-        (λ words. aim.given words → Goes job y w q (Swap (number_of y Conflict) 0 (suc x)) words)
-        (λ words stands h given. goes_of job y w q (Swap (number_of y Conflict) 0 (suc x)) words
-        ((writes_keep job y words q x stands some most step (floor words h.0)).conflict kind h.1))
-        sees,
-    λ found ok. next found,
   )

@@ -52,8 +52,8 @@ use Rattle.lawful_walk.proofs.TrueMemos.{carried_true}
 use Rattle.lawful_walk.proofs.Values.{claim_low}
 use Rattle.lawful_walk.proofs.Writing.{writes_safe}
 use Rattle.lawful_walk.proofs.Agreed.{claimant, differs_is, differs_not}
-use Rattle.lawful_walk.proofs.CarryParts.{carried_by, none_carried, one_store, reports_end}
-use Rattle.lawful_walk.proofs.CarryParts.{written}
+use Rattle.lawful_walk.proofs.CarryParts.{carried_by, none_carried, one_store, written}
+use Rattle.lawful_walk.proofs.Hearing.{reports_end}
 
 module _ (job : JobData) (y : LayoutData) (w q : ℕ) (aim : Aim) (g x i : ℕ) (some : 1 ≤ q)
     (most : q ≤ 3 * job.steps) (step : step_at q ≡ suc x) (board : IsBoard job y)

@@ -29,11 +29,12 @@ use Rattle.lawful_walk.proofs.Frames.{swap_same, swap_other}
 use Rattle.lawful_walk.proofs.Moments.{onward}
 use Rattle.lawful_walk.proofs.Raising.{kind_of, alive}
 use Rattle.lawful_walk.specs.Board.{held, root, conflict, Stands}
-use Rattle.lawful_walk.proofs.Blocks.{hears_safe, reads_safe, reports_safe}
+use Rattle.lawful_walk.proofs.Blocks.{hears_safe, reads_safe}
 use Rattle.lawful_walk.proofs.Effects.{writes_keep}
 use Rattle.lawful_walk.proofs.Facts.{facts}
 use Rattle.lawful_walk.proofs.Known.{safe_known, floor_lasts, StaleSafe, raises_safe}
-use Rattle.lawful_walk.proofs.Scripts.{Aim, Safe}
+use Rattle.lawful_walk.proofs.Scripts.{Aim, Safe, goes_of}
+use Rattle.lawful_walk.specs.Walks.{Goes}
 use Rattle.lawful_walk.proofs.Sees.{Sees, Lasts, so, heard}
 use Rattle.lawful_walk.specs.Moments.{Moment}
 use Rattle.lawful_walk.specs.Writes.{Floor}
@@ -98,55 +99,6 @@ module _ (job : JobData) (y : LayoutData)
       (so job y longer (λ words. Floor job y q x words × (v ≡ slice_index (state_after job x) p))
       (Floor job y q x) (λ words stands h. h.0) more))))
 
-  -- ---- a conflict is reported: it is named after the swap, if the phase is not over
-
-  named_now : (words : List ℕ) → Stands job y words →
-      conflict y (words_after words (Swap (number_of y Conflict) 0 (suc x))) ≢ 0
-  named_now words stands = elim (cases_eq (conflict y words) 0) [
-    | inl e ↦ (let below : number_of y Conflict < length words =
-        (let n = (numbering y stands.sizes).below Conflict tt in
-        let l = stands.admitted.len in omega arith) in
-        let is : conflict y (slice_set words (number_of y Conflict) (suc x)) ≡ suc x =
-        get_or-set_same words (number_of y Conflict) (suc x) 0 below in
-        subst (λ (l : List ℕ). conflict y l ≢ 0)
-        (sym (swap_same words (number_of y Conflict) 0 (suc x) e)) (λ none. absurd (omega arith)))
-    | inr n ↦ subst (λ (l : List ℕ). conflict y l ≢ 0)
-        (sym (swap_other words (number_of y Conflict) 0 (suc x) n)) n
-  ]
-
-  named_later : (words : List ℕ) → Stands job y words → Floor job y q x words →
-      conflict y words ≢ 0 → root y words < q → conflict y words ≡ suc x
-  named_later words stands floor named live =
-      let gone = alive job y words q x stands some most step floor live in
-      elim (facts job y words stands).conflict_next [
-        | inl e ↦ absurd (named e)
-        | inr e ↦ e ∙ ap suc gone
-      ]
-
-  pub reports_end : 3 * x + 3 ≡ q → (AgreesAfter job x → ⊥) →
-      (after : Script Then) (history : List (Op × ℕ)) → Sees job y history (Floor job y q x) →
-      ((longer : List (Op × ℕ)) → Sees job y longer
-      (λ words. Floor job y q x words × (root y words < q → conflict y words ≡ suc x)) →
-      Safe job y w q aim after longer) →
-      Safe job y w q aim (reports y (suc x) after) history
-  reports_end phase not after history sees on =
-      reports_safe job y w q aim x some most step (Floor job y q x)
-      (floor_lasts job y q x) (λ words f. f) (kind_of x q Verify phase) after history
-      (so job y history (Floor job y q x) (λ words. Floor job y q x words × (AgreesAfter job x → ⊥))
-      (λ words stands f. (f, not)) sees) (λ found.
-      on ((Swap (number_of y Conflict) 0 (suc x), found) ∷ history)
-      (so job y ((Swap (number_of y Conflict) 0 (suc x), found) ∷ history)
-      (Moment job y (Swap (number_of y Conflict) 0 (suc x)) found (Floor job y q x))
-      (λ words. Floor job y q x words × (root y words < q → conflict y words ≡ suc x))
-      (λ words stands m.
-      let floor = floor_lasts job y q x m.words words m.stands stands (onward y m.words (words_after
-      m.words (Swap (number_of y Conflict) 0 (suc x))) words m.grew m.since) m.earlier in
-      let named = named_now m.words m.stands in
-      let same : conflict y (words_after m.words (Swap (number_of y Conflict) 0 (suc x)))
-      ≡ conflict y words = m.since Conflict tt named in
-      (floor, named_later words stands floor (λ none. named (same ∙ none))))
-      (heard job y history (Floor job y q x) (Swap (number_of y Conflict) 0 (suc x)) found sees)))
-
   -- ---- a cell is claimed
 
   pub claimed_lasts : (p : ℕ) → IsTrue y.claims → Lasts job y
@@ -180,3 +132,56 @@ module _ (job : JobData) (y : LayoutData)
       (λ e. on history (so job y history (Floor job y q x) (λ words. Floor job y q x words
       × (p < job.cells → stamped_word (suc x) (claim_of job i) ≤ held y words (Claim p)))
       (λ words stands f. (f, λ c. absurd (let l = ltb-false p job.cells e in omega arith))) sees))
+
+-- a conflict is reported: it is named after the swap, if the phase is not over; what else is known
+-- lasts
+module _ (job : JobData) (y : LayoutData) (w q : ℕ) (aim : Aim) (x : ℕ) (some : 1 ≤ q)
+    (most : q ≤ 3 * job.steps) (step : step_at q ≡ suc x) (phase : 3 * x + 3 ≡ q) where
+  named_now : (words : List ℕ) → Stands job y words →
+      conflict y (words_after words (Swap (number_of y Conflict) 0 (suc x))) ≢ 0
+  named_now words stands = elim (cases_eq (conflict y words) 0) [
+    | inl e ↦ (let below : number_of y Conflict < length words =
+        (let n = (numbering y stands.sizes).below Conflict tt in
+        let l = stands.admitted.len in omega arith) in
+        let is : conflict y (slice_set words (number_of y Conflict) (suc x)) ≡ suc x =
+        get_or-set_same words (number_of y Conflict) (suc x) 0 below in
+        subst (λ (l : List ℕ). conflict y l ≢ 0)
+        (sym (swap_same words (number_of y Conflict) 0 (suc x) e)) (λ none. absurd (omega arith)))
+    | inr n ↦ subst (λ (l : List ℕ). conflict y l ≢ 0)
+        (sym (swap_other words (number_of y Conflict) 0 (suc x) n)) n
+  ]
+
+  named_later : (words : List ℕ) → Stands job y words → Floor job y q x words →
+      conflict y words ≢ 0 → root y words < q → conflict y words ≡ suc x
+  named_later words stands floor named live =
+      let gone = alive job y words q x stands some most step floor live in
+      elim (facts job y words stands).conflict_next [
+        | inl e ↦ absurd (named e)
+        | inr e ↦ e ∙ ap suc gone
+      ]
+
+  pub reports_end : (P : List ℕ → Type 0) → Lasts job y P →
+      ((words : List ℕ) → P words → Floor job y q x words) → (AgreesAfter job x → ⊥) →
+      (after : Script Then) (history : List (Op × ℕ)) → Sees job y history P →
+      ((longer : List (Op × ℕ)) → Sees job y longer
+      (λ words. P words × (root y words < q → conflict y words ≡ suc x)) →
+      Safe job y w q aim after longer) →
+      Safe job y w q aim (reports y (suc x) after) history
+  reports_end P lasts floor not after history sees on =
+      let op = Swap (number_of y Conflict) 0 (suc x) in (
+        so job y history P (λ words. aim.given words → Goes job y w q op words)
+            (λ words stands h given. goes_of job y w q op words
+            ((writes_keep job y words q x stands some most step (floor words h)).conflict
+            (kind_of x q Verify phase) not)) sees,
+        λ found ok. on ((op, found) ∷ history)
+            (so job y ((op, found) ∷ history) (Moment job y op found P)
+            (λ words. P words × (root y words < q → conflict y words ≡ suc x))
+            (λ words stands m.
+            let kept = lasts m.words words m.stands stands
+            (onward y m.words (words_after m.words op) words m.grew m.since) m.earlier in
+            let named = named_now m.words m.stands in
+            let same : conflict y (words_after m.words op) ≡ conflict y words =
+            m.since Conflict tt named in
+            (kept, named_later words stands (floor words kept) (λ none. named (same ∙ none))))
+            (heard job y history P op found sees)),
+      )

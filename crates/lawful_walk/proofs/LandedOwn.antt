@@ -91,7 +91,12 @@ module _ (job : JobData) (i x : ℕ) (limits : IsJob job) (proc : i < job.procs)
       ≡ slice_index (state_after job (settled_at job x i)) p =
       ap (λ (own : Own). slice_index own.registers r) told_here
       ∙ one_of (register job (state_after job (settled_at job x i)) i) r low in
-      rw (value_register r low, told, is_put r low, ap (λ (own : Own). is_some (cell_next job own)) own_here)
+      rw (
+        value_register r low,
+        told,
+        is_put r low,
+        ap (λ (own : Own). is_some (cell_next job own)) own_here,
+      )
       (sym (owned ∙ rw (register_below job p (omega (arith, proc, low))) refl))
 
   pub counter_due : lands_counter job known R ≡ Due (counter_place job i)

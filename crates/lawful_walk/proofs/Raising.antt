@@ -1,5 +1,6 @@
 -- A node is raised to a phase.
-use Rattle.std.proofs.Common.{◌≡◌, ◌≢◌, ◌⊎◌, ℕ, suc, ◌+◌, ◌*◌, ◌/◌, ◌%◌, ◌<◌, ◌≤◌, IsTrue, List, max}
+use Rattle.std.proofs.Common.{◌≡◌, ◌≢◌, ◌⊎◌, ℕ, suc, ◌+◌, ◌*◌, ◌/◌, ◌%◌, ◌<◌, ◌≤◌, IsTrue, List}
+use Rattle.std.proofs.Common.{max}
 use Rattle.std.proofs.Common.{zero, refl}
 use Rattle.std.proofs.Common.{sym}
 use Rattle.std.specs.Prelude.{slice_set}
@@ -279,7 +280,8 @@ module _ (job : JobData) (y : LayoutData) (words : List ℕ) (stands : Stands jo
                   | inl h ↦ inr (g ∙ sym next ∙ h)
                   | inr h ↦ absurd (elim seen.conflict_next [
                     | inl none ↦ omega (arith, none, c)
-                    | inr there ↦ (let open_step = live (sym r.0) in omega (arith, there, c, h, open_step))
+                    | inr there ↦ (let open_step = live (sym r.0) in
+                        omega (arith, there, c, h, open_step))
                   ])
                 ])
           ];
@@ -391,7 +393,8 @@ module _ (job : JobData) (y : LayoutData) (g m : ℕ) (wide : y.form ≡ Wide g)
     to_formed : IsTrue (has_phase y.form (next_phase y.form (root y words)))
     to_formed = has_next y.form (root y words)
 
-    step_lawful : (later : List ℕ) → Only y (Node 1) (next_phase y.form (root y words)) words later →
+    step_lawful : (later : List ℕ) →
+        Only y (Node 1) (next_phase y.form (root y words)) words later →
         Lawful job y later
     step_lawful later only =
         let above = (next_above y.form (root y words)).0 in
@@ -400,7 +403,8 @@ module _ (job : JobData) (y : LayoutData) (g m : ℕ) (wide : y.form ≡ Wide g)
         (let l = may.live in omega (arith, l)) in
         node_lawful job y words may.stands 1 (next_phase y.form (root y words))
         (root_is job y words may.stands) above (omega (arith, upto, range))
-        (λ first. may.live) (λ compact. absurd (let e : Compact ≡ Wide g = sym compact ∙ wide in cc))
+        (λ first. may.live) (λ compact. absurd
+        (let e : Compact ≡ Wide g = sym compact ∙ wide in cc))
         (λ inner. let h = may.children inner in let a = h.0 in let b = h.1 in
         (omega (arith, upto, a), omega (arith, upto, b)))
         (λ i kind proc leaf more most. may.ready i kind proc leaf more (omega (arith, most, upto)))
@@ -420,8 +424,9 @@ module _ (job : JobData) (y : LayoutData) (g m : ℕ) (wide : y.form ≡ Wide g)
     climbed_stands =
         let above = (next_above y.form (root y words)).0 in
         let upto = next_upto (root y words) may.below in
-        subst (Stands job y) (max_more words (number_of y (Node 1)) (next_phase y.form (root y words))
-        above) (does_max job y (suc (root y words)) (Node 1) (next_phase y.form (root y words)) words
+        subst (Stands job y) (max_more words (number_of y (Node 1))
+        (next_phase y.form (root y words)) above)
+        (does_max job y (suc (root y words)) (Node 1) (next_phase y.form (root y words)) words
         may.stands (root_is job y words may.stands) (omega (arith, upto, range), to_formed)
         (λ h. absurd (omega (arith, h)))
         (λ less. (omega (arith, above), λ later only. step_lawful later only))).keeps.stands
@@ -433,7 +438,8 @@ module _ (job : JobData) (y : LayoutData) (g m : ℕ) (wide : y.form ≡ Wide g)
         (root_is job y words may.stands) (omega (arith, above)) climbed_only
 
     -- the step that is then finished
-    climbed_gone : (finished y climbed ≡ finished y words) ⊎ (finished y climbed ≡ suc (finished y words))
+    climbed_gone : (finished y climbed ≡ finished y words)
+        ⊎ (finished y climbed ≡ suc (finished y words))
     climbed_gone =
         let at = climbed_only.at in
         let was = facts job y words may.stands in
@@ -462,7 +468,8 @@ module _ (job : JobData) (y : LayoutData) (g m : ℕ) (wide : y.form ≡ Wide g)
                 let c = (facts job y climbed climbed_stands).full_root (omega (arith, full, e)) in
                 let u = climbed_stands.lawful.named.first (finished y climbed) c in
                 u.1 (silent_agrees job y (finished y climbed) (is_board climbed_stands) (λ i proc.
-                may.silent i (finished y climbed) proc (omega (arith, e)) (omega (arith, full, e, more)))))
+                may.silent i (finished y climbed) proc (omega (arith, e))
+                (omega (arith, full, e, more)))))
           ]
         ]
       where
@@ -493,7 +500,8 @@ module _ (job : JobData) (y : LayoutData) (g m : ℕ) (wide : y.form ≡ Wide g)
     }
       where
         not_before : (t : ℕ) → finished y climbed ≤ t → finished y words ≤ t
-        not_before t late = elim climbed_gone [ inl e ↦ omega (arith, e, late) | inr e ↦ omega (arith, e, late) ]
+        not_before t late = elim climbed_gone
+            [ inl e ↦ omega (arith, e, late) | inr e ↦ omega (arith, e, late) ]
 
   climb : (fuel : ℕ) (words : List ℕ) → MayClimb job y m words → m ≤ root y words + fuel →
       (later : List ℕ) → Only y (Node 1) m words later → Lawful job y later
@@ -508,8 +516,8 @@ module _ (job : JobData) (y : LayoutData) (g m : ℕ) (wide : y.form ≡ Wide g)
             let above = (next_above y.form (root y words)).0 in
             let upto = next_upto words may (root y words) may.below in
             let less : root y (climbed words may) < m = omega (arith, at, upto, other) in
-            climb fuel (climbed words may) (climbed_climbs words may less) (omega (arith, at, above, few)) later
-            (record {
+            climb fuel (climbed words may) (climbed_climbs words may less)
+            (omega (arith, at, above, few)) later (record {
               len = only.len ∙ sym made.len;
               at = only.at;
               rest = λ b is_b apart. only.rest b is_b apart ∙ sym (made.rest b is_b apart);
@@ -710,15 +718,18 @@ module _ (job : JobData) (y : LayoutData) (words : List ℕ) (q x : ℕ) (stands
     | inr other ↦ elim (cases_eq n 3) [
       | inl e ↦ subst (λ (k : ℕ). m ≤ held y words (Node k)) (sym e) right
       | inr more ↦ (
-          let up = children_below fuel (n / 2) m (omega (arith, few, two)) (omega (arith, two, other, more))
+          let up = children_below fuel (n / 2) m (omega (arith, few, two))
+          (omega (arith, two, other, more))
           (omega (arith, high)) left right in
           elim (cases_eq n (2 * (n / 2))) [
             | inl e ↦ subst (λ (k : ℕ). m ≤ held y words (Node k)) (sym e)
-                (let h = stands.lawful.tree.left (n / 2) (omega (arith, two)) (omega (arith, high)) in
+                (let h = stands.lawful.tree.left (n / 2) (omega (arith, two))
+                (omega (arith, high)) in
                 omega (arith, up, h))
             | inr odd ↦ subst (λ (k : ℕ). m ≤ held y words (Node k))
                 (let e : 2 * (n / 2) + 1 ≡ n = omega (arith, odd) in e)
-                (let h = stands.lawful.tree.right (n / 2) (omega (arith, two)) (omega (arith, high)) in
+                (let h = stands.lawful.tree.right (n / 2) (omega (arith, two))
+                (omega (arith, high)) in
                 omega (arith, up, h))
           ])
     ]
@@ -740,7 +751,8 @@ module _ (job : JobData) (y : LayoutData) (words : List ℕ) (q x : ℕ) (stands
       (λ past e. absurd (omega (arith, past, e, phase)))
       (λ at. (
         (let l = mark.low in omega (arith, at, l, phase)),
-        λ later only. climb job y g m wide range mark.is_phase m words (climbs at) (omega arith) later
+        λ later only. climb job y g m wide range mark.is_phase m words (climbs at)
+            (omega arith) later
             only,
       ))
     where

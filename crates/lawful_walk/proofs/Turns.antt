@@ -202,7 +202,8 @@ module _ (job : JobData) (y : LayoutData) (w q : ℕ) (aim : Aim) (x : ℕ)
       let is = jumps_where y n q (min l r) jump in
       by_wide y.form y.form refl is.wide (λ g wide.
       subst (λ (k : ℕ). Safe job y w q aim
-      (asks (Swap (number_of y (Node k)) (q - 1) (min l r)) (λ found. marked)) history) (sym is.root)
+      (asks (Swap (number_of y (Node k)) (q - 1) (min l r)) (λ found. marked)) history)
+      (sym is.root)
       (jumps_safe job y w q aim x some most step (Held n (min l r)) (held_last n (min l r) low high)
       (λ words h. h.0) g (min l r) wide (let p = is.first in omega (arith, p, step))
       (reach_mark g wide) reach.most marked history
@@ -243,7 +244,8 @@ module _ (job : JobData) (y : LayoutData) (w q : ℕ) (aim : Aim) (x : ℕ)
             low = mark.least;
             is_phase = mark.formed;
             compact = λ c. ap (λ (f : Form). by_form f q (bounded_mark n q (min l r))) c;
-          }) (λ one. let h = inner_last y n q l r one in omega (arith, h, step)) (inner_upto y n q l r e) more
+          }) (λ one. let h = inner_last y n q l r one in omega (arith, h, step))
+          (inner_upto y n q l r e) more
 
   pub down_safe : (n : ℕ) → IsTrue (has_phase y.form q) → w < y.workers → 1 ≤ n → n < y.leaves →
       (history : List (Op × ℕ)) → Sees job y history (Floor job y q x) →
@@ -399,7 +401,8 @@ module _ (job : JobData) (y : LayoutData) (w q x : ℕ) (some : 1 ≤ q) (most :
       Sees job y history (Floor job y q x) →
       Safe job y w q (aim_at job y q n rank) (marks_block job y n q memory) history
   block_safe n rank memory wide is_true fits low high none history sees =
-      cond_both (jumps y n q reach) (asks (Swap (number_of y (Node n)) (q - 1) reach) (λ found. marked))
+      cond_both (jumps y n q reach)
+      (asks (Swap (number_of y (Node n)) (q - 1) reach) (λ found. marked))
       marked (λ (s : Script Then). Safe job y w q aim s history) (λ jump.
       let is = jumps_where y n q reach jump in
       let leaf_mark = reach_mark n memory is_true fits wide in
@@ -630,8 +633,8 @@ worker_safe job y w board fits is_true =
 pub rank_safe : RankSafe
 rank_safe job y board wide w n q rank memo is_true low high some most formed there =
     let step : step_at q ≡ suc (step_at q - 1) = omega arith in
-    part_safe job y w q (step_at q - 1) some most step board formed n rank wide low high there memo is_true
-    (begun_phase y q) (floor_seen job y q (step_at q - 1) some step formed)
+    part_safe job y w q (step_at q - 1) some most step board formed n rank wide low high
+    there memo is_true (begun_phase y q) (floor_seen job y q (step_at q - 1) some step formed)
 
 -- the worker's lemma
 pub workers_keep : WorkersKeepWordsLawful

@@ -222,7 +222,8 @@ module _ (job : JobData) (y : LayoutData)
       (λ d. safe_known job y w q aim (reports y (suc x) after) longest
       (AgreesAfter job x → ⊥) (so job y longest (Both p a b) (λ words. AgreesAfter job x → ⊥)
       (λ words stands m. disagrees p v a b words rule asked m d) known) (λ not.
-      reports_end job y w q aim x i some most step board proc compact phase not after longest
+      reports_end job y w q aim x some most step phase (Floor job y q x) (floor_lasts job y q x)
+      (λ words f. f) not after longest
       (so job y longest (Both p a b)
       (Floor job y q x) (λ words stands m. both_floor p a b words stands m) known) (λ last reported.
       done last (so job y last (λ words. Floor job y q x words × (root y words < q →
@@ -348,8 +349,8 @@ module _ (job : JobData) (y : LayoutData)
       (AgreesAfter job x → ⊥) (so job y longest (Moment job y (Load (number_of y (Claim p))) found
       (Floor job y q x)) (λ words. AgreesAfter job x → ⊥) (λ words stands m.
       other_claims p (part_after job x i 1) found words rule has cell asked m d) moment) (λ not.
-      reports_end job y w q aim x i some most step board proc compact phase not after
-      longest now_floor (λ last reported.
+      reports_end job y w q aim x some most step phase (Floor job y q x) (floor_lasts job y q x)
+      (λ words f. f) not after longest now_floor (λ last reported.
       done last (so job y last (λ words. Floor job y q x words × (root y words < q →
       conflict y words ≡ suc x)) (λ words. Floor job y q x words × (root y words < q →
       ClaimStays job y x words i)) (λ words stands h. (h.0, λ now. inl (h.1 now))) reported))))

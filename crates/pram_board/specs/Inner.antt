@@ -1,3 +1,4 @@
 -- What private contracts cite.
 pub mod Next
+pub mod Plain
 pub mod Plays

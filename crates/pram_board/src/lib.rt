@@ -4,11 +4,14 @@
 
 mod board;
 mod driver;
+mod first_pass;
 mod look;
 mod outcome;
+mod plain;
 mod plays;
 mod rest;
 mod seat;
+mod second_pass;
 mod task;
 mod work;
 

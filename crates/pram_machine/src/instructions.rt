@@ -199,9 +199,9 @@ pub(crate) fn decide<H: Held>(
     }
 }
 
-// What an instruction that computes makes of two numbers, if that has a value.
+/// What an instruction that computes makes of two numbers, if that has a value.
 #[inline(always)]
-fn computed(instr: &Instr, a: u32, b: u32) -> Option<u32>
+pub fn computed(instr: &Instr, a: u32, b: u32) -> Option<u32>
     ensures { result ≡ computed instr.now a b }
 {
     match *instr {

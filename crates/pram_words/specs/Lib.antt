@@ -5,4 +5,5 @@ pub mod Tree
 pub mod Words
 pub mod Ways
 pub mod Start
+pub mod Inner
 pub mod Laws

@@ -1,10 +1,12 @@
 //! Where the words of a board lie.
 ghost use Rattle.pram_job.specs.declared.limits.TheConstants.{MAX_CELLS, MAX_PROCS};
-ghost use Rattle.std.specs.Prelude.{◌≡◌, ℕ, ◌+◌, ◌*◌, ◌<◌, ◌≤◌, ◌↔◌, IsTrue, IfOk, if◌then◌else◌};
+ghost use Rattle.std.specs.Prelude.{◌≡◌, ℕ, ◌+◌, ◌*◌, ◌<◌, ◌≤◌, ◌↔◌};
+ghost use Rattle.std.specs.Prelude.{IsTrue, IfOk, [], if◌then◌else◌};
 ghost use Rattle.pram_words.specs.declared.layout.Form.TheVariants.{Compact, Wide};
 ghost use Rattle.pram_words.specs.declared.words.Word.TheVariants.{Asked, Claim, Conflict};
 ghost use Rattle.pram_words.specs.declared.words.Word.TheVariants.{Node, Position, Stored};
 ghost use Rattle.pram_words.specs.Phases.{has_phase, next_phase};
+ghost use Rattle.pram_words.specs.Inner.Started.{HasStarted};
 ghost use Rattle.pram_words.specs.Start.{start_of, start_words};
 ghost use Rattle.pram_words.specs.Tree.{depth_of, leaves_of};
 ghost use Rattle.pram_words.specs.Ways.{IsTurnInForm, first_leaf_in, turns_right_in, way_of};
@@ -414,15 +416,39 @@ impl Layout {
 
     /// The words that a board of the job starts with. It takes memory for them, and time in their
     /// number. The layout is to be the job's.
-    #[tactic(auto, unfolding(crate::specs::Start::start_words))]
     pub fn start_words(&self, alloc: Global, job: &Job) -> Result<Vec<u64>, AllocError>
         ensures { IfOk result (λ words. words.items ≡ start_words self.now job.now) }
     {
-        let mut words = Vec::with_capacity(alloc, self.length() as usize)?;
-        for k in 0..self.length() {
-            words.push(self.start_word(job, k))?;
-        }
+        let mut words = vec![in alloc; 0; self.length() as usize]?;
+        self.start_workers(&mut words);
+        self.start_cells(job.init(), &mut words);
         Ok(words)
+    }
+
+    // Writes into each worker's position the leaf where it begins.
+    fn start_workers(&self, words: &mut [u64])
+        requires { HasStarted self.now 0 [] words.old }
+        ensures { HasStarted self.now self.now.workers [] words.new }
+    {
+        for w in 0..self.workers() {
+            words[self.position_word(w) as usize] = u64::from(self.first_leaf(w));
+        }
+    }
+
+    // Writes into both words of each cell its value, with stamp 0. Values that have no place are
+    // left out.
+    fn start_cells(&self, values: &[u32], words: &mut [u64])
+        requires { HasStarted self.now self.now.workers [] words.old }
+        ensures { HasStarted self.now self.now.workers values.now words.new }
+    {
+        let places = self.cells + 5 * self.procs;
+        let placed = &values[..values.len().min(places as usize)];
+        for (p, value) in placed.iter().enumerate() {
+            let first = self.place_word(p as u32) as usize;
+            let word = u64::from(*value);
+            words[first] = word;
+            words[first + 1] = word;
+        }
     }
 
     // Whether a word may have a value.

@@ -1,6 +1,6 @@
 -- Processors of a block that do not stand together: each goes on as far as it can.
-use Rattle.std.proofs.Common.{◌≡◌, ◌≢◌, ℕ, zero, suc, ◌+◌, ◌-◌, ◌/◌, ◌%◌, ◌<◌, ◌≤◌, true, List}
-use Rattle.std.proofs.Common.{length, nat_lt, slice_get, Option, Some, refl, sym, ap, subst, ◌∙◌}
+use Rattle.std.proofs.Common.{◌≡◌, ◌≢◌, ℕ, zero, suc, ◌+◌, ◌-◌, ◌%◌, ◌<◌, ◌≤◌, true, List}
+use Rattle.std.proofs.Common.{length, nat_lt, refl, sym, ap, subst, ◌∙◌}
 use Rattle.std.proofs.Common.{inl, inr, arith}
 use Rattle.std.specs.Prelude.{◌||◌, is_some, nat_le}
 use Rattle.std.proofs.lemmas.Bool.{cases_Bool, cases_lt, lt-ltb}
@@ -10,15 +10,14 @@ use Rattle.walk_memory.specs.declared.block.Block.{Block}
 use Rattle.walk_memory.specs.declared.memo.Memo.{Memo}
 use Rattle.walk_memory.specs.declared.span.Span.{Span}
 use Rattle.walk_memory.specs.Apart.{GetAsFar}
-use Rattle.walk_memory.specs.Lanes.{lane, lane_in, memos_of}
-use Rattle.walk_memory.specs.Memory.{goes_alone, goes_on_alone, gone_on, has_stopped, memo_of}
+use Rattle.walk_memory.specs.Lanes.{lane}
+use Rattle.walk_memory.specs.Memory.{goes_alone, goes_on_alone, gone_on, has_stopped}
 use Rattle.walk_memory.specs.Memory.{one_alone}
 use Rattle.walk_memory.specs.Blocks.{least_of, block_gone_on, has_rank, processor_at}
 use Rattle.walk_memory.specs.Together.{goes_as_far}
 use Rattle.walk_memory.proofs.AsFar.{not_there}
 use Rattle.walk_memory.proofs.Ranks.{rank_parts}
 use Rattle.walk_memory.proofs.GoingAlone.{last_stays}
-use Rattle.walk_memory.proofs.Lanes.{memo_of_all}
 use Rattle.walk_memory.proofs.Memories.{memo_past, set_past}
 
 -- ---- one processor that has gone on as far as it can stays
@@ -146,16 +145,6 @@ module _ (job : JobData) (lanes : Span) where
   }
 
 -- ---- what is remembered of them
-
-pub lane_there : (blocks : List Block) (first q k : ℕ) (block : Block) → first % 64 ≡ 0 →
-    q ≡ first / 64 → k < 64 → slice_get blocks q ≡ Some block →
-    memo_of (memos_of blocks) (first + k) ≡ lane block k
-lane_there blocks first q k block row at low is =
-    let here : (first + k) / 64 ≡ q = omega (arith, row, at, low) in
-    let there : (first + k) % 64 ≡ k = omega (arith, row, low) in
-    memo_of_all blocks (first + k)
-    ∙ ap (λ (o : Option Block). lane_in o ((first + k) % 64)) (ap (slice_get blocks) here ∙ is)
-    ∙ ap (λ (j : ℕ). lane block j) there
 
 -- without memory none goes on
 pub none_goes_on : (job : JobData) (y : LayoutData) (n more rank : ℕ) (memory : List Memo) →

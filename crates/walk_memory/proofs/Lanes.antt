@@ -1,11 +1,12 @@
 -- The memory of a worker by its blocks: the memo of processor i is lane i % 64 of block i / 64.
 use Rattle.std.proofs.Common.{◌≡◌, ◌≢◌, ℕ, zero, suc, ◌+◌, ◌*◌, ◌/◌, ◌%◌, ◌<◌, ◌≤◌, List, [], ◌∷◌}
 use Rattle.std.proofs.Common.{false, length, slice_get, slice_index, slice_index_or, Option, Some}
-use Rattle.std.proofs.Common.{None, refl, ap, sym, ◌∙◌, inl, inr, arith}
-use Rattle.std.specs.Prelude.{slice_set, replicate, unwrap_or}
+use Rattle.std.proofs.Common.{Bor, None, refl, ap, sym, ◌∙◌, inl, inr, arith}
+use Rattle.std.specs.Prelude.{IfNone, IfSome, slice_set, replicate, unwrap_or}
+use Rattle.std.specs.Slice.{IsItemAt}
 use Rattle.std.proofs.Math.ListN.{length-set}
 use Rattle.std.proofs.lemmas.Bool.{cases_lt}
-use Rattle.std.proofs.lemmas.Option.{slice_get_past}
+use Rattle.std.proofs.lemmas.Option.{slice_get-get_or, slice_get_past}
 use Rattle.walk_memory.specs.declared.block.Block.{Block}
 use Rattle.walk_memory.specs.declared.memo.Memo.{Memo}
 use Rattle.walk_memory.specs.Lanes.{lane, lane_at, lane_in, memos_from, memos_of}
@@ -77,6 +78,21 @@ pub get_none : (blocks : List Block) (i q : ℕ) → q ≡ i / 64 → length blo
     slice_get (memos_of blocks) i ≡ None
 get_none blocks i q at past = slice_get_past (memos_of blocks) i
     (let long = length_all blocks in omega (arith, at, past, long))
+
+-- of those of a block that is looked up
+module _ (blocks : List Block) (q : ℕ) where
+  pub found_some : (found : Option (Bor Block)) → IsItemAt blocks q found →
+      IfSome found (λ block. (k : ℕ) → k < 64 →
+      slice_get (memos_of blocks) (64 * q + k) ≡ Some (lane block.now k))
+  found_some None is = tt
+  found_some (Some block) is = λ k low. get_all blocks (64 * q + k) q k block.now
+      (omega (arith, low)) (omega (arith, low))
+      (slice_get-get_or blocks q block.now is.3.0 ∙ ap Some (sym is.1)) is.3.0
+
+  pub found_none : (found : Option (Bor Block)) → IsItemAt blocks q found →
+      IfNone found (length (memos_of blocks) ≤ 64 * q)
+  found_none (Some block) is = tt
+  found_none None is = omega (arith, is.3, length_all blocks)
 
 -- of each
 pub memo_of_all : (blocks : List Block) (i : ℕ) → memo_of (memos_of blocks) i ≡ lane_at blocks i

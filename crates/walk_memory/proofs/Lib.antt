@@ -9,6 +9,7 @@ pub mod ClaimWords
 pub mod GoingAlone
 pub mod Halted
 pub mod InLanes
+pub mod LaggingLoads
 pub mod Lanes
 pub mod Memories
 pub mod OwnFits

@@ -1,7 +1,7 @@
 -- A store that is remembered.
 use Rattle.std.proofs.Common.{◌≡◌, ◌≢◌, ℕ, suc, ◌+◌, ◌-◌, ◌<◌, ◌≤◌, ◌/◌, ◌%◌, Bool, true, false, List, Option}
 use Rattle.std.proofs.Common.{Some, None, refl, sym, ap, subst, ◌∙◌, slice_get, length, arith}
-use Rattle.std.specs.Prelude.{if◌then◌else◌, is_some, slice_index, slice_index_or, slice_set}
+use Rattle.std.specs.Prelude.{if◌then◌else◌, is_some, slice_index, slice_index_or, slice_set, unwrap_or}
 use Rattle.pram_job.specs.Job.{JobData}
 use Rattle.pram_words.specs.Phases.{kind_at}
 use Rattle.pram_words.specs.declared.phases.Kind.TheVariants.{Verify}
@@ -9,7 +9,7 @@ use Rattle.walk_memory.specs.declared.block.Block.{Block}
 use Rattle.walk_memory.specs.declared.memo.Memo.{Memo}
 use Rattle.walk_memory.specs.Inner.Posts.{PostData, at_rank, processor_of, step_of}
 use Rattle.walk_memory.specs.Lanes.{lane, lane_in, memos_of}
-use Rattle.walk_memory.specs.Memory.{FitsMemo, memo_of}
+use Rattle.walk_memory.specs.Memory.{FitsMemo, at_start, memo_of}
 use Rattle.walk_memory.specs.Plain.{AllStore, HasStore}
 use Rattle.walk_memory.specs.Rows.{AllIn}
 use Rattle.walk_memory.proofs.Lanes.{memo_of_all, set_all}
@@ -57,22 +57,21 @@ stores_left at len memory memo all rank later within =
     (λ same. omega (arith, same, later))))
     (all rank (omega (arith, later)) within)
 
--- lanes have stores, and so their processors
-pub all_stores : (at : PostData) (len : ℕ) (memory : List Memo) (items : List Block) (i : ℕ)
-    (block : Block) (start end : ℕ) → memos_of items ≡ memory → i ≡ processor_of at →
-    kind_at at.phase ≡ Verify → slice_get items (i / 64) ≡ Some block →
-    start ≡ i % 64 → start + (len - at.rank) ≡ end → end ≤ 64 →
+-- lanes of a block have stores, and so their processors
+pub all_stores : (at : PostData) (len : ℕ) (memory : List Memo) (block : Block)
+    (first start end : ℕ) → first + start ≡ processor_of at → first % 64 ≡ 0 →
+    kind_at at.phase ≡ Verify → start + (len - at.rank) ≡ end → end ≤ 64 →
+    ((k : ℕ) → k < 64 → slice_get memory (first + k) ≡ Some (lane block k)) →
     AllIn start end (λ k. ((lane block k).step ≡ step_of at)
     × (is_some (lane block k).store ≡ true)) → AllStore at len memory
-all_stores at len memory items i block start end view same second there begin length_is most
-    all rank later within =
-    let j = processor_of (at_rank at rank) in
-    let on : j ≡ i + (rank - at.rank) = omega (arith, same, later) in
-    let row : j / 64 ≡ i / 64 = omega (arith, on, begin, length_is, most, later, within) in
-    let k : j % 64 ≡ start + (rank - at.rank) =
-    omega (arith, on, begin, length_is, most, later, within) in
-    let is : memo_of memory j ≡ lane block (j % 64) = lane_known memory items j j block view refl
-    (ap (slice_get items) row ∙ there) in
-    let has = all (j % 64) (omega (arith, k)) (omega (arith, k, length_is, later, within)) in
-    subst (HasStore (at_rank at rank)) (sym is)
+all_stores at len memory block first start end begin row second length_is most held all
+    rank later within =
+    let k = start + (rank - at.rank) in
+    let low : start ≤ k = omega arith in
+    let high : k < end = omega (arith, length_is, later, within) in
+    let here : first + k ≡ processor_of (at_rank at rank) = omega (arith, begin, later) in
+    let there : slice_get memory (processor_of (at_rank at rank)) ≡ Some (lane block k) =
+    ap (slice_get memory) (sym here) ∙ held k (omega (arith, high, most)) in
+    let has = all k low high in
+    subst (λ (o : Option Memo). HasStore (at_rank at rank) (unwrap_or o at_start)) (sym there)
     (record { second = second; step = has.0; some = has.1 })

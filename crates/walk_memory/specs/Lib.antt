@@ -11,3 +11,4 @@ pub mod Apart
 pub mod AsOne
 pub mod Rows
 pub mod Plain
+pub mod Lagging

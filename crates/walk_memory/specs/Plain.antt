@@ -7,12 +7,26 @@ use Rattle.pram_job.specs.declared.instr.Place.{Place}
 use Rattle.pram_machine.specs.Instructions.{index_of, reached}
 use Rattle.pram_words.specs.Phases.{kind_at}
 use Rattle.pram_words.specs.declared.phases.Kind.{Kind}
+use Rattle.walk_memory.specs.declared.block.Block.{Block}
 use Rattle.walk_memory.specs.declared.load_in.Claims.{Claims}
 use Rattle.walk_memory.specs.declared.load_in.Loads.{Loads}
 use Rattle.walk_memory.specs.declared.memo.Memo.{Memo}
+use Rattle.walk_memory.specs.declared.span.Span.{Span}
 use Rattle.walk_memory.specs.Inner.Posts.{PostData, at_rank, processor_of, step_of}
+use Rattle.walk_memory.specs.Lanes.{lane}
 use Rattle.walk_memory.specs.Memory.{cell_named, is_common, memo_of}
 use Rattle.walk_memory.specs.Rows.{held_in}
+
+-- lane i % 64 of this block is one of these, and what is known of processor i
+pub record InLanes (memory : List Memo) (i : ℕ) (block : Block) (lanes : Span) : Type 0 where
+  pub low : lanes.start ≤ i % 64
+  pub high : i % 64 < lanes.end
+  pub there : slice_get memory i ≡ Some (lane block (i % 64))
+
+-- and so of each processor of the post's block of this length, from its rank on
+abbrev pub AllHeld : PostData → ℕ → List Memo → Block → Span → Type 0
+AllHeld at len memory block lanes = (rank : ℕ) → at.rank ≤ rank → rank < len →
+    InLanes memory (processor_of (at_rank at rank)) block lanes
 
 -- In the first pass, a processor of which this is known before the step stands at a load of this
 -- cell into register r, and its words tell what it is after it, but for that register.

@@ -6,6 +6,7 @@ mod as_one;
 mod asked;
 mod block;
 mod claim_plain;
+mod lagging;
 mod load_in;
 mod memo;
 mod plain;

@@ -1,6 +1,7 @@
 //! What a worker remembers.
-ghost use Rattle.std.specs.Prelude.{◌≡◌, ◌==◌, suc, List, slice_get, slice_set, IfOk, IfSome, []};
-ghost use Rattle.std.specs.Prelude.{IsTrue, Some, None, ℕ, ◌+◌, ◌-◌, ◌*◌, ◌%◌, ◌<◌, ◌≤◌, length, nat_lt};
+ghost use Rattle.std.specs.Prelude.{◌≡◌, ◌==◌, ◌+◌, ◌-◌, ◌*◌, ◌%◌, ◌<◌, ◌≤◌, ℕ, suc, nat_lt};
+ghost use Rattle.std.specs.Prelude.{Some, None, IfNone, IfOk, IfSome, List, [], length, slice_get};
+ghost use Rattle.std.specs.Prelude.{slice_set, IsTrue};
 ghost use Rattle.pram_machine.specs.Instructions.{gives};
 ghost use Rattle.pram_machine.specs.Turns.{IsSorted, request_of};
 ghost use Rattle.walk_memory.specs.declared.memo.Memo.{Memo};
@@ -14,7 +15,7 @@ ghost use Rattle.walk_memory.specs.Together.{gone_from};
 ghost use Rattle.walk_memory.specs.Memory.{at_start, blank, has_store, is_past, memo_of, own_after};
 ghost use Rattle.walk_memory.specs.Memory.{own_at_start, reach, settles_in};
 ghost use Rattle.walk_memory.specs.OwnWrites.{cell_write};
-ghost use Rattle.walk_memory.specs.Plain.{AllClaimBy, AllLoadBy, AllStore};
+ghost use Rattle.walk_memory.specs.Plain.{AllClaimBy, AllHeld, AllLoadBy, AllStore};
 ghost use Rattle.walk_memory.specs.Turned.{IsShaped, landed, stored};
 ghost use Rattle.walk_memory.specs.Learned.{memo_after};
 ghost use Rattle.walk_memory.specs.Stands.{IsStand, StandsAt};
@@ -277,16 +278,22 @@ impl Memory {
     pub fn memo(&self, i: u32) -> Memo
         ensures { result ≡ memo_of self.now i }
     {
-        let i = i as usize;
-        match &self.blocks {
-            Some(blocks) => {
-                if i / 64 < blocks.len() {
-                    blocks[i / 64].memo(i % 64)
-                } else {
-                    Memo::at_start()
-                }
-            }
+        match self.block(i / 64) {
+            Some(block) => block.memo((i % 64) as usize),
             None => Memo::at_start(),
+        }
+    }
+
+    // Block q, if there is memory of it.
+    #[inline(always)]
+    fn block(&self, q: u32) -> Option<&Block>
+        ensures some { IfSome result (λ block. (k : ℕ) → k < 64 →
+            slice_get self.now (64 * q + k) ≡ Some (lane block.now k)) }
+        ensures none { IfNone result (length self.now ≤ 64 * q) }
+    {
+        match &self.blocks {
+            Some(blocks) => blocks.get(q as usize),
+            None => None,
         }
     }
 
@@ -343,11 +350,8 @@ impl Memory {
             start: start as usize,
             end: (start + more) as usize,
         };
-        match &self.blocks {
-            Some(blocks) => {
-                let q = (i / 64) as usize;
-                q < blocks.len() && all_stored(&blocks[q], lanes, leaf.step())
-            }
+        match self.block(i / 64) {
+            Some(block) => all_stored(block, lanes, leaf.step()),
             None => false,
         }
     }
@@ -435,15 +439,8 @@ impl Memory {
         ensures { result ≡ least_of most phase (lanes.end - lanes.start) (lanes.first + lanes.start)
             self.now }
     {
-        let q = (lanes.first / 64) as usize;
-        match &self.blocks {
-            Some(blocks) => {
-                if q < blocks.len() {
-                    least_reach(&blocks[q], lanes, phase, most)
-                } else {
-                    none_reach(lanes, most)
-                }
-            }
+        match self.block(lanes.first / 64) {
+            Some(block) => least_reach(block, lanes, phase, most),
             None => none_reach(lanes, most),
         }
     }
@@ -479,6 +476,29 @@ impl Memory {
 }
 
 impl Memory {
+    /// The block of memory that holds a block of this length, from the leaf's processor on, and its
+    /// lanes, if the last one stands at this counter.
+    #[inline(always)]
+    pub(crate) fn block_standing(
+        &self,
+        leaf: &Leaf,
+        len: u32,
+        counter: u32,
+    ) -> Option<(&Block, Span)>
+        requires { (rank : ℕ) → has_rank leaf.now.layout leaf.now.node rank ≡ nat_lt rank len }
+        ensures { IfSome result (λ held. AllHeld leaf.now len self.now held.0.now held.1) }
+    {
+        let lanes = lanes_from(leaf, len);
+        let block = self.block(lanes.first / 64)?;
+        if last_stands(block, lanes, counter) {
+            Some((block, lanes))
+        } else {
+            None
+        }
+    }
+}
+
+impl Memory {
     /// The loads of a block of this length, from the leaf's processor on, if all load plainly by the
     /// instruction that this one stands at.
     #[inline(always)]
@@ -491,20 +511,8 @@ impl Memory {
         if !matches!(*stand.instr, Instr::Ld(..)) {
             return None;
         }
-        let lanes = lanes_from(leaf, len);
-        let q = (lanes.first / 64) as usize;
-        match &self.blocks {
-            Some(blocks) => {
-                if q < blocks.len() {
-                    let block = &blocks[q];
-                    if last_stands(block, lanes, stand.counter) {
-                        return plain_loads(leaf, block, lanes, stand);
-                    }
-                }
-                None
-            }
-            None => None,
-        }
+        let (block, lanes) = self.block_standing(leaf, len, stand.counter)?;
+        plain_loads(leaf, block, lanes, stand)
     }
 }
 
@@ -521,20 +529,8 @@ impl Memory {
         if !matches!(*stand.instr, Instr::St(..)) {
             return None;
         }
-        let lanes = lanes_from(leaf, len);
-        let q = (lanes.first / 64) as usize;
-        match &self.blocks {
-            Some(blocks) => {
-                if q < blocks.len() {
-                    let block = &blocks[q];
-                    if last_stands(block, lanes, stand.counter) {
-                        return plain_claims(leaf, block, lanes, stand);
-                    }
-                }
-                None
-            }
-            None => None,
-        }
+        let (block, lanes) = self.block_standing(leaf, len, stand.counter)?;
+        plain_claims(leaf, block, lanes, stand)
     }
 }
 

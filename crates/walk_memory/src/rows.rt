@@ -18,6 +18,7 @@ use crate::block::Block;
 use crate::memo::{Formed, Stand};
 use crate::span::{LANES, Span};
 use pram_job::{Instr, Job, Operand, Place, Rule};
+use pram_machine::computed;
 
 // ---- loops over arrays
 
@@ -70,30 +71,7 @@ fn compute_in(to: &mut [u32; LANES], lanes: Span, instr: &Instr, x: &[u32; LANES
         to.old to.new }
 {
     for k in lanes.start..lanes.end {
-        to[k] = computed(instr, x[k], y[k]);
-    }
-}
-
-// What an instruction that computes makes of two numbers, or 0 where that has no value.
-#[inline(always)]
-fn computed(instr: &Instr, a: u32, b: u32) -> u32
-    ensures { result ≡ unwrap_or (computed instr.now a b) 0 }
-{
-    match *instr {
-        Instr::Add(..) => a.wrapping_add(b),
-        Instr::Sub(..) => a.wrapping_sub(b),
-        Instr::Mul(..) => a.wrapping_mul(b),
-        Instr::And(..) => a & b,
-        Instr::Or(..) => a | b,
-        Instr::Xor(..) => a ^ b,
-        Instr::Lt(..) => u32::from(a < b),
-        Instr::Eq(..) => u32::from(a == b),
-        Instr::Shl(..) => a.checked_shl(b).unwrap_or(0),
-        Instr::Shr(..) => a.checked_shr(b).unwrap_or(0),
-        Instr::Div(..) => a.checked_div(b).unwrap_or(0),
-        Instr::Rem(..) => a.checked_rem(b).unwrap_or(0),
-        Instr::Set(..) | Instr::Pid(..) | Instr::Ld(..) | Instr::St(..) => 0,
-        Instr::Jz(..) | Instr::Jmp(..) | Instr::Halt => 0,
+        to[k] = computed(instr, x[k], y[k]).unwrap_or(0);
     }
 }
 
@@ -391,7 +369,8 @@ fn go_by(job: &Job, lanes: Span, at: Together, instr: &Instr, block: &mut Block)
     }
 }
 
-/// The same. Each form that has a row here has a loop of its own, in which no other is looked at.
+/// The same. Each form that has a row in these three functions has a loop of its own, in which no
+/// other is looked at.
 #[inline(always)]
 pub(crate) fn go_by_form(
     job: &Job,
@@ -414,16 +393,6 @@ pub(crate) fn go_by_form(
         Instr::Pid(r) => go_all(job, lanes, at, block, &stand.by(|| Instr::Pid(r))),
         Instr::Jz(r, index) => go_all(job, lanes, at, block, &stand.by(|| Instr::Jz(r, index))),
         Instr::Jmp(index) => go_all(job, lanes, at, block, &stand.by(|| Instr::Jmp(index))),
-        Instr::Add(r, a, b) => go_all(job, lanes, at, block, &stand.by(|| Instr::Add(r, a, b))),
-        Instr::Sub(r, a, b) => go_all(job, lanes, at, block, &stand.by(|| Instr::Sub(r, a, b))),
-        Instr::Mul(r, a, b) => go_all(job, lanes, at, block, &stand.by(|| Instr::Mul(r, a, b))),
-        Instr::Shl(r, a, b) => go_all(job, lanes, at, block, &stand.by(|| Instr::Shl(r, a, b))),
-        Instr::Shr(r, a, b) => go_all(job, lanes, at, block, &stand.by(|| Instr::Shr(r, a, b))),
-        Instr::Div(r, a, b) => go_all(job, lanes, at, block, &stand.by(|| Instr::Div(r, a, b))),
-        Instr::Rem(r, a, b) => go_all(job, lanes, at, block, &stand.by(|| Instr::Rem(r, a, b))),
-        Instr::And(r, a, b) => go_all(job, lanes, at, block, &stand.by(|| Instr::And(r, a, b))),
-        Instr::Or(r, a, b) => go_all(job, lanes, at, block, &stand.by(|| Instr::Or(r, a, b))),
-        Instr::Xor(r, a, b) => go_all(job, lanes, at, block, &stand.by(|| Instr::Xor(r, a, b))),
         Instr::Lt(r, a, b) => go_all(job, lanes, at, block, &stand.by(|| Instr::Lt(r, a, b))),
         Instr::Eq(r, a, b) => go_all(job, lanes, at, block, &stand.by(|| Instr::Eq(r, a, b))),
         Instr::St(Place::Cell(a), b) => go_all(
@@ -440,6 +409,54 @@ pub(crate) fn go_by_form(
             block,
             &stand.by(|| Instr::St(Place::Named(array, a), b)),
         ),
+        _ => go_by_sum(job, lanes, at, block, stand),
+    }
+}
+
+// Of these, those of arithmetic.
+#[inline(always)]
+fn go_by_sum(
+    job: &Job,
+    lanes: Span,
+    at: Together,
+    block: &mut Block,
+    stand: Stand<'_>,
+) -> Option<Together>
+    requires stand { Stands job.now at stand.instr.now }
+    requires alone { (is_load (Some stand.instr.now) ≡ false) × ((at.step + 1) % 64 ≢ 0) }
+    ensures all { IfSome result (λ next. AllGo job.now lanes at next block.old block.new) }
+    ensures none { IfNone result (block.new ≡ block.old) }
+{
+    match *stand.instr {
+        Instr::Add(r, a, b) => go_all(job, lanes, at, block, &stand.by(|| Instr::Add(r, a, b))),
+        Instr::Sub(r, a, b) => go_all(job, lanes, at, block, &stand.by(|| Instr::Sub(r, a, b))),
+        Instr::Mul(r, a, b) => go_all(job, lanes, at, block, &stand.by(|| Instr::Mul(r, a, b))),
+        Instr::Div(r, a, b) => go_all(job, lanes, at, block, &stand.by(|| Instr::Div(r, a, b))),
+        Instr::Rem(r, a, b) => go_all(job, lanes, at, block, &stand.by(|| Instr::Rem(r, a, b))),
+        _ => go_by_bits(job, lanes, at, block, stand),
+    }
+}
+
+// And those of bits, and the rest.
+#[inline(always)]
+fn go_by_bits(
+    job: &Job,
+    lanes: Span,
+    at: Together,
+    block: &mut Block,
+    stand: Stand<'_>,
+) -> Option<Together>
+    requires stand { Stands job.now at stand.instr.now }
+    requires alone { (is_load (Some stand.instr.now) ≡ false) × ((at.step + 1) % 64 ≢ 0) }
+    ensures all { IfSome result (λ next. AllGo job.now lanes at next block.old block.new) }
+    ensures none { IfNone result (block.new ≡ block.old) }
+{
+    match *stand.instr {
+        Instr::Shl(r, a, b) => go_all(job, lanes, at, block, &stand.by(|| Instr::Shl(r, a, b))),
+        Instr::Shr(r, a, b) => go_all(job, lanes, at, block, &stand.by(|| Instr::Shr(r, a, b))),
+        Instr::And(r, a, b) => go_all(job, lanes, at, block, &stand.by(|| Instr::And(r, a, b))),
+        Instr::Or(r, a, b) => go_all(job, lanes, at, block, &stand.by(|| Instr::Or(r, a, b))),
+        Instr::Xor(r, a, b) => go_all(job, lanes, at, block, &stand.by(|| Instr::Xor(r, a, b))),
         instr => go_all(job, lanes, at, block, &stand.by(|| instr)),
     }
 }

@@ -91,8 +91,8 @@ fn stand_in<'a>(job: &'a Job, block: &Block, k: usize) -> Option<Stand<'a>>
     Some(Stand { counter, instr })
 }
 
-// A step of each that stands there. Each form that has a row here has a loop of its own, in which no
-// other is looked at.
+// A step of each that stands there. Each form that has a row in these three functions has a loop of
+// its own, in which no other is looked at.
 fn go_by_form(job: &Job, lanes: Span, block: &mut Block, stand: Stand<'_>)
     requires procs { AllIn lanes.start lanes.end (λ k. lanes.first + k < job.now.procs) }
     requires stand { slice_get job.now.code stand.counter ≡ Some stand.instr.now }
@@ -103,16 +103,6 @@ fn go_by_form(job: &Job, lanes: Span, block: &mut Block, stand: Stand<'_>)
         Instr::Pid(r) => go_each(job, lanes, block, &stand.by(|| Instr::Pid(r))),
         Instr::Jz(r, index) => go_each(job, lanes, block, &stand.by(|| Instr::Jz(r, index))),
         Instr::Jmp(index) => go_each(job, lanes, block, &stand.by(|| Instr::Jmp(index))),
-        Instr::Add(r, a, b) => go_each(job, lanes, block, &stand.by(|| Instr::Add(r, a, b))),
-        Instr::Sub(r, a, b) => go_each(job, lanes, block, &stand.by(|| Instr::Sub(r, a, b))),
-        Instr::Mul(r, a, b) => go_each(job, lanes, block, &stand.by(|| Instr::Mul(r, a, b))),
-        Instr::Shl(r, a, b) => go_each(job, lanes, block, &stand.by(|| Instr::Shl(r, a, b))),
-        Instr::Shr(r, a, b) => go_each(job, lanes, block, &stand.by(|| Instr::Shr(r, a, b))),
-        Instr::Div(r, a, b) => go_each(job, lanes, block, &stand.by(|| Instr::Div(r, a, b))),
-        Instr::Rem(r, a, b) => go_each(job, lanes, block, &stand.by(|| Instr::Rem(r, a, b))),
-        Instr::And(r, a, b) => go_each(job, lanes, block, &stand.by(|| Instr::And(r, a, b))),
-        Instr::Or(r, a, b) => go_each(job, lanes, block, &stand.by(|| Instr::Or(r, a, b))),
-        Instr::Xor(r, a, b) => go_each(job, lanes, block, &stand.by(|| Instr::Xor(r, a, b))),
         Instr::Lt(r, a, b) => go_each(job, lanes, block, &stand.by(|| Instr::Lt(r, a, b))),
         Instr::Eq(r, a, b) => go_each(job, lanes, block, &stand.by(|| Instr::Eq(r, a, b))),
         Instr::St(Place::Cell(a), b) => go_each(
@@ -127,6 +117,40 @@ fn go_by_form(job: &Job, lanes: Span, block: &mut Block, stand: Stand<'_>)
             block,
             &stand.by(|| Instr::St(Place::Named(array, a), b)),
         ),
+        _ => go_by_sum(job, lanes, block, stand),
+    }
+}
+
+// Of these, those of arithmetic.
+#[inline(always)]
+fn go_by_sum(job: &Job, lanes: Span, block: &mut Block, stand: Stand<'_>)
+    requires procs { AllIn lanes.start lanes.end (λ k. lanes.first + k < job.now.procs) }
+    requires stand { slice_get job.now.code stand.counter ≡ Some stand.instr.now }
+    ensures { GetAsFar job.now lanes block.old block.new }
+{
+    match *stand.instr {
+        Instr::Add(r, a, b) => go_each(job, lanes, block, &stand.by(|| Instr::Add(r, a, b))),
+        Instr::Sub(r, a, b) => go_each(job, lanes, block, &stand.by(|| Instr::Sub(r, a, b))),
+        Instr::Mul(r, a, b) => go_each(job, lanes, block, &stand.by(|| Instr::Mul(r, a, b))),
+        Instr::Div(r, a, b) => go_each(job, lanes, block, &stand.by(|| Instr::Div(r, a, b))),
+        Instr::Rem(r, a, b) => go_each(job, lanes, block, &stand.by(|| Instr::Rem(r, a, b))),
+        _ => go_by_bits(job, lanes, block, stand),
+    }
+}
+
+// And those of bits, and the rest.
+#[inline(always)]
+fn go_by_bits(job: &Job, lanes: Span, block: &mut Block, stand: Stand<'_>)
+    requires procs { AllIn lanes.start lanes.end (λ k. lanes.first + k < job.now.procs) }
+    requires stand { slice_get job.now.code stand.counter ≡ Some stand.instr.now }
+    ensures { GetAsFar job.now lanes block.old block.new }
+{
+    match *stand.instr {
+        Instr::Shl(r, a, b) => go_each(job, lanes, block, &stand.by(|| Instr::Shl(r, a, b))),
+        Instr::Shr(r, a, b) => go_each(job, lanes, block, &stand.by(|| Instr::Shr(r, a, b))),
+        Instr::And(r, a, b) => go_each(job, lanes, block, &stand.by(|| Instr::And(r, a, b))),
+        Instr::Or(r, a, b) => go_each(job, lanes, block, &stand.by(|| Instr::Or(r, a, b))),
+        Instr::Xor(r, a, b) => go_each(job, lanes, block, &stand.by(|| Instr::Xor(r, a, b))),
         instr => go_each(job, lanes, block, &stand.by(|| instr)),
     }
 }

@@ -74,7 +74,8 @@ module _ (job : JobData) (y : LayoutData) (board : IsBoard job y) where
       AllAsk job y (FitsThen job) (part_script job y n q rank memo)
   unfolding part_script
   part_asks n q rank memo low high last formed there fits =
-      form_asks job y board (FitsThen job) y.form (kind_at q) (step_at q) (processor_at y n rank) memo
+      form_asks job y board (FitsThen job) y.form (kind_at q) (step_at q)
+      (processor_at y n rank) memo
       (after_part y n q rank) (step_most job.steps q last) ((rank_parts y n rank there).1) fits
       (λ m fit. form_both y.form (marks_node y n q q) (ends (worked n q rank m))
       (AllAsk job y (FitsThen job))
@@ -97,12 +98,14 @@ module _ (job : JobData) (y : LayoutData) (board : IsBoard job y) where
   turn_asks w n q worker low high last formed =
       load_of job y board (FitsThen job) (Node n) _ (low, high) (λ found ok.
       cond_both (nat_le q found) _ _ (AllAsk job y (FitsThen job))
-      (λ e. cond_both (n == 1) _ _ (AllAsk job y (FitsThen job)) (λ g. ends_of job y board (FitsThen job) _ tt) (λ g.
+      (λ e. cond_both (n == 1) _ _ (AllAsk job y (FitsThen job))
+      (λ g. ends_of job y board (FitsThen job) _ tt) (λ g.
       let h = eqb-false n 1 g in stands_ask w (n / 2) q worker (omega arith) (omega arith)))
       (λ e. cond_both (nat_le y.leaves n) _ _ (AllAsk job y (FitsThen job))
       (λ g. cond_both (has_rank y n 0) _ _ (AllAsk job y (FitsThen job))
       (λ h. form_both y.form (part_script job y n q 0 at_start) (ends (enters n q))
-      (AllAsk job y (FitsThen job)) (part_asks n q 0 at_start low high last formed h (start_fits job))
+      (AllAsk job y (FitsThen job))
+      (part_asks n q 0 at_start low high last formed h (start_fits job))
       (ends_of job y board (FitsThen job) (enters n q) tt))
       (λ h. marks_ask n (empty_mark job y n q) q low high (empty_marks job y n q last formed)))
       (λ g. let l = leb-false y.leaves n g in
@@ -127,14 +130,16 @@ module _ (job : JobData) (y : LayoutData) (board : IsBoard job y) where
       (λ e. load_of job y board (FitsThen job) Conflict _ tt
       (λ u ok. cond_both (u == 0) _ _ (AllAsk {R = Then} job y (FitsThen job))
       (λ g. cond_both (r == 3 * job.steps) _ _ (AllAsk {R = Then} job y (FitsThen job))
-      (λ h. ends_of job y board (FitsThen job) _ tt) (λ h. ends_of job y board (FitsThen job) _ tt)) (λ g. ends_of job y board (FitsThen job) _ tt)))
+      (λ h. ends_of job y board (FitsThen job) _ tt) (λ h. ends_of job y board (FitsThen job) _ tt))
+      (λ g. ends_of job y board (FitsThen job) _ tt)))
       (λ e. ends_of job y board (FitsThen job) _ tt))
 
   pub doing_asks : (w n : ℕ) (memory : List Memo) (d : Doing) →
       w < y.workers → 1 ≤ n → n < 2 * y.leaves → IsPhase job y d → FitsMemory job memory →
       AllAsk job y (FitsThen job) (script_by job y w n memory d)
   doing_asks w n memory doing.Back worker low high phase fits =
-      load_of job y board (FitsThen job) (Position w) _ worker (λ found ok. ends_of job y board (FitsThen job) _ tt)
+      load_of job y board (FitsThen job) (Position w) _ worker
+      (λ found ok. ends_of job y board (FitsThen job) _ tt)
   doing_asks w n memory doing.Begin worker low high phase fits = begin_asks n
   doing_asks w n memory (doing.Turn q) worker low high phase fits =
       turn_asks w n q worker low high phase.1 phase.2

@@ -183,7 +183,8 @@ module _ {R : Type 0} (G : ℕ → Script R → Type 0) (is : IsWithin G) (y : L
       (writes_place_within G is k y t c v _ (ended (carried t memo))))))
 
   priority_carry_within : (k : ℕ) (job : JobData) (t i : ℕ) (memo : Memo)
-      (after : Memo → Script R) → ((m : Memo) → G k (after m)) → G (k + 15) (priority_carry_task job y t i memo after)
+      (after : Memo → Script R) → ((m : Memo) → G k (after m)) →
+      G (k + 15) (priority_carry_task job y t i memo after)
   unfolding priority_carry_task
   priority_carry_within k job t i memo after ended =
       let more = λ (j : ℕ) (h : k ≤ j) (m : Memo). is.more j k (after m) h (ended m) in

@@ -112,8 +112,8 @@ fits_sound job y w limits fits may = λ going.
           (rest_of job y w) (longest y w.now - length w.heard) (heard_of job y w)) (sym dropped)
           (rest_leads job y w.number (To job y (later_weight job y before (node_of y w) w.now))
           (script_of job y w) (longest y w.now) w.heard before
-          (script_leads job y w.number (node_of y w) w.memory w.now before limits node.0 node.1 fits.phase
-          fits.block going) may);
+          (script_leads job y w.number (node_of y w) w.memory w.now before limits node.0
+          node.1 fits.phase fits.block going) may);
       asking = asks;
     }
 
@@ -156,7 +156,8 @@ number_stays : (job : JobData) (y : LayoutData) (w : Walking) (answers : List �
 number_stays job y w [] = refl
 number_stays job y w (found ∷ earlier) =
     let v = told_all job y w earlier in
-    told_number job y v.now v found (rest_after (rest_of job y v) found) ∙ number_stays job y w earlier
+    told_number job y v.now v found (rest_after (rest_of job y v) found)
+    ∙ number_stays job y w earlier
 
 -- the step at the end of a walk
 walk_step : (job : JobData) (y : LayoutData) (w : Walking) (found : ℕ) (earlier : List ℕ) →

@@ -278,7 +278,8 @@ inner_leads : (job : JobData) (y : LayoutData) (w : ℕ)
     else stands_at y w (way_down y w n q l r) q) (turn_ops y - 3) history
 inner_leads job y w before history n q l r grown some inner first last formed unmarked left right =
     let to = To job y (turn_weight job y before n q) in
-    cond_both (nat_le q l && nat_le q r) _ _ (λ script. Leads job y w to script (turn_ops y - 3) history)
+    cond_both (nat_le q l && nat_le q r) _ _
+    (λ script. Leads job y w to script (turn_ops y - 3) history)
     (λ e. let m = inner_mark y n q l r in
     raises_leads job y w before history to n m (min l r) q (turn_ops y - 3) (ops_some y) grown
     (marks_leads job y w before n m q some (omega arith) first last formed

@@ -13,7 +13,8 @@ use Rattle.walkx.specs.Scripts.{Script, asks}
 use Rattle.walkx.specs.Walk.{Then}
 use Rattle.walkx.specs.WideParts.{claimed_cell, store_claimed}
 
-module _ (at : PostData) (request : Request) (late : Script Then) (next : Unit {0} → Script Then) where
+module _ (at : PostData) (request : Request) (late : Script Then)
+    (next : Unit {0} → Script Then) where
   abbrev claimed : Script Then
   claimed = claims_store at.job at.layout (step_of at) (processor_of at) request (next tt)
 

@@ -27,7 +27,8 @@ use Rattle.walk_memory.proofs.GoingAlone.{settles_by}
 
 -- ---- a load, and other instructions
 
-no_read : (job : JobData) (o : Operands) (held : ℕ) → is_load_row o ≡ false → read_at job o held ≡ None
+no_read : (job : JobData) (o : Operands) (held : ℕ) → is_load_row o ≡ false →
+    read_at job o held ≡ None
 no_read job Bare held e = refl
 no_read job (Target r) held e = refl
 no_read job (TargetNumber r k) held e = refl
@@ -59,7 +60,8 @@ loads_some job own instr cell e =
 
 -- ---- it stands at an instruction
 
-module _ (job : JobData) (own : Own) (instr : Instr) (some : slice_get job.code own.counter ≡ Some instr)
+module _ (job : JobData) (own : Own) (instr : Instr)
+    (some : slice_get job.code own.counter ≡ Some instr)
   where
     pub next_is : cell_next job own ≡ cell_named job own (Some instr)
     next_is = rw some refl

@@ -70,7 +70,8 @@ module _ (job : JobData) (y : LayoutData) (t i : ℕ) (after : Memo → Script T
         (rw e refl)
   ]
 
-  computes_alike : (memo : Memo) (f : Memo → Request → Script Memo) (g : Memo → Request → Script Then) →
+  computes_alike : (memo : Memo) (f : Memo → Request → Script Memo)
+      (g : Memo → Request → Script Then) →
       ((r : Request) → A (f memo r) (g memo r)) →
       A (computes_own job y t i memo (λ m. ends m) f) (computes_own job y t i memo after g)
   computes_alike memo f g each = elim (cases_Bool (is_past (phase_of t Compute) memo)) [
@@ -81,7 +82,8 @@ module _ (job : JobData) (y : LayoutData) (t i : ℕ) (after : Memo → Script T
         (λ known. reads_cell y t (cell_next job known.own) (after at_start)
         (λ value. g known (asked job i known.own value)))
         (reads_alike (cell_next job memo.own) (ends at_start) (after at_start)
-        (λ value. f memo (asked job i memo.own value)) (λ value. g memo (asked job i memo.own value))
+        (λ value. f memo (asked job i memo.own value))
+        (λ value. g memo (asked job i memo.own value))
         (each (asked job i memo.own 0))))
   ]
 

@@ -37,7 +37,10 @@ still_to_do at memo second has = elim (cases_Bool (memo.step == step_of at)) [
       let step : memo.step ≡ step_of at = eqb-true memo.step (step_of at) e in
       let same : at.phase ≡ phase_of (step_of at) Verify = verify_is at.phase second in
       elim (cases_lt memo.acted at.phase) [
-        | inl later ↦ rw (some, lt-leb at.phase (3 * memo.step - 2) (omega (arith, same, step, later)))
+        | inl later ↦ rw (
+          some,
+          lt-leb at.phase (3 * memo.step - 2) (omega (arith, same, step, later)),
+        )
             (none_left _)
         | inr not_later ↦ rw (le-ltb memo.acted at.phase (omega (arith, not_later))) refl
       ])

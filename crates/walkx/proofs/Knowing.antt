@@ -246,14 +246,16 @@ known_on job y r w found (asks op next) board going block is each newest has bef
     record { script = has; block = before; memory = is_true }
 known_on job y r w found (ends (begins m)) board going block is each newest has before is_true new =
     record { script = tt; block = tt; memory = is_true }
-known_on job y r w found (ends (turns m q)) board going block is each newest has before is_true new =
+known_on job y r w found (ends (turns m q)) board going block is each newest has
+    before is_true new =
     record {
       script = has_begun job y w.number (node_of y w) m q w.now r
           (heard_in (script_of job y w) (found ∷ w.heard)) going each newest has;
       block = tt;
       memory = is_true;
     }
-known_on job y r w found (ends (enters m q)) board going block is each newest has before is_true new =
+known_on job y r w found (ends (enters m q)) board going block is each newest has
+    before is_true new =
     entered_known w.now refl each
   where
     entered_known : (d : Doing) → w.now ≡ d →
@@ -270,7 +272,8 @@ known_on job y r w found (ends (enters m q)) board going block is each newest ha
         ++ phase_begun y d)) e has)) in
         record {
           script = begun;
-          block = goes_parts job y r m q board b.3 begun 0 w.memory (λ k from below. is_true board.limits k below)
+          block = goes_parts job y r m q board b.3 begun 0 w.memory
+              (λ k from below. is_true board.limits k below)
               (λ earlier less. absurd (omega arith));
           memory = new;
         }

@@ -15,9 +15,11 @@ module _ {D : Type 0} (stands : Standing D) (at : PostData) (memo : Memo) (old :
       memo_known at memo late next ≡ memo_loaded at late next
   same late next = rw other refl
 
-  pub loads_next : IsNextPart stands old (memo_known at memo) → IsNextPart stands old (memo_loaded at)
+  pub loads_next : IsNextPart stands old (memo_known at memo) → IsNextPart stands old
+      (memo_loaded at)
   loads_next is = next_as stands old _ _ same is
 
   pub loads_plays : (new : D) (result : Result Memo Left) →
-      Plays stands old (memo_loaded at) new result → Plays stands old (memo_known at memo) new result
+      Plays stands old (memo_loaded at) new result →
+      Plays stands old (memo_known at memo) new result
   loads_plays new result plays = plays_as stands old _ _ same new result plays

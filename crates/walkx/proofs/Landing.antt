@@ -20,8 +20,8 @@ use Rattle.walkx.specs.Passes.{is_put_to, lands_counter, lands_register, put_if,
 use Rattle.walkx.specs.Passes.{writes_each}
 use Rattle.walkx.specs.Scripts.{Script}
 use Rattle.walkx.specs.Walk.{Then}
-use Rattle.walkx.specs.WideParts.{counter_due, lands_from, learned, own_landed, own_written}
-use Rattle.walkx.specs.WideParts.{register_due, tells_step, writes_if}
+use Rattle.walkx.specs.WideParts.{counter_due, landed_from, learned, own_landed, own_written}
+use Rattle.walkx.specs.WideParts.{register_due, register_tells, writes_if}
 use Rattle.walk_memory.specs.Turned.{landed}
 use Rattle.walkx.proofs.FirstPass.{loads_then, made_with, reads_some, settles_reading}
 use Rattle.walkx.proofs.Loaded.{load_claims, load_gives}
@@ -29,7 +29,8 @@ use Rattle.walk_memory.proofs.Timing.{compute_is}
 use Rattle.walkx.proofs.Turning.{moved}
 
 -- one place, and the others
-one_place : (at : PostData) (so : Bool) (place value : ℕ) (others : List (ℕ × ℕ)) (late after : Script Then) →
+one_place : (at : PostData) (so : Bool) (place value : ℕ) (others : List (ℕ × ℕ))
+    (late after : Script Then) →
     writes_each at.layout (step_of at) (put_if so place value others) after
     ≡ writes_if at so place value late (λ done. writes_each at.layout (step_of at) others after)
 one_place at true place value others late after = refl
@@ -40,15 +41,15 @@ same_place : (at : PostData) (a b : Bool) (place value other : ℕ) (late : Scri
     writes_if at a place value late next ≡ writes_if at b place other late next
 same_place at a b place value other late next e f = rw (e, f) refl
 
--- the turn of this request is taken in what was known, but for what its words tell; the step is told
--- by this register, or the counter
+-- the turn of this request is taken in what was known, but for what its words tell; the step is
+-- told by this register, or the counter
 pub record IsTaken (at : PostData) (known : Memo) (request : Request) (taken : Memo)
     (tells : Option ℕ) : Type 0 where
   pub own : taken.own ≡ own_after at.job (processor_of at) known.own request
   pub told : taken.told ≡ known.told
   pub reads : not (is_some (cell_next at.job known.own)) ≡ is_none tells
   pub put : (r : ℕ) → (is_some (cell_next at.job known.own)
-      && is_put_to (register_place at.job (processor_of at) r) request.put) ≡ tells_step tells r
+      && is_put_to (register_place at.job (processor_of at) r) request.put) ≡ register_tells tells r
 
 module _ (at : PostData) (known : Memo) (request : Request) (taken : Memo) (tells : Option ℕ)
     (is : IsTaken at known request taken tells) where
@@ -59,7 +60,8 @@ module _ (at : PostData) (known : Memo) (request : Request) (taken : Memo) (tell
       == slice_index known.told.registers r)) (is.put r))
 
   counter_same : lands_counter at.job known request ≡ counter_due taken tells
-  counter_same = rw (is.own, is.told) (ap (λ (b : Bool). b || not (request.next == known.told.counter))
+  counter_same = rw (is.own, is.told)
+      (ap (λ (b : Bool). b || not (request.next == known.told.counter))
       is.reads)
 
   module _ (late after : Script Then) (next : Unit {0} → Script Then) where
@@ -69,17 +71,18 @@ module _ (at : PostData) (known : Memo) (request : Request) (taken : Memo) (tell
 
     each_landed : (registers : List ℕ) →
         writes_each at.layout (step_of at) (registers_landing at.job (processor_of at) known request
-        registers counter_left) (next tt) ≡ lands_from at taken tells registers late next
+        registers counter_left) (next tt) ≡ landed_from at taken tells registers late next
     each_landed [] =
         one_place at (lands_counter at.job known request) (counter_place at.job (processor_of at))
         request.next [] late (next tt)
-        ∙ same_place at _ _ (counter_place at.job (processor_of at)) request.next taken.own.counter late
-        next counter_same (rw is.own refl)
+        ∙ same_place at _ _ (counter_place at.job (processor_of at)) request.next
+        taken.own.counter late next counter_same (rw is.own refl)
     each_landed (r ∷ registers) =
         one_place at (lands_register at.job (processor_of at) known request r)
         (register_place at.job (processor_of at) r)
         (slice_index (own_after at.job (processor_of at) known.own request).registers r)
-        (registers_landing at.job (processor_of at) known request registers counter_left) late (next tt)
+        (registers_landing at.job (processor_of at) known request registers counter_left)
+        late (next tt)
         ∙ ap (λ (s : Script Then). writes_if at
         (lands_register at.job (processor_of at) known request r)
         (register_place at.job (processor_of at) r)
@@ -87,7 +90,7 @@ module _ (at : PostData) (known : Memo) (request : Request) (taken : Memo) (tell
         (λ done. s)) (each_landed registers)
         ∙ same_place at _ _ (register_place at.job (processor_of at) r) _
         (slice_index taken.own.registers r) late
-        (λ done. lands_from at taken tells registers late next) (register_same r) (rw is.own refl)
+        (λ done. landed_from at taken tells registers late next) (register_same r) (rw is.own refl)
 
     pub settled_landed : settles_in at.job (step_of at) known.own ≡ true →
         own_written at known request after next ≡ own_landed at taken tells late next
@@ -120,7 +123,8 @@ module _ (at : PostData) (known taken : Memo) (register value : ℕ)
     own = own;
     told = told;
     reads = ap not (sym reads);
-    put = λ r. ap (λ (b : Bool). b && is_put_to (register_place at.job (processor_of at) r) given.put)
+    put = λ r. ap (λ (b : Bool). b && is_put_to (register_place at.job (processor_of at) r)
+        given.put)
         (sym reads) ∙ same_register at.job (processor_of at) register r;
   }
 

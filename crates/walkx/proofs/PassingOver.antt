@@ -40,7 +40,8 @@ part_alike job y n q rank memo wide = by y.form refl wide
   where
     at : (f : Form) → Type 0
     at f = Alike (λ m. ends (worked n q rank m))
-        (task_in f job.rule (kind_at q) job y (step_at q) (processor_at y n rank) memo (λ m. ends m))
+        (task_in f job.rule (kind_at q) job y (step_at q) (processor_at y n rank) memo
+        (λ m. ends m))
         (task_in f job.rule (kind_at q) job y (step_at q) (processor_at y n rank) memo
         (λ m. by_form f (marks_node y n q q) (ends (worked n q rank m))))
 

@@ -1,6 +1,7 @@
 -- The first pass of a processor, where its lane lies.
 use Rattle.std.proofs.Common.{◌≡◌, ◌≢◌, ℕ, zero, suc, ◌+◌, ◌-◌, ◌/◌, ◌%◌, ◌<◌, ◌≤◌, true, false}
-use Rattle.std.proofs.Common.{◌∷◌, Err, List, length, slice_get, slice_index, Option, Some, None, Result, Ok}
+use Rattle.std.proofs.Common.{◌∷◌, Err, List, length, slice_get, slice_index, Option, Some, None}
+use Rattle.std.proofs.Common.{Result, Ok}
 use Rattle.std.proofs.Common.{refl, sym, ap, subst, ◌∙◌, arith}
 use Rattle.std.specs.Prelude.{OnOk, drop, slice_set}
 use Rattle.std.proofs.Math.ListN.{length-set}
@@ -26,7 +27,7 @@ use Rattle.walkx.specs.Places.{told_registers, told_to}
 use Rattle.walk_memory.specs.Turned.{turned}
 use Rattle.walkx.specs.Scripts.{Script}
 use Rattle.walkx.specs.Walk.{Then}
-use Rattle.walkx.specs.WideParts.{counter_landed, lands_from, learned, own_landed, own_written}
+use Rattle.walkx.specs.WideParts.{counter_landed, landed_from, learned, own_landed, own_written}
 use Rattle.walkx.specs.WideParts.{register_landed}
 use Rattle.walk_memory.proofs.Lanes.{four_set, memo_of_all, set_all}
 use Rattle.walk_memory.proofs.Memories.{memo_again}
@@ -39,7 +40,8 @@ use Rattle.walkx.proofs.WidePasses.{own_is, same_wide_kind}
 
 -- ---- what is known once a turn is taken
 
-module _ (at : PostData) (memo : Memo) (request : Request) (first : kind_at at.phase ≡ Compute) where
+module _ (at : PostData) (memo : Memo) (request : Request)
+    (first : kind_at at.phase ≡ Compute) where
   pub turned_quiet : settles_in at.job (step_of at) memo.own ≡ false →
       turned at memo request ≡ learned at memo request
   turned_quiet lags = ap (λ (q : ℕ). record (turned at memo request) { acted = q })
@@ -84,7 +86,8 @@ length_told own told (suc r) = length-set (told_registers own told r) r (slice_i
 
 pub landed_same : (at : PostData) (memo : Memo) (tells : Option ℕ) (r : ℕ) (late : Script Then)
     (next : Unit {0} → Script Then) →
-    register_landed at (told_to memo r) tells r late next ≡ register_landed at memo tells r late next
+    register_landed at (told_to memo r) tells r late next ≡ register_landed at memo
+    tells r late next
 landed_same at memo tells r late next =
     rw (told_later memo.own.registers memo.told.registers r r (omega arith)) refl
 
@@ -97,7 +100,8 @@ on_ok (Err why) p = tt
 pub ok_learns : (r : Result (Unit {0}) Left) (now taken known : Memo) → OnOk r (now ≡ taken) →
     taken ≡ known → (late : Script Then) (next : Memo → Script Then) →
     comes (next now) (λ done. next known) r ≡ comes late next (learns r now)
-ok_learns (Ok done) now taken known told is late next = ap (λ (m : Memo). Some (next m)) (sym (told ∙ is))
+ok_learns (Ok done) now taken known told is late next = ap (λ (m : Memo). Some (next m))
+    (sym (told ∙ is))
 ok_learns (Err Late) now taken known told is late next = refl
 ok_learns (Err Held) now taken known told is late next = refl
 
@@ -107,29 +111,34 @@ module _ (items : List Block) (memory : List Memo) (at : PostData) (i : ℕ) (bl
     (view : memos_of items ≡ memory) (here : i ≡ processor_of at)
     (there : slice_get items (i / 64) ≡ Some block) where
   pub lane_is : memo_of memory (processor_of at) ≡ lane block (i % 64)
-  lane_is = ap (λ (j : ℕ). memo_of memory j) (sym here) ∙ ap (λ (m : List Memo). memo_of m i) (sym view)
+  lane_is = ap (λ (j : ℕ). memo_of memory j) (sym here) ∙ ap (λ (m : List Memo). memo_of m i)
+      (sym view)
       ∙ memo_of_all items i ∙ ap (λ (o : Option Block). lane_in o (i % 64)) there
 
   pub takes_in_lane : {D : Type 0} (stands : Standing D) (old new : D) (now : Block)
       (done : Result (Unit {0}) Left) → i / 64 < length items →
       Passes (idle at (lane block (i % 64))) old new (lane now (i % 64)) →
       DoneInLane stands at old block (i % 64) new now done →
-      TakesUp stands at old memory new (memos_of (slice_set items (i / 64) now)) (settled_or_late done)
+      TakesUp stands at old memory new (memos_of (slice_set items (i / 64) now))
+      (settled_or_late done)
   takes_in_lane stands old new now done low idle is =
       let known = lane now (i % 64) in
-      let kept : memos_of (slice_set items (i / 64) now) ≡ slice_set memory (processor_of at) known =
+      let kept : memos_of (slice_set items (i / 64) now) ≡ slice_set memory
+      (processor_of at) known =
       set_all items i (i / 64) (i % 64) block now known refl refl low there refl is.others
       ∙ ap (λ (m : List Memo). slice_set m i known) view
       ∙ ap (λ (j : ℕ). slice_set memory j known) here in
-      takes_up stands at old new memory _ (lane block (i % 64)) known done (sym lane_is) kept idle is.plays
+      takes_up stands at old new memory _ (lane block (i % 64)) known done (sym lane_is)
+      kept idle is.plays
 
 -- a processor that is past its first pass
 pub first_past : {D : Type 0} (stands : Standing D) (at : PostData) (old : D) (memory : List Memo)
     (memo : Memo) → memo ≡ memo_of memory (processor_of at) → kind_at at.phase ≡ Compute →
     is_past at.phase memo ≡ true → TakesUp stands at old memory old memory (Ok tt)
-first_past stands at old memory memo is first past = takes_up stands at old old memory memory memo memo
-    (Ok tt) is (sym (memo_again memory (processor_of at)) ∙ ap (slice_set memory (processor_of at)) (sym is))
-    (rw first (where_past at memo old old memo first past refl refl))
+first_past stands at old memory memo is first past = takes_up stands at old old memory
+    memory memo memo
+    (Ok tt) is (sym (memo_again memory (processor_of at)) ∙ ap (slice_set memory (processor_of at))
+    (sym is)) (rw first (where_past at memo old old memo first past refl refl))
     (record {
       on = λ from late next here. subst (λ (s : Script Then). stands from old (Some s))
           (same_wide_kind at memo late next _ _ first ∙ own_is at memo late next first
@@ -155,13 +164,13 @@ module _ {D : Type 0} (stands : Standing D) (at : PostData) (old : D) (block : B
   known = lane now landing.lane
 
   abbrev left : Script Then → (Unit {0} → Script Then) → Unit {0} → Script Then
-  left late next done = lands_from at memo landing.tells (drop (suc r) all_registers) late next
+  left late next done = landed_from at memo landing.tells (drop (suc r) all_registers) late next
 
   on_next : r < 4 → (from : D × Script Then) (late : Script Then) (next : Unit {0} → Script Then) →
       stands from old (Some (own_landed at memo landing.tells late next)) →
       stands from d (Some (register_landed at known landing.tells r late (left late next)))
   on_next low from late next here = moved stands from d _ _
-      (ap (λ (rs : List ℕ). lands_from at memo landing.tells rs late next) (left_registers r low)
+      (ap (λ (rs : List ℕ). landed_from at memo landing.tells rs late next) (left_registers r low)
       ∙ sym (ap (λ (m : Memo). register_landed at m landing.tells r late (left late next)) is.told
       ∙ landed_same at memo landing.tells r late (left late next)))
       (is.on from late next here)
@@ -179,7 +188,8 @@ module _ {D : Type 0} (stands : Standing D) (at : PostData) (old : D) (block : B
       Plays stands d (register_landed at known landing.tells r) e (Err why) →
       Plays stands old (own_landed at memo landing.tells) e (Err why)
   register_left low e why plays = record {
-    on = λ from late next here. plays.on from late (left late next) (on_next low from late next here);
+    on = λ from late next here. plays.on from late (left late next)
+        (on_next low from late next here);
   }
 
   pub register_done : r < 4 → (e : D) (then : Block) (done : Unit {0}) →
@@ -193,7 +203,8 @@ module _ {D : Type 0} (stands : Standing D) (at : PostData) (old : D) (block : B
     told = same;
     four = λ some. sym (length_told memo.own.registers memo.told.registers (suc r))
         ∙ sym (ap (λ (m : Memo). length m.told.registers) same) ∙ four;
-    on = λ from late next here. plays.on from late (left late next) (on_next low from late next here);
+    on = λ from late next here. plays.on from late (left late next)
+        (on_next low from late next here);
   }
     where
       same : lane then landing.lane ≡ told_to memo (suc r)
@@ -203,7 +214,7 @@ module _ {D : Type 0} (stands : Standing D) (at : PostData) (old : D) (block : B
       stands from old (Some (own_landed at memo landing.tells late next)) →
       stands from d (Some (counter_landed at known landing.tells late next))
   on_last four from late next here = moved stands from d _ _
-      (ap (λ (n : ℕ). lands_from at memo landing.tells (drop n all_registers) late next) four
+      (ap (λ (n : ℕ). landed_from at memo landing.tells (drop n all_registers) late next) four
       ∙ sym (ap (λ (m : Memo). counter_landed at m landing.tells late next) is.told))
       (is.on from late next here)
 

@@ -23,45 +23,48 @@ use Rattle.walk_memory.proofs.GoingAlone.{settles_by}
 use Rattle.walk_memory.proofs.InLanes.{asks_store}
 use Rattle.walk_memory.proofs.Timing.{compute_is}
 
-module _ (at : PostData) (memo : Memo) (cell value : ℕ) (is : ClaimsPlainly at memo cell value) where
-  abbrev pub claiming : Instr
-  claiming = St is.place is.operand
+module _ (at : PostData) (memo : Memo) (cell value : ℕ) (is : ClaimsPlainly at memo cell value)
+  where
+    abbrev pub claiming : Instr
+    claiming = St is.place is.operand
 
-  -- what it asks for
-  abbrev pub claim : Request
-  claim = record { put = Some (cell, value); next = memo.own.counter + 1 }
+    -- what it asks for
+    abbrev pub claim : Request
+    claim = record { put = Some (cell, value); next = memo.own.counter + 1 }
 
-  pub claim_asks : claim ≡ asked_with at memo (Some claiming) 0
-  claim_asks = sym (asks_store at.job (processor_of at) memo.own is.place is.operand cell is.reaches
-      ∙ ap (λ (v : ℕ). record { put = Some (cell, v); next = memo.own.counter + 1 }) is.holds)
+    pub claim_asks : claim ≡ asked_with at memo (Some claiming) 0
+    claim_asks = sym (asks_store at.job (processor_of at) memo.own is.place is.operand
+        cell is.reaches
+        ∙ ap (λ (v : ℕ). record { put = Some (cell, v); next = memo.own.counter + 1 }) is.holds)
 
-  pub claim_reads : cell_named at.job memo.own (Some claiming) ≡ None
-  claim_reads = reads_none at.job memo.own claiming refl
+    pub claim_reads : cell_named at.job memo.own (Some claiming) ≡ None
+    claim_reads = reads_none at.job memo.own claiming refl
 
-  cell_by : (rule : Rule) → is_common rule ≡ false → claimed_cell rule at.job claim ≡ Some cell
-  cell_by Common e = absurd (cc)
-  cell_by Priority e = rw (lt-ltb cell at.job.cells is.below) refl
-  cell_by Crew e = rw (lt-ltb cell at.job.cells is.below) refl
+    cell_by : (rule : Rule) → is_common rule ≡ false → claimed_cell rule at.job claim ≡ Some cell
+    cell_by Common e = absurd (cc)
+    cell_by Priority e = rw (lt-ltb cell at.job.cells is.below) refl
+    cell_by Crew e = rw (lt-ltb cell at.job.cells is.below) refl
 
-  pub claim_cell : claimed_cell at.job.rule at.job claim ≡ Some cell
-  claim_cell = cell_by at.job.rule is.rule
+    pub claim_cell : claimed_cell at.job.rule at.job claim ≡ Some cell
+    claim_cell = cell_by at.job.rule is.rule
 
-  pub claim_lags : settles_in at.job (step_of at) memo.own ≡ false
-  claim_lags = settles_by at.job memo.own claiming is.code (step_of at) ∙ is.lags
+    pub claim_lags : settles_in at.job (step_of at) memo.own ≡ false
+    claim_lags = settles_by at.job memo.own claiming is.code (step_of at) ∙ is.lags
 
-  pub claim_learned : claimed at memo cell value ≡ learned at memo claim
-  claim_learned = ap (λ (q : ℕ). record (claimed at memo cell value) { acted = q })
-      (compute_is at.phase is.first)
-      ∙ rw (claim_lags, lt-ltb cell at.job.cells is.below) refl
+    pub claim_learned : claimed at memo cell value ≡ learned at memo claim
+    claim_learned = ap (λ (q : ℕ). record (claimed at memo cell value) { acted = q })
+        (compute_is at.phase is.first)
+        ∙ rw (claim_lags, lt-ltb cell at.job.cells is.below) refl
 
-  -- it is made, and nothing else
-  pub claim_made : (late next : Script Then) → own_written at memo claim late (λ done. next) ≡ next
-  claim_made late next = rw claim_lags refl
+    -- it is made, and nothing else
+    pub claim_made : (late next : Script Then) → own_written at memo claim late
+        (λ done. next) ≡ next
+    claim_made late next = rw claim_lags refl
 
-  pub claim_stores : (late : Script Then) (next : Unit {0} → Script Then) →
-      store_claimed at.job.rule at claim late next
-      ≡ asks (claim_raised at cell) (λ found. next tt)
-  claim_stores late next = claims_some at claim late next at.job.rule cell is.below claim_cell
+    pub claim_stores : (late : Script Then) (next : Unit {0} → Script Then) →
+        store_claimed at.job.rule at claim late next
+        ≡ asks (claim_raised at cell) (λ found. next tt)
+    claim_stores late next = claims_some at claim late next at.job.rule cell is.below claim_cell
 
 -- after the claim of one, those of the others of its block are as they were
 pub claims_left : (at : PostData) (len : ℕ) (memory now : List Memo) (claims : Claims) →

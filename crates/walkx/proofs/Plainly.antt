@@ -40,7 +40,8 @@ module _ (at : PostData) (memo : Memo) (r cell : ℕ) (is : LoadsPlainly at memo
     -- its register is written, and nothing else
     same_there : (s : ℕ) → s ≢ r →
         slice_index (slice_set memo.own.registers r value) s ≡ slice_index memo.told.registers s
-    same_there s other = rw (sym (is.told value)) (get_or-set_other memo.told.registers r s value 0 other)
+    same_there s other = rw (sym (is.told value))
+        (get_or-set_other memo.told.registers r s value 0 other)
 
     skips : (late : Script Then) (next : Script Then) (s : ℕ) → s ≢ r →
         register_landed at taken (Some r) s late (λ done. next) ≡ next

@@ -19,7 +19,8 @@ use Rattle.walk_memory.specs.Memory.{cell_named, cell_next, has_store, is_past, 
 use Rattle.walk_memory.specs.Memory.{settles_in}
 use Rattle.walk_memory.specs.OwnWrites.{cell_write}
 use Rattle.walkx.specs.Passes.{carry_task, claims_store, crew_carry_task, lands_counter}
-use Rattle.walkx.specs.Passes.{lands_register, own_claim_task, own_task, priority_carry_task, put_if}
+use Rattle.walkx.specs.Passes.{lands_register, own_claim_task, own_task, priority_carry_task}
+use Rattle.walkx.specs.Passes.{put_if}
 use Rattle.walkx.specs.Passes.{wide_task_of, writes_each, writes_own}
 use Rattle.walkx.specs.Passing.{idle_in, if_so}
 use Rattle.walkx.specs.Scripts.{Script, ends}
@@ -55,7 +56,8 @@ not_past memo t before =
 
 module _ (at : PostData) (memo : Memo) where
   abbrev first_by : Rule → Option Memo
-  first_by r = asked_alone (wide_task_of r Compute at.job at.layout (step_of at) (processor_of at) memo
+  first_by r = asked_alone (wide_task_of r Compute at.job at.layout (step_of at)
+      (processor_of at) memo
       (λ m. ends m))
 
   abbrev Past : Bool → Type 0
@@ -85,11 +87,29 @@ module _ (at : PostData) (memo : Memo) where
       first_by r ≡ Some (learned at memo (goes_to memo.own.counter))
   unfolding wide_task_of own_task own_claim_task
   stopped_by past before none Common =
-      rw (past, before, none, no_more at.job memo.own none, and_right (step_of at % 64 == 0) false refl) refl
+      rw (
+        past,
+        before,
+        none,
+        no_more at.job memo.own none,
+        and_right (step_of at % 64 == 0) false refl,
+      ) refl
   stopped_by past before none Priority =
-      rw (past, before, none, no_more at.job memo.own none, and_right (step_of at % 64 == 0) false refl) refl
+      rw (
+        past,
+        before,
+        none,
+        no_more at.job memo.own none,
+        and_right (step_of at % 64 == 0) false refl,
+      ) refl
   stopped_by past before none Crew =
-      rw (past, before, none, no_more at.job memo.own none, and_right (step_of at % 64 == 0) false refl) refl
+      rw (
+        past,
+        before,
+        none,
+        no_more at.job memo.own none,
+        and_right (step_of at % 64 == 0) false refl,
+      ) refl
 
   pub stopped_rests : Past false → (suc memo.step == step_of at) ≡ true →
       slice_get at.job.code memo.own.counter ≡ None →
@@ -221,7 +241,8 @@ module _ (at : PostData) (memo : Memo) (instr : Instr) (before : suc memo.step �
   claim_asks_by : (cell : ℕ) (r : Rule) → claimed_cell r at.job request ≡ Some cell →
       first_by at memo r ≡ None
   claim_asks_by cell Common is = absurd (cc)
-  claim_asks_by cell Priority is = priority_is ∙ claim_by cell (cell_write at.job request.put) refl is
+  claim_asks_by cell Priority is = priority_is ∙ claim_by cell
+      (cell_write at.job request.put) refl is
   claim_asks_by cell Crew is = crew_is ∙ claim_by cell (cell_write at.job request.put) refl is
 
   pub claim_asks : (cell : ℕ) → claimed_cell at.job.rule at.job request ≡ Some cell →
@@ -260,7 +281,8 @@ module _ (at : PostData) (memo : Memo) where
   apply_rests = apply_by at.job.rule
 
   abbrev second_by : Rule → Option Memo
-  second_by r = asked_alone (wide_task_of r Verify at.job at.layout (step_of at) (processor_of at) memo
+  second_by r = asked_alone
+      (wide_task_of r Verify at.job at.layout (step_of at) (processor_of at) memo
       (λ m. ends m))
 
   abbrev Later : Bool → Type 0

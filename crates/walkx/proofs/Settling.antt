@@ -27,7 +27,8 @@ settled_goes (Err Late) after = refl
 settled_goes (Err Held) after = refl
 
 -- where nothing was loaded, what is known is what it was
-pub left_known : (why : Left) (memo known : Memo) (late : Script Then) (next f : Memo → Script Then) →
+pub left_known : (why : Left) (memo known : Memo) (late : Script Then)
+    (next f : Memo → Script Then) →
     (why ≡ Late → known ≡ memo) →
     comes (next memo) f (loads (Err why) known) ≡ comes late next (learns (Err why) known)
 left_known Late memo known late next f same = ap (λ (m : Memo). Some (next m)) (sym (same refl))

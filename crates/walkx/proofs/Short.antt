@@ -1,6 +1,7 @@
 -- A script of a worker has at most twenty-eight operations.
 use Rattle.std.proofs.Common.{◌≡◌, ℕ, suc, ◌-◌, ◌*◌, ◌%◌, ◌<◌, ◌≤◌, ◌&&◌}
-use Rattle.std.proofs.Common.{◌==◌, nat_le, List, [], ◌∷◌, length, Some, arith, sym, subst, inl, inr}
+use Rattle.std.proofs.Common.{◌==◌, nat_le, List, [], ◌∷◌, length, Some, arith, sym, subst, inl}
+use Rattle.std.proofs.Common.{inr}
 use Rattle.std.specs.Prelude.{min}
 use Rattle.std.proofs.lemmas.Bool.{cond_both}
 use Rattle.pram_job.specs.Job.{JobData}

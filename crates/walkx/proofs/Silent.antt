@@ -1,5 +1,6 @@
 -- Where a task asks nothing, no step is made.
-use Rattle.std.proofs.Common.{◌≡◌, ℕ, suc, ◌%◌, ◌==◌, Bool, true, false, Option, Some, None, slice_get}
+use Rattle.std.proofs.Common.{◌≡◌, ℕ, suc, ◌%◌, ◌==◌, Bool, true, false, Option, Some, None}
+use Rattle.std.proofs.Common.{slice_get}
 use Rattle.std.proofs.Common.{refl, sym, subst, ◌∙◌, inl, inr}
 use Rattle.std.specs.Prelude.{◌||◌, is_some}
 use Rattle.std.proofs.lemmas.Bool.{cases_Bool, cases_eq, eq-eqb, ne_eqb}
@@ -15,7 +16,8 @@ use Rattle.walkx.specs.Passing.{Passes, idle_in, if_so}
 use Rattle.walkx.specs.WideParts.{asked_with, claimed_cell, learned}
 use Rattle.walkx.proofs.FirstPass.{reads_none}
 use Rattle.walk_memory.proofs.GoingAlone.{settles_by}
-use Rattle.walkx.proofs.Resting.{claim_asks, decided_rests, none_of, not_past, past_rests, reads_ask}
+use Rattle.walkx.proofs.Resting.{claim_asks, decided_rests, none_of, not_past, past_rests}
+use Rattle.walkx.proofs.Resting.{reads_ask}
 use Rattle.walkx.proofs.Resting.{second_is, settles_ask, some_of, stopped_rests, unknown_asks}
 use Rattle.walk_memory.proofs.Timing.{compute_is, verify_is}
 
@@ -38,7 +40,8 @@ module _ (at : PostData) (memo : Memo) (instr : Instr) (before : suc memo.step �
       (is : request ≡ asked_with at memo (Some instr) 0) (o : Option ℕ)
       (claims : o ≡ claimed_cell at.job.rule at.job request) where
     none : cell_named at.job memo.own (Some instr) ≡ None
-    none = reads_none at.job memo.own instr (no_load (is_load (Some instr)) (step_of at % 64 == 0) lags)
+    none = reads_none at.job memo.own instr
+        (no_load (is_load (Some instr)) (step_of at % 64 == 0) lags)
       where
         no_load : (a b : Bool) → (a || b) ≡ false → a ≡ false
         no_load true b e = absurd (cc)
@@ -106,7 +109,8 @@ module _ {D : Type 0} (at : PostData) (memo : Memo) (old new : D) (known : Memo)
     where_decides none request is each =
         by (claimed_cell at.job.rule at.job (asked_with at memo (Some instr) 0)) refl
       where
-        by : (o : Option ℕ) → claimed_cell at.job.rule at.job (asked_with at memo (Some instr) 0) ≡ o →
+        by : (o : Option ℕ) → claimed_cell at.job.rule at.job (asked_with at memo (Some instr) 0)
+            ≡ o →
             First
         by (Some cell) claims = rw (claim_asks at memo instr before some none cell claims) tt
         by None claims = elim (cases_Bool (settles_in at.job (step_of at) memo.own)) [

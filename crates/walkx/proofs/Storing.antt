@@ -123,7 +123,8 @@ pub carries_up : {D : Type 0} (stands : Standing D) (at : PostData) (memo : Memo
     (rule : Rule) → rule ≡ at.job.rule → Plays stands old (carried_until rule at write) new done →
     Carries stands at old memory new now (due_as write done)
 carries_up {D} stands at memo store write some cell old new memory now is done kept rule same by =
-    let plays = subst (λ (r : Rule). Plays stands old (carried_until r at write) new done) same by in
+    let plays = subst (λ (r : Rule). Plays stands old (carried_until r at write) new done) same
+    by in
     record {
       learned = known_as at memo done;
       kept = kept;

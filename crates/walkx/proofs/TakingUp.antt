@@ -31,7 +31,8 @@ use Rattle.walkx.proofs.WidePasses.{own_is, same_wide_kind}
 
 -- the first pass by the instruction that the processor is known to stand at
 module _ (at : PostData) (memo : Memo) (instr : Instr) (first : kind_at at.phase ≡ Compute)
-    (before : suc memo.step ≡ step_of at) (code : slice_get at.job.code memo.own.counter ≡ Some instr)
+    (before : suc memo.step ≡ step_of at)
+    (code : slice_get at.job.code memo.own.counter ≡ Some instr)
   where
     stands_is : (late : Script Then) (next : Memo → Script Then) →
         does_wide at memo late next ≡ does_own_by at memo (Some instr) late next
@@ -72,15 +73,11 @@ takes_up stands at old new memory now memo learned done is kept passes plays = r
 }
 
 -- the second pass
-module _ (at : PostData) (memory : List Memo) (memo : Memo) (is : memo ≡ memo_of memory (processor_of at))
+module _ (at : PostData) (memory : List Memo) (memo : Memo)
+    (is : memo ≡ memo_of memory (processor_of at))
     (second : kind_at at.phase ≡ Verify) where
-  pub carry_next : {D : Type 0} (stands : Standing D) (old : D) →
-      IsNextPart stands old (does_wide at (memo_of memory (processor_of at))) →
-      IsNextPart stands old (does_wide_in Verify at memo)
-  carry_next stands old next = next_as stands _ _ _
-      (λ late then. same_wide_kind at memo late then _ _ second) (rw (sym is) at next)
-
-  pub carry_takes : {D : Type 0} (stands : Standing D) (old new : D) (now : List Memo) (learned : Memo)
+  pub carry_takes : {D : Type 0} (stands : Standing D) (old new : D) (now : List Memo)
+      (learned : Memo)
       (done : Result (Unit {0}) Left) → now ≡ slice_set memory (processor_of at) learned →
       (is_past at.phase memo ≡ true → (learned ≡ memo) × (new ≡ old)) →
       Plays stands old (does_wide_in Verify at memo) new (learns done learned) →

@@ -153,7 +153,8 @@ module _ (job : JobData) (y : LayoutData) (board : IsBoard job y) where
 module _ {R : Type 0} (job : JobData) (y : LayoutData) (board : IsBoard job y)
     (E : R → Type 0) where
   pub load_of : (a : Word) (next : ℕ → Script R) →
-      IsWord y a → ((found : ℕ) → Admits y job (number_of y a) found → AllAsk job y E (next found)) →
+      IsWord y a → ((found : ℕ) → Admits y job (number_of y a) found →
+      AllAsk job y E (next found)) →
       AllAsk job y E (asks (Load (number_of y a)) next)
   unfolding AllAsk
   load_of a next is each = let k = is_below job y a board is in ((k, k), each)
@@ -230,23 +231,27 @@ module _ {R : Type 0} (job : JobData) (y : LayoutData) (board : IsBoard job y)
 
   pub registers_ask : (t i : ℕ) (rs values : List ℕ)
       (after : Script R) (next : List ℕ → Script R) → i < y.procs → AllByRecursion (λ r. r < 4) rs →
-      AllFit values → AllAsk job y E after → ((vs : List ℕ) → AllFit vs → AllAsk job y E (next vs)) →
+      AllFit values → AllAsk job y E after →
+      ((vs : List ℕ) → AllFit vs → AllAsk job y E (next vs)) →
       AllAsk job y E (reads_registers job y t i rs values after next)
   registers_ask t i [] values after next proc all fit late each = each values fit
   registers_ask t i (r ∷ rs) values after next proc all fit late each =
       let low = all.0 in
       let c = same_procs job y board in
       reads_ask t (register_place job i r) after _
-      (place_in job y board (register_place job i r) (omega arith)) late (λ v fits most. registers_ask t i rs
+      (place_in job y board (register_place job i r) (omega arith)) late
+      (λ v fits most. registers_ask t i rs
       (values ++ v ∷ []) after next proc all.1 (one_more values v fit fits) late each)
 
   pub cell_asks : (t : ℕ) (o : Option ℕ) (after : Script R) (next : ℕ → Script R) →
       ((c : ℕ) → o ≡ Some c → c < job.cells) → AllAsk job y E after →
-      ((v : ℕ) → v < 2 ^ 32 → AllAsk job y E (next v)) → AllAsk job y E (reads_cell y t o after next)
+      ((v : ℕ) → v < 2 ^ 32 → AllAsk job y E (next v)) →
+      AllAsk job y E (reads_cell y t o after next)
   cell_asks t None after next inside late each = each 0 (lit< tt)
   cell_asks t (Some c) after next inside late each =
       let h = inside c refl in
-      reads_ask t c after next (place_in job y board c (omega arith)) late (λ v fits most. each v fits)
+      reads_ask t c after next (place_in job y board c (omega arith)) late
+      (λ v fits most. each v fits)
 
   raises_ask : (t i : ℕ) (request : Request) (after : Script R) →
       t ≤ job.steps → i < y.procs → Shape job request → AllAsk job y E after →
@@ -292,9 +297,11 @@ module _ {R : Type 0} (job : JobData) (y : LayoutData) (board : IsBoard job y)
   unfolding compute_task
   compute_asks t i after time proc late =
       let c = same_procs job y board in
-      reads_ask t (counter_place job i) after _ (place_in job y board (counter_place job i) (omega arith)) late
+      reads_ask t (counter_place job i) after _
+      (place_in job y board (counter_place job i) (omega arith)) late
       (λ counter fits most. executes_ask t i counter
-      (slice_get job.code counter) after refl time proc (counter_most job y board i counter most) late)
+      (slice_get job.code counter) after refl time proc (counter_most job y board i counter most)
+      late)
 
   writes_counter : (t i next : ℕ) (after : Script R) → t ≤ job.steps → i < y.procs →
       next < 2 ^ 32 → next ≤ most_asked y job 2 → AllAsk job y E after →
@@ -302,7 +309,8 @@ module _ {R : Type 0} (job : JobData) (y : LayoutData) (board : IsBoard job y)
   writes_counter t i next after time proc fits most late =
       let c = same_procs job y board in
       writes_ask t (counter_place job i) next after time
-      (place_in job y board (counter_place job i) (omega arith)) fits (next_most job y board i next most) late
+      (place_in job y board (counter_place job i) (omega arith)) fits
+      (next_most job y board i next most) late
 
   carries_ask : (t i place value next : ℕ) (after : Script R) →
       t ≤ job.steps → i < y.procs → place ≤ counters_of y → value < 2 ^ 32 → next < 2 ^ 32 →
@@ -312,7 +320,8 @@ module _ {R : Type 0} (job : JobData) (y : LayoutData) (board : IsBoard job y)
       let last = writes_counter t i next after time proc small most late in
       cond_both (place == 0) _ _ (AllAsk job y E) (λ e. last)
       (λ e. let p = data_in job y board place (eqb-false place 0 e) range in writes_ask t
-      (place - 1) value _ time (omega arith) fits (value_most job y board (place - 1) value p fits) last)
+      (place - 1) value _ time (omega arith) fits (value_most job y board (place - 1) value p fits)
+      last)
 
   -- all three parts of a request, and what is carried out of them
   hears_all : (t i : ℕ) (after : Script R) (next : ℕ → ℕ → ℕ → Script R) →
@@ -335,12 +344,14 @@ module _ {R : Type 0} (job : JobData) (y : LayoutData) (board : IsBoard job y)
       hears_all t i after _ time proc late (λ a b c range carried. carried a range)
 
   pub claims_ask : (t i p : ℕ) (after : Script R) → t ≤ job.steps →
-      IsTrue (has_claims job.rule) → AllAsk job y E after → AllAsk job y E (claims job y t i p after)
+      IsTrue (has_claims job.rule) → AllAsk job y E after →
+      AllAsk job y E (claims job y t i p after)
   claims_ask t i p after time has late =
       let c = same_procs job y board in
       let limits = board.limits in
       cond_both (nat_lt p job.cells) _ after (AllAsk job y E)
-      (λ e. max_of (Claim p) _ after (claim_word job y board p has (ltb-true p job.cells e)) (stamps job.steps
+      (λ e. max_of (Claim p) _ after (claim_word job y board p has (ltb-true p job.cells e))
+      (stamps job.steps
       y.procs t (claim_of job i) time (omega arith) (omega (arith, limits.procs))) late) (λ e. late)
 
   crew_apply_asks : (t i : ℕ) (after : Script R) →
@@ -375,7 +386,8 @@ module _ {R : Type 0} (job : JobData) (y : LayoutData) (board : IsBoard job y)
       hears_ask t i 0 after _ proc (lit< tt) late (λ a fit range.
       cond_both (a == 0) after _ (AllAsk job y E) (λ e. late)
       (λ e. cond_both (nat_lt (a - 1) job.cells) _ after (AllAsk job y E)
-      (λ h. load_of (Claim (a - 1)) _ (claim_word job y board (a - 1) has (ltb-true (a - 1) job.cells h))
+      (λ h. load_of (Claim (a - 1)) _
+      (claim_word job y board (a - 1) has (ltb-true (a - 1) job.cells h))
       (λ found ok. reports_ask t (differs t (claim_of job i) found) after time late)) (λ h. late)))
 
   claim_asks : (t i : ℕ) (after : Script R) →
@@ -393,7 +405,8 @@ module _ {R : Type 0} (job : JobData) (y : LayoutData) (board : IsBoard job y)
   priority_asks t i after time has proc late = hears_all t i after _ time proc late
       (λ a b c range carried. cond_both (a == 0) _ _ (AllAsk job y E) (λ e. carried a range)
       (λ e. cond_both (nat_lt (a - 1) job.cells) _ _ (AllAsk job y E)
-      (λ h. load_of (Claim (a - 1)) _ (claim_word job y board (a - 1) has (ltb-true (a - 1) job.cells h))
+      (λ h. load_of (Claim (a - 1)) _
+      (claim_word job y board (a - 1) has (ltb-true (a - 1) job.cells h))
       (λ found ok. cond_both (nat_lt t (stamp_of found)) after _ (AllAsk job y E) (λ g. late)
       (λ g. carried (if payload_of found == claim_of job i then a else 0)
       (cond_both (payload_of found == claim_of job i) a 0 (λ (n : ℕ). n ≤ counters_of y)

@@ -141,7 +141,8 @@ told_ends job y w found n going is =
 pub told_asks : (job : JobData) (y : LayoutData) (w : Walking) (found : ℕ) (op : Op) →
     IsGoing w.now → first_op (rest_of job y (hearing w found)) ≡ Some op →
     told job y w found ≡ hearing w found
-told_asks job y w found op going is = told_going job y w.now w found (rest_after (rest_of job y w) found)
+told_asks job y w found op going is = told_going job y w.now w found
+    (rest_after (rest_of job y w) found)
     going ∙ goes_on_asks job y w found (rest_after (rest_of job y w) found) op is
 
 some_over : (d : Doing) (e : Ended) → end_of d ≡ Some e → d ≡ doing.Over e

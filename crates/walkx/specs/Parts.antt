@@ -224,8 +224,8 @@ decides job layout t i counter instr after next =
 abbrev pub decides_at : PostData → ℕ → Instr → Part Request
 decides_at at counter instr after next =
     reads_registers at.job at.layout (step_of at) (processor_of at) (sources_of instr) [] after
-    (λ values. reads_cell at.layout (step_of at) (cell_read at.job instr (slice_index values 0)) after
-    (λ value. next (decided at.job (processor_of at) counter instr (slice_index values 0)
+    (λ values. reads_cell at.layout (step_of at) (cell_read at.job instr (slice_index values 0))
+    after (λ value. next (decided at.job (processor_of at) counter instr (slice_index values 0)
     (slice_index values 1) value)))
 
 abbrev pub decides_with : PostData → ℕ → Instr → (Request → Script Then) → ℕ × ℕ → ℕ → Script Then

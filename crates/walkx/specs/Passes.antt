@@ -31,8 +31,8 @@ use Rattle.walk_memory.specs.Learned.{loaded_memo, memo_after, carried}
 
 -- ---- a processor's own places, before step t
 
--- The word of a place that was written before step t. A word of step t stands beside it; a later one
--- means late.
+-- The word of a place that was written before step t. A word of step t stands beside it; a later
+-- one means late.
 abbrev pub word_before : ℕ → ℕ → ℕ → ℕ
 word_before t first second = if stamp_of first == t then second
     else (if stamp_of second == t then first else newer_word first second)
@@ -68,9 +68,9 @@ abbrev pub knows : {R : Type 0} → JobData → LayoutData → ℕ → ℕ → M
 knows job layout t i memo late next =
     if suc memo.step == t then next memo else loads_memo job layout t i late next
 
--- ---- compute: where the processor settles, those of its places are written that are no longer what
--- their words tell; and the one that tells the step: the register that takes what was read, or,
--- where nothing was read, the counter
+-- ---- compute: where the processor settles, those of its places are written that are no longer
+-- what their words tell; and the one that tells the step: the register that takes what was read,
+-- or, where nothing was read, the counter
 
 abbrev pub is_put_to : ℕ → Option (ℕ × ℕ) → Bool
 is_put_to place None = false

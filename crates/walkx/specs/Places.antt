@@ -5,14 +5,14 @@ use Rattle.walk_memory.specs.declared.block.Block.{Block}
 use Rattle.walkx.specs.declared.land_at.Landing.{Landing}
 use Rattle.walkx.specs.declared.left.Left.{Left}
 use Rattle.walk_memory.specs.declared.memo.Memo.{Memo}
-use Rattle.walkx.specs.Driving.{Plays, Standing, learns}
+use Rattle.walkx.specs.Driving.{Part, Plays, Standing, learns}
 use Rattle.walk_memory.specs.Inner.Posts.{PostData}
 use Rattle.walk_memory.specs.Lanes.{lane}
 use Rattle.walk_memory.specs.Memory.{all_registers}
 use Rattle.walkx.specs.Parts.{does_wide}
 use Rattle.walkx.specs.Scripts.{Script}
 use Rattle.walkx.specs.Walk.{Then}
-use Rattle.walkx.specs.WideParts.{lands_from, own_landed}
+use Rattle.walkx.specs.WideParts.{landed_from, own_landed}
 
 -- once its words tell what register r is
 abbrev pub tells_register : Memo → ℕ → Memo
@@ -42,6 +42,10 @@ tells_counter memo = record memo { told = record memo.told { counter = memo.own.
 abbrev pub tells_all : Memo → Memo
 tells_all memo = record memo { told = memo.own }
 
+-- the task of the processor of lane k of a block
+abbrev pub wide_in_lane : PostData → Block → ℕ → Part Memo
+wide_in_lane at block k = does_wide at (lane block k)
+
 -- The processor's task was done where lane k of a block lies: its script was played, and the other
 -- lanes are as they were.
 pub record DoneInLane {D : Type 0} (stands : Standing D) (at : PostData) (old : D) (block : Block)
@@ -49,8 +53,8 @@ pub record DoneInLane {D : Type 0} (stands : Standing D) (at : PostData) (old : 
   pub others : (j : ℕ) → j ≢ k → lane now j ≡ lane block j
   pub plays : Plays stands old (does_wide at (lane block k)) new (learns result (lane now k))
 
--- of the registers of lane k of a block the first r were written that were to be, and tell what they
--- are
+-- Of the registers of lane k of a block the first r were written that were to be, and tell what
+-- they are.
 pub record LandedTo {D : Type 0} (stands : Standing D) (at : PostData) (old : D) (block : Block)
     (landing : Landing) (r : ℕ) (new : D) (now : Block) : Type 0 where
   pub others : (j : ℕ) → j ≢ landing.lane → lane now j ≡ lane block j
@@ -58,5 +62,5 @@ pub record LandedTo {D : Type 0} (stands : Standing D) (at : PostData) (old : D)
   pub four : 0 < r → length (lane block landing.lane).told.registers ≡ 4
   pub on : (from : D × Script Then) (late : Script Then) (next : Unit {0} → Script Then) →
       stands from old (Some (own_landed at (lane block landing.lane) landing.tells late next)) →
-      stands from new (Some (lands_from at (lane block landing.lane) landing.tells
+      stands from new (Some (landed_from at (lane block landing.lane) landing.tells
       (drop r all_registers) late next))

@@ -65,8 +65,8 @@ abbrev pub marks_node : LayoutData → ℕ → ℕ → ℕ → Script Then
 marks_node layout node mark phase =
     asks (Max (number_of layout (Node node)) mark) (λ found. ends (turns node phase))
 
--- In the wide form a mark may be above the phase. The root's is the step's last phase at most, since
--- a conflict is looked for there.
+-- In the wide form a mark may be above the phase. The root's is the step's last phase at most,
+-- since a conflict is looked for there.
 abbrev pub bounded_mark : ℕ → ℕ → ℕ → ℕ
 bounded_mark node phase mark = if node == 1 then min mark (last_phase phase) else mark
 

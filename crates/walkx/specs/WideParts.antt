@@ -71,16 +71,17 @@ abbrev pub own_written : PostData → Memo → Request → Part (Unit {0})
 own_written at known request after next =
     writes_own at.job at.layout (step_of at) (processor_of at) known request (next tt)
 
--- The same by what is known once the turn is taken, but for what its words tell, which is as it was:
--- those of its places are written that are no longer so, and the one that tells the step, this
+-- The same by what is known once the turn is taken, but for what its words tell, which is as it
+-- was: those of its places are written that are no longer so, and the one that tells the step, this
 -- register or, if there is none, the counter.
-abbrev pub tells_step : Option ℕ → ℕ → Bool
-tells_step None r = false
-tells_step (Some register) r = register == r
+abbrev pub register_tells : Option ℕ → ℕ → Bool
+register_tells None r = false
+register_tells (Some register) r = register == r
 
 abbrev pub register_due : Memo → Option ℕ → ℕ → Bool
 register_due taken tells r =
-    tells_step tells r || not (slice_index taken.own.registers r == slice_index taken.told.registers r)
+    register_tells tells r
+    || not (slice_index taken.own.registers r == slice_index taken.told.registers r)
 
 abbrev pub counter_due : Memo → Option ℕ → Bool
 counter_due taken tells = is_none tells || not (taken.own.counter == taken.told.counter)
@@ -96,14 +97,14 @@ counter_landed at taken tells =
     taken.own.counter
 
 -- these registers, and then the counter
-abbrev pub lands_from : PostData → Memo → Option ℕ → List ℕ → Part (Unit {0})
-lands_from at taken tells [] after next = counter_landed at taken tells after next
-lands_from at taken tells (r ∷ registers) after next =
+abbrev pub landed_from : PostData → Memo → Option ℕ → List ℕ → Part (Unit {0})
+landed_from at taken tells [] after next = counter_landed at taken tells after next
+landed_from at taken tells (r ∷ registers) after next =
     register_landed at taken tells r after
-    (λ done. lands_from at taken tells registers after next)
+    (λ done. landed_from at taken tells registers after next)
 
 abbrev pub own_landed : PostData → Memo → Option ℕ → Part (Unit {0})
-own_landed at taken tells after next = lands_from at taken tells all_registers after next
+own_landed at taken tells after next = landed_from at taken tells all_registers after next
 
 -- a store is claimed, by the rule
 abbrev pub store_claimed : Rule → PostData → Request → Part (Unit {0})

@@ -4,9 +4,9 @@ ghost use Rattle.std.specs.Prelude.{length};
 ghost use Rattle.walkx.specs.Driving.{IsNextPart, Plays};
 ghost use Rattle.walk_memory.specs.Lanes.{lane};
 ghost use Rattle.walk_memory.specs.Memory.{cell_named};
-ghost use Rattle.walkx.specs.Parts.{does_wide};
 ghost use Rattle.walkx.specs.Passing.{Passes, idle};
 ghost use Rattle.walkx.specs.Places.{DoneInLane, tells_all, tells_counter, tells_register};
+ghost use Rattle.walkx.specs.Places.{wide_in_lane};
 ghost use Rattle.walk_memory.specs.Stands.{LoadsKnown, StandsKnown};
 ghost use Rattle.walkx.specs.WideParts.{counter_due, counter_landed, own_landed};
 ghost use Rattle.walkx.specs.WideParts.{register_due, register_landed};
@@ -33,8 +33,9 @@ pub(crate) fn own_in<S: Steps>(
 ) -> Result<(), Left>
     requires lane { k < 64 }
     requires stands { StandsKnown leaf.now (lane block.old k) instr.now }
-    requires next { IsNextPart (S.stands leaf.now) steps.old (does_wide leaf.now (lane block.old k)) }
-    ensures idle { Passes (idle leaf.now (lane block.old k)) steps.old steps.new (lane block.new k) }
+    requires next { IsNextPart (S.stands leaf.now) steps.old (wide_in_lane leaf.now block.old k) }
+    ensures idle { Passes (idle leaf.now (lane block.old k)) steps.old steps.new
+        (lane block.new k) }
     ensures done { DoneInLane (S.stands leaf.now) leaf.now steps.old block.old k steps.new block.new
         result }
 {
@@ -44,9 +45,9 @@ pub(crate) fn own_in<S: Steps>(
     }
 }
 
-// The first pass, where it loads this: that goes into a register, and the processor settles.
+/// The first pass, where it loads this: that goes into a register, and the processor settles.
 #[inline(always)]
-fn load_in<S: Steps>(
+pub(crate) fn load_in<S: Steps>(
     steps: &mut S,
     leaf: &Leaf,
     block: &mut Block,
@@ -54,7 +55,7 @@ fn load_in<S: Steps>(
 ) -> Result<(), Left>
     requires loads { LoadsKnown leaf.now (lane block.old load.lane) load.register load.cell }
     requires next { IsNextPart (S.stands leaf.now) steps.old
-        (does_wide leaf.now (lane block.old load.lane)) }
+        (wide_in_lane leaf.now block.old load.lane) }
     ensures { DoneInLane (S.stands leaf.now) leaf.now steps.old block.old load.lane steps.new
         block.new result }
 {
@@ -91,8 +92,9 @@ fn decide_in<S: Steps>(
     requires lane { k < 64 }
     requires stands { StandsKnown leaf.now (lane block.old k) instr.now }
     requires none { cell_named leaf.now.job (lane block.old k).own (Some instr.now) ≡ None }
-    requires next { IsNextPart (S.stands leaf.now) steps.old (does_wide leaf.now (lane block.old k)) }
-    ensures idle { Passes (idle leaf.now (lane block.old k)) steps.old steps.new (lane block.new k) }
+    requires next { IsNextPart (S.stands leaf.now) steps.old (wide_in_lane leaf.now block.old k) }
+    ensures idle { Passes (idle leaf.now (lane block.old k)) steps.old steps.new
+        (lane block.new k) }
     ensures done { DoneInLane (S.stands leaf.now) leaf.now steps.old block.old k steps.new block.new
         result }
 {
@@ -172,11 +174,11 @@ fn register_due_in(block: &Block, landing: Landing, r: u8) -> bool
     ensures { result ≡ register_due (lane block.now landing.lane) landing.tells r }
 {
     let (r, k) = (r as usize, landing.lane);
-    let tells_step = match landing.tells {
+    let register_tells = match landing.tells {
         Some(register) => register as usize == r,
         None => false,
     };
-    tells_step || block.registers[r][k] != block.told[r][k]
+    register_tells || block.registers[r][k] != block.told[r][k]
 }
 
 // That of the counter.

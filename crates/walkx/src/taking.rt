@@ -7,12 +7,13 @@ ghost use Rattle.walk_memory.specs.Memory.{FitsMemo, memo_of};
 ghost use Rattle.walkx.specs.Parts.{does_wide};
 ghost use Rattle.walk_memory.specs.Stands.{IsStand};
 ghost use Rattle.walkx.specs.Passing.{TakesUp, TakesUpIf};
+ghost use Rattle.walk_memory.specs.Lagging.{LagsBy};
 ghost use Rattle.walk_memory.specs.Plain.{ClaimsBy, LoadsBy, HasStore};
 ghost use Rattle.walkx.specs.Storing.{Carries};
 
 use crate::claim_plain::claim_plainly;
 use crate::left::Stopped;
-use crate::own_in::own_in;
+use crate::own_in::{load_in, own_in};
 use crate::plain::load_plainly;
 use crate::steps::Steps;
 use crate::stores::{carry_known, carry_lane_until};
@@ -221,6 +222,46 @@ pub fn take_load<S: Steps>(
                 let register = loads.register;
                 let cell = loads.cells[lane];
                 let done = load_plainly(
+                    steps,
+                    leaf,
+                    block,
+                    LoadIn {
+                        lane,
+                        register,
+                        cell,
+                    },
+                );
+                return settle(done);
+            }
+            unreachable!()
+        }
+        None => unreachable!(),
+    }
+}
+
+/// As `take_up`, where the leaf's processor is known to load this, whatever its words tell.
+#[inline(always)]
+pub fn take_lagging<S: Steps>(
+    memory: &mut Memory,
+    steps: &mut S,
+    leaf: &Leaf,
+    loads: &Loads,
+) -> Result<(), Stopped>
+    requires known { LagsBy leaf.now memory.old loads.now }
+    requires next { IsNextPart (S.stands leaf.now) steps.old
+        (does_wide leaf.now (memo_of memory.old (processor_of leaf.now))) }
+    ensures { TakesUp (S.stands leaf.now) leaf.now steps.old memory.old steps.new memory.new
+        result }
+{
+    let i = leaf.processor() as usize;
+    match &mut memory.blocks {
+        Some(blocks) => {
+            if i / 64 < blocks.len() {
+                let block = &mut blocks[i / 64];
+                let lane = i % 64;
+                let register = loads.register;
+                let cell = loads.cells[lane];
+                let done = load_in(
                     steps,
                     leaf,
                     block,

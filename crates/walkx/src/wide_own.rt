@@ -53,11 +53,11 @@ fn register_due(taken: &Memo, tells: Option<u8>, r: u8) -> bool
     requires { r < 4 }
     ensures { result ≡ register_due taken.now tells r }
 {
-    let tells_step = match tells {
+    let register_tells = match tells {
         Some(register) => register == r,
         None => false,
     };
-    tells_step || taken.own.registers[r as usize] != taken.told.registers[r as usize]
+    register_tells || taken.own.registers[r as usize] != taken.told.registers[r as usize]
 }
 
 // Then it is written.
@@ -105,8 +105,8 @@ fn land_counter<S: Steps>(
     write_if(steps, leaf, counter_due(taken, tells), write)
 }
 
-// Of a processor that settles, and took its turn in what is known, those places are written that are
-// no longer what its words tell, and the one that tells the step.
+// Of a processor that settles, and took its turn in what is known, those places are written that
+// are no longer what its words tell, and the one that tells the step.
 #[inline(always)]
 fn land_own<S: Steps>(
     steps: &mut S,
@@ -195,7 +195,7 @@ pub(crate) fn own_by<S: Steps>(
     }
 }
 
-// The same, where it reads this cell: what it loads goes into a register, and the processor settles.
+// The same, where it reads this cell: what it loads goes into a register, and it settles.
 #[inline(always)]
 fn own_loaded<S: Steps>(
     steps: &mut S,

@@ -48,7 +48,8 @@ returns g c =
     record {
       plays = record {
         on = λ from after next here.
-            rw c.counter_place-counter.ensures.value at (c.write_place.ensures.plays.on from after next)
+            rw c.counter_place-counter.ensures.value
+            at (c.write_place.ensures.plays.on from after next)
             (c.in_ok-write_data.ensures.plays.on from after (λ done.
             writes at (counter_place at.job (processor_of at)) c.args.count after next) here);
       };

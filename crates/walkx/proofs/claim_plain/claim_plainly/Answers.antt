@@ -19,7 +19,8 @@ make-requires g c =
     let instr = claiming at memo c.args.claim.cell c.args.claim.value p in
     let request = claim at memo c.args.claim.cell c.args.claim.value p in
     let stands = g.S.Steps.stands at in
-    let r = own_next at memo instr p.first p.before p.code stands c.args.steps.now c.requires.next in
+    let r = own_next at memo instr p.first p.before p.code stands c.args.steps.now
+    c.requires.next in
     rw c.claiming.ensures (
       at,
       record {
@@ -39,7 +40,8 @@ pub take_claim-requires : goal.take_claim-requires
 take_claim-requires g c =
     let job = c.args.leaf.now.job in
     let low = slice_get_within job.code _ _ c.requires.plain.code in
-    let most : length job.code ≤ 4096 = rw c.job-job.ensures.value at c.limits_hold.ensures.code_len.1 in
+    let most : length job.code ≤ 4096 =
+    rw c.job-job.ensures.value at c.limits_hold.ensures.code_len.1 in
     omega (arith, low, most)
 
 pub returns-in_err-make-clause-plays : goal.returns-in_err-make-clause-plays

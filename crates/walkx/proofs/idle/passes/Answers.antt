@@ -11,7 +11,8 @@ passes_own-requires c = sym c.kind.ensures.value ∙ c.in-Compute.is
 pub returns-in-Compute-clause-idle : goal.returns-in-Compute-clause-idle
 returns-in-Compute-clause-idle c =
     let at = c.args.leaf.now in
-    subst (λ (k : Kind). idle_in k at c.args.memo.now ≡ if_so c.passes_own.result c.passes_own.new.memo)
+    subst (λ (k : Kind). idle_in k at c.args.memo.now ≡ if_so c.passes_own.result
+    c.passes_own.new.memo)
     (sym (sym c.kind.ensures.value ∙ c.in-Compute.is)) c.passes_own.ensures.idle
 
 pub returns-in-Apply-clause-idle : goal.returns-in-Apply-clause-idle

@@ -29,7 +29,8 @@ claim_store-requires-clause-next g c =
     let request : Request = request_of c.turn_by-turn.result in
     let asks : request ≡ asked_with at memo (Some instr) 0 = c.turn_by-turn.ensures.value
     ∙ ap (λ (o : Own). asked_by at.job (processor_of at) o (Some instr) 0) c.own.ensures in
-    let r = own_next at memo instr s.first s.before s.code stands c.args.steps.now c.requires.next in
+    let r = own_next at memo instr s.first s.before s.code stands c.args.steps.now
+    c.requires.next in
     record {
       from = r.from;
       after = r.next memo;
@@ -65,7 +66,8 @@ returns-in_err-claim_store-clause-done g c =
     rw (passed c.from_residual.result _ c.from_residual.ensures.1) (record {
       others = λ j other. refl;
       plays = own_plays at memo instr s.first s.before s.code stands _ _ _ (record {
-        on = λ from late next here. comes_to stands from _ _ _ (learned_comes (Err _) memo late next)
+        on = λ from late next here. comes_to stands from _ _ _
+            (learned_comes (Err _) memo late next)
             (c.in_err-claim_store.ensures.plays.on from (next memo)
             (claimed stands at memo instr from next request)
             (decides_first stands at memo instr from next c.args.steps.now request asks
@@ -83,12 +85,14 @@ land_in-requires g c =
     let request : Request = request_of c.turn_by-turn.result in
     let asks : request ≡ asked_with at memo (Some instr) 0 = c.turn_by-turn.ensures.value
     ∙ ap (λ (o : Own). asked_by at.job (processor_of at) o (Some instr) 0) c.own.ensures in
-    let r = own_next at memo instr s.first s.before s.code stands c.args.steps.now c.requires.next in
+    let r = own_next at memo instr s.first s.before s.code stands c.args.steps.now
+    c.requires.next in
     let taken = lane c.take_turn.new.block c.args.k in
     let settles : settles_in at.job (step_of at) memo.own ≡ true =
     settles_by at.job memo.own instr s.code (step_of at)
     ∙ sym c.settles_by.ensures ∙ c.if-settles_by.true in
-    let quiet = quiet_taken at memo request taken (ap (λ (m : Memo). m.own) c.take_turn.ensures.same)
+    let quiet = quiet_taken at memo request taken
+    (ap (λ (m : Memo). m.own) c.take_turn.ensures.same)
     (ap (λ (m : Memo). m.told) c.take_turn.ensures.same)
     (next_is at.job memo.own instr s.code ∙ c.requires.none) in
     let then = r.next (learned at memo request) in
@@ -98,8 +102,8 @@ land_in-requires g c =
         after = r.after;
         next = λ done. then;
         here = moved stands r.from _ _ _
-            (settled_landed at memo request taken None quiet r.after (r.next memo) (λ done. then) settles)
-            (c.in_ok-claim_store.ensures.plays.on r.from (r.next memo)
+            (settled_landed at memo request taken None quiet r.after (r.next memo)
+            (λ done. then) settles) (c.in_ok-claim_store.ensures.plays.on r.from (r.next memo)
             (claimed stands at memo instr r.from r.next request)
             (decides_first stands at memo instr r.from r.next c.args.steps.now request asks
             c.requires.none r.after r.here));
@@ -137,7 +141,8 @@ returns-then-settles_by-clause-done g c =
     let settles : settles_in at.job (step_of at) memo.own ≡ true =
     settles_by at.job memo.own instr s.code (step_of at)
     ∙ sym c.settles_by.ensures ∙ c.if-settles_by.true in
-    let quiet = quiet_taken at memo request taken (ap (λ (m : Memo). m.own) c.take_turn.ensures.same)
+    let quiet = quiet_taken at memo request taken
+    (ap (λ (m : Memo). m.own) c.take_turn.ensures.same)
     (ap (λ (m : Memo). m.told) c.take_turn.ensures.same)
     (next_is at.job memo.own instr s.code ∙ c.requires.none) in
     let now = lane c.land_in.new.block c.args.k in
@@ -148,8 +153,8 @@ returns-then-settles_by-clause-done g c =
       others = λ j other. c.land_in.ensures.others j other ∙ c.take_turn.ensures.others j other;
       plays = own_plays at memo instr s.first s.before s.code stands _ _ _ (record {
         on = λ from late next here. comes_to stands from _ _ _
-            (ok_learns c.land_in.result now (tells_all taken) known c.land_in.ensures.told told late next)
-            (c.land_in.ensures.plays.on from (next now) (λ done. next known)
+            (ok_learns c.land_in.result now (tells_all taken) known c.land_in.ensures.told
+            told late next) (c.land_in.ensures.plays.on from (next now) (λ done. next known)
             (moved stands from _ _ _ (settled_landed at memo request taken None quiet (next now)
             (next memo) (λ done. next known) settles)
             (c.in_ok-claim_store.ensures.plays.on from (next memo)

@@ -8,26 +8,28 @@ use Rattle.walkx.proofs.own_in.land_in.Goals as goal
 
 pub land_register_in-requires-clause-next : goal.land_register_in-requires-clause-next
 land_register_in-requires-clause-next g c =
-    register_next (g.S.Steps.stands c.args.leaf.now) c.args.leaf.now c.args.steps.now c.args.block.now
-    c.args.landing c.loop-r.r c.loop-r.steps c.loop-r.block c.loop-r.invariant (omega (arith, c.loop-r-test.true))
-    c.requires.next
+    register_next (g.S.Steps.stands c.args.leaf.now) c.args.leaf.now c.args.steps.now
+    c.args.block.now c.args.landing c.loop-r.r c.loop-r.steps c.loop-r.block c.loop-r.invariant
+    (omega (arith, c.loop-r-test.true)) c.requires.next
 
 pub returns-in_err-land_register_in-clause-plays :
     goal.returns-in_err-land_register_in-clause-plays
 returns-in_err-land_register_in-clause-plays g c =
     rw (passed c.from_residual.result _ c.from_residual.ensures.1)
-    (register_left (g.S.Steps.stands c.args.leaf.now) c.args.leaf.now c.args.steps.now c.args.block.now
-    c.args.landing c.loop-r.r c.loop-r.steps c.loop-r.block c.loop-r.invariant (omega (arith, c.loop-r-test.true))
-    _ _ c.in_err-land_register_in.ensures.plays)
+    (register_left (g.S.Steps.stands c.args.leaf.now) c.args.leaf.now c.args.steps.now
+    c.args.block.now c.args.landing c.loop-r.r c.loop-r.steps c.loop-r.block c.loop-r.invariant
+    (omega (arith, c.loop-r-test.true)) _ _ c.in_err-land_register_in.ensures.plays)
 
 pub loop-r-preserved : goal.loop-r-preserved
 loop-r-preserved g c =
     let stands = g.S.Steps.stands c.args.leaf.now in
     let e : suc c.loop-r.r ≡ c.loop-r.r + 1 = omega arith in
-    subst (λ (n : ℕ). LandedTo stands c.args.leaf.now c.args.steps.now c.args.block.now c.args.landing n
+    subst (λ (n : ℕ). LandedTo stands c.args.leaf.now c.args.steps.now c.args.block.now
+    c.args.landing n
     c.land_register_in.new.steps c.land_register_in.new.block) e
     (register_done stands c.args.leaf.now c.args.steps.now c.args.block.now
-    c.args.landing c.loop-r.r c.loop-r.steps c.loop-r.block c.loop-r.invariant (omega (arith, c.loop-r-test.true))
+    c.args.landing c.loop-r.r c.loop-r.steps c.loop-r.block c.loop-r.invariant
+    (omega (arith, c.loop-r-test.true))
     _ _ _ c.in_ok-land_register_in.ensures.others c.in_ok-land_register_in.ensures.told
     c.in_ok-land_register_in.ensures.four c.in_ok-land_register_in.ensures.plays)
 
@@ -36,8 +38,8 @@ land_counter_in-requires g c =
     let four : c.loop-r.r ≡ 4 = omega (arith, c.loop-r-test.false, c.loop-r.auto.r-end) in
     record {
       next = counter_next (g.S.Steps.stands c.args.leaf.now) c.args.leaf.now c.args.steps.now
-          c.args.block.now c.args.landing c.loop-r.r c.loop-r.steps c.loop-r.block c.loop-r.invariant
-          four c.requires.next;
+          c.args.block.now c.args.landing c.loop-r.r c.loop-r.steps c.loop-r.block
+          c.loop-r.invariant four c.requires.next;
     }
 
 pub returns-clause-told : goal.returns-clause-told
@@ -54,6 +56,7 @@ returns-clause-told g c =
 pub returns-clause-plays : goal.returns-clause-plays
 returns-clause-plays g c =
     let four : c.loop-r.r ≡ 4 = omega (arith, c.loop-r-test.false, c.loop-r.auto.r-end) in
-    counter_plays (g.S.Steps.stands c.args.leaf.now) c.args.leaf.now c.args.steps.now c.args.block.now
+    counter_plays (g.S.Steps.stands c.args.leaf.now) c.args.leaf.now c.args.steps.now
+    c.args.block.now
     c.args.landing c.loop-r.r c.loop-r.steps c.loop-r.block c.loop-r.invariant four _ _
     c.land_counter_in.ensures.plays

@@ -23,7 +23,8 @@ read_place-requires-clause-next g c =
     let p = c.requires.loads in
     let instr = Ld c.args.load.register p.place in
     let stands = g.S.Steps.stands at in
-    let r = own_next at memo instr p.stands.first p.stands.before p.stands.code stands c.args.steps.now
+    let r = own_next at memo instr p.stands.first p.stands.before p.stands.code stands
+    c.args.steps.now
     c.requires.next in
     record {
       from = r.from;
@@ -51,19 +52,24 @@ land_in-requires g c =
     let value = c.in-Ok.value in
     let instr = Ld reg p.place in
     let stands = g.S.Steps.stands at in
-    let r = own_next at memo instr p.stands.first p.stands.before p.stands.code stands c.args.steps.now
+    let r = own_next at memo instr p.stands.first p.stands.before p.stands.code stands
+    c.args.steps.now
     c.requires.next in
-    let then = r.next (learned at memo (gives at.job (processor_of at) memo.own.counter reg value)) in
+    let then = r.next (learned at memo
+    (gives at.job (processor_of at) memo.own.counter reg value)) in
     record {
       next = record {
         from = r.from;
         after = r.after;
         next = λ done. then;
-        here = load_lands at memo taken reg value (ap (λ (m : Memo). m.own) c.take_value.ensures.same) instr
-            p.place cell refl p.stands.code p.reads stands r.from c.read_place.new.steps r.after r.next
-            (ap (λ (m : Memo). m.told) c.take_value.ensures.same)
-            (c.in-Ok.ensures.plays.on r.from (r.next at_start) (made_with stands at memo instr r.from r.next)
-            (reads_first stands at memo instr r.from r.next c.args.steps.now cell p.reads r.after r.here));
+        here = load_lands at memo taken reg value
+            (ap (λ (m : Memo). m.own) c.take_value.ensures.same) instr
+            p.place cell refl p.stands.code p.reads stands r.from c.read_place.new.steps
+            r.after r.next (ap (λ (m : Memo). m.told) c.take_value.ensures.same)
+            (c.in-Ok.ensures.plays.on r.from (r.next at_start)
+            (made_with stands at memo instr r.from r.next)
+            (reads_first stands at memo instr r.from r.next c.args.steps.now cell p.reads
+            r.after r.here));
       };
     }
 
@@ -80,9 +86,10 @@ returns-in-Err g c =
           p.stands.code stands _ _ _ (record {
             on = λ from late next here. comes_to stands from _ _ _
                 (learned_comes (Err c.in-Err.why) at_start late next)
-                (c.in-Err.ensures.plays.on from (next at_start) (made_with stands at memo instr from next)
-                (reads_first stands at memo instr from next c.args.steps.now c.args.load.cell p.reads late
-                here));
+                (c.in-Err.ensures.plays.on from (next at_start)
+                (made_with stands at memo instr from next)
+                (reads_first stands at memo instr from next c.args.steps.now
+                c.args.load.cell p.reads late here));
           }));
     }
 
@@ -106,14 +113,18 @@ returns g c =
     (settles_reading at.job memo.own instr p.stands.code (step_of at) cell p.reads) in
     record {
       others = λ j other. c.land_in.ensures.others j other ∙ c.take_value.ensures.others j other;
-      plays = own_plays at memo instr p.stands.first p.stands.before p.stands.code stands _ _ _ (record {
-        on = λ from late next here. comes_to stands from _ _ _
-            (ok_learns c.land_in.result now (tells_all taken) known c.land_in.ensures.told told late next)
-            (c.land_in.ensures.plays.on from (next now) (λ done. next known)
-            (load_lands at memo taken reg value (ap (λ (m : Memo). m.own) c.take_value.ensures.same) instr
-            p.place cell refl p.stands.code p.reads stands from c.read_place.new.steps (next now) next
-            (ap (λ (m : Memo). m.told) c.take_value.ensures.same)
-            (c.in-Ok.ensures.plays.on from (next at_start) (made_with stands at memo instr from next)
-            (reads_first stands at memo instr from next c.args.steps.now cell p.reads late here))));
-      });
+      plays = own_plays at memo instr p.stands.first p.stands.before p.stands.code stands
+          _ _ _ (record {
+            on = λ from late next here. comes_to stands from _ _ _
+                (ok_learns c.land_in.result now (tells_all taken) known c.land_in.ensures.told
+                told late next) (c.land_in.ensures.plays.on from (next now) (λ done. next known)
+                (load_lands at memo taken reg value
+                (ap (λ (m : Memo). m.own) c.take_value.ensures.same) instr
+                p.place cell refl p.stands.code p.reads stands from c.read_place.new.steps
+                (next now) next (ap (λ (m : Memo). m.told) c.take_value.ensures.same)
+                (c.in-Ok.ensures.plays.on from (next at_start)
+                (made_with stands at memo instr from next)
+                (reads_first stands at memo instr from next c.args.steps.now cell p.reads
+                late here))));
+          });
     }

@@ -50,7 +50,8 @@ returns-in_err-swap g c =
             let loads = rw (sym c.is_late.ensures ∙ c.if-is_late.false) at
             (c.in_ok-first.ensures.plays.on from after
             (writes_after at c.args.place c.args.value (next tt)) here) in
-            rw (c.older_swap-at.ensures c.args.place c.requires.word) at (c.in_err-swap.ensures.on at from (λ found. next tt)) loads;
+            rw (c.older_swap-at.ensures c.args.place c.requires.word)
+            at (c.in_err-swap.ensures.on at from (λ found. next tt)) loads;
       };
     })
 
@@ -63,6 +64,7 @@ returns g c =
             let loads = rw (sym c.is_late.ensures ∙ c.if-is_late.false) at
             (c.in_ok-first.ensures.plays.on from after
             (writes_after at c.args.place c.args.value (next tt)) here) in
-            rw (c.older_swap-at.ensures c.args.place c.requires.word) at (c.in_ok-swap.ensures.on at from (λ found. next tt)) loads;
+            rw (c.older_swap-at.ensures c.args.place c.requires.word)
+            at (c.in_ok-swap.ensures.on at from (λ found. next tt)) loads;
       };
     }

@@ -21,7 +21,8 @@ read_place-requires-clause-next g c =
     let p = c.requires.plain in
     let instr = Ld c.args.load.register p.place in
     let stands = g.S.Steps.stands at in
-    let r = own_next at memo instr p.first p.before p.code stands c.args.steps.now c.requires.next in
+    let r = own_next at memo instr p.first p.before p.code stands c.args.steps.now
+    c.requires.next in
     record {
       from = r.from;
       after = r.next at_start;
@@ -40,20 +41,25 @@ write_place-requires-clause-next g c =
     let value = c.in-Ok.value in
     let instr = Ld reg p.place in
     let stands = g.S.Steps.stands at in
-    let r = own_next at memo instr p.first p.before p.code stands c.args.steps.now c.requires.next in
-    let then = r.next (learned at memo (gives at.job (processor_of at) memo.own.counter reg value)) in
+    let r = own_next at memo instr p.first p.before p.code stands c.args.steps.now
+    c.requires.next in
+    let then = r.next (learned at memo
+    (gives at.job (processor_of at) memo.own.counter reg value)) in
     record {
       from = r.from;
       after = r.after;
       next = λ done. then;
       here = moved stands r.from _ _ _
           (plainly_lands at memo reg cell p value r.after then c.args.load.four
-          ∙ ap (λ (q : ℕ). writes at q value r.after (λ done. then)) (sym c.register_place-place.ensures.value))
+          ∙ ap (λ (q : ℕ). writes at q value r.after (λ done. then))
+          (sym c.register_place-place.ensures.value))
           (load_lands at memo (taken at memo reg cell p value) reg value
           (loaded_own at memo reg cell p value) instr p.place cell refl p.code p.reads stands r.from
           c.read_place.new.steps r.after r.next refl
-          (c.in-Ok.ensures.plays.on r.from (r.next at_start) (made_with stands at memo instr r.from r.next)
-          (reads_first stands at memo instr r.from r.next c.args.steps.now cell p.reads r.after r.here)));
+          (c.in-Ok.ensures.plays.on r.from (r.next at_start)
+          (made_with stands at memo instr r.from r.next)
+          (reads_first stands at memo instr r.from r.next c.args.steps.now cell p.reads
+          r.after r.here)));
     }
 
 pub returns-in-Err-clause-plays : goal.returns-in-Err-clause-plays

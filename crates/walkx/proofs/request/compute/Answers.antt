@@ -34,7 +34,8 @@ pub raise_request-requires-clause-due : goal.raise_request-requires-clause-due
 unfolding compute_task
 raise_request-requires-clause-due g c =
     let r = c.requires.due in
-    let read = rw c.counter_place-place.ensures.value at (c.in_ok-counter.ensures.plays.on r.from r.after
+    let read = rw c.counter_place-place.ensures.value
+    at (c.in_ok-counter.ensures.plays.on r.from r.after
     (after_counter c.args.leaf.now r.after)) r.here in
     rw c.goes_to.ensures (record {
       from = r.from;
@@ -46,7 +47,8 @@ pub execute-requires-clause-due : goal.execute-requires-clause-due
 unfolding compute_task
 execute-requires-clause-due g c =
     let r = c.requires.due in
-    let read = rw c.counter_place-place.ensures.value at (c.in_ok-counter.ensures.plays.on r.from r.after
+    let read = rw c.counter_place-place.ensures.value
+    at (c.in_ok-counter.ensures.plays.on r.from r.after
     (after_counter c.args.leaf.now r.after)) r.here in
     record {
       from = r.from;

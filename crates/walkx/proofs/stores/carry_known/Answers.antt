@@ -22,13 +22,14 @@ returns-in_err-settle-clause-takes g c = λ memory is.
       step = c.if-block-k-2.true ∙ c.step.ensures.value;
       some = rw c.if-block-k.true refl;
     } in
-    let takes = takes_up (g.S.Steps.stands at) at c.args.steps.now c.carry_lane.new.steps memory now memo
+    let takes = takes_up (g.S.Steps.stands at) at c.args.steps.now c.carry_lane.new.steps
+    memory now memo
     learned c.carry_lane.result (sym is) refl (rw (store_asks at memo has) tt)
     c.carry_lane.ensures.plays in
     let why = c.in_err-settle.field-0.0 in
     let e : c.from_residual.result ≡ Err why = search rules in
-    rw e (subst (TakesUp (g.S.Steps.stands at) at c.args.steps.now memory c.carry_lane.new.steps now)
-    (sym c.settle.ensures ∙ c.in_err-settle.was) takes)
+    rw e (subst (TakesUp (g.S.Steps.stands at) at c.args.steps.now memory
+    c.carry_lane.new.steps now) (sym c.settle.ensures ∙ c.in_err-settle.was) takes)
 
 pub returns-then-block-k-2-clause-takes : goal.returns-then-block-k-2-clause-takes
 returns-then-block-k-2-clause-takes g c = λ memory is.
@@ -41,7 +42,8 @@ returns-then-block-k-2-clause-takes g c = λ memory is.
       step = c.if-block-k-2.true ∙ c.step.ensures.value;
       some = rw c.if-block-k.true refl;
     } in
-    let takes = takes_up (g.S.Steps.stands at) at c.args.steps.now c.carry_lane.new.steps memory now memo
+    let takes = takes_up (g.S.Steps.stands at) at c.args.steps.now c.carry_lane.new.steps
+    memory now memo
     learned c.carry_lane.result (sym is) refl (rw (store_asks at memo has) tt)
     c.carry_lane.ensures.plays in
     subst (TakesUp (g.S.Steps.stands at) at c.args.steps.now memory c.carry_lane.new.steps now)

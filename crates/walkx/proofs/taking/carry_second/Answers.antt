@@ -1,4 +1,5 @@
-use Rattle.std.proofs.Common.{◌≡◌, ◌/◌, ◌<◌, List, length, slice_get, Some, sym, ap, subst, ◌∙◌, arith}
+use Rattle.std.proofs.Common.{◌≡◌, ◌/◌, ◌<◌, List, length, slice_get, Some, sym, ap, subst, ◌∙◌}
+use Rattle.std.proofs.Common.{arith}
 use Rattle.std.proofs.lemmas.Option.{slice_get-get_or}
 use Rattle.walk_memory.specs.declared.memo.Memo.{Memo}
 use Rattle.walkx.specs.Driving.{IsNextPart}
@@ -21,7 +22,8 @@ carry_known-requires-clause-memo g c =
     let there : slice_get items (i / 64) ≡ Some old =
     slice_get-get_or items (i / 64) old low ∙ ap Some (sym c.index_mut-block.ensures.value) in
     subst (FitsMemo at.job)
-    (lane_known c.args.memory.now items i _ old view c.processor-i.ensures.value there) c.requires.memo
+    (lane_known c.args.memory.now items i _ old view c.processor-i.ensures.value there)
+    c.requires.memo
 
 pub carry_known-requires-clause-next : goal.carry_known-requires-clause-next
 carry_known-requires-clause-next g c =
@@ -35,7 +37,8 @@ carry_known-requires-clause-next g c =
     let there : slice_get items (i / 64) ≡ Some old =
     slice_get-get_or items (i / 64) old low ∙ ap Some (sym c.index_mut-block.ensures.value) in
     subst (λ (m : Memo). IsNextPart (g.S.Steps.stands at) c.args.steps.now (does_wide at m))
-    (lane_known c.args.memory.now items i _ old view c.processor-i.ensures.value there) c.requires.next
+    (lane_known c.args.memory.now items i _ old view c.processor-i.ensures.value there)
+    c.requires.next
 
 pub returns-then-i-len : goal.returns-then-i-len
 returns-then-i-len g c =

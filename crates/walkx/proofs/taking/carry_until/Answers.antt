@@ -1,4 +1,5 @@
-use Rattle.std.proofs.Common.{◌≡◌, ◌/◌, ◌%◌, ◌<◌, ◌≤◌, ℕ, List, length, slice_get, Option, Some, true, sym, ap, subst, ◌∙◌, arith}
+use Rattle.std.proofs.Common.{◌≡◌, ◌/◌, ◌%◌, ◌<◌, ◌≤◌, ℕ, List, length, slice_get, Option, Some}
+use Rattle.std.proofs.Common.{true, sym, ap, subst, ◌∙◌, arith}
 use Rattle.std.specs.Prelude.{is_some}
 use Rattle.std.proofs.lemmas.Option.{slice_get-get_or, slice_get_past}
 use Rattle.walk_memory.specs.declared.block.Block.{Block}
@@ -26,7 +27,8 @@ carry_lane_until-requires-clause-store g c =
     let there : slice_get items (i / 64) ≡ Some old =
     slice_get-get_or items (i / 64) old low ∙ ap Some (sym c.index_mut-block.ensures.value) in
     subst (HasStore at)
-    (lane_known c.args.memory.now items i _ old view c.processor-i.ensures.value there) c.requires.store
+    (lane_known c.args.memory.now items i _ old view c.processor-i.ensures.value there)
+    c.requires.store
 
 pub carry_lane_until-requires-clause-memo : goal.carry_lane_until-requires-clause-memo
 carry_lane_until-requires-clause-memo g c =
@@ -40,7 +42,8 @@ carry_lane_until-requires-clause-memo g c =
     let there : slice_get items (i / 64) ≡ Some old =
     slice_get-get_or items (i / 64) old low ∙ ap Some (sym c.index_mut-block.ensures.value) in
     subst (FitsMemo at.job)
-    (lane_known c.args.memory.now items i _ old view c.processor-i.ensures.value there) c.requires.memo
+    (lane_known c.args.memory.now items i _ old view c.processor-i.ensures.value there)
+    c.requires.memo
 
 pub carry_lane_until-requires-clause-next : goal.carry_lane_until-requires-clause-next
 carry_lane_until-requires-clause-next g c =
@@ -54,7 +57,8 @@ carry_lane_until-requires-clause-next g c =
     let there : slice_get items (i / 64) ≡ Some old =
     slice_get-get_or items (i / 64) old low ∙ ap Some (sym c.index_mut-block.ensures.value) in
     subst (λ (m : Memo). IsNextPart (g.S.Steps.stands at) c.args.steps.now (does_wide at m))
-    (lane_known c.args.memory.now items i _ old view c.processor-i.ensures.value there) c.requires.next
+    (lane_known c.args.memory.now items i _ old view c.processor-i.ensures.value there)
+    c.requires.next
 
 pub returns-then-i-len : goal.returns-then-i-len
 returns-then-i-len g c =

@@ -1,4 +1,5 @@
-use Rattle.std.proofs.Common.{◌≡◌, ◌/◌, ◌%◌, ◌<◌, ◌≤◌, ℕ, List, length, slice_get, slice_index, Some, None, refl, sym, ap, subst, ◌∙◌, arith}
+use Rattle.std.proofs.Common.{◌≡◌, ◌/◌, ◌%◌, ◌<◌, ◌≤◌, ℕ, List, length, slice_get, slice_index}
+use Rattle.std.proofs.Common.{Some, None, refl, sym, ap, subst, ◌∙◌, arith}
 use Rattle.std.proofs.lemmas.Option.{slice_get-get_or}
 use Rattle.std.specs.Prelude.{slice_set}
 use Rattle.walk_memory.specs.declared.memo.Memo.{Memo}
@@ -84,8 +85,8 @@ returns-then-i-len g c =
     c.claim_plainly-done.new.steps c.args.memory.now _ memo learned c.claim_plainly-done.result
     (sym is ∙ ap (λ (j : ℕ). memo_of c.args.memory.now j) c.processor-i.ensures.value) kept
     (own_idle at memo instr plain.first plain.before plain.code _ _ _
-    (where_decides at memo _ _ _ instr plain.before plain.code (claim_reads at memo _ _ plain) request
-    (claim_asks at memo _ _ plain)
+    (where_decides at memo _ _ _ instr plain.before plain.code
+    (claim_reads at memo _ _ plain) request (claim_asks at memo _ _ plain)
     (λ lags none. absurd (let some = claim_cell at memo _ _ plain in cc))))
     c.claim_plainly-done.ensures.plays)
 

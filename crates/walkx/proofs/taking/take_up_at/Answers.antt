@@ -1,4 +1,5 @@
-use Rattle.std.proofs.Common.{◌≡◌, ◌/◌, ◌<◌, Some, Err, length, slice_get, rules, sym, ap, subst, ◌∙◌, arith}
+use Rattle.std.proofs.Common.{◌≡◌, ◌/◌, ◌<◌, Some, Err, length, slice_get, rules, sym, ap, subst}
+use Rattle.std.proofs.Common.{◌∙◌, arith}
 use Rattle.std.specs.Prelude.{slice_set}
 use Rattle.std.proofs.lemmas.Option.{slice_get-get_or}
 use Rattle.walk_memory.specs.declared.memo.Memo.{Memo}
@@ -21,7 +22,8 @@ own_in-done-requires-clause-next g c =
     let there : slice_get items (i / 64) ≡ Some block =
     slice_get-get_or items (i / 64) block low ∙ ap Some (sym c.index_mut.ensures.value) in
     subst (λ (m : Memo). IsNextPart (g.S.Steps.stands at) c.args.steps.now (does_wide at m))
-    (lane_is items c.args.memory.now at i block view c.processor-i.ensures.value there) c.requires.next
+    (lane_is items c.args.memory.now at i block view c.processor-i.ensures.value there)
+    c.requires.next
 
 pub returns-in_err-settle-in-Some : goal.returns-in_err-settle-in-Some
 returns-in_err-settle-in-Some g c =
@@ -35,7 +37,8 @@ returns-in_err-settle-in-Some g c =
     let there : slice_get items (i / 64) ≡ Some block =
     slice_get-get_or items (i / 64) block low ∙ ap Some (sym c.index_mut.ensures.value) in
     let now = memos_of (slice_set items (i / 64) c.own_in-done.new.block) in
-    let takes = takes_in_lane items c.args.memory.now at i block view c.processor-i.ensures.value there
+    let takes = takes_in_lane items c.args.memory.now at i block view
+    c.processor-i.ensures.value there
     (g.S.Steps.stands at) c.args.steps.now c.own_in-done.new.steps c.own_in-done.new.block
     c.own_in-done.result low c.own_in-done.ensures.idle c.own_in-done.ensures.done in
     let why = c.in_err-settle-in-Some.field-0.0 in
@@ -55,7 +58,8 @@ returns-then-stands_in g c =
     let there : slice_get items (i / 64) ≡ Some block =
     slice_get-get_or items (i / 64) block low ∙ ap Some (sym c.index_mut.ensures.value) in
     let now = memos_of (slice_set items (i / 64) c.own_in-done.new.block) in
-    let takes = takes_in_lane items c.args.memory.now at i block view c.processor-i.ensures.value there
+    let takes = takes_in_lane items c.args.memory.now at i block view
+    c.processor-i.ensures.value there
     (g.S.Steps.stands at) c.args.steps.now c.own_in-done.new.steps c.own_in-done.new.block
     c.own_in-done.result low c.own_in-done.ensures.idle c.own_in-done.ensures.done in
     subst (TakesUp (g.S.Steps.stands at) at c.args.steps.now c.args.memory.now

@@ -80,7 +80,8 @@ returns-clause-plays g c =
     let at = c.args.leaf.now in
     let memo = c.args.memo.now in
     let stands = g.S.Steps.stands at in
-    rw c.carry.ensures (plays_as stands _ _ _ (λ late next. carry_is at memo late next) _ _ (record {
+    rw c.carry.ensures (plays_as stands _ _ _ (λ late next. carry_is at memo late next) _ _
+    (record {
       on = λ from late next here.
           c.in_ok-carry_store.ensures.plays.on from (next memo) (λ done. next (stored at memo))
           (c.in_ok-write.ensures.plays.on from (next memo)

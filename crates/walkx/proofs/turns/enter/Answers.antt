@@ -42,17 +42,24 @@ leave-requires g c =
     let r = c.requires.here in
     let node = rw (c.looking.ensures, node_is c.post.view_is) at
     (c.in_ok-found.ensures.on at r.from (after_node at)) r.here in
-    record { here = record { from = r.from; here = rw (sym c.is_finished.ensures ∙ c.if-is_finished.true) at node } }
+    record {
+      here = record {
+        from = r.from;
+        here = rw (sym c.is_finished.ensures ∙ c.if-is_finished.true) at node;
+      };
+    }
 
 pub returns-in_err-leave-clause-leads : goal.returns-in_err-leave-clause-leads
 unfolding turn_script
 returns-in_err-leave-clause-leads g c =
     let at = c.args.post.now in
-    rw (passed c.from_residual-in_err-leave.result _ c.from_residual-in_err-leave.ensures.1) (record {
+    rw (passed c.from_residual-in_err-leave.result _ c.from_residual-in_err-leave.ensures.1)
+    (record {
       on = λ from here.
           let node = rw (c.looking.ensures, node_is c.post.view_is) at
           (c.in_ok-found.ensures.on at from (after_node at)) here in
-          c.in_err-leave.ensures.reaches.on from (rw (sym c.is_finished.ensures ∙ c.if-is_finished.true) at node);
+          c.in_err-leave.ensures.reaches.on from
+          (rw (sym c.is_finished.ensures ∙ c.if-is_finished.true) at node);
     })
 
 pub returns-in_ok-leave-clause-leads : goal.returns-in_ok-leave-clause-leads
@@ -63,7 +70,8 @@ returns-in_ok-leave-clause-leads g c =
       on = λ from here.
           let node = rw (c.looking.ensures, node_is c.post.view_is) at
           (c.in_ok-found.ensures.on at from (after_node at)) here in
-          c.in_ok-leave.ensures.reaches.on from (rw (sym c.is_finished.ensures ∙ c.if-is_finished.true) at node);
+          c.in_ok-leave.ensures.reaches.on from
+          (rw (sym c.is_finished.ensures ∙ c.if-is_finished.true) at node);
     })
 
 pub inner-requires-clause-here : goal.inner-requires-clause-here
@@ -73,17 +81,27 @@ inner-requires-clause-here g c =
     let r = c.requires.here in
     let node = rw (c.looking.ensures, node_is c.post.view_is) at
     (c.in_ok-found.ensures.on at r.from (after_node at)) r.here in
-    record { from = r.from; here = rw (sym c.is_finished.ensures ∙ c.if-is_finished.false, sym c.is_leaf.ensures ∙ c.if-not-is_leaf.true) at node }
+    record {
+      from = r.from;
+      here = rw (
+        sym c.is_finished.ensures ∙ c.if-is_finished.false,
+        sym c.is_leaf.ensures ∙ c.if-not-is_leaf.true,
+      ) at node;
+    }
 
 pub returns-in_err-inner-clause-leads : goal.returns-in_err-inner-clause-leads
 unfolding turn_script
 returns-in_err-inner-clause-leads g c =
     let at = c.args.post.now in
-    rw (passed c.from_residual-in_err-inner.result _ c.from_residual-in_err-inner.ensures.1) (record {
+    rw (passed c.from_residual-in_err-inner.result _ c.from_residual-in_err-inner.ensures.1)
+    (record {
       on = λ from here.
           let node = rw (c.looking.ensures, node_is c.post.view_is) at
           (c.in_ok-found.ensures.on at from (after_node at)) here in
-          c.in_err-inner.ensures.reaches.on from (rw (sym c.is_finished.ensures ∙ c.if-is_finished.false, sym c.is_leaf.ensures ∙ c.if-not-is_leaf.true) at node);
+          c.in_err-inner.ensures.reaches.on from (rw (
+            sym c.is_finished.ensures ∙ c.if-is_finished.false,
+            sym c.is_leaf.ensures ∙ c.if-not-is_leaf.true,
+          ) at node);
     })
 
 pub returns-in_ok-inner-clause-leads : goal.returns-in_ok-inner-clause-leads
@@ -94,7 +112,10 @@ returns-in_ok-inner-clause-leads g c =
       on = λ from here.
           let node = rw (c.looking.ensures, node_is c.post.view_is) at
           (c.in_ok-found.ensures.on at from (after_node at)) here in
-          c.in_ok-inner.ensures.reaches.on from (rw (sym c.is_finished.ensures ∙ c.if-is_finished.false, sym c.is_leaf.ensures ∙ c.if-not-is_leaf.true) at node);
+          c.in_ok-inner.ensures.reaches.on from (rw (
+            sym c.is_finished.ensures ∙ c.if-is_finished.false,
+            sym c.is_leaf.ensures ∙ c.if-not-is_leaf.true,
+          ) at node);
     })
 
 pub raise-requires : goal.raise-requires
@@ -119,7 +140,8 @@ pub returns-in_err-raise-clause-leads : goal.returns-in_err-raise-clause-leads
 unfolding turn_script
 returns-in_err-raise-clause-leads g c =
     let at = c.args.post.now in
-    rw (passed c.from_residual-in_err-raise.result _ c.from_residual-in_err-raise.ensures.1) (record {
+    rw (passed c.from_residual-in_err-raise.result _ c.from_residual-in_err-raise.ensures.1)
+    (record {
       on = λ from here.
           let node = rw (c.looking.ensures, node_is c.post.view_is) at
           (c.in_ok-found.ensures.on at from (after_node at)) here in
@@ -156,8 +178,13 @@ returns-in-Compact-clause-leads g c =
           moved (g.S.Steps.stands at) from _ _ _ (part_first at c.requires.first)
           (moved (g.S.Steps.stands at) from _ _ _
           (form_compact at.layout.form (part_script at.job at.layout at.node at.phase 0 at_start)
-          (ends (enters at.node at.phase)) (form_is c.post.view_is ∙ sym c.form.ensures.value ∙ c.in-Compact.is))
-          (rw (sym c.is_finished.ensures ∙ c.if-is_finished.false, sym c.is_leaf.ensures ∙ c.if-not-is_leaf.false, sym c.has_rank.ensures.value ∙ c.if-has_rank.true) at node));
+          (ends (enters at.node at.phase))
+          (form_is c.post.view_is ∙ sym c.form.ensures.value ∙ c.in-Compact.is))
+          (rw (
+            sym c.is_finished.ensures ∙ c.if-is_finished.false,
+            sym c.is_leaf.ensures ∙ c.if-not-is_leaf.false,
+            sym c.has_rank.ensures.value ∙ c.if-has_rank.true,
+          ) at node));
     }
 
 pub returns-in-Wide-clause-leads : goal.returns-in-Wide-clause-leads
@@ -170,6 +197,11 @@ returns-in-Wide-clause-leads g c =
           (c.in_ok-found.ensures.on at from (after_node at)) here in
           moved (g.S.Steps.stands at) from _ _ _
           (form_wide_of at.layout.form (part_script at.job at.layout at.node at.phase 0 at_start)
-          (ends (enters at.node at.phase)) (wide_is _ _ (form_is c.post.view_is ∙ sym c.form.ensures.value ∙ c.in-Wide.is)))
-          (rw (sym c.is_finished.ensures ∙ c.if-is_finished.false, sym c.is_leaf.ensures ∙ c.if-not-is_leaf.false, sym c.has_rank.ensures.value ∙ c.if-has_rank.true) at node);
+          (ends (enters at.node at.phase))
+          (wide_is _ _ (form_is c.post.view_is ∙ sym c.form.ensures.value ∙ c.in-Wide.is)))
+          (rw (
+            sym c.is_finished.ensures ∙ c.if-is_finished.false,
+            sym c.is_leaf.ensures ∙ c.if-not-is_leaf.false,
+            sym c.has_rank.ensures.value ∙ c.if-has_rank.true,
+          ) at node);
     }

@@ -13,7 +13,8 @@ wide_task-requires-clause-next g c =
       after = ends (has_worked at c.args.memo.now);
       next = λ m. ends (has_worked at m);
       here = moved (g.S.Steps.stands at) r.from _ _ _
-          (wide_does at c.args.memo.now (ends (has_worked at c.args.memo.now)) c.requires.wide) r.here;
+          (wide_does at c.args.memo.now (ends (has_worked at c.args.memo.now)) c.requires.wide)
+          r.here;
     })
 
 pub returns : goal.returns
@@ -26,6 +27,7 @@ returns g c =
             (rw c.leaf.ensures at (c.wide_task.ensures.plays.on from
             (ends (has_worked at c.args.memo.now)) (λ m. ends (has_worked at m)))
             (moved (g.S.Steps.stands at) from _ _ _
-            (wide_does at c.args.memo.now (ends (has_worked at c.args.memo.now)) c.requires.wide) here));
+            (wide_does at c.args.memo.now (ends (has_worked at c.args.memo.now)) c.requires.wide)
+            here));
       };
     })

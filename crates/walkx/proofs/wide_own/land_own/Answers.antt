@@ -1,5 +1,5 @@
 use Rattle.std.proofs.Common.{[], ◌∷◌}
-use Rattle.walkx.specs.WideParts.{lands_from}
+use Rattle.walkx.specs.WideParts.{landed_from}
 use Rattle.walkx.proofs.Passing.{passed}
 use Rattle.walkx.proofs.wide_own.land_own.Goals as goal
 
@@ -12,7 +12,7 @@ land_register-requires-clause-next g c =
     record {
       from = r.from;
       after = r.after;
-      next = λ done. lands_from at taken tells (1 ∷ 2 ∷ 3 ∷ []) r.after r.next;
+      next = λ done. landed_from at taken tells (1 ∷ 2 ∷ 3 ∷ []) r.after r.next;
       here = r.here;
     }
 
@@ -25,9 +25,9 @@ land_register-requires-2-clause-next g c =
     record {
       from = r.from;
       after = r.after;
-      next = λ done. lands_from at taken tells (2 ∷ 3 ∷ []) r.after r.next;
+      next = λ done. landed_from at taken tells (2 ∷ 3 ∷ []) r.after r.next;
       here = c.in_ok-land_register.ensures.plays.on r.from r.after
-          (λ done. lands_from at taken tells (1 ∷ 2 ∷ 3 ∷ []) r.after r.next) r.here;
+          (λ done. landed_from at taken tells (1 ∷ 2 ∷ 3 ∷ []) r.after r.next) r.here;
     }
 
 pub land_register-requires-3-clause-next : goal.land_register-requires-3-clause-next
@@ -39,10 +39,11 @@ land_register-requires-3-clause-next g c =
     record {
       from = r.from;
       after = r.after;
-      next = λ done. lands_from at taken tells (3 ∷ []) r.after r.next;
+      next = λ done. landed_from at taken tells (3 ∷ []) r.after r.next;
       here = c.in_ok-land_register-2.ensures.plays.on r.from r.after
-          (λ done. lands_from at taken tells (2 ∷ 3 ∷ []) r.after r.next) (c.in_ok-land_register.ensures.plays.on r.from r.after
-          (λ done. lands_from at taken tells (1 ∷ 2 ∷ 3 ∷ []) r.after r.next) r.here);
+          (λ done. landed_from at taken tells (2 ∷ 3 ∷ []) r.after r.next)
+          (c.in_ok-land_register.ensures.plays.on r.from r.after
+          (λ done. landed_from at taken tells (1 ∷ 2 ∷ 3 ∷ []) r.after r.next) r.here);
     }
 
 pub land_register-requires-4-clause-next : goal.land_register-requires-4-clause-next
@@ -54,11 +55,13 @@ land_register-requires-4-clause-next g c =
     record {
       from = r.from;
       after = r.after;
-      next = λ done. lands_from at taken tells [] r.after r.next;
+      next = λ done. landed_from at taken tells [] r.after r.next;
       here = c.in_ok-land_register-3.ensures.plays.on r.from r.after
-          (λ done. lands_from at taken tells (3 ∷ []) r.after r.next) (c.in_ok-land_register-2.ensures.plays.on r.from r.after
-          (λ done. lands_from at taken tells (2 ∷ 3 ∷ []) r.after r.next) (c.in_ok-land_register.ensures.plays.on r.from r.after
-          (λ done. lands_from at taken tells (1 ∷ 2 ∷ 3 ∷ []) r.after r.next) r.here));
+          (λ done. landed_from at taken tells (3 ∷ []) r.after r.next)
+          (c.in_ok-land_register-2.ensures.plays.on r.from r.after
+          (λ done. landed_from at taken tells (2 ∷ 3 ∷ []) r.after r.next)
+          (c.in_ok-land_register.ensures.plays.on r.from r.after
+          (λ done. landed_from at taken tells (1 ∷ 2 ∷ 3 ∷ []) r.after r.next) r.here));
     }
 
 pub land_counter-requires : goal.land_counter-requires
@@ -73,10 +76,13 @@ land_counter-requires g c =
         after = r.after;
         next = r.next;
         here = c.in_ok-land_register-4.ensures.plays.on r.from r.after
-            (λ done. lands_from at taken tells [] r.after r.next) (c.in_ok-land_register-3.ensures.plays.on r.from r.after
-            (λ done. lands_from at taken tells (3 ∷ []) r.after r.next) (c.in_ok-land_register-2.ensures.plays.on r.from r.after
-            (λ done. lands_from at taken tells (2 ∷ 3 ∷ []) r.after r.next) (c.in_ok-land_register.ensures.plays.on r.from r.after
-            (λ done. lands_from at taken tells (1 ∷ 2 ∷ 3 ∷ []) r.after r.next) r.here)));
+            (λ done. landed_from at taken tells [] r.after r.next)
+            (c.in_ok-land_register-3.ensures.plays.on r.from r.after
+            (λ done. landed_from at taken tells (3 ∷ []) r.after r.next)
+            (c.in_ok-land_register-2.ensures.plays.on r.from r.after
+            (λ done. landed_from at taken tells (2 ∷ 3 ∷ []) r.after r.next)
+            (c.in_ok-land_register.ensures.plays.on r.from r.after
+            (λ done. landed_from at taken tells (1 ∷ 2 ∷ 3 ∷ []) r.after r.next) r.here)));
       };
     }
 
@@ -88,7 +94,7 @@ returns-in_err-land_register g c =
     rw (passed c.from_residual.result _ c.from_residual.ensures.1) (record {
       plays = record {
         on = λ from late next here. c.in_err-land_register.ensures.plays.on from late
-            (λ done. lands_from at taken tells (1 ∷ 2 ∷ 3 ∷ []) late next) here;
+            (λ done. landed_from at taken tells (1 ∷ 2 ∷ 3 ∷ []) late next) here;
       };
     })
 
@@ -97,11 +103,13 @@ returns-in_err-land_register-2 g c =
     let at = c.args.leaf.now in
     let taken = c.args.taken.now in
     let tells = c.args.tells in
-    rw (passed c.from_residual-in_err-land_register-2.result _ c.from_residual-in_err-land_register-2.ensures.1) (record {
+    rw (passed c.from_residual-in_err-land_register-2.result _
+    c.from_residual-in_err-land_register-2.ensures.1) (record {
       plays = record {
         on = λ from late next here. c.in_err-land_register-2.ensures.plays.on from late
-            (λ done. lands_from at taken tells (2 ∷ 3 ∷ []) late next) (c.in_ok-land_register.ensures.plays.on from late
-            (λ done. lands_from at taken tells (1 ∷ 2 ∷ 3 ∷ []) late next) here);
+            (λ done. landed_from at taken tells (2 ∷ 3 ∷ []) late next)
+            (c.in_ok-land_register.ensures.plays.on from late
+            (λ done. landed_from at taken tells (1 ∷ 2 ∷ 3 ∷ []) late next) here);
       };
     })
 
@@ -110,12 +118,15 @@ returns-in_err-land_register-3 g c =
     let at = c.args.leaf.now in
     let taken = c.args.taken.now in
     let tells = c.args.tells in
-    rw (passed c.from_residual-in_err-land_register-3.result _ c.from_residual-in_err-land_register-3.ensures.1) (record {
+    rw (passed c.from_residual-in_err-land_register-3.result _
+    c.from_residual-in_err-land_register-3.ensures.1) (record {
       plays = record {
         on = λ from late next here. c.in_err-land_register-3.ensures.plays.on from late
-            (λ done. lands_from at taken tells (3 ∷ []) late next) (c.in_ok-land_register-2.ensures.plays.on from late
-            (λ done. lands_from at taken tells (2 ∷ 3 ∷ []) late next) (c.in_ok-land_register.ensures.plays.on from late
-            (λ done. lands_from at taken tells (1 ∷ 2 ∷ 3 ∷ []) late next) here));
+            (λ done. landed_from at taken tells (3 ∷ []) late next)
+            (c.in_ok-land_register-2.ensures.plays.on from late
+            (λ done. landed_from at taken tells (2 ∷ 3 ∷ []) late next)
+            (c.in_ok-land_register.ensures.plays.on from late
+            (λ done. landed_from at taken tells (1 ∷ 2 ∷ 3 ∷ []) late next) here));
       };
     })
 
@@ -124,13 +135,17 @@ returns-in_err-land_register-4 g c =
     let at = c.args.leaf.now in
     let taken = c.args.taken.now in
     let tells = c.args.tells in
-    rw (passed c.from_residual-in_err-land_register-4.result _ c.from_residual-in_err-land_register-4.ensures.1) (record {
+    rw (passed c.from_residual-in_err-land_register-4.result _
+    c.from_residual-in_err-land_register-4.ensures.1) (record {
       plays = record {
         on = λ from late next here. c.in_err-land_register-4.ensures.plays.on from late
-            (λ done. lands_from at taken tells [] late next) (c.in_ok-land_register-3.ensures.plays.on from late
-            (λ done. lands_from at taken tells (3 ∷ []) late next) (c.in_ok-land_register-2.ensures.plays.on from late
-            (λ done. lands_from at taken tells (2 ∷ 3 ∷ []) late next) (c.in_ok-land_register.ensures.plays.on from late
-            (λ done. lands_from at taken tells (1 ∷ 2 ∷ 3 ∷ []) late next) here)));
+            (λ done. landed_from at taken tells [] late next)
+            (c.in_ok-land_register-3.ensures.plays.on from late
+            (λ done. landed_from at taken tells (3 ∷ []) late next)
+            (c.in_ok-land_register-2.ensures.plays.on from late
+            (λ done. landed_from at taken tells (2 ∷ 3 ∷ []) late next)
+            (c.in_ok-land_register.ensures.plays.on from late
+            (λ done. landed_from at taken tells (1 ∷ 2 ∷ 3 ∷ []) late next) here)));
       };
     })
 
@@ -143,9 +158,12 @@ returns g c =
       plays = record {
         on = λ from late next here. c.land_counter.ensures.plays.on from late next
             (c.in_ok-land_register-4.ensures.plays.on from late
-            (λ done. lands_from at taken tells [] late next) (c.in_ok-land_register-3.ensures.plays.on from late
-            (λ done. lands_from at taken tells (3 ∷ []) late next) (c.in_ok-land_register-2.ensures.plays.on from late
-            (λ done. lands_from at taken tells (2 ∷ 3 ∷ []) late next) (c.in_ok-land_register.ensures.plays.on from late
-            (λ done. lands_from at taken tells (1 ∷ 2 ∷ 3 ∷ []) late next) here))));
+            (λ done. landed_from at taken tells [] late next)
+            (c.in_ok-land_register-3.ensures.plays.on from late
+            (λ done. landed_from at taken tells (3 ∷ []) late next)
+            (c.in_ok-land_register-2.ensures.plays.on from late
+            (λ done. landed_from at taken tells (2 ∷ 3 ∷ []) late next)
+            (c.in_ok-land_register.ensures.plays.on from late
+            (λ done. landed_from at taken tells (1 ∷ 2 ∷ 3 ∷ []) late next) here))));
       };
     }

@@ -43,7 +43,8 @@ know-requires g c =
         from = r.from;
         after = r.next memo;
         next = own_known at r.next;
-        here = moved stands r.from c.args.steps.now _ _ (known_does at memo r.after r.next past) r.here;
+        here = moved stands r.from c.args.steps.now _ _ (known_does at memo r.after r.next past)
+            r.here;
       };
     }
 
@@ -77,7 +78,8 @@ own_by-requires-clause-next g c =
       here = moved stands r.from _ _ _
           (stands_does at c.know.new.memo r.next c.in-Some.instr.now c.in-Some.ensures.value)
           (c.in_ok-know.ensures.plays.on r.from (r.next memo) (own_known at r.next)
-          (moved stands r.from c.args.steps.now _ _ (known_does at memo r.after r.next past) r.here));
+          (moved stands r.from c.args.steps.now _ _ (known_does at memo r.after r.next past)
+          r.here));
     }
 
 pub returns-in-None-clause-plays : goal.returns-in-None-clause-plays

@@ -20,7 +20,8 @@ own_decided-requires-clause-none g c =
 pub returns-in-Some-clause-idle : goal.returns-in-Some-clause-idle
 returns-in-Some-clause-idle g c = λ before.
     let at = c.args.leaf.now in
-    let reads : cell_named at.job c.args.memo.now.own (Some c.args.instr.now) ≡ Some c.in-Some.cell =
+    let reads : cell_named at.job c.args.memo.now.own (Some c.args.instr.now)
+    ≡ Some c.in-Some.cell =
     rw c.job.ensures.value at (sym c.cell_named.ensures.value ∙ c.in-Some.is) in
     where_reads at c.args.memo.now _ _ _ c.args.instr.now before c.requires.stand.1
     c.in-Some.cell reads

@@ -61,7 +61,8 @@ settle_own-requires-clause-next g c =
       from = r.from;
       after = r.next memo;
       next = λ done. r.next (learned at memo request);
-      here = c.in_ok-claim_store.ensures.plays.on r.from (r.next memo) (claimed stands at memo instr r.from r.next request)
+      here = c.in_ok-claim_store.ensures.plays.on r.from (r.next memo)
+          (claimed stands at memo instr r.from r.next request)
           (decides_first stands at memo instr r.from r.next c.args.steps.now request
           c.turn_by-turn.ensures.value c.requires.none r.after r.here);
     }
@@ -100,11 +101,13 @@ returns-in_err-settle_own-clause-plays g c =
     let instr = c.args.instr.now in
     let stands = g.S.Steps.stands at in
     let request = request_of c.turn_by-turn.result in
-    rw (passed c.from_residual-in_err-settle_own.result _ c.from_residual-in_err-settle_own.ensures.1)
-    (record {
+    rw (passed c.from_residual-in_err-settle_own.result _
+    c.from_residual-in_err-settle_own.ensures.1) (record {
       on = λ from late next here. comes_to stands from _ _ _ (learned_comes (Err _) memo late next)
-          (c.in_err-settle_own.ensures.plays.on from (next memo) (λ done. next (learned at memo request))
-          (c.in_ok-claim_store.ensures.plays.on from (next memo) (claimed stands at memo instr from next request)
+          (c.in_err-settle_own.ensures.plays.on from (next memo)
+          (λ done. next (learned at memo request))
+          (c.in_ok-claim_store.ensures.plays.on from (next memo)
+          (claimed stands at memo instr from next request)
           (decides_first stands at memo instr from next c.args.steps.now request
           c.turn_by-turn.ensures.value c.requires.none late here)));
     })
@@ -127,8 +130,10 @@ returns-clause-plays g c =
     let request = request_of c.turn_by-turn.result in
     rw c.take_up.ensures (record {
       on = λ from late next here.
-          c.in_ok-settle_own.ensures.plays.on from (next memo) (λ done. next (learned at memo request))
-          (c.in_ok-claim_store.ensures.plays.on from (next memo) (claimed stands at memo instr from next request)
+          c.in_ok-settle_own.ensures.plays.on from (next memo)
+          (λ done. next (learned at memo request))
+          (c.in_ok-claim_store.ensures.plays.on from (next memo)
+          (claimed stands at memo instr from next request)
           (decides_first stands at memo instr from next c.args.steps.now request
           c.turn_by-turn.ensures.value c.requires.none late here));
     })
@@ -141,6 +146,7 @@ returns-clause-idle g c = λ before.
     (λ lags none. (
       c.take_up.ensures,
       (c.in_ok-settle_own.ensures.none (c.settles_by-settles.ensures
-          ∙ sym (settles_by at.job c.args.memo.now.own c.args.instr.now c.requires.stand.1 (step_of at))
+          ∙ sym (settles_by at.job c.args.memo.now.own c.args.instr.now
+          c.requires.stand.1 (step_of at))
           ∙ lags)).1 ∙ (c.in_ok-claim_store.ensures.none none).1,
     ))

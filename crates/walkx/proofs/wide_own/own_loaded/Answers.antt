@@ -46,8 +46,8 @@ land_own-requires g c =
         next = λ done. r.next (learned at memo given);
         here = load_lands at memo (record memo { own = c.load.new.self }) c.in-Ld.register
             c.in-Ok.value c.load.ensures instr c.in-Ld.field-1 c.args.cell c.in-Ld.is
-            c.requires.stand.1 c.requires.cell stands r.from c.read_place.new.steps r.after r.next refl
-            (c.in-Ok.ensures.plays.on r.from (r.next at_start)
+            c.requires.stand.1 c.requires.cell stands r.from c.read_place.new.steps
+            r.after r.next refl (c.in-Ok.ensures.plays.on r.from (r.next at_start)
             (made_with stands at memo instr r.from r.next)
             (reads_first stands at memo instr r.from r.next c.args.steps.now c.args.cell
             c.requires.cell r.after r.here));
@@ -64,7 +64,8 @@ returns-in-Err g c =
       plays = record {
         on = λ from late next here. comes_to stands from _ _ _
             (learned_comes (Err c.in-Err.why) at_start late next)
-            (c.in-Err.ensures.plays.on from (next at_start) (made_with stands at memo instr from next)
+            (c.in-Err.ensures.plays.on from (next at_start)
+            (made_with stands at memo instr from next)
             (reads_first stands at memo instr from next c.args.steps.now c.args.cell
             c.requires.cell late here));
       };
@@ -87,7 +88,8 @@ returns-in_err-land_own-in-Ld g c =
             (load_lands at memo taken c.in-Ld.register c.in-Ok.value c.load.ensures instr
             c.in-Ld.field-1 c.args.cell c.in-Ld.is c.requires.stand.1 c.requires.cell stands from
             c.read_place.new.steps (next taken) next refl
-            (c.in-Ok.ensures.plays.on from (next at_start) (made_with stands at memo instr from next)
+            (c.in-Ok.ensures.plays.on from (next at_start)
+            (made_with stands at memo instr from next)
             (reads_first stands at memo instr from next c.args.steps.now c.args.cell
             c.requires.cell late here))));
       };
@@ -110,7 +112,8 @@ returns g c =
             (load_lands at memo taken c.in-Ld.register c.in-Ok.value c.load.ensures instr
             c.in-Ld.field-1 c.args.cell c.in-Ld.is c.requires.stand.1 c.requires.cell stands from
             c.read_place.new.steps late next refl
-            (c.in-Ok.ensures.plays.on from (next at_start) (made_with stands at memo instr from next)
+            (c.in-Ok.ensures.plays.on from (next at_start)
+            (made_with stands at memo instr from next)
             (reads_first stands at memo instr from next c.args.steps.now c.args.cell
             c.requires.cell late here)));
       };

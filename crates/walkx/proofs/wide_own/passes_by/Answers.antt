@@ -23,11 +23,13 @@ pub returns-then-is_some-clause-idle : goal.returns-then-is_some-clause-idle
 returns-then-is_some-clause-idle c =
     claiming_asks c.args.leaf.now c.args.memo.now c.args.instr.now c.requires.before
     c.requires.stand.1 (sym c.settles_by.ensures ∙ c.if-settles_by.false) _
-    c.turn_by-turn.ensures.value _ c.claimed.ensures.value (sym c.is_some.ensures ∙ c.if-is_some.true)
+    c.turn_by-turn.ensures.value _ c.claimed.ensures.value
+    (sym c.is_some.ensures ∙ c.if-is_some.true)
 
 pub take_up-requires-clause-settles : goal.take_up-requires-clause-settles
 take_up-requires-clause-settles c =
-    settles_not c.args.leaf.now c.args.memo.now c.args.instr.now c.requires.before c.requires.stand.1
+    settles_not c.args.leaf.now c.args.memo.now c.args.instr.now c.requires.before
+    c.requires.stand.1
     (sym c.settles_by.ensures ∙ c.if-settles_by.false) _ c.turn_by-turn.ensures.value _
     c.claimed.ensures.value
 
@@ -35,4 +37,5 @@ pub returns-clause-idle : goal.returns-clause-idle
 returns-clause-idle c =
     rw c.take_up.ensures (lagging_rests c.args.leaf.now c.args.memo.now c.args.instr.now
     c.requires.before c.requires.stand.1 (sym c.settles_by.ensures ∙ c.if-settles_by.false) _
-    c.turn_by-turn.ensures.value _ c.claimed.ensures.value (sym c.is_some.ensures ∙ c.if-is_some.false))
+    c.turn_by-turn.ensures.value _ c.claimed.ensures.value
+    (sym c.is_some.ensures ∙ c.if-is_some.false))

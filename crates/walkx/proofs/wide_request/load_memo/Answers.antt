@@ -23,7 +23,8 @@ returns-in_err-words g c =
     rw (passed c.from_residual.result _ c.from_residual.ensures.1) (record {
       plays = record {
         on = λ from after next here. c.in_err-words.ensures.plays.on from after
-            (λ (words : List ℕ). next (loaded_memo at.job (step_of at) (processor_of at) words)) here;
+            (λ (words : List ℕ). next (loaded_memo at.job (step_of at) (processor_of at) words))
+            here;
       };
     })
 
@@ -33,6 +34,7 @@ returns g c =
     rw c.memo_of_words.ensures (record {
       plays = record {
         on = λ from after next here. c.in_ok-words.ensures.plays.on from after
-            (λ (words : List ℕ). next (loaded_memo at.job (step_of at) (processor_of at) words)) here;
+            (λ (words : List ℕ). next (loaded_memo at.job (step_of at) (processor_of at) words))
+            here;
       };
     })

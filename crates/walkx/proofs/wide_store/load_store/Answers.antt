@@ -36,6 +36,7 @@ returns-in-Some-clause-plays g c =
     let at = c.args.leaf.now in
     rw c.store_by.ensures.value (record {
       on = λ from after next here. comes_to (g.S.Steps.stands at) from _ _ _
-          (instr_comes at after next c.in_ok-known.known c.in-Some.instr.now c.in-Some.ensures.value)
+          (instr_comes at after next c.in_ok-known.known c.in-Some.instr.now
+          c.in-Some.ensures.value)
           (c.in_ok-known.ensures.plays.on from after (known_then at after next) here);
     })

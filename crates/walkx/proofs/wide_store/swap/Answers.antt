@@ -59,7 +59,8 @@ returns-in_err-found g c =
             let loads = rw (sym c.is_late.ensures ∙ c.if-is_late.false) at
             (c.in_ok-first.ensures.plays.on from after
             (swaps_after at c.args.cell c.args.value next) here) in
-            rw (c.older_swap-at.ensures c.args.cell c.cell_word-word.ensures) at (c.in_err-found.ensures.on at from
+            rw (c.older_swap-at.ensures c.args.cell c.cell_word-word.ensures)
+            at (c.in_err-found.ensures.on at from
             (λ found. next (differs_from at c.args.value found))) loads;
       };
     })
@@ -73,7 +74,8 @@ returns g c =
             let loads = rw (sym c.is_late.ensures ∙ c.if-is_late.false) at
             (c.in_ok-first.ensures.plays.on from after
             (swaps_after at c.args.cell c.args.value next) here) in
-            rw (c.older_swap-at.ensures c.args.cell c.cell_word-word.ensures) at (c.in_ok-found.ensures.on at from
+            rw (c.older_swap-at.ensures c.args.cell c.cell_word-word.ensures)
+            at (c.in_ok-found.ensures.on at from
             (λ found. next (differs_from at c.args.value found))) loads;
       };
     })

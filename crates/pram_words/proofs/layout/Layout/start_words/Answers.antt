@@ -1,11 +1,24 @@
-use Rattle.std.proofs.Common.{ℕ, ◌++◌, ◌∷◌, [], arith, sym, ap₂, ◌∙◌}
-use Rattle.std.proofs.lemmas.List.FromFn.{map-range_with_len_more}
-use Rattle.pram_words.specs.Start.{start_of}
-use Rattle.pram_words.specs.Words.{word_at}
+use Rattle.std.proofs.Common.{◌≡◌, ℕ, List, ◌++◌, length, take, subst, ◌∙◌, arith}
+use Rattle.std.proofs.lemmas.List.{take-append-le, take_all}
+use Rattle.pram_words.specs.Inner.Started.{HasStarted}
+use Rattle.pram_words.proofs.Starting.{zeros_started, all_started}
 use Rattle.pram_words.proofs.layout.Layout.start_words.Goals as goal
 
-pub loop-k-preserved : goal.loop-k-preserved
-loop-k-preserved c =
-    c.in_ok-push.ensures.items ∙ ap₂ (λ xs x. xs ++ x ∷ []) c.loop-k.invariant c.start_word.ensures
-    ∙ sym (map-range_with_len_more (λ (j : ℕ). start_of c.args.self.now c.args.job.now
-    (word_at c.args.self.now j)) 0 c.loop-k.k c.loop-k.k (omega arith))
+pub start_workers-requires : goal.start_workers-requires
+start_workers-requires c =
+    zeros_started _ _ _ c.length.ensures.limits c.length.ensures.value
+    (c.deref_mut.ensures.value ∙ c.in_ok-words.ensures.items_if_clones_equal (λ y is. is))
+
+-- what is written into a list of the same length is the list
+back : (n : ℕ) (new old : List ℕ) → length new ≡ n → take n (new ++ old) ≡ new
+back n new old len = take-append-le n new old (omega arith) ∙ take_all n new (omega arith)
+
+pub returns : goal.returns
+returns c =
+    let new = c.start_cells.new.words in
+    let len : length new ≡ c.in_ok-words.words.len =
+    omega (arith, c.start_cells.ensures.len, c.length.ensures.value, c.in_ok-words.ensures.len) in
+    back c.in_ok-words.words.len new _ len
+    ∙ all_started _ _ new c.length.ensures.limits
+    (subst (λ values. HasStarted c.args.self.now c.args.self.now.workers values new)
+    c.init.ensures.value c.start_cells.ensures)

@@ -11,7 +11,8 @@ pub returns : goal.returns
 returns c =
     let w = c.args.w in
     let size = length c.args.memory in
-    rw c.about_to.ensures (subst (λ (memory : List Memo). IsNewWorker w (remembering size (come_back w))
+    rw c.about_to.ensures (subst
+    (λ (memory : List Memo). IsNewWorker w (remembering size (come_back w))
     (worker_data w None activity.Back None [] memory)) (sym c.requires) (record {
       value = refl;
       serves = λ job y worker. comes_anew job y w size worker;

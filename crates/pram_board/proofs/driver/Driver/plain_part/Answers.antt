@@ -8,10 +8,10 @@ use Rattle.walk_memory.proofs.PlainClaims.{get_set_other}
 use Rattle.pram_board.specs.Inner.Plays.{driving, in_block, task_at}
 use Rattle.pram_board.proofs.Blocks.{after_task, memo, passes_driving, task_done, task_starts}
 use Rattle.pram_board.proofs.Working.{sound_at}
-use Rattle.pram_board.proofs.driver.Driver.claim_part.Goals as goal
+use Rattle.pram_board.proofs.driver.Driver.plain_part.Goals as goal
 
-pub take_claim-requires-clause-next : goal.take_claim-requires-clause-next
-take_claim-requires-clause-next g c =
+pub take-requires-clause-next : goal.take-requires-clause-next
+take-requires-clause-next g c =
     let at = c.args.leaf.now in
     let wide = c.requires.at.walks.fits.block.2 in
     let memory = c.args.memory.now in
@@ -73,8 +73,8 @@ returns-clause-done g c =
           (ends (begins 1)),
     )).1 in
     rw takes.kept (task_done at c.requires.at.leaf wide memory (driving c.args.self.now)
-    (driving c.take_claim.new.steps) c.requires.at.walks
-    (sound_at (task_at at) (driving c.take_claim.new.steps) done.here c.facts.ensures) takes.learned
+    (driving c.take.new.steps) c.requires.at.walks
+    (sound_at (task_at at) (driving c.take.new.steps) done.here c.facts.ensures) takes.learned
     c.requires.at.fits (passes_driving (idle at (memo at c.requires.at.leaf wide memory))
     takes.learned (λ d. driving d) _ _ takes.idle) done)
 

@@ -1,9 +1,8 @@
 use Rattle.std.proofs.Common.{◌<◌, suc, ℕ, refl, sym, ap, subst, ◌∙◌, arith}
 use Rattle.walk_memory.specs.Inner.Posts.{PostData}
-use Rattle.walk_memory.proofs.Plainly.{loads_left}
 use Rattle.pram_board.specs.Inner.Plays.{DoneTo, driving}
-use Rattle.pram_board.proofs.Tasks.{at_next, done_from, is_within, leaf_at, not_moved, same_next}
-use Rattle.pram_board.proofs.driver.Driver.load_all.Goals as goal
+use Rattle.pram_board.proofs.Tasks.{at_next, done_from, is_within, leaf_at, not_moved, others_by, same_next}
+use Rattle.pram_board.proofs.driver.Driver.plain_all.Goals as goal
 
 pub loop-leaf-init : goal.loop-leaf-init
 loop-leaf-init g c = record {
@@ -18,15 +17,15 @@ loop-leaf-init g c = record {
 pub returns-then-rank-len-clause-done : goal.returns-then-rank-len-clause-done
 returns-then-rank-len-clause-done g c =
     let i = c.loop-leaf.invariant in
-    let on = c.load_part.ensures in
+    let on = c.plain_part.ensures in
     subst (λ (rank : ℕ). DoneTo c.args.leaf c.args.len (driving c.args.self.now) c.args.memory.now
-    rank (driving c.load_part.new.self) c.load_part.new.memory) (sym c.rank-rank.ensures)
+    rank (driving c.plain_part.new.self) c.plain_part.new.memory) (sym c.rank-rank.ensures)
     (done_from c.args.leaf.rank c.args.leaf c.loop-leaf.leaf i.same i.later c.args.len
     (driving c.args.self.now) c.args.memory.now (driving c.loop-leaf.self) c.loop-leaf.memory i.at
-    i.moved (driving c.load_part.new.self) c.load_part.new.memory on.done.moved on.done.fits)
+    i.moved (driving c.plain_part.new.self) c.plain_part.new.memory on.done.moved on.done.fits)
 
-pub load_part-requires-clause-plain : goal.load_part-requires-clause-plain
-load_part-requires-clause-plain g c =
+pub plain_part-requires-clause-plain : goal.plain_part-requires-clause-plain
+plain_part-requires-clause-plain g c =
     let i = c.loop-leaf.invariant in
     i.plain c.loop-leaf.leaf.rank (omega arith) (is_within _ _ _ _ i.at)
 
@@ -53,11 +52,11 @@ loop-leaf-preserved g c =
     omega (arith, within, c.rank-rank.ensures, c.if-rank-len.false) in
     let p = driving c.args.self.now in
     let q = driving c.loop-leaf.self in
-    let z = driving c.load_part.new.self in
+    let z = driving c.plain_part.new.self in
     let memory = c.args.memory.now in
     let mid = c.loop-leaf.memory in
-    let now = c.load_part.new.memory in
-    let on = c.load_part.ensures in
+    let now = c.plain_part.new.memory in
+    let on = c.plain_part.ensures in
     let done = done_from c.args.leaf.rank c.args.leaf c.loop-leaf.leaf i.same i.later c.args.len p memory q mid i.at i.moved
     z now on.done.moved on.done.fits in
     rw c.next-leaf.ensures (record {
@@ -67,6 +66,6 @@ loop-leaf-preserved g c =
       later = omega (arith, i.later);
       at = at_next c.args.leaf.rank c.args.leaf c.loop-leaf.leaf i.same i.later c.args.len p memory q mid i.at i.moved z now
           on.done.moved on.done.fits more;
-      plain = loads_left c.loop-leaf.leaf c.args.len mid now c.args.loads.now on.others i.plain;
+      plain = others_by g.P.PlainTasks.by g.met.P.PlainTasks.alone c.loop-leaf.leaf c.args.len mid now c.args.plain.now on.others i.plain;
       moved = done.moved;
     })

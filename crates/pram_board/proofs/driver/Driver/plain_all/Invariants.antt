@@ -1,8 +1,8 @@
 use Rattle.std.proofs.Common.{◌≡◌, ◌-◌, ◌≤◌}
 use Rattle.walk_memory.specs.Inner.Posts.{at_rank}
-use Rattle.walk_memory.specs.Plain.{AllClaimBy}
+use Rattle.pram_board.specs.Inner.Plain.{AllBy}
 use Rattle.pram_board.specs.Inner.Plays.{AtTask, Moved, driving, in_block, task_at}
-use Rattle.pram_board.proofs.driver.Driver.claim_all.Given as goal
+use Rattle.pram_board.proofs.driver.Driver.plain_all.Given as goal
 
 abbrev pub invariant-loop-leaf : goal.invariant-loop-leaf
 invariant-loop-leaf g l = record {
@@ -10,7 +10,7 @@ invariant-loop-leaf g l = record {
   same : l.leaf ≡ at_rank l.fn.leaf l.leaf.rank;
   later : l.fn.leaf.rank ≤ l.leaf.rank;
   at : AtTask l.leaf l.len (driving l.self) l.memory;
-  plain : AllClaimBy l.leaf l.len l.memory l.claims;
+  plain : AllBy g.P.PlainTasks.by l.leaf l.len l.memory l.plain;
   moved : Moved (task_at l.fn.leaf) (driving l.fn.self) (in_block l.fn.leaf l.fn.leaf.rank l.fn.memory)
       (driving l.self) (in_block l.fn.leaf l.leaf.rank l.memory);
 }

@@ -1,1 +1,0 @@
-use Rattle.pram_board.proofs.driver.Driver.run.Goals as goal

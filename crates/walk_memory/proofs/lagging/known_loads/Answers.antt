@@ -1,0 +1,30 @@
+use Rattle.std.proofs.Common.{ℕ, length, Some, slice_get, sym, ap, subst, ◌∙◌}
+use Rattle.pram_job.specs.declared.instr.Instr.{Instr}
+use Rattle.pram_job.specs.Job.{IsInstr, IsJob}
+use Rattle.pram_machine.proofs.Shapes.{instr_is}
+use Rattle.walk_memory.specs.Lanes.{lane}
+use Rattle.walk_memory.proofs.Plainly.{load_reads}
+use Rattle.walk_memory.proofs.lagging.known_loads.Goals as goal
+
+pub cells_of-requires : goal.cells_of-requires
+cells_of-requires c =
+    let job = c.args.leaf.now.job in
+    let is_job : IsJob job = rw c.job-job.ensures.value at c.limits_hold.ensures in
+    let fits = subst (λ (x : Instr). IsInstr job.cells (length job.code) x) c.in-Ld.is
+    (instr_is job c.args.stand.counter c.args.stand.instr.now is_job c.requires.1) in
+    rw (c.in-Ld.place-is, c.job-job.ensures.value) fits.1
+
+pub returns : goal.returns
+returns c = λ k from to.
+    let at = c.args.leaf.now in
+    let own = c.all_equal.ensures c.if-not-all_equal.false k from to in record {
+      place = c.in-Ld.place;
+      stands = record {
+        first = c.requires.0;
+        before = c.all_before.ensures c.if-not-all_before.false k from to;
+        code = ap (slice_get at.job.code) own ∙ c.requires.1 ∙ ap Some c.in-Ld.is;
+      };
+      reads = load_reads at.job (lane c.args.block.now k).own c.in-Ld.register c.in-Ld.place
+          ∙ rw c.job-job.ensures.value at (rw c.in-Ld.place-is at c.in_ok-cells.ensures.there k from to);
+      below = rw c.job-job.ensures.value at c.in_ok-cells.ensures.below k from to;
+    }

@@ -1,0 +1,20 @@
+use Rattle.std.proofs.Common.{Option, refl, sym, slice_index, subst, ◌%◌}
+use Rattle.std.proofs.lemmas.Option.{IfSome_then}
+use Rattle.std.specs.Prelude.{unwrap_or}
+use Rattle.walk_memory.specs.declared.memo.Memo.{Memo}
+use Rattle.walk_memory.specs.Inner.Posts.{at_rank, processor_of}
+use Rattle.walk_memory.specs.Memory.{at_start}
+use Rattle.walk_memory.specs.Stands.{LoadsKnown}
+use Rattle.walk_memory.proofs.LaggingLoads.{known_at}
+use Rattle.walk_memory.proofs.memo.Memory.lagging_loads.Goals as goal
+
+pub returns : goal.returns
+returns c = IfSome_then c.known_loads.result c.known_loads.ensures (λ loads all rank from to.
+    let at = at_rank c.args.leaf.now rank in
+    let k = processor_of at % 64 in
+    let held = c.in_ok-block.ensures rank from to in record {
+      there = rw held.there refl;
+      known = subst (λ (o : Option Memo). LoadsKnown at (unwrap_or o at_start)
+          loads.register (slice_index loads.cells k)) (sym held.there)
+          (known_at c.args.leaf.now rank _ _ _ (all k held.low held.high));
+    })
