@@ -98,15 +98,15 @@ over : set, priority -> 30 Over(Done)
     first pass asks nothing, since it is known what they hold before the first step; the second one \
     loads the places of each, and finds no store, or is left out where that is known
 $ worker blocks
-4! 50 over : three -> Load(16) 0, Load(0) 0, Load(16) 0, Max(16, 1) 0, 0 Over(Done)
+4! 50 over : three -> Load(56) 0, Load(0) 0, Load(56) 0, Max(56, 1) 0, 0 Over(Done)
 4 13! 20 4! over : three \
-    -> Load(16) 1, Load(16) 1, Load(16) 1, Load(20) 0, Load(21) 0, Load(22) 0, Load(23) 0, \
-    Load(24) 0, Load(25) 0, Load(26) 0, Load(27) 0, Load(28) 0, Load(29) 0, Max(16, 3) 1, \
-    Load(16) 3, Load(16) 3, Load(0) 0, 0 Over(Done)
+    -> Load(56) 1, Load(56) 1, Load(56) 1, Load(16) 0, Load(17) 0, Load(24) 0, Load(25) 0, \
+    Load(32) 0, Load(33) 0, Load(40) 0, Load(41) 0, Load(48) 0, Load(49) 0, Max(56, 3) 1, \
+    Load(56) 3, Load(56) 3, Load(0) 0, 0 Over(Done)
 -- one that comes back begins its block again
-19 at back 1! 2 1! : three -> Part(3, 1), Load(8) 1, Load(20) 0, 
+19 at back 1! 2 1! : three -> Part(3, 1), Load(8) 1, Load(16) 0, 
 $ worker remembering
-3 1! 3! over : three -> Max(16, 3) 0, Load(16) 3, Load(16) 3, Load(0) 0, 0 Over(Done)
+3 1! 3! over : three -> Max(56, 3) 0, Load(56) 3, Load(56) 3, Load(0) 0, 0 Over(Done)
 ";
 
 // A worker that is lost after any number of its steps changes no answer, nor does a twin beside it.

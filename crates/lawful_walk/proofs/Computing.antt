@@ -95,7 +95,7 @@ module _ (job : JobData) (y : LayoutData)
 
   asked_up : (j : ℕ) → j < 3 → (words later : List ℕ) → Grows y words later →
       held y words (Asked i j) ≤ held y later (Asked i j)
-  asked_up j part words later up = up (Asked i j) (proc, part)
+  asked_up j part words later up = up (Asked i j) (compact, proc, part)
 
   bound_lasts : (j v : ℕ) → j < 3 → Lasts job y (λ words. v ≤ held y words (Asked i j))
   bound_lasts j v part words later a b up h = let m = asked_up j part words later up in omega arith
@@ -137,20 +137,20 @@ module _ (job : JobData) (y : LayoutData)
   raises history sees =
       let kind = kind_of x q Compute phase in
       raises_safe job y w q aim (Asked i 0) (stamped_word (suc x) (part_after job x i 0))
-      (Floor job y q x) (floor_lasts job y q x) (proc, lit< tt) (asked_up 0 (lit< tt))
+      (Floor job y q x) (floor_lasts job y q x) (compact, proc, lit< tt) (asked_up 0 (lit< tt))
       (λ words stands f.
       (writes_keep job y words q x stands some most step f).request compact i 0 proc (lit< tt) kind)
       (asks (Max (number_of y (Asked i 1)) (stamped_word (suc x) (part_after job x i 1)))
       (λ found. asks (Max (number_of y (Asked i 2)) (stamped_word (suc x) (part_after job x i 2)))
       (λ found. after))) history sees (λ longer more.
       raises_safe job y w q aim (Asked i 1) (stamped_word (suc x) (part_after job x i 1)) First
-      first_lasts (proc, lit< tt) (asked_up 1 (lit< tt)) (λ words stands f.
+      first_lasts (compact, proc, lit< tt) (asked_up 1 (lit< tt)) (λ words stands f.
       (writes_keep job y words q x stands some most step f.0).request compact i 1 proc
       (lit< tt) kind)
       (asks (Max (number_of y (Asked i 2)) (stamped_word (suc x) (part_after job x i 2)))
       (λ found. after)) longer more (λ longer more.
       raises_safe job y w q aim (Asked i 2) (stamped_word (suc x) (part_after job x i 2))
-      Second second_lasts (proc, lit< tt) (asked_up 2 (lit< tt)) (λ words stands f.
+      Second second_lasts (compact, proc, lit< tt) (asked_up 2 (lit< tt)) (λ words stands f.
       (writes_keep job y words q x stands some most step f.0.0).request compact i 2 proc
       (lit< tt) kind) after longer more (λ longer more.
       done longer (so job y longer (λ words.

@@ -64,10 +64,11 @@ module _ (job : JobData) (y : LayoutData) (words later : List ℕ) (s : ℕ)
       let a = lands_below y.form job s p i v limits (omega (arith, proc, c)) lands in
       omega (arith, a, b, c)
 
-  raised_later : (i : ℕ) → i < y.procs → Raised job y s words i → Raised job y s later i
-  raised_later i proc r j part =
+  raised_later : y.form ≡ Compact → (i : ℕ) → i < y.procs → Raised job y s words i →
+      Raised job y s later i
+  raised_later compact i proc r j part =
       let h = r j part in
-      let u = up (Asked i j) (proc, part) in omega arith
+      let u = up (Asked i j) (compact, proc, part) in omega arith
 
   late_later : (p : ℕ) → p < places_of y → IsLate y s p words → IsLate y s p later
   late_later p place (inl h) =
@@ -137,21 +138,21 @@ module _ (job : JobData) (y : LayoutData) (words later : List ℕ) (s : ℕ)
   cell_later : (i : ℕ) → CarriedCell job y s words i → CarriedCell job y s later i
   cell_later i h p v asks cell wins = late_later p (place_of p i v asks) (h p v asks cell wins)
 
-  compact_by : (rule : Rule) (kind : Kind) → job.rule ≡ rule →
+  compact_by : y.form ≡ Compact → (rule : Rule) (kind : Kind) → job.rule ≡ rule →
       (kind ≡ Verify → (c : ℕ) → IsWord y (Claim c) →
       held y later (Claim c) ≡ held y words (Claim c)) →
       (i : ℕ) → i < y.procs → CompactDone rule kind job y s words i →
       CompactDone rule kind job y s later i
-  compact_by Common Compute e still i proc d = raised_later i proc d
-  compact_by Common Apply e still i proc d = carried_later i proc d
-  compact_by Common Verify e still i proc d = stays_later i d
-  compact_by Priority Compute e still i proc d = raised_later i proc d
-  compact_by Priority Apply e still i proc d = claim_later Priority e (λ r. absurd (cc)) i d
-  compact_by Priority Verify e still i proc d = won_later i proc d
-  compact_by Crew Compute e still i proc d = raised_later i proc d
-  compact_by Crew Apply e still i proc d =
+  compact_by compact Common Compute e still i proc d = raised_later compact i proc d
+  compact_by compact Common Apply e still i proc d = carried_later i proc d
+  compact_by compact Common Verify e still i proc d = stays_later i d
+  compact_by compact Priority Compute e still i proc d = raised_later compact i proc d
+  compact_by compact Priority Apply e still i proc d = claim_later Priority e (λ r. absurd (cc)) i d
+  compact_by compact Priority Verify e still i proc d = won_later i proc d
+  compact_by compact Crew Compute e still i proc d = raised_later compact i proc d
+  compact_by compact Crew Apply e still i proc d =
       (carried_later i proc d.0, claim_later Crew e (λ r. absurd (cc)) i d.1)
-  compact_by Crew Verify e still i proc d =
+  compact_by compact Crew Verify e still i proc d =
       claim_stays_later Crew e (λ r. absurd (cc)) (still refl) i d
 
   wide_by : (rule : Rule) (kind : Kind) → job.rule ≡ rule →
@@ -172,18 +173,18 @@ module _ (job : JobData) (y : LayoutData) (words later : List ℕ) (s : ℕ)
   wide_by Crew Verify e still i proc d =
       (cell_later i d.0, claim_stays_later Crew e (λ r. absurd (cc)) (still refl) i d.1)
 
-  done_by : (form : Form) (kind : Kind) →
+  done_by : (form : Form) → y.form ≡ form → (kind : Kind) →
       (kind ≡ Verify → (c : ℕ) → IsWord y (Claim c) →
       held y later (Claim c) ≡ held y words (Claim c)) → (i : ℕ) → i < y.procs →
       DoneIn form job.rule kind job y s words i → DoneIn form job.rule kind job y s later i
-  done_by Compact kind still i proc d = compact_by job.rule kind refl still i proc d
-  done_by (Wide g) kind still i proc d = wide_by job.rule kind refl still i proc d
+  done_by Compact is kind still i proc d = compact_by is job.rule kind refl still i proc d
+  done_by (Wide g) is kind still i proc d = wide_by job.rule kind refl still i proc d
 
   pub done_later : (kind : Kind) →
       (kind ≡ Verify → (c : ℕ) → IsWord y (Claim c) →
       held y later (Claim c) ≡ held y words (Claim c)) → (i : ℕ) → i < y.procs →
       Done job.rule kind job y s words i → Done job.rule kind job y s later i
-  done_later kind still i proc d = done_by y.form kind still i proc d
+  done_later kind still i proc d = done_by y.form refl kind still i proc d
 
 -- ---- a higher root
 

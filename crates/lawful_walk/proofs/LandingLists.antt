@@ -10,7 +10,8 @@ use Rattle.pram_machine.specs.Instructions.{request_in}
 use Rattle.pram_step.specs.Runs.{state_after}
 use Rattle.pram_words.specs.declared.layout.Form.TheVariants.{Wide}
 use Rattle.walk_memory.specs.declared.memo.Memo.{Memo}
-use Rattle.walk_memory.specs.Memory.{IsTrueMemo, all_registers, own_after, settles, settles_in}
+use Rattle.walk_memory.specs.Memory.{IsTrueMemo, all_registers, own_after, settled_at, settles}
+use Rattle.walk_memory.specs.Memory.{settles_in}
 use Rattle.walkx.specs.Passes.{landings, lands_counter, lands_register, put_if, registers_landing}
 use Rattle.lawful_walk.specs.Lands.{Lands, asked, own, owner}
 use Rattle.lawful_walk.proofs.LandedOwn.{Due, counter_due, own_here}
@@ -42,8 +43,11 @@ module _ (g : ℕ) (job : JobData) (i x : ℕ) (limits : IsJob job) (proc : i < 
   abbrev May : ℕ × ℕ → Type 0
   May w = MayLand g job x i w.0 w.1
 
-  settles_same : settles_in job (suc x) known.own ≡ settles job x i
-  settles_same = ap (settles_in job (suc x)) (own_here job i x limits proc known is_true at)
+  settles_same : settles_in job (suc x) known.settled known.own ≡ settles job x i
+  settles_same = ap (λ (s : ℕ). settles_in job (suc x) s known.own)
+      (is_true.settled ∙ ap (λ (t : ℕ). settled_at job t i) at)
+      ∙ ap (settles_in job (suc x) (settled_at job x i))
+      (own_here job i x limits proc known is_true at)
 
   may_land : (p v : ℕ) → IsOwn job i p → settles job x i ≡ true →
       Due job i x limits proc known is_true at p ≡ true →
@@ -84,7 +88,7 @@ module _ (g : ℕ) (job : JobData) (i x : ℕ) (limits : IsJob job) (proc : i < 
 
   -- each that a worker writes gets a word
   pub all_land : AllByRecursion May (landings job (suc x) i known R)
-  all_land = cond_both (settles_in job (suc x) known.own) (from all_registers) []
+  all_land = cond_both (settles_in job (suc x) known.settled known.own) (from all_registers) []
       (AllByRecursion May) (λ settled. by (sym settles_same ∙ settled)) (λ rests. tt)
     where
       by : settles job x i ≡ true → AllByRecursion May (from all_registers)
@@ -112,7 +116,7 @@ module _ (g : ℕ) (job : JobData) (i x : ℕ) (limits : IsJob job) (proc : i < 
       let below = below_owner job p (omega (arith, is, proc)) in
       by (subst (λ (j : ℕ). IsOwn job j p) is (own_place job p high below).1) both.1
       (subst (AllByRecursion (λ (w : ℕ × ℕ). P w.0))
-      (cond-true (settles_in job (suc x) known.own) (from all_registers) []
+      (cond-true (settles_in job (suc x) known.settled known.own) (from all_registers) []
       (settles_same ∙ here)) all)
     where
       by : IsOwn job i p → Due job i x limits proc known is_true at p ≡ true →

@@ -40,6 +40,7 @@ module _ (g : ℕ) (job : JobData) (x i : ℕ) (limits : IsJob job) (proc : i < 
             ∙ ap (λ (s : ℕ). own_alone job i (x - s) (told_by Words)) newest_is
             ∙ ap (own_alone job i (x - S)) told_is ∙ alone_since
             ∙ ap (λ (t : ℕ). own_at job t i) (sym there);
+        settled = newest_is ∙ ap (λ (t : ℕ). settled_at job t i) (sym there);
         told = told_is ∙ ap (λ (t : ℕ). own_at job (settled_at job t i) i) (sym there);
         store = λ write e. absurd (none-some write e);
         idle = λ t kind after upto. absurd (omega (arith, after, upto));

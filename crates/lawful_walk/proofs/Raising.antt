@@ -179,9 +179,10 @@ module _ (job : JobData) (y : LayoutData) (words : List ℕ) (stands : Stands jo
     root_up : root y words ≤ root y later
     root_up = up (Node 1) root_is
 
-    asked_same : (i j : ℕ) → i < y.procs → j < 3 →
+    asked_same : y.form ≡ Compact → (i j : ℕ) → i < y.procs → j < 3 →
         held y later (Asked i j) ≡ held y words (Asked i j)
-    asked_same i j proc part = only.rest (Asked i j) (proc, part) (λ e. absurd (cc))
+    asked_same compact i j proc part =
+        only.rest (Asked i j) (compact, proc, part) (λ e. absurd (cc))
 
     stored_same : (p k : ℕ) → IsWord y (Stored p k) →
         held y later (Stored p k) ≡ held y words (Stored p k)
@@ -292,7 +293,7 @@ module _ (job : JobData) (y : LayoutData) (words : List ℕ) (stands : Stands jo
       reached = stands.lawful.reached;
       tree = tree;
       asked = λ compact i j proc part. subst (IsAsked job (finished y words) i j)
-          (sym (asked_same i j proc part)) (stands.lawful.asked compact i j proc part);
+          (sym (asked_same compact i j proc part)) (stands.lawful.asked compact i j proc part);
       stored =
           λ p place. pair_up y.form job (finished y words) (root y words)
           (root y later) p _ _ root_up (subst (λ (w : ℕ). IsPair y.form job (finished y words)

@@ -116,11 +116,12 @@ module _ (job : JobData) (y : LayoutData) (words later : List ℕ) (a : Word)
   }
 
   pub asked_if :
-      ((i j : ℕ) → i < y.procs → j < 3 → held y later (Asked i j) ≡ held y words (Asked i j)) →
+      (y.form ≡ Compact → (i j : ℕ) → i < y.procs → j < 3 →
+      held y later (Asked i j) ≡ held y words (Asked i j)) →
       y.form ≡ Compact → (i j : ℕ) → i < y.procs → j < 3 →
       IsAsked job (finished y words) i j (held y later (Asked i j))
   asked_if same compact i j proc part = subst (IsAsked job (finished y words) i j)
-      (sym (same i j proc part)) (stands.lawful.asked compact i j proc part)
+      (sym (same compact i j proc part)) (stands.lawful.asked compact i j proc part)
 
   pub stored_if :
       ((p k : ℕ) → IsWord y (Stored p k) → held y later (Stored p k) ≡ held y words (Stored p k)) →
@@ -227,7 +228,8 @@ store_keeps job y w n words stands worker low high =
     let up = only_grows y (Position w) n words later stands.sizes worker tt only in
     set_lawful job y words later (Position w) n stands up only (λ m e. absurd (cc))
     (asked_if job y words later (Position w) n stands up only
-    (λ m e. absurd (cc)) (λ i j proc part. only.rest (Asked i j) (proc, part) (λ e. absurd (cc))))
+    (λ m e. absurd (cc)) (λ compact i j proc part.
+    only.rest (Asked i j) (compact, proc, part) (λ e. absurd (cc))))
     (stored_if job y words later (Position w) n stands up only (λ m e. absurd (cc))
     (λ p k is. only.rest (Stored p k) is (λ e. absurd (cc))))
     (claimed_if job y words later (Position w) n stands up only
@@ -271,7 +273,8 @@ module _ (job : JobData) (y : LayoutData) (words : List ℕ) (q x : ℕ) (stands
             let high = shown.root_high in
             set_lawful job y words later Conflict (suc x) stands up only (λ m e. absurd (cc))
             (asked_if job y words later Conflict (suc x) stands up only (λ m e. absurd (cc))
-            (λ i j proc part. only.rest (Asked i j) (proc, part) (λ e. absurd (cc))))
+            (λ compact i j proc part.
+            only.rest (Asked i j) (compact, proc, part) (λ e. absurd (cc))))
             (stored_if job y words later Conflict (suc x) stands up only
             (λ m e. absurd (cc)) (λ p k is. only.rest (Stored p k) is (λ e. absurd (cc))))
             (claimed_if job y words later Conflict (suc x) stands up only
@@ -321,7 +324,8 @@ module _ (job : JobData) (y : LayoutData) (words : List ℕ) (q x : ℕ) (stands
             (stamped_word (suc x) (claim_of job i)) stands up only (λ m e. absurd (cc))
             (asked_if job y words later (Claim c)
             (stamped_word (suc x) (claim_of job i)) stands up only (λ m e. absurd (cc))
-            (λ i j proc part. only.rest (Asked i j) (proc, part) (λ e. absurd (cc))))
+            (λ compact i j proc part.
+            only.rest (Asked i j) (compact, proc, part) (λ e. absurd (cc))))
             (stored_if job y words later (Claim c) (stamped_word (suc x) (claim_of job i)) stands
             up only (λ m e. absurd (cc)) (λ p k is. only.rest (Stored p k) is (λ e. absurd (cc))))
             (λ d is_d. elim (same_or_other y (Claim c) (Claim d) stands.sizes is is_d) [
@@ -649,7 +653,8 @@ module _ (job : JobData) (y : LayoutData) (words : List ℕ) (q x : ℕ) (stands
           set_lawful job y words later
           (Stored p k) value stands grows_stored only (λ m e. absurd (cc))
           (asked_if job y words later (Stored p k) value stands grows_stored only (λ m e.
-          absurd (cc)) (λ i j proc part. only.rest (Asked i j) (proc, part) (λ e. absurd (cc))))
+          absurd (cc)) (λ compact i j proc part.
+          only.rest (Asked i j) (compact, proc, part) (λ e. absurd (cc))))
           each_pair
           (claimed_if job y words later (Stored p k) value stands grows_stored only
           (λ m e. absurd (cc)) (λ c is. only.rest (Claim c) is (λ e. absurd (cc))))
@@ -786,15 +791,16 @@ module _ (job : JobData) (y : LayoutData) (words : List ℕ) (q x : ℕ) (stands
     asked_lawful less later only =
         let same = asked_now less in
         let up = only_grows y (Asked i j) asked_value words later stands.sizes
-        (proc, part) (omega arith) only in
+        (compact, proc, part) (omega arith) only in
         set_lawful job y words later (Asked i j) asked_value stands up only (λ m e. absurd (cc))
         (λ same_form k l proc_k part_l.
-        elim (same_or_other y (Asked i j) (Asked k l) stands.sizes (proc, part) (proc_k, part_l)) [
+        elim (same_or_other y (Asked i j) (Asked k l) stands.sizes (compact, proc, part)
+        (compact, proc_k, part_l)) [
           | inl e ↦ subst (λ (w : Word).
               IsAsked job (finished y words) (asked_proc w) (asked_part w) (held y later w))
               (sym e) (subst (IsAsked job (finished y words) i j) (sym only.at) (new_asked same))
           | inr n ↦ subst (IsAsked job (finished y words) k l)
-              (sym (only.rest (Asked k l) (proc_k, part_l) n))
+              (sym (only.rest (Asked k l) (compact, proc_k, part_l) n))
               (stands.lawful.asked compact k l proc_k part_l)
         ])
         (stored_if job y words later (Asked i j) asked_value stands up only
@@ -818,6 +824,7 @@ module _ (job : JobData) (y : LayoutData) (words : List ℕ) (q x : ℕ) (stands
     pub asked_does : Does job y q
         (Max (number_of y (Asked i j)) (stamped_word (suc x) (part_after job x i j))) words
     unfolding asked_value
-    asked_does = does_max job y q (Asked i j) asked_value words stands (proc, part) asked_range
+    asked_does = does_max job y q (Asked i j) asked_value words stands (compact, proc, part)
+        asked_range
         (λ h. asked_low (facts_of.requests_raised compact x i j proc part (omega arith)))
         (λ less. (omega arith, asked_lawful less))

@@ -1,13 +1,14 @@
 -- When a processor settles.
-use Rattle.std.proofs.Common.{◌≡◌, ℕ, zero, suc, ◌+◌, ◌-◌, ◌*◌, ◌/◌, ◌%◌, ◌<◌, ◌≤◌, ◌==◌}
+use Rattle.std.proofs.Common.{◌≡◌, ℕ, zero, suc, ◌+◌, ◌-◌, ◌<◌, ◌≤◌, ◌&&◌, Bool, not}
 use Rattle.std.proofs.Common.{true, false, length, refl, sym, subst, ◌∙◌, inl, inr, arith}
-use Rattle.std.proofs.lemmas.Bool.{cases_lt, cases_Bool, eq-eqb, lt-leb, and_from, or_right}
+use Rattle.std.proofs.lemmas.Bool.{cases_lt, cases_Bool, leb-false, lt-leb}
 use Rattle.std.proofs.lemmas.Bool.{or_parts, cond-true, cond-false, not_from_false}
 use Rattle.pram_job.specs.Job.{JobData, IsJob}
 use Rattle.pram_machine.specs.Machine.{counter}
 use Rattle.pram_step.specs.Runs.{state_after}
 use Rattle.pram_step.proofs.LawCounters.{stopped_processor}
-use Rattle.walk_memory.specs.Memory.{has_stopped, loads_next, own_at, settled_at, settles}
+use Rattle.walk_memory.specs.Memory.{has_stopped, is_due, loads_next, own_at, settled_at}
+use Rattle.walk_memory.specs.Memory.{settles}
 
 -- ---- the last step in which a processor settled
 
@@ -103,20 +104,25 @@ module _ (job : JobData) (i : ℕ) where
   -- One that has not stopped has settled in one of the last 64 steps.
   pub near : (t : ℕ) → IsJob job → i < job.procs →
       counter job (state_after job t) i < length job.code → t < settled_at job t i + 64
-  near t is_job proc runs = by (t / 64) refl
+  near zero is_job proc runs = omega arith
+  near (suc t) is_job proc runs = elim (cases_Bool (settles job t i)) [
+    | inl does ↦ (let e = settled_new t does in omega (arith, e))
+    | inr rests ↦
+        let low = runs_before t (suc t) is_job proc (omega arith) runs in
+        let goes : has_stopped job (own_at job t i) ≡ false =
+        lt-leb (length job.code) (counter job (state_after job t) i) low in
+        still t (settled_same t rests) (leb-false (settled_at job t i + 64) (suc t)
+        (not_due (is_due (settled_at job t i) (suc t)) (not (has_stopped job (own_at job t i)))
+        (or_parts _ _ rests).1 (not_from_false _ goes)))
+  ]
     where
-      by : (n : ℕ) → t / 64 ≡ n → t < settled_at job t i + 64
-      by zero e = omega (arith, e)
-      by (suc n) e =
-          let s = 63 + 64 * n in
-          let less : s < t = omega (arith, e) in
-          let counts : (suc s % 64 == 0) ≡ true = eq-eqb (suc s % 64) 0 (omega arith) in
-          let low = runs_before s t is_job proc (omega (arith, less)) runs in
-          let goes : has_stopped job (own_at job s i) ≡ false =
-          lt-leb (length job.code) (counter job (state_after job s) i) low in
-          let does : settles job s i ≡ true =
-          or_right _ _ (and_from _ _ counts (not_from_false _ goes)) in
-          let k = settled_least t s less does in omega (arith, k, e)
+      still : (t : ℕ) → settled_at job (suc t) i ≡ settled_at job t i →
+          suc t < settled_at job t i + 64 → suc t < settled_at job (suc t) i + 64
+      still t e less = omega (arith, less, e)
+
+      not_due : (a b : Bool) → (a && b) ≡ false → b ≡ true → a ≡ false
+      not_due false b e goes = refl
+      not_due true b e goes = absurd (cc)
 
   -- One that has stopped had done so 64 steps after it settled.
   pub stopped_near : (t u : ℕ) → IsJob job → i < job.procs →

@@ -88,7 +88,7 @@ module _ (job : JobData) (form : Form) (workers : ℕ) (limits : IsJob job)
       near = λ compact n is. let a = node_zero n is in omega arith;
       most = λ n is. let a = node_zero n is in omega arith;
     };
-    asked = λ compact i j proc part. let e = value (Asked i j) (proc, part) in
+    asked = λ compact i j proc part. let e = value (Asked i j) (compact, proc, part) in
         record { low = omega arith; high = omega arith; part = λ s h. absurd (omega arith) };
     stored = λ p place. newer_first (stored_is p 0 place (lit< tt))
         (stored_is p 1 place (lit< tt) ∙ unfold last_landing in refl);

@@ -3,7 +3,7 @@
 use Rattle.std.proofs.Common.{◌≡◌, ◌⊎◌, ℕ, zero, suc, ◌+◌, ◌-◌, ◌*◌, ◌<◌, ◌≤◌, ◌&&◌, ◌||◌, nat_le}
 use Rattle.std.proofs.Common.{Bool, true, false, slice_get, Option, Some, None, length}
 use Rattle.std.proofs.Common.{refl, sym, ap, subst, ◌∙◌, inl, inr, arith}
-use Rattle.std.specs.Prelude.{is_none, is_some, if◌then◌else◌, ◌==◌, ◌%◌}
+use Rattle.std.specs.Prelude.{is_none, is_some, if◌then◌else◌}
 use Rattle.std.proofs.lemmas.Bool.{cases_Bool, cases_lt, cond_both, eqb-true, leb-true, leb-false}
 use Rattle.std.proofs.lemmas.Bool.{and_parts, or_parts, le-leb, not-true}
 use Rattle.std.proofs.lemmas.Option.{none-some, slice_get_past}
@@ -22,9 +22,10 @@ use Rattle.pram_words.specs.Phases.{phase_of}
 use Rattle.walk_memory.specs.declared.memo.Memo.{Memo}
 use Rattle.walk_memory.specs.declared.memo.Own.{Own}
 use Rattle.walk_memory.specs.Memory.{IsIdle, IsTrueMemo, asked, asked_by, goes_alone, goes_on_alone}
-use Rattle.walk_memory.specs.Memory.{gone_on, has_stopped, has_store, is_common, is_load}
+use Rattle.walk_memory.specs.Memory.{gone_on, has_stopped, has_store, is_common, is_due}
+use Rattle.walk_memory.specs.Memory.{is_load}
 use Rattle.walk_memory.specs.Memory.{loads_next, one_alone, own_after, own_alone, own_at, reach}
-use Rattle.walk_memory.specs.Memory.{settled_at, settles, settles_in, store_in}
+use Rattle.walk_memory.specs.Memory.{settled_at, settles, settles_in, steps_left, store_in}
 use Rattle.walk_memory.specs.OwnWrites.{cell_write}
 use Rattle.walk_memory.specs.Learned.{carried, memo_after}
 use Rattle.lawful_walk.proofs.Alone.{alone_is}
@@ -108,6 +109,13 @@ module _ (job : JobData) (i : ℕ) (limits : IsJob job) (proc : i < job.procs) w
   abbrev True : Memo → Type 0
   True memo = IsTrueMemo job i memo
 
+  -- whether it settles in its next step
+  settles_by : (memo : Memo) → True memo →
+      settles job memo.step i ≡ settles_in job (suc memo.step) memo.settled memo.own
+  settles_by memo is_true =
+      ap (λ (s : ℕ). settles_in job (suc memo.step) s (own_at job memo.step i)) (sym is_true.settled)
+      ∙ ap (settles_in job (suc memo.step) memo.settled) (sym is_true.own)
+
   -- ---- alone
 
   -- so many steps in which it loads nothing
@@ -147,8 +155,8 @@ module _ (job : JobData) (i : ℕ) (limits : IsJob job) (proc : i < job.procs) w
     X = memo.step
 
     rests : settles job X i ≡ false
-    rests = ap (settles_in job (suc X)) (sym is_true.own)
-        ∙ not-true (settles_in job (suc X) memo.own) (and_parts _ _ alone).0
+    rests = settles_by memo is_true
+        ∙ not-true (settles_in job (suc X) memo.settled memo.own) (and_parts _ _ alone).0
 
     loads_none : loads_next job (own_at job X i) ≡ false
     loads_none = (or_parts _ _ rests).0
@@ -187,6 +195,7 @@ module _ (job : JobData) (i : ℕ) (limits : IsJob job) (proc : i < job.procs) w
       step = omega (arith, early);
       own = ap (λ (own : Own). own_after job i own (asked job i own 0)) is_true.own
           ∙ own_next_alone job i X limits proc loads_none;
+      settled = is_true.settled ∙ sym (settled_same job i X rests);
       told = is_true.told ∙ ap (λ (t : ℕ). own_at job t i) (sym (settled_same job i X rests));
       store = λ write e. sym store_same ∙ e;
       idle = next_phases X (reach (one_alone job i memo)) memo is_true refl none
@@ -215,7 +224,7 @@ module _ (job : JobData) (i : ℕ) (limits : IsJob job) (proc : i < job.procs) w
     pub stopped_rests : (t : ℕ) → x ≤ t → settles job t i ≡ false
     stopped_rests t more =
         let past = le-leb (length job.code) (counter job (state_after job t) i) (gone t more) in
-        rw (none_there t more, past) (by (suc t % 64 == 0))
+        rw (none_there t more, past) (by (is_due (settled_at job t i) (suc t)))
       where
         by : (b : Bool) → (b && false) ≡ false
         by true = refl
@@ -273,6 +282,7 @@ module _ (job : JobData) (i : ℕ) (limits : IsJob job) (proc : i < job.procs) w
     stopped_true = record {
       step = fits;
       own = is_true.own ∙ sym own_last;
+      settled = is_true.settled ∙ sym told_last;
       told = is_true.told ∙ ap (λ (t : ℕ). own_at job t i) (sym told_last);
       store = λ write e. absurd (none-some write (sym none ∙ e));
       idle = λ t kind after upto. stopped_idle t kind after
@@ -296,7 +306,7 @@ module _ (job : JobData) (i : ℕ) (limits : IsJob job) (proc : i < job.procs) w
       (λ g. is_true)))
 
   pub gone_on_true : (memo : Memo) → True memo → True (gone_on job i memo)
-  gone_on_true memo is_true = goes_on_true 64 memo is_true
+  gone_on_true memo is_true = goes_on_true (suc (steps_left memo)) memo is_true
 
   -- ---- a step that it worked out with a worker
 
@@ -305,6 +315,7 @@ module _ (job : JobData) (i : ℕ) (limits : IsJob job) (proc : i < job.procs) w
   carried_true t memo is_true = cond_both (has_store t memo) _ _ True (λ has. record {
     step = is_true.step;
     own = is_true.own;
+    settled = is_true.settled;
     told = is_true.told;
     store = λ write e. absurd (none-some write e);
     idle = λ s kind after upto. absurd (
@@ -323,21 +334,34 @@ module _ (job : JobData) (i : ℕ) (limits : IsJob job) (proc : i < job.procs) w
     own_then : own_after job i known.own R ≡ own_at job (suc x) i
     own_then = ap (λ (own : Own). own_after job i own R) own_here ∙ own_next job i x limits proc
 
+    settles_here : settles job x i ≡ settles_in job (suc x) known.settled known.own
+    settles_here =
+        subst (λ (t : ℕ). settles job t i ≡ settles_in job (suc t) known.settled known.own) at
+        (settles_by known is_true)
+
+    settled_then : (memo_after job (suc x) i known R).settled ≡ settled_at job (suc x) i
+    settled_then = cond_both (settles_in job (suc x) known.settled known.own) (suc x) known.settled
+        (λ (s : ℕ). s ≡ settled_at job (suc x) i)
+        (λ does. sym (settled_new job i x (settles_here ∙ does)))
+        (λ rests. is_true.settled ∙ ap (λ (t : ℕ). settled_at job t i) at
+        ∙ sym (settled_same job i x (settles_here ∙ rests)))
+
     told_then : (memo_after job (suc x) i known R).told
         ≡ own_at job (settled_at job (suc x) i) i
-    told_then = cond_both (settles_in job (suc x) known.own) (own_after job i known.own R)
-        known.told
+    told_then = cond_both (settles_in job (suc x) known.settled known.own)
+        (own_after job i known.own R) known.told
         (λ (own : Own). own ≡ own_at job (settled_at job (suc x) i) i)
         (λ does. own_then ∙ ap (λ (t : ℕ). own_at job t i) (sym (settled_new job i x
-        (ap (settles_in job (suc x)) (sym own_here) ∙ does))))
+        (settles_here ∙ does))))
         (λ rests. is_true.told ∙ ap (λ (t : ℕ). own_at job (settled_at job t i) i) at
         ∙ ap (λ (t : ℕ). own_at job t i) (sym (settled_same job i x
-        (ap (settles_in job (suc x)) (sym own_here) ∙ rests))))
+        (settles_here ∙ rests))))
 
     pub after_true : suc x ≤ job.steps → True (memo_after job (suc x) i known R)
     after_true time = record {
       step = time;
       own = own_then;
+      settled = settled_then;
       told = told_then;
       store = λ write e. e;
       idle = λ t kind after upto.

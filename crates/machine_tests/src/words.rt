@@ -218,12 +218,12 @@ compact 2; position 0, position 1, place 0, place 1, place 2, place 3, place 14 
     -> 17 18 19 21 23 25 47
 compact 2; place 15, place 17, word 54 : halt~ -> 49 53 Stored(17, 1)
 ones 2; wide, leaves, length, conflict, node 1, node 3, node 4, node 5, node 7 : halt~ \
-    -> 1 4 118 0 8 24 48 64 96
+    -> 1 4 118 0 8 24 58 74 106
 ones 2; request 0 0, request 2 2, position 0, position 1, place 0, place 2 : halt~ \
-    -> 49 83 32 40 112 116
-ones 2; place 3, place 6, place 14, place 15, place 17 : halt~ -> 54 60 92 52 84
-ones 2; word 1, word 47, word 61, word 62, word 96, word 97, word 117 : halt~ \
-    -> Spare(1) Spare(47) Stored(6, 1) Spare(62) Node(7) Spare(97) Stored(2, 1)
+    -> 0 0 32 40 112 116
+ones 2; place 3, place 6, place 14, place 15, place 17 : halt~ -> 50 56 88 48 80
+ones 2; word 1, word 47, word 57, word 59, word 96, word 106, word 117 : halt~ \
+    -> Spare(1) Spare(47) Stored(6, 1) Spare(59) Spare(96) Node(7) Stored(2, 1)
 -- what words start with, and whether they may hold a value: phases, and stamps of step 4
 compact 2; start 0, start 17, start 18, start 19, start 20, start 54 : halt~ -> 0 4 5 7 7 0
 compact 2; admits 1 12, admits 1 13, admits 8 17179869199, admits 8 17179869200 : halt~ -> 1 0 1 0
@@ -231,16 +231,13 @@ compact 2; admits 49 17179869186, admits 49 17179869187, admits 55 0 : halt~ -> 
 -- ten processors in blocks of four: the third block has two, and a fourth leaf has none
 $ board: pram 2~cells 3~procs 10~steps 4~rule common~init 0 7~code~
 fours 2; leaves, length, grain, node 1, node 3, node 4, node 5, node 6, node 7 : halt~ \
-    -> 4 310 4 8 24 48 112 176 240
-fours 2; word 8, word 24, word 48, word 112, word 176, word 240 : halt~ \
+    -> 4 246 4 8 24 88 136 184 232
+fours 2; word 8, word 24, word 88, word 136, word 184, word 232 : halt~ \
     -> Node(1) Node(3) Node(4) Node(5) Node(6) Node(7)
-fours 2; request 0 0, request 3 0, request 4 0, request 9 0 : halt~ -> 49 97 113 193
-fours 2; word 49, word 97, word 113, word 193 : halt~ \
-    -> Asked(0, 0) Asked(3, 0) Asked(4, 0) Asked(9, 0)
-fours 2; word 64, word 96, word 128, word 209, word 241, word 303 : halt~ \
-    -> Spare(64) Spare(96) Spare(128) Spare(209) Spare(241) Spare(303)
-fours 2; place 0, place 3, place 42, place 43, place 52 : halt~ -> 304 54 204 52 196
-fours 2; word 305, word 55, word 205, word 53, word 197 : halt~ \
+fours 2; word 89, word 95, word 148, word 151, word 233, word 239 : halt~ \
+    -> Spare(89) Spare(95) Spare(148) Spare(151) Spare(233) Spare(239)
+fours 2; place 0, place 3, place 42, place 43, place 52 : halt~ -> 240 56 178 48 146
+fours 2; word 241, word 57, word 179, word 49, word 147 : halt~ \
     -> Stored(0, 1) Stored(3, 1) Stored(42, 1) Stored(43, 1) Stored(52, 1)
 -- blocks of 64, or of all; claims; and the largest boards
 $ board: pram 2~cells 1~procs 31~steps 4~rule common~code~
@@ -260,7 +257,7 @@ ones 64; length : halt~ -> 221696
 $ board: pram 3~cells 1048576~procs 65536~steps 4~rule crew~code~
 compact 64; leaves, length : halt~ -> 65536 4128832
 ones 64; length : halt~ -> 4719104
-wide 64; leaves, length : halt~ -> 1024 4203008
+wide 64; leaves, length : halt~ -> 1024 3817984
 -- workers of a wide board start far apart, and turn by their numbers
 $ board: pram 2~cells 1~procs 8~steps 4~rule common~code~
 ones 4; leaf 0, leaf 1, leaf 2, leaf 3, leaves, right 1 1, right 1 3, right 1 6 : halt~ \

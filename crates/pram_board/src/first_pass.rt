@@ -1,19 +1,25 @@
 //! The tasks of a block in the first pass, by a driver.
+ghost use Rattle.std.specs.Prelude.{◌≡◌, ◌≢◌, ◌<◌, ◌≤◌, ℕ, slice_index};
+ghost use Rattle.walk_memory.specs.Inner.Posts.{IsLeafPost, at_rank};
+ghost use Rattle.pram_board.specs.Inner.Loading.{taken_to};
+
 use crate::driver::Driver;
 use crate::plain::{Lagging, PlainTasks};
 use pram_job::{Instr, Place};
 use pram_words::Kind;
 use std::mem;
 use stop_plan::Gate;
-use walkx::taking::take_up_at;
+use walkx::taking::{take_load, take_up_at};
 use walkx::{Claims, Formed, Leaf, Loads, Memory, Stand};
 
 impl<'a, G: Gate> Driver<'a, G> {
     ghost use Rattle.std.specs.Prelude.{◌≡◌, ◌≢◌, ℕ, slice_get};
     ghost use Rattle.walk_memory.specs.Inner.Posts.{processor_of};
     ghost use Rattle.pram_words.specs.Phases.{kind_at};
+    ghost use Rattle.walk_memory.specs.Plain.{AllLoadBy, LoadsBy};
     ghost use Rattle.walk_memory.specs.Stands.{IsStand, Spells};
     ghost use Rattle.pram_board.specs.Inner.Plain.{AllBy};
+    ghost use Rattle.pram_board.specs.Inner.Loading.{AtLoad, LoadDone, taken_to};
     ghost use Rattle.pram_board.specs.Inner.Plays.{Moved, driving, AtPart, AtTask, DoneMore};
     ghost use Rattle.pram_board.specs.Inner.Plays.{DonePart, DoneTo, PastTask, Tried, in_block};
     ghost use Rattle.pram_board.specs.Inner.Plays.{task_at};
@@ -105,8 +111,8 @@ impl<'a, G: Gate> Driver<'a, G> {
         ensures done { DoneTo leaf.now len (driving self.old) memory.old result
             (driving self.new) memory.new }
     {
-        match Loads::of(memory, leaf, len, stand) {
-            Some(loads) => self.plain_by(leaf, len, memory, &loads),
+        match memory.plain_loads(leaf, len, stand) {
+            Some(loads) => self.loads(leaf, len, memory, &loads),
             None => self.plain_tasks::<Lagging>(leaf, len, memory, stand),
         }
     }
@@ -197,6 +203,79 @@ impl<'a, G: Gate> Driver<'a, G> {
     {
         match plain.take(memory, self, leaf) {
             Ok(()) => self.seat.facts(),
+            Err(_) => unreachable!(),
+        }
+    }
+
+    // The first pass of all from the leaf's on, where all load plainly, by a driver of its own: the
+    // rank of the last of them. What they load is remembered once it is loaded, so the loop touches
+    // no memory.
+    #[inline(always)]
+    fn loads(&mut self, leaf: &Leaf, len: u32, memory: &mut Memory, loads: &Loads) -> u32
+        requires at { AtTask leaf.now len (driving self.old) memory.old }
+        requires plain { AllLoadBy leaf.now len memory.old loads.now }
+        ensures same { self.new.seat.ghost_name ≡ self.old.seat.ghost_name }
+        ensures done { DoneTo leaf.now len (driving self.old) memory.old result
+            (driving self.new) memory.new }
+    {
+        let mut driver = Driver {
+            seat: self.seat,
+            ..*self
+        };
+        let mut values = [0; 64];
+        let last = driver.load_all(leaf.again(), len, memory, loads, &mut values);
+        (self.made, self.rest) = driver.end();
+        remember(memory, leaf, last, loads.register, &values);
+        last.0
+    }
+
+    // The same by this driver: these values are loaded. Also whether the worker was late at the
+    // last of them.
+    #[inline(always)]
+    fn load_all(
+        &mut self,
+        leaf: Leaf<'_>,
+        len: u32,
+        memory: &Memory,
+        loads: &Loads,
+        values: &mut [u32; 64],
+    ) -> (u32, bool)
+        requires at { AtTask leaf len (driving self.old) memory.now }
+        requires plain { AllLoadBy leaf len memory.now loads.now }
+        ensures same { self.new.seat.ghost_name ≡ self.old.seat.ghost_name }
+        ensures done { DoneTo leaf.entry len (driving self.old) memory.now result.0
+            (driving self.new)
+            (taken_to leaf.entry loads.now.register values.new memory.now result) }
+    {
+        let mut leaf = leaf;
+        loop {
+            let rank = leaf.rank();
+            match self.load_part(&leaf, memory, loads) {
+                Some(value) => set_lane(values, (leaf.processor() % 64) as usize, value),
+                None => return (rank, true),
+            }
+            if rank + 1 == len {
+                return (rank, false);
+            }
+            leaf = leaf.next();
+        }
+    }
+
+    // The first pass of the leaf's processor, by a plain load of what is given, unless the worker
+    // was late.
+    #[inline(always)]
+    fn load_part(&mut self, leaf: &Leaf, memory: &Memory, loads: &Loads) -> Option<u32>
+        requires at { AtLoad leaf.now (driving self.old) memory.now }
+        requires plain { LoadsBy leaf.now memory.now loads.now }
+        ensures same { self.new.seat.ghost_name ≡ self.old.seat.ghost_name }
+        ensures done { LoadDone leaf.now (driving self.old) memory.now loads.now.register result
+            (driving self.new) }
+    {
+        match take_load(memory, self, leaf, loads) {
+            Ok(found) => {
+                self.seat.facts();
+                found
+            }
             Err(_) => unreachable!(),
         }
     }
@@ -337,4 +416,32 @@ impl<'a, G: Gate> Driver<'a, G> {
             Err(_) => unreachable!(),
         }
     }
+}
+
+// The processors from the leaf's on, up to this rank, loaded these values, but for the last one, if
+// the worker was late there.
+#[inline(always)]
+fn remember(memory: &mut Memory, leaf: &Leaf, last: (u32, bool), register: u8, values: &[u32; 64])
+    requires later { leaf.now.rank ≤ last.0 }
+    requires leaf { IsLeafPost (at_rank leaf.now last.0) }
+    requires four { register < 4 }
+    ensures { memory.new ≡ taken_to leaf.now register values.now memory.old last }
+{
+    let (rank, late) = last;
+    if late {
+        memory.take_loads(leaf, rank, register, values);
+        memory.forget(leaf.processor() + (rank - leaf.rank()));
+    } else {
+        memory.take_loads(leaf, rank + 1, register, values);
+    }
+}
+
+// Lane k has this value now.
+#[inline(always)]
+fn set_lane(values: &mut [u32; 64], k: usize, value: u32)
+    requires { k < 64 }
+    ensures here { slice_index values.new k ≡ value }
+    ensures others { (j : ℕ) → j ≢ k → slice_index values.new j ≡ slice_index values.old j }
+{
+    values[k] = value;
 }

@@ -5,15 +5,14 @@ ghost use Rattle.walk_memory.specs.declared.memo.Memo.{Memo};
 ghost use Rattle.walk_memory.specs.Blocks.{has_rank};
 ghost use Rattle.walk_memory.specs.Inner.Posts.{PostData, processor_of};
 ghost use Rattle.walk_memory.specs.Memory.{memo_of};
-ghost use Rattle.walk_memory.specs.Plain.{ClaimsBy, LoadsBy};
+ghost use Rattle.walk_memory.specs.Plain.{ClaimsBy};
 ghost use Rattle.walk_memory.specs.Stands.{IsStand};
 ghost use Rattle.walkx.specs.Driving.{IsNextPart};
 ghost use Rattle.walkx.specs.Parts.{does_wide};
 ghost use Rattle.walkx.specs.Passing.{TakesUp};
 ghost use Rattle.pram_board.specs.Inner.Plain.{AllBy, claims_alone, lagging_alone, lagging_by};
-ghost use Rattle.pram_board.specs.Inner.Plain.{loads_alone};
 
-use walkx::taking::{take_claim, take_lagging, take_load};
+use walkx::taking::{take_claim, take_lagging};
 use walkx::{Claims, Leaf, Loads, Memory, Stand, Steps, Stopped};
 
 /// Such tasks of a block.
@@ -41,27 +40,6 @@ pub(crate) trait PlainTasks: Copy {
     ghost alone: { (at : PostData) (memory now : List Memo) (plain : Self) →
         slice_get now (processor_of at) ≡ slice_get memory (processor_of at) →
         by at memory plain → by at now plain };
-}
-
-impl PlainTasks for Loads {
-    ghost by = { LoadsBy };
-
-    ghost alone = { loads_alone };
-
-    #[inline(always)]
-    fn of(memory: &Memory, leaf: &Leaf, len: u32, stand: Stand<'_>) -> Option<Loads> {
-        memory.plain_loads(leaf, len, stand)
-    }
-
-    #[inline(always)]
-    fn take<S: Steps>(
-        &self,
-        memory: &mut Memory,
-        steps: &mut S,
-        leaf: &Leaf,
-    ) -> Result<(), Stopped> {
-        take_load(memory, steps, leaf, self)
-    }
 }
 
 /// Loads of processors whose words do not tell what they are: each writes those that do not, too.

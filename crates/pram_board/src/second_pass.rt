@@ -3,17 +3,16 @@ use crate::driver::Driver;
 use pram_job::Rule;
 use std::mem;
 use stop_plan::Gate;
-use walkx::taking::{carry, carry_until};
-use walkx::{Leaf, Memory, report_store};
+use walkx::taking::carry;
+use walkx::{Leaf, Left, Memory, Stores, carry_until, report_store};
 
 impl<'a, G: Gate> Driver<'a, G> {
     ghost use Rattle.std.specs.Prelude.{◌≡◌, suc, None, List, Some};
     ghost use Rattle.walk_memory.specs.declared.memo.Memo.{Memo};
-    ghost use Rattle.walk_memory.specs.Inner.Posts.{at_rank, processor_of};
-    ghost use Rattle.walk_memory.specs.Memory.{memo_of};
-    ghost use Rattle.walk_memory.specs.Plain.{AllStore, HasStore};
+    ghost use Rattle.walk_memory.specs.Inner.Posts.{at_rank};
+    ghost use Rattle.walk_memory.specs.Plain.{AllHoldStore, AllStore};
     ghost use Rattle.pram_board.specs.Inner.Plays.{Moved, driving, AtPart, AtTask, DonePart};
-    ghost use Rattle.pram_board.specs.Inner.Plays.{DoneTo, Driving, StoredTo, Swapped, in_block};
+    ghost use Rattle.pram_board.specs.Inner.Plays.{DoneTo, Driving, StoredIn, StoredTo, Swapped, in_block};
     ghost use Rattle.pram_board.specs.Inner.Plays.{task_at};
 
     /// The tasks of a block of this length, from the leaf's processor on, in another pass.
@@ -52,8 +51,8 @@ impl<'a, G: Gate> Driver<'a, G> {
         }
     }
 
-    // Those from the leaf's processor up to the first of which a report is due, which is made: the
-    // leaf of the last of them.
+    // Those from the leaf's processor up to the first of which a report is due, which is made, or for
+    // which the worker is late: the leaf of the last of them.
     #[inline(always)]
     fn stores<'b>(&mut self, leaf: Leaf<'b>, len: u32, memory: &mut Memory) -> Leaf<'b>
         requires at { AtTask leaf len (driving self.old) memory.old }
@@ -92,80 +91,69 @@ impl<'a, G: Gate> Driver<'a, G> {
             seat: self.seat,
             ..*self
         };
-        let mut own = mem::replace(memory, Memory::none());
-        let last = driver.store_by(leaf, len, &mut own);
-        *memory = own;
+        let stores = memory.stores(&leaf, len);
+        let (last, due, end) = driver.store_by(leaf.again(), len, stores);
         (self.made, self.rest) = driver.end();
-        last
+        memory.carry_stores(&leaf, len, end);
+        (last, due)
     }
 
-    // The same by this driver. Each rule has a loop of its own.
+    // The same by this driver, but that none of it is remembered yet: and up to which rank the
+    // stores were carried out. Each rule has a loop of its own.
     #[inline(always)]
     fn store_by<'b>(
         &mut self,
         leaf: Leaf<'b>,
         len: u32,
-        memory: &mut Memory,
-    ) -> (Leaf<'b>, Option<(u32, u32)>)
-        requires at { AtTask leaf len (driving self.old) memory.old }
-        requires stores { AllStore leaf len memory.old }
+        stores: Stores<'_>,
+    ) -> (Leaf<'b>, Option<(u32, u32)>, u32)
+        requires at { AtTask leaf len (driving self.old) stores.memory.now }
+        requires stores { AllHoldStore leaf len stores.memory.now stores.block.now }
         ensures same { self.new.seat.ghost_name ≡ self.old.seat.ghost_name }
-        ensures stored { StoredTo leaf.entry len (driving self.old) memory.old result
-            (driving self.new) memory.new }
+        ensures stored { StoredIn leaf.entry len (driving self.old) stores.entry.memory.now result
+            (driving self.new) }
     {
         match leaf.rule() {
-            Rule::Common => self.store_on(leaf, len, memory, Rule::Common),
-            Rule::Priority => self.store_on(leaf, len, memory, Rule::Priority),
-            Rule::Crew => self.store_on(leaf, len, memory, Rule::Crew),
+            Rule::Common => self.store_on(leaf, len, stores, Rule::Common),
+            Rule::Priority => self.store_on(leaf, len, stores, Rule::Priority),
+            Rule::Crew => self.store_on(leaf, len, stores, Rule::Crew),
         }
     }
 
-    // The same, by what is the rule.
+    // The same, by what is the rule. The loop writes no memory.
     #[inline(always)]
     fn store_on<'b>(
         &mut self,
         leaf: Leaf<'b>,
         len: u32,
-        memory: &mut Memory,
+        stores: Stores<'_>,
         rule: Rule,
-    ) -> (Leaf<'b>, Option<(u32, u32)>)
+    ) -> (Leaf<'b>, Option<(u32, u32)>, u32)
         requires rule { rule ≡ leaf.job.rule }
-        requires at { AtTask leaf len (driving self.old) memory.old }
-        requires stores { AllStore leaf len memory.old }
+        requires at { AtTask leaf len (driving self.old) stores.memory.now }
+        requires stores { AllHoldStore leaf len stores.memory.now stores.block.now }
         ensures same { self.new.seat.ghost_name ≡ self.old.seat.ghost_name }
-        ensures stored { StoredTo leaf.entry len (driving self.old) memory.old result
-            (driving self.new) memory.new }
+        ensures stored { StoredIn leaf.entry len (driving self.old) stores.entry.memory.now result
+            (driving self.new) }
     {
         let mut leaf = leaf;
         loop {
-            let due = self.store_at(&leaf, memory, rule);
-            if due.is_some() {
-                return (leaf, due);
+            let done = carry_until(self, &leaf, stores.write(&leaf), rule);
+            self.seat.facts();
+            let rank = leaf.rank();
+            match done {
+                Ok(true) => {
+                    let due = stores.write(&leaf);
+                    return (leaf, Some(due), rank + 1);
+                }
+                Ok(false) => {}
+                Err(Left::Late) => return (leaf, None, rank),
+                Err(Left::Held) => unreachable!(),
             }
-            if leaf.rank() + 1 == len {
-                return (leaf, due);
+            if rank + 1 == len {
+                return (leaf, None, len);
             }
             leaf = leaf.next();
-        }
-    }
-
-    // The second pass of the leaf's processor, whose store is remembered, up to the report: the
-    // store, if one is due.
-    #[inline(always)]
-    fn store_at(&mut self, leaf: &Leaf, memory: &mut Memory, rule: Rule) -> Option<(u32, u32)>
-        requires rule { rule ≡ leaf.now.job.rule }
-        requires at { AtPart leaf.now (driving self.old) memory.old }
-        requires store { HasStore leaf.now (memo_of memory.old (processor_of leaf.now)) }
-        ensures same { self.new.seat.ghost_name ≡ self.old.seat.ghost_name }
-        ensures swapped { Swapped leaf.now (driving self.old) memory.old result (driving self.new)
-            memory.new }
-    {
-        match carry_until(memory, self, leaf, rule) {
-            Ok(due) => {
-                self.seat.facts();
-                due
-            }
-            Err(_) => unreachable!(),
         }
     }
 

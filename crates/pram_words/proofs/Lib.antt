@@ -3,6 +3,7 @@ pub mod Halvings
 pub mod NextPhases
 pub mod NoLater
 pub mod Numbering
+pub mod Rows
 pub mod Starting
 pub mod Starts
 pub mod Ways

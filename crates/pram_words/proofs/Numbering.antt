@@ -1,11 +1,10 @@
 -- Each word has a number of its own.
 use Rattle.std.proofs.Common.{◌≡◌, ℕ, cond, ◌+◌, ◌-◌, ◌*◌, ◌/◌, ◌%◌, ◌<◌, ◌≤◌, ◌^◌, ◌↔◌}
-use Rattle.std.proofs.Common.{◌⊎◌, inl, inr, refl, sym, ap, subst, ◌∙◌, arith, lit<, zero, suc}
+use Rattle.std.proofs.Common.{◌≢◌, ◌⊎◌, inl, inr, refl, sym, ap, subst, ◌∙◌, arith, lit<}
+use Rattle.std.proofs.Common.{zero, suc}
 use Rattle.std.proofs.lemmas.Bool.{cases_lt, cases_eq, cases_Bool, cond-true, cond-false}
 use Rattle.std.proofs.lemmas.Bool.{lt-ltb, le-ltb, eq-eqb, ne_eqb}
 use Rattle.std.proofs.lemmas.Nat.{pow_pos}
-use Rattle.std.proofs.Math.Nat.{mul-mod_right, mul-div_cancel_left, mul-lt-mul_of_pos_left}
-use Rattle.std.proofs.Math.Nat.{lt_of_mul-lt-mul_left, div-add-mod, mul-div-le}
 use Rattle.std.proofs.lemmas.Bool.Decides.{nat_tests}
 use Rattle.pram_job.specs.Job.{JobData}
 use Rattle.pram_job.specs.Places.{register_at}
@@ -17,10 +16,14 @@ use Rattle.pram_words.specs.declared.words.Word.TheVariants.{Position, Stored, C
 use Rattle.pram_words.specs.Words.{LayoutData, IsLayout, IsNeeded, IsWord, IsInRange}
 use Rattle.pram_words.specs.Words.{IsNumbering, HasRanges, Admits, counters_of, requests_at}
 use Rattle.pram_words.specs.Words.{positions_at, places_at, claims_at, compact_number}
-use Rattle.pram_words.specs.Words.{compact_word, grain, first_word, lines_at, lines_word, cells_at}
-use Rattle.pram_words.specs.Words.{AreOwn, wide_claims_at, wide_number}
+use Rattle.pram_words.specs.Words.{compact_word, grain, block_at, block_words, blocks_at, cells_at}
+use Rattle.pram_words.specs.Words.{AreOwn, row_at, row_place, wide_claims_at, wide_number}
 use Rattle.pram_words.specs.Forms.{by_form}
+use Rattle.pram_words.specs.Words.{block_word, grain_of, places_of, row_word, wide_place}
 use Rattle.pram_words.specs.Words.{wide_word, number_of, length_of, word_at}
+use Rattle.pram_words.proofs.Rows.{block_back, block_least, block_splits, next_row, place_below}
+use Rattle.pram_words.proofs.Rows.{place_row, row_back, row_number, row_place_below}
+use Rattle.pram_words.proofs.Rows.{place_register, row_counter, row_register, slot_below}
 
 pub cases_form : (f : Form) → (f ≡ Compact) ⊎ ((grain : ℕ) × (f ≡ Wide grain))
 cases_form Compact = inl refl
@@ -37,21 +40,6 @@ form_wide f grain compact wide e = rw e refl
 -- a block has at least one processor
 pub grain_some : (y : LayoutData) → IsLayout y → 1 ≤ grain y
 grain_some y limits = rw limits.block.0.1 (pow_pos limits.block.0.0)
-
--- the first processor of a block
-pub record First (y : LayoutData) (b : ℕ) : Type 0 where
-  pub first : (grain y * b) % grain y ≡ 0
-  pub block : (grain y * b) / grain y ≡ b
-  pub below : grain y * b < grain y * y.leaves
-
-pub first_of : (y : LayoutData) (b : ℕ) → IsLayout y → b < y.leaves → First y b
-first_of y b limits leaf =
-    let some = grain_some y limits in
-    record {
-      first = mul-mod_right (grain y) b;
-      block = mul-div_cancel_left b some;
-      below = mul-lt-mul_of_pos_left leaf some;
-    }
 
 -- what a word has for its number k, under a numbering
 record Found (y : LayoutData) (number_in : Word → ℕ) (k : ℕ) (a : Word) : Type 0 where
@@ -94,16 +82,16 @@ claim_found y f at k number a b = elim (cases_Bool y.claims) [
   | inr e ↦ absurd (let g = cond-false y.claims y.cells 0 e in omega arith)
 ]
 
-compact_found : (y : LayoutData) (k : ℕ) → 1 ≤ y.leaves →
+compact_found : (y : LayoutData) (k : ℕ) → y.form ≡ Compact → 1 ≤ y.leaves →
     k < claims_at y + cond y.claims y.cells 0 → Found y (compact_number y) k (compact_word y k)
-compact_found y zero some b = record { is = tt; number = refl }
-compact_found y (suc n) some b = let k = suc n in elim (cases_lt k (requests_at y)) [
+compact_found y zero compact some b = record { is = tt; number = refl }
+compact_found y (suc n) compact some b = let k = suc n in elim (cases_lt k (requests_at y)) [
   | inl c ↦ found_at y _ k (Node k) _
       (grind (arith, nat_tests)) (record { is = (omega arith, c); number = refl })
   | inr c ↦ elim (cases_lt k (positions_at y)) [
     | inl d ↦ found_at y _ k (Asked ((k - requests_at y) / 3) ((k - requests_at y) % 3)) _
         (grind (arith, nat_tests))
-        (record { is = (omega arith, omega arith); number = omega arith })
+        (record { is = (compact, omega arith, omega arith); number = omega arith })
     | inr d ↦ elim (cases_lt k (places_at y)) [
       | inl e ↦ found_at y _ k (Position (k - positions_at y)) _
           (grind (arith, nat_tests)) (record { is = omega arith; number = omega arith })
@@ -120,51 +108,82 @@ compact_found y (suc n) some b = let k = suc n in elim (cases_lt k (requests_at 
 
 -- ---- the wide form
 
--- the word at a place of a processor's lines
-lines_back : (y : LayoutData) (i s : ℕ) → i < grain y * y.leaves → s < 16 →
-    wide_word y (lines_at y i + s) ≡ lines_word y (lines_at y i + s) i s
-lines_back y i s room place = grind (arith, nat_tests)
+leaf_back : (y : LayoutData) (n : ℕ) → y.leaves ≤ n → n < 2 * y.leaves →
+    wide_word y (block_at y (n - y.leaves) + 10 * grain y) ≡ Node n
+leaf_back y n leaf below =
+    let same : y.leaves + (n - y.leaves) ≡ n = omega arith in
+    block_back y (n - y.leaves) (10 * grain y) _ (omega arith) (block_least (grain y)) refl
+    ∙ rw (eq-eqb (10 * grain y) (10 * grain y) refl) (ap Node same)
 
-leaf_back : (y : LayoutData) (n : ℕ) → IsLayout y → y.leaves ≤ n → n < 2 * y.leaves →
-    wide_word y (lines_at y (grain y * (n - y.leaves))) ≡ Node n
-leaf_back y n limits leaf below =
-    let first = first_of y (n - y.leaves) limits (omega arith) in
-    let back = lines_back y (grain y * (n - y.leaves)) 0 first.below (lit< tt) in
-    let b = n - y.leaves in
-    ap (wide_word y) (omega arith) ∙ back ∙ grind (arith, nat_tests, first.first, first.block)
+not_compact : (y : LayoutData) (g : ℕ) {A : Type 0} → y.form ≡ Wide g → y.form ≡ Compact → A
+not_compact y g e compact = absurd (wide_is (sym e ∙ compact))
+  where
+    is_wide : Form → Type 0
+    is_wide Compact = ⊥
+    is_wide (Wide grain) = Unit {0}
 
-wide_back : (y : LayoutData) → IsLayout y → (a : Word) → IsNeeded y a →
+    wide_is : Wide g ≡ Compact → ⊥
+    wide_is e = subst is_wide e tt
+
+place_back : (y : LayoutData) (p k : ℕ) → IsLayout y → p < places_of y → k < 2 →
+    wide_word y (wide_place y p + k) ≡ Stored p k
+place_back y p k limits place two = elim (cases_lt p y.cells) [
+  | inl c ↦ grind (arith, nat_tests)
+  | inr c ↦ elim (cases_lt p (counters_of y)) [
+    | inl d ↦ (let i = (p - y.cells) / 4 in
+        let r = (p - y.cells) % 4 in
+        let here : wide_place y p ≡ row_at y i (1 + r) =
+        rw (le-ltb p y.cells c, lt-ltb p (counters_of y) d) refl in
+        let same : register_at y.cells i r ≡ p = omega arith in
+        row_back y i (1 + r) k _ limits (grain_some y limits) (omega arith) (omega arith) two
+        (ap (λ n. n + k) here)
+        ∙ ap (λ n. Stored n k) (place_register y i (1 + r) r refl ∙ same))
+    | inr d ↦ (let i = p - counters_of y in
+        let here : wide_place y p ≡ row_at y i 0 =
+        rw (le-ltb p y.cells c, le-ltb p (counters_of y) d) refl in
+        let same : counters_of y + i ≡ p = omega arith in
+        row_back y i 0 k _ limits (grain_some y limits) (omega arith) (lit< tt) two
+        (ap (λ n. n + k) here)
+        ∙ ap (λ n. Stored n k) same)
+  ]
+]
+
+wide_back : (y : LayoutData) (g : ℕ) → IsLayout y → y.form ≡ Wide g → (a : Word) → IsNeeded y a →
     wide_word y (wide_number y a) ≡ a
-wide_back y limits Conflict is = let some = limits.leaves.0 in grind (arith, nat_tests)
-wide_back y limits (Node n) is = elim (cases_lt n y.leaves) [
+wide_back y g limits e Conflict is = let some = limits.leaves.0 in grind (arith, nat_tests)
+wide_back y g limits e (Node n) is = elim (cases_lt n y.leaves) [
   | inl c ↦ rw (lt-ltb n y.leaves c) (grind (arith, nat_tests))
-  | inr c ↦ rw (le-ltb n y.leaves c) (leaf_back y n limits c is.1)
+  | inr c ↦ rw (le-ltb n y.leaves c) (leaf_back y n c is.1)
 ]
-wide_back y limits (Asked i j) is = let room = limits.room.0 in grind (arith, nat_tests)
-wide_back y limits (Position w) is = let some = limits.leaves.0 in grind (arith, nat_tests)
-wide_back y limits (Stored p k) is = let room = limits.room.0 in grind (arith, nat_tests)
-wide_back y limits (Claim c) is = let room = limits.room.0 in grind (arith, nat_tests)
-wide_back y limits (Spare k) is = absurd is
+wide_back y g limits e (Asked i j) is = not_compact y g e is.0
+wide_back y g limits e (Position w) is = let some = limits.leaves.0 in grind (arith, nat_tests)
+wide_back y g limits e (Stored p k) is = place_back y p k limits is.0 is.1
+wide_back y g limits e (Claim c) is = grind (arith, nat_tests)
+wide_back y g limits e (Spare k) is = absurd is
 
-wide_below : (y : LayoutData) → IsLayout y → (a : Word) → IsNeeded y a →
+wide_below : (y : LayoutData) (g : ℕ) → IsLayout y → y.form ≡ Wide g → (a : Word) → IsNeeded y a →
     wide_number y a < wide_claims_at y + cond y.claims y.cells 0
-wide_below y limits Conflict is = let some = limits.leaves.0 in omega arith
-wide_below y limits (Node n) is = elim (cases_lt n y.leaves) [
+wide_below y g limits e Conflict is = let some = limits.leaves.0 in omega arith
+wide_below y g limits e (Node n) is = elim (cases_lt n y.leaves) [
   | inl c ↦ rw (lt-ltb n y.leaves c) (omega arith)
-  | inr c ↦ rw (le-ltb n y.leaves c)
-      (let first = first_of y (n - y.leaves) limits (omega arith) in omega (arith, first.below))
+  | inr c ↦ rw (le-ltb n y.leaves c) (omega (
+    arith,
+    slot_below y (n - y.leaves) (10 * grain y) (omega arith) (block_least (grain y)),
+  ))
 ]
-wide_below y limits (Asked i j) is = let room = limits.room.0 in omega arith
-wide_below y limits (Position w) is = omega arith
-wide_below y limits (Stored p k) is = let room = limits.room.0 in grind (arith, nat_tests)
-wide_below y limits (Claim c) is = let e = cond-true y.claims y.cells 0 is.0 in omega arith
-wide_below y limits (Spare k) is = absurd is
+wide_below y g limits e (Asked i j) is = not_compact y g e is.0
+wide_below y g limits e (Position w) is = omega arith
+wide_below y g limits e (Stored p k) is =
+    omega (arith, place_below y p limits (grain_some y limits) is.0)
+wide_below y g limits e (Claim c) is =
+    let has = cond-true y.claims y.cells 0 is.0 in omega (arith, has)
+wide_below y g limits e (Spare k) is = absurd is
 
 -- each number has its word, or is spare
 abbrev IsFoundWide : LayoutData → ℕ → Type 0
 IsFoundWide y k = Found y (wide_number y) k (wide_word y k) ⊎ (wide_word y k ≡ Spare k)
 
-line_found : (y : LayoutData) (k : ℕ) → 1 ≤ y.leaves → k < lines_at y 0 → IsFoundWide y k
+line_found : (y : LayoutData) (k : ℕ) → 1 ≤ y.leaves → k < blocks_at y → IsFoundWide y k
 line_found y k some below = elim (cases_eq (k % 8) 0) [
   | inl e ↦ inl (elim (cases_eq (k / 8) 0) [
     | inl z ↦ found_at y _ k Conflict _
@@ -179,58 +198,49 @@ line_found y k some below = elim (cases_eq (k % 8) 0) [
   | inr e ↦ inr (grind (arith, nat_tests))
 ]
 
--- the first word of a processor's lines
-first_found : (y : LayoutData) (k i : ℕ) → IsLayout y → i < grain y * y.leaves →
-    k ≡ lines_at y i → IsFoundWide y k
-first_found y k i limits room e =
-    let back = lines_back y i 0 room (lit< tt) in
-    let some = grain_some y limits in
-    let here : wide_word y k ≡ first_word y k i =
-    ap (wide_word y) (omega arith) ∙ back ∙ ap (λ m. first_word y m i) (omega arith) in
-    elim (cases_eq (i % grain y) 0) [
-      | inl z ↦ (let b = i / grain y in
-          let whole : grain y * b ≡ i = omega (arith, z, div-add-mod i (grain y)) in
-          let leaf : b < y.leaves =
-          lt_of_mul-lt-mul_left (grain y) (omega (arith, whole, mul-div-le i (grain y))) in
-          inl (found_at y _ k (Node (y.leaves + b)) _ (here ∙ rw (eq-eqb _ _ z) refl) (record {
-            is = (omega (arith, limits.leaves), omega arith);
-            number = rw (le-ltb (y.leaves + b) y.leaves (omega arith))
-                (let back : y.leaves + b - y.leaves ≡ b = omega arith in rw (back, whole) (sym e));
-          })))
-      | inr z ↦ inr (here ∙ rw (ne_eqb _ _ z) refl)
+-- the word at a slot of a block
+row_found : (y : LayoutData) (k b s : ℕ) → IsLayout y → s ≢ 10 * grain y →
+    wide_word y k ≡ block_word y k b s → k ≡ block_at y b + s → IsFoundWide y k
+row_found y k b s limits other here at =
+    let g = grain y in
+    let row = s / 2 / g in
+    let i = b * g + s / 2 % g in
+    let to : wide_word y k ≡ row_word y k i row = here ∙ rw (ne_eqb s (10 * g) other) refl in
+    elim (cases_lt row 5) [
+      | inl c ↦ elim (cases_lt i y.procs) [
+        | inl d ↦ inl (found_at y _ k (Stored (row_place y i row) (k % 2)) _
+            (to ∙ rw (lt-ltb row 5 c, lt-ltb i y.procs d) refl)
+            (record {
+              is = (row_place_below y i row d c, omega arith);
+              number = ap (λ n. n + k % 2) (place_row y i row d c)
+                  ∙ row_number y k b s (grain_some y limits) at;
+            }))
+        | inr d ↦ inr (to ∙ rw (lt-ltb row 5 c, le-ltb i y.procs d) refl)
+      ]
+      | inr c ↦ inr (to ∙ rw (le-ltb row 5 c) refl)
     ]
 
-lines_found : (y : LayoutData) (k i s : ℕ) → IsLayout y → i < grain y * y.leaves → s < 16 →
-    k ≡ lines_at y i + s → IsFoundWide y k
-lines_found y k i s limits room place e = elim (cases_eq s 0) [
-  | inl z ↦ first_found y k i limits room (omega arith)
-  | inr z ↦ elim (cases_lt i y.procs) [
-    | inl p ↦ elim (cases_lt s 4) [
-      | inl c ↦ inl (found_at y _ k (Asked i (s - 1)) _
-          (grind (arith, nat_tests)) (record { is = (p, omega arith); number = omega arith }))
-      | inr c ↦ elim (cases_lt s 6) [
-        | inl d ↦
-            inl (found_at y _ k (Stored (counters_of y + i) (s - 4)) _ (grind (arith, nat_tests))
-            (record { is = (omega arith, omega arith); number = grind (arith, nat_tests) }))
-        | inr d ↦ elim (cases_lt s 14) [
-          | inl f ↦ inl (found_at y _ k
-              (Stored (y.cells + 4 * i + (s - 6) / 2) (s % 2)) _ (grind (arith, nat_tests))
-              (record { is = (omega arith, omega arith); number = grind (arith, nat_tests) }))
-          | inr f ↦ inr (grind (arith, nat_tests))
-        ]
-      ]
+block_found : (y : LayoutData) (k b s : ℕ) → IsLayout y → b < y.leaves →
+    s < block_words (grain y) → k ≡ block_at y b + s → IsFoundWide y k
+block_found y k b s limits leaf slot at =
+    let here = block_back y b s k leaf slot at in
+    elim (cases_eq s (10 * grain y)) [
+      | inl z ↦ inl (found_at y _ k (Node (y.leaves + b)) _
+          (here ∙ rw (eq-eqb s (10 * grain y) z) refl) (record {
+            is = (omega (arith, limits.leaves), omega arith);
+            number = let back : y.leaves + b - y.leaves ≡ b = omega arith in
+                rw (le-ltb (y.leaves + b) y.leaves (omega arith), back) (omega (arith, at, z));
+          }))
+      | inr z ↦ row_found y k b s limits z here at
     ]
-    | inr p ↦ inr (grind (arith, nat_tests))
-  ]
-]
 
 wide_found : (y : LayoutData) (k : ℕ) → IsLayout y →
     k < wide_claims_at y + cond y.claims y.cells 0 → IsFoundWide y k
-wide_found y k limits b = elim (cases_lt k (lines_at y 0)) [
+wide_found y k limits b = elim (cases_lt k (blocks_at y)) [
   | inl c ↦ line_found y k limits.leaves.0 c
   | inr c ↦ elim (cases_lt k (cells_at y)) [
-    | inl d ↦ lines_found y k ((k - lines_at y 0) / 16)
-        ((k - lines_at y 0) % 16) limits (omega arith) (omega arith) (omega arith)
+    | inl d ↦ (let is = block_splits y k c d in
+        block_found y k _ _ limits is.row_below is.slot_below is.is)
     | inr d ↦ inl (elim (cases_lt k (wide_claims_at y)) [
       | inl e ↦ found_at y _ k (Stored ((k - cells_at y) / 2) (k % 2)) _ (grind (arith, nat_tests))
           (record { is = (omega arith, omega arith); number = grind (arith, nat_tests) })
@@ -276,20 +286,25 @@ length_wide y g e =
 pub own_compact : (y : LayoutData) (i counter registers : ℕ) → y.form ≡ Compact →
     counter ≡ places_at y + 2 * (counters_of y + i) →
     registers ≡ places_at y + 2 * register_at y.cells i 0 →
-    AreOwn y i (record { counter = counter; registers = registers })
+    AreOwn y i (record { counter = counter; registers = registers; stride = 2 })
 own_compact y i counter registers e own all = record {
   counter = number_compact y e (Stored (counters_of y + i) 0) ∙ omega arith;
   register = λ r below. number_compact y e (Stored (register_at y.cells i r) 0) ∙ omega arith;
 }
 
 pub own_wide : (y : LayoutData) (g i first : ℕ) → y.form ≡ Wide g → i < y.procs →
-    first ≡ lines_at y i →
-    AreOwn y i (record { counter = first + 4; registers = first + 6 })
-own_wide y g i first e processor begins = record {
-  counter = number_wide y g e (Stored (counters_of y + i) 0) ∙ grind (arith, nat_tests);
-  register = λ r below. number_wide y g e (Stored (register_at y.cells i r) 0)
-      ∙ grind (arith, nat_tests);
-}
+    first ≡ row_at y i 0 →
+    AreOwn y i (record { counter = first; registers = first + 2 * g; stride = 2 * g })
+own_wide y g i first e processor begins =
+    let size : grain y ≡ g = ap grain_of e in
+    let next : (r : ℕ) → row_at y i (1 + r) ≡ row_at y i 0 + 2 * g + 2 * g * r = λ r.
+    subst (λ n. row_at y i (1 + r) ≡ row_at y i 0 + 2 * n + 2 * n * r) size (next_row y i r) in
+    record {
+      counter = number_wide y g e (Stored (counters_of y + i) 0)
+          ∙ omega (arith, row_counter y i, begins);
+      register = λ r below. number_wide y g e (Stored (register_at y.cells i r) 0)
+          ∙ omega (arith, row_register y i r processor below, begins, next r);
+    }
 
 -- and where those of cells do
 pub cells_compact : (y : LayoutData) (c first : ℕ) → y.form ≡ Compact → first ≡ places_at y →
@@ -307,20 +322,21 @@ needed_back y limits a is = elim (cases_form y.form) [
   | inl e ↦ ap (word_at y) (number_compact y e a) ∙ word_compact y e (compact_number y a)
       ∙ compact_back y limits.leaves.0 a is
   | inr e ↦ ap (word_at y) (number_wide y e.0 e.1 a) ∙ word_wide y e.0 e.1 (wide_number y a)
-      ∙ wide_back y limits a is
+      ∙ wide_back y e.0 limits e.1 a is
 ]
 
 needed_below : (y : LayoutData) → IsLayout y → (a : Word) →
     IsNeeded y a → number_of y a < length_of y
 needed_below y limits a is = elim (cases_form y.form) [
   | inl e ↦ rw (number_compact y e a, length_compact y e) (compact_below y limits.leaves.0 a is)
-  | inr e ↦ rw (number_wide y e.0 e.1 a, length_wide y e.0 e.1) (wide_below y limits a is)
+  | inr e ↦ rw (number_wide y e.0 e.1 a, length_wide y e.0 e.1)
+      (wide_below y e.0 limits e.1 a is)
 ]
 
 found : (y : LayoutData) (k : ℕ) → IsLayout y → k < length_of y →
     Found y (number_of y) k (word_at y k) ⊎ (word_at y k ≡ Spare k)
 found y k limits b = elim (cases_form y.form) [
-  | inl e ↦ inl (let f = compact_found y k limits.leaves.0 (rw (← length_compact y e) b) in
+  | inl e ↦ inl (let f = compact_found y k e limits.leaves.0 (rw (← length_compact y e) b) in
       rw (word_compact y e k) (record {
         is = f.is;
         number = number_compact y e (compact_word y k) ∙ f.number;

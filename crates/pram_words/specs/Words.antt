@@ -90,7 +90,7 @@ counters_of layout = counters_at layout.cells layout.procs
 abbrev pub IsNeeded : LayoutData → Word → Type 0
 IsNeeded layout Conflict = Unit {0}
 IsNeeded layout (Node node) = (1 ≤ node) × (node < 2 * layout.leaves)
-IsNeeded layout (Asked i j) = (i < layout.procs) × (j < 3)
+IsNeeded layout (Asked i j) = (layout.form ≡ Compact) × (i < layout.procs) × (j < 3)
 IsNeeded layout (Position worker) = worker < layout.workers
 IsNeeded layout (Stored place which) = (place < places_of layout) × (which < 2)
 IsNeeded layout (Claim cell) = IsTrue layout.claims × (cell < layout.cells)
@@ -130,34 +130,47 @@ compact_word layout number =
     then Stored ((number - places_at layout) / 2) ((number - places_at layout) % 2)
     else Claim (number - claims_at layout)))))
 
--- ---- the wide form: lines of 8 words. Word 0, each inner node and each position lie on a line of
--- their own; then come the leaves' blocks, with two lines for each processor: a word for the leaf's
--- node, if the processor is the first of its block, the three request words, the two words of the
--- counter and of each register; then the cells, two words each, and the claims.
+-- ---- the wide form: word 0, each inner node and each position lie on a line of 8 words of their
+-- own; then come the blocks, one for each leaf; then the cells, two words each, and the claims. A
+-- block has five rows, with two words for each of its processors: row 0 has their counters, and row
+-- 1 + r their registers r. Then comes its leaf's node; the rest of its last line is spare.
 
--- the first word of the lines of processor i, of a cell, and of a claim
-abbrev pub lines_at : LayoutData → ℕ → ℕ
-lines_at layout i = 8 * (layout.leaves + layout.workers) + 16 * i
+-- how many words a block has
+abbrev pub block_words : ℕ → ℕ
+block_words grain = 8 * ((10 * grain + 8) / 8)
+
+-- the first word of the blocks, of a block, of a cell, and of a claim
+abbrev pub blocks_at : LayoutData → ℕ
+blocks_at layout = 8 * (layout.leaves + layout.workers)
+
+abbrev pub block_at : LayoutData → ℕ → ℕ
+block_at layout block = blocks_at layout + block * block_words (grain layout)
 
 abbrev pub cells_at : LayoutData → ℕ
-cells_at layout = lines_at layout (grain layout * layout.leaves)
+cells_at layout = block_at layout layout.leaves
 
 abbrev pub wide_claims_at : LayoutData → ℕ
 wide_claims_at layout = cells_at layout + 2 * layout.cells
+
+-- the first word of processor i in a row
+abbrev pub row_at : LayoutData → ℕ → ℕ → ℕ
+row_at layout i row =
+    block_at layout (i / grain layout) + 2 * (row * grain layout + i % grain layout)
 
 -- the first word of a place: of a cell, a register or a counter
 abbrev pub wide_place : LayoutData → ℕ → ℕ
 wide_place layout place =
     if nat_lt place layout.cells then cells_at layout + 2 * place
-    else (if nat_lt place (counters_of layout) then lines_at layout ((place - layout.cells) / 4) + 6
-    + 2 * ((place - layout.cells) % 4)
-    else lines_at layout (place - counters_of layout) + 4)
+    else (if nat_lt place (counters_of layout)
+    then row_at layout ((place - layout.cells) / 4) (1 + (place - layout.cells) % 4)
+    else row_at layout (place - counters_of layout) 0)
 
+-- no word is that of a request
 abbrev pub wide_number : LayoutData → Word → ℕ
 wide_number layout Conflict = 0
 wide_number layout (Node node) = if nat_lt node layout.leaves then 8 * node
-    else lines_at layout (grain layout * (node - layout.leaves))
-wide_number layout (Asked i j) = lines_at layout i + 1 + j
+    else block_at layout (node - layout.leaves) + 10 * grain layout
+wide_number layout (Asked i j) = 0
 wide_number layout (Position worker) = 8 * (layout.leaves + worker)
 wide_number layout (Stored place which) = wide_place layout place + which
 wide_number layout (Claim cell) = wide_claims_at layout + cell
@@ -168,28 +181,31 @@ abbrev pub line_word : LayoutData → ℕ → Word
 line_word layout line = if line == 0 then Conflict
     else (if nat_lt line layout.leaves then Node line else Position (line - layout.leaves))
 
--- the first word of processor i's lines, which has this number
-abbrev pub first_word : LayoutData → ℕ → ℕ → Word
-first_word layout number i =
-    if i % grain layout == 0 then Node (layout.leaves + i / grain layout) else Spare number
+-- the place that processor i has in a row
+abbrev pub row_place : LayoutData → ℕ → ℕ → ℕ
+row_place layout i row = if row == 0 then counters_of layout + i
+    else register_at layout.cells i (row - 1)
 
--- the word of this number, which lies at this place of processor i's lines
-abbrev pub lines_word : LayoutData → ℕ → ℕ → ℕ → Word
-lines_word layout number i slot =
-    if slot == 0 then first_word layout number i
-    else (if nat_lt i layout.procs && nat_lt slot 4 then Asked i (slot - 1)
-    else (if nat_lt i layout.procs && nat_lt slot 6 then Stored (counters_of layout + i) (slot - 4)
-    else (if nat_lt i layout.procs && nat_lt slot 14
-    then Stored (layout.cells + 4 * i + (slot - 6) / 2) (slot % 2)
-    else Spare number)))
+-- the word of this number, which is one of processor i's in a row
+abbrev pub row_word : LayoutData → ℕ → ℕ → ℕ → Word
+row_word layout number i row =
+    if nat_lt row 5 && nat_lt i layout.procs then Stored (row_place layout i row) (number % 2)
+    else Spare number
+
+-- the word of this number, which lies at this slot of a block
+abbrev pub block_word : LayoutData → ℕ → ℕ → ℕ → Word
+block_word layout number block slot =
+    if slot == 10 * grain layout then Node (layout.leaves + block)
+    else row_word layout number (block * grain layout + slot / 2 % grain layout)
+    (slot / 2 / grain layout)
 
 abbrev pub wide_word : LayoutData → ℕ → Word
 wide_word layout number =
-    if nat_lt number (lines_at layout 0)
+    if nat_lt number (blocks_at layout)
     then (if number % 8 == 0 then line_word layout (number / 8) else Spare number)
     else (if nat_lt number (cells_at layout)
-    then lines_word layout number ((number - lines_at layout 0) / 16)
-    ((number - lines_at layout 0) % 16)
+    then block_word layout number ((number - blocks_at layout) / block_words (grain layout))
+    ((number - blocks_at layout) % block_words (grain layout))
     else (if nat_lt number (wide_claims_at layout)
     then Stored ((number - cells_at layout) / 2) (number % 2)
     else Claim (number - wide_claims_at layout)))
@@ -204,7 +220,7 @@ number_of layout word = by_form layout.form (compact_number layout word) (wide_n
 pub record AreOwn (layout : LayoutData) (i : ℕ) (own : OwnWords) : Type 0 where
   pub counter : number_of layout (Stored (counters_of layout + i) 0) ≡ own.counter
   pub register : (r : ℕ) → r < 4 →
-      number_of layout (Stored (register_at layout.cells i r) 0) ≡ own.registers + 2 * r
+      number_of layout (Stored (register_at layout.cells i r) 0) ≡ own.registers + own.stride * r
 
 -- how many words a board has
 unfoldable pub length_of : LayoutData → ℕ

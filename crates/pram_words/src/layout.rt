@@ -16,8 +16,9 @@ ghost use Rattle.pram_words.specs.Words.{length_of, most_length};
 ghost use Rattle.pram_words.specs.Words.{number_of, places_of, word_at};
 ghost use Rattle.pram_words.specs.Words.{claims_at, compact_word, places_at, positions_at};
 ghost use Rattle.std.specs.Int.{div_ceil};
-ghost use Rattle.pram_words.specs.Words.{IsGrain, grain_for, cells_at, first_word, grain, grain_of};
-ghost use Rattle.pram_words.specs.Words.{line_word, lines_at, lines_word};
+ghost use Rattle.pram_words.specs.Words.{IsGrain, grain_for, cells_at, grain, grain_of};
+ghost use Rattle.pram_words.specs.Words.{block_at, block_word, block_words, blocks_at, line_word};
+ghost use Rattle.pram_words.specs.Words.{row_at, row_place, row_word};
 ghost use Rattle.pram_words.specs.Words.{wide_claims_at, wide_place, wide_word};
 
 use crate::phases::LAST_PHASE;
@@ -38,11 +39,12 @@ pub enum Form {
     /// step has three phases.
     Compact,
     /// On lines of 8 words: the conflict, each inner node and each position on a line of its own,
-    /// what belongs to one processor together on two lines, then the cells and the claims; the
-    /// words between are spare. A leaf stands for a block of so many processors, a power of two up
-    /// to 64; its node lies on the lines of the first. A worker turns by its number's low bits, so
-    /// that workers start far apart and walk towards each other. A step has two phases, numbered as
-    /// the first and the last of three, and no request is written.
+    /// then the leaves' blocks, the cells and the claims; the words between are spare. A leaf
+    /// stands for a block of so many processors, a power of two up to 64, whose words lie
+    /// together: two for each counter, then two for each register 0, then registers 1, 2 and 3,
+    /// then the leaf's node. A worker turns by its number's low bits, so that workers start far
+    /// apart and walk towards each other. A step has two phases, numbered as the first and the
+    /// last of three, and there are no request words.
     Wide(u32),
 }
 
@@ -88,12 +90,13 @@ impl Model for Layout {
     } };
 }
 
-/// Where the words of a processor begin: those of its counter, and those of its registers. A
-/// register has two words, and the next register's follow them.
+/// Where the words of a processor begin: those of its counter, and those of its registers. From one
+/// register's two words to the next one's it is `stride` words.
 #[derive(Clone, Copy, Debug, PartialEq, Eq)]
 pub struct OwnWords {
     pub counter: u32,
     pub registers: u32,
+    pub stride: u32,
 }
 
 impl Layout {
@@ -237,12 +240,12 @@ impl Layout {
         match self.form {
             Form::Compact => n,
             Form::Wide(_) if n < self.leaves => 8 * n,
-            Form::Wide(_) => self.lines(self.grain() * (n - self.leaves)),
+            Form::Wide(grain) => self.block(n - self.leaves) + 10 * grain,
         }
     }
 
     /// The word of part j of the request of processor i: 0 is the data place, 1 the data value, 2
-    /// the next counter.
+    /// the next counter. There is none in the wide form, where the number is 0.
     #[tactic(auto, unfolding(crate::specs::Words::number_of, crate::specs::Words::length_of))]
     pub fn request_word(&self, i: u32, j: u32) -> u32
         requires processor { i < self.now.procs }
@@ -252,7 +255,7 @@ impl Layout {
     {
         match self.form {
             Form::Compact => 2 * self.leaves + 3 * i + j,
-            Form::Wide(_) => self.lines(i) + 1 + j,
+            Form::Wide(_) => 0,
         }
     }
 
@@ -293,12 +296,14 @@ impl Layout {
             Form::Compact => OwnWords {
                 counter: self.first_place() + 2 * (counters_at(self.cells, self.procs) + i),
                 registers: self.first_place() + 2 * register_at(self.cells, i, 0),
+                stride: 2,
             },
-            Form::Wide(_) => {
-                let first = self.lines(i);
+            Form::Wide(grain) => {
+                let counter = self.row(i, 0);
                 OwnWords {
-                    counter: first + 4,
-                    registers: first + 6,
+                    counter,
+                    registers: counter + 2 * grain,
+                    stride: 2 * grain,
                 }
             }
         }
@@ -499,7 +504,7 @@ impl Layout {
     fn wide_word(&self, number: u32) -> Word
         ensures { result ≡ wide_word self.now number }
     {
-        let blocks = self.lines(0);
+        let blocks = self.first_block();
         let cells = self.first_cell();
         let claims = self.wide_first_claim();
         if number < blocks {
@@ -509,7 +514,8 @@ impl Layout {
                 Word::Spare(number)
             }
         } else if number < cells {
-            self.lines_word(number, (number - blocks) / 16, (number - blocks) % 16)
+            let words = block_words(self.grain());
+            self.block_word(number, (number - blocks) / words, (number - blocks) % words)
         } else if number < claims {
             Word::Stored((number - cells) / 2, number % 2)
         } else {
@@ -530,35 +536,42 @@ impl Layout {
         }
     }
 
-    // The first word of processor i's lines.
-    fn first_word(&self, number: u32, i: u32) -> Word
-        requires { i < grain self.now * self.now.leaves }
-        ensures { result ≡ first_word self.now number i }
+    // The word of a number that lies at a slot of a block.
+    fn block_word(&self, number: u32, block: u32, slot: u32) -> Word
+        requires block { block < self.now.leaves }
+        requires slot { slot < block_words (grain self.now) }
+        ensures { result ≡ block_word self.now number block slot }
     {
         let grain = self.grain();
-        if i % grain == 0 {
-            Word::Node(self.leaves + i / grain)
+        if slot == 10 * grain {
+            Word::Node(self.leaves + block)
+        } else {
+            let lane = slot / 2 % grain;
+            self.row_word(number, block * grain + lane, slot / 2 / grain)
+        }
+    }
+
+    // The word of a number that is one of processor i's in a row.
+    fn row_word(&self, number: u32, i: u32, row: u32) -> Word
+        ensures { result ≡ row_word self.now number i row }
+    {
+        if row < 5 && i < self.procs {
+            Word::Stored(self.row_place(i, row), number % 2)
         } else {
             Word::Spare(number)
         }
     }
 
-    // The word of a number that lies at place s of processor i's lines.
-    fn lines_word(&self, number: u32, i: u32, s: u32) -> Word
-        requires lines { i < grain self.now * self.now.leaves }
-        requires place { s < 16 }
-        ensures { result ≡ lines_word self.now number i s }
+    // The place that processor i has in a row.
+    fn row_place(&self, i: u32, row: u32) -> u32
+        requires processor { i < self.now.procs }
+        requires row { row < 5 }
+        ensures { result ≡ row_place self.now i row }
     {
-        if s == 0 {
-            self.first_word(number, i)
-        } else if i < self.procs && s < 4 {
-            Word::Asked(i, s - 1)
-        } else if i < self.procs && s < 6 {
-            Word::Stored(counters_at(self.cells, self.procs) + i, s - 4)
-        } else if i < self.procs && s < 14 {
-            Word::Stored(register_at(self.cells, i, (s - 6) / 2), s % 2)
+        if row == 0 {
+            counters_at(self.cells, self.procs) + i
         } else {
-            Word::Spare(number)
+            register_at(self.cells, i, row - 1)
         }
     }
 
@@ -574,9 +587,9 @@ impl Layout {
             self.first_cell() + 2 * p
         } else if p < counters {
             let register = p - self.cells;
-            self.lines(register / 4) + 6 + 2 * (register % 4)
+            self.row(register / 4, 1 + register % 4)
         } else {
-            self.lines(p - counters) + 4
+            self.row(p - counters, 0)
         }
     }
 
@@ -589,26 +602,46 @@ impl Layout {
         self.form.grain()
     }
 
-    // The first word of processor i's lines in the wide form.
-    fn lines(&self, i: u32) -> u32
-        requires { i ≤ MAX_PROCS }
-        ensures value { result ≡ lines_at self.now i }
-        ensures below { i < self.now.procs → result + 16 ≤ cells_at self.now }
+    // The first word of the blocks, of a block, of processor i in a row, and of a cell, in the wide
+    // form.
+    fn first_block(&self) -> u32
+        ensures value { result ≡ blocks_at self.now }
         ensures limits { IsLayout self.now }
     {
-        8 * (self.leaves + self.workers) + 16 * i
+        8 * (self.leaves + self.workers)
     }
 
-    // The first word of a cell in the wide form.
-    fn first_cell(&self) -> u32
-        ensures value { result ≡ cells_at self.now }
+    fn block(&self, block: u32) -> u32
+        requires { block ≤ self.now.leaves }
+        ensures value { result ≡ block_at self.now block }
+        ensures most { result ≤ 1573376 }
         ensures limits { IsLayout self.now }
     {
-        self.lines(self.grain() * self.leaves)
+        self.first_block() + block * block_words(self.grain())
+    }
+
+    fn row(&self, i: u32, row: u32) -> u32
+        requires processor { i < self.now.procs }
+        requires row { row < 5 }
+        ensures value { result ≡ row_at self.now i row }
+        ensures below { result + 1 < cells_at self.now }
+        ensures limits { IsLayout self.now }
+    {
+        let grain = self.grain();
+        self.block(i / grain) + 2 * (row * grain + i % grain)
+    }
+
+    fn first_cell(&self) -> u32
+        ensures value { result ≡ cells_at self.now }
+        ensures most { result ≤ 1573376 }
+        ensures limits { IsLayout self.now }
+    {
+        self.block(self.leaves)
     }
 
     fn wide_first_claim(&self) -> u32
         ensures value { result ≡ wide_claims_at self.now }
+        ensures most { result ≤ 3670528 }
         ensures limits { IsLayout self.now }
     {
         self.first_cell() + 2 * self.cells
@@ -658,6 +691,15 @@ fn grain_for(procs: u32) -> u32
     ensures grain { IsGrain result }
 {
     leaves(procs.min(64))
+}
+
+// How many words a block has.
+#[inline(always)]
+fn block_words(grain: u32) -> u32
+    requires { grain ≤ 64 }
+    ensures { result ≡ block_words grain }
+{
+    8 * ((10 * grain + 8) / 8)
 }
 
 // Whether the stamp of a value is at most `steps` and its payload at most `most`.

@@ -1,5 +1,5 @@
 -- Processors of a block that do not stand together: each goes on as far as it can.
-use Rattle.std.proofs.Common.{◌≡◌, ◌≢◌, ℕ, zero, suc, ◌+◌, ◌-◌, ◌%◌, ◌<◌, ◌≤◌, true, List}
+use Rattle.std.proofs.Common.{◌≡◌, ◌≢◌, ℕ, zero, suc, ◌+◌, ◌-◌, ◌<◌, ◌≤◌, true, List}
 use Rattle.std.proofs.Common.{length, nat_lt, refl, sym, ap, subst, ◌∙◌}
 use Rattle.std.proofs.Common.{inl, inr, arith}
 use Rattle.std.specs.Prelude.{◌||◌, is_some, nat_le}
@@ -12,10 +12,10 @@ use Rattle.walk_memory.specs.declared.span.Span.{Span}
 use Rattle.walk_memory.specs.Apart.{GetAsFar}
 use Rattle.walk_memory.specs.Lanes.{lane}
 use Rattle.walk_memory.specs.Memory.{goes_alone, goes_on_alone, gone_on, has_stopped}
-use Rattle.walk_memory.specs.Memory.{one_alone}
+use Rattle.walk_memory.specs.Memory.{one_alone, steps_left}
 use Rattle.walk_memory.specs.Blocks.{least_of, block_gone_on, has_rank, processor_at}
 use Rattle.walk_memory.specs.Together.{goes_as_far}
-use Rattle.walk_memory.proofs.AsFar.{not_there}
+use Rattle.walk_memory.proofs.AsFar.{not_due}
 use Rattle.walk_memory.proofs.Ranks.{rank_parts}
 use Rattle.walk_memory.proofs.GoingAlone.{last_stays}
 use Rattle.walk_memory.proofs.Memories.{memo_past, set_past}
@@ -23,23 +23,28 @@ use Rattle.walk_memory.proofs.Memories.{memo_past, set_past}
 -- ---- one processor that has gone on as far as it can stays
 
 module _ (job : JobData) (i : ℕ) where
-  stays : (n : ℕ) (memo : Memo) → 64 ≤ memo.step % 64 + n →
+  stays : (n : ℕ) (memo : Memo) → n ≡ suc (steps_left memo) →
       gone_on job i (goes_on_alone n job i memo) ≡ goes_on_alone n job i memo
   unfolding goes_on_alone
   stays zero memo few = absurd (omega (arith, few))
   stays (suc n) memo few = elim (cases_Bool (is_some memo.store || nat_le job.steps memo.step)) [
     | inl e ↦ rw e (rw e refl)
     | inr e ↦ elim (cases_Bool (has_stopped job memo.own)) [
-      | inl s ↦ rw (s, e) (last_stays job i (record memo { step = job.steps }) 64 (omega arith))
+      | inl s ↦ rw (s, e) (last_stays job i (record memo { step = job.steps })
+          (suc (memo.settled + 64 - job.steps)) (omega arith))
       | inr s ↦ elim (cases_Bool (goes_alone job i memo)) [
-        | inl g ↦ rw (g, s, e) (stays n (one_alone job i memo) (omega (arith, few, not_there job i memo s g)))
+        | inl g ↦ rw (g, s, e) (stays n (one_alone job i memo) (omega (
+          arith,
+          few,
+          not_due job i memo s g,
+        )))
         | inr g ↦ rw (g, s, e) (rw (g, s, e) refl)
       ]
     ]
   ]
 
   pub gone_stays : (memo : Memo) → gone_on job i (gone_on job i memo) ≡ gone_on job i memo
-  gone_stays memo = stays 64 memo (omega arith)
+  gone_stays memo = stays (suc (steps_left memo)) memo refl
 
 module _ (job : JobData) (i : ℕ) (before after : Memo) (is : after ≡ gone_on job i before) where
   pub went_far : goes_as_far job i before after

@@ -39,6 +39,7 @@ unfolding settled_at
 start_true job limits i below = record {
   step = omega arith;
   own = own_start job i limits below;
+  settled = refl;
   told = own_start job i limits below;
   store = λ write some. absurd (none-some write some);
   idle = λ t kind after upto. absurd (omega (arith, after, upto));

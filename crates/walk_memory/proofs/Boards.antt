@@ -1,13 +1,17 @@
 -- A job's board: words and what they may have.
-use Rattle.std.proofs.Common.{◌≡◌, ℕ, ◌+◌, ◌-◌, ◌*◌, ◌^◌, ◌<◌, ◌≤◌, Bool, true, false, IsTrue}
+use Rattle.std.proofs.Common.{◌≡◌, ℕ, ◌+◌, ◌-◌, ◌*◌, ◌%◌, ◌^◌, ◌<◌, ◌≤◌, Bool, true, false, IsTrue}
 use Rattle.std.proofs.Common.{if◌then◌else◌, Option, Some, None, ap, refl, sym, inl, inr, lit<, suc}
 use Rattle.std.proofs.Common.{subst, ◌∙◌, arith}
+use Rattle.std.proofs.lemmas.Nat.{mod-mul-add}
+use Rattle.std.proofs.Math.Nat.{le_refl, mul_comm}
 use Rattle.pram_job.specs.Job.{JobData}
 use Rattle.pram_machine.specs.declared.requests.Request.{Request}
 use Rattle.pram_machine.specs.Instructions.{HasShape, place_part}
 use Rattle.pram_job.specs.Places.{register_at}
 use Rattle.pram_machine.specs.Machine.{IsDataPlace, counter_place, register_place}
 use Rattle.pram_words.proofs.Numbering.{ranges, numbering, cases_form, form_wide, own_wide}
+use Rattle.pram_words.proofs.Numbering.{grain_some}
+use Rattle.pram_words.proofs.Rows.{blocks_most, row_later}
 use Rattle.pram_words.specs.declared.words.Word.{Word}
 use Rattle.pram_words.specs.declared.words.Word.TheVariants.{Conflict, Node, Asked, Position}
 use Rattle.pram_words.specs.declared.words.Word.TheVariants.{Stored}
@@ -17,7 +21,7 @@ use Rattle.pram_words.specs.declared.phases.Kind.{Kind}
 use Rattle.pram_words.specs.Stamps.{stamped_word, payload_of}
 use Rattle.pram_words.specs.Words.{LayoutData, IsLayout, IsWord, IsInRange, IsStamped, Admits}
 use Rattle.pram_words.specs.Words.{number_of, length_of, claims_at, wide_claims_at, most_asked}
-use Rattle.pram_words.specs.Words.{AreOwn, counters_of, lines_at, places_of}
+use Rattle.pram_words.specs.Words.{AreOwn, counters_of, grain, row_at, places_of}
 use Rattle.pram_words.specs.declared.layout.Form.{Form}
 use Rattle.pram_words.specs.declared.layout.Form.TheVariants.{Compact, Wide}
 use Rattle.walk_memory.specs.Inner.Posts.{IsLeafOf, IsLeafPost, IsPairAt, PostData, at_rank}
@@ -67,10 +71,11 @@ position_most job y w n board worker admitted =
     (in_range job y (Position w) n board worker admitted).1
 
 -- what a request word holds
-pub asked_part : (job : JobData) (y : LayoutData) (i j a : ℕ) → IsBoard job y → i < y.procs →
-    j < 3 → Admits y job (number_of y (Asked i j)) a → payload_of a ≤ most_asked y job j
-asked_part job y i j a board processor part admitted =
-    (in_range job y (Asked i j) a board (processor, part) admitted).1
+pub asked_part : (job : JobData) (y : LayoutData) (i j a : ℕ) → IsBoard job y →
+    y.form ≡ Compact → i < y.procs → j < 3 → Admits y job (number_of y (Asked i j)) a →
+    payload_of a ≤ most_asked y job j
+asked_part job y i j a board compact processor part admitted =
+    (in_range job y (Asked i j) a board (compact, processor, part) admitted).1
 
 -- a stamped word
 pub stamps : (steps most t v : ℕ) → t ≤ steps → v ≤ most → v < 2 ^ 32 →
@@ -95,7 +100,11 @@ length_small y limits = elim (cases_form y.form) [
   | inl e ↦ rw e (by_claims y.claims (claims_at y)
       (omega (arith, limits.leaves, limits.cells, limits.procs, limits.workers)))
   | inr e ↦ rw (form_wide y.form e.0 (claims_at y) (wide_claims_at y) e.1) (by_claims y.claims
-      (wide_claims_at y) (omega (arith, limits.leaves, limits.room, limits.cells, limits.workers)))
+      (wide_claims_at y) (omega (
+        arith,
+        limits.cells,
+        blocks_most y y.leaves limits (grain_some y limits) (le_refl y.leaves),
+      )))
 ]
   where
     by_claims : (b : Bool) (n : ℕ) → n ≤ 4000000 → n + (if b then y.cells else 0) < 2 ^ 32
@@ -134,14 +143,16 @@ module _ (at : PostData) (t : ℕ) (kind : Kind) (i : ℕ) (own : OwnWords) (fir
       (omega (arith, is.processor, is.leaf.last)) (sym is.own.counter))
 
   pub own_register : (r : ℕ) → r < 4 →
-      IsPairAt at.layout (register_place at.job (processor_of at) r) (own.registers + 2 * r)
+      IsPairAt at.layout (register_place at.job (processor_of at) r)
+      (own.registers + own.stride * r)
   own_register r register =
       let place : register_place at.job (processor_of at) r ≡ register_at at.layout.cells i r =
       omega (arith, same_cells at.job at.layout board, is.processor) in
-      rw place (pair_at at.job at.layout (register_at at.layout.cells i r) (own.registers + 2 * r)
-      board (omega (arith, is.processor, is.leaf.last)) (sym (is.own.register r register)))
+      rw place (pair_at at.job at.layout (register_at at.layout.cells i r)
+      (own.registers + own.stride * r) board (omega (arith, is.processor, is.leaf.last))
+      (sym (is.own.register r register)))
 
-  pub own_small : (r : ℕ) → r < 4 → own.registers + 2 * r < 2 ^ 32
+  pub own_small : (r : ℕ) → r < 4 → own.registers + own.stride * r < 2 ^ 32
   own_small r register = omega (arith, (own_register r register).below)
 
   pub own_cell : (cell : ℕ) → cell < at.job.cells → IsPairAt at.layout cell (first + 2 * cell)
@@ -153,34 +164,23 @@ module _ (at : PostData) (t : ℕ) (kind : Kind) (i : ℕ) (own : OwnWords) (fir
   pub cell_small : (cell : ℕ) → cell < at.job.cells → first + 2 * cell < 2 ^ 32
   cell_small cell below = omega (arith, (own_cell cell below).below)
 
--- in the wide form the words of the next processor lie two lines further
-own_next : (y : LayoutData) (g i : ℕ) (own : OwnWords) → y.form ≡ Wide g → suc i < y.procs →
-    AreOwn y i own →
-    AreOwn y (suc i) (record { counter = own.counter + 16; registers = own.registers + 16 })
-own_next y g i own form below is =
-    let here = own_wide y g i (lines_at y i) form (omega (arith, below)) refl in
-    let there = own_wide y g (suc i) (lines_at y (suc i)) form below refl in
-    let counter = sym is.counter ∙ here.counter in
-    let registers = sym (is.register 0 (lit< tt)) ∙ here.register 0 (lit< tt) in
-    record {
-      counter = there.counter ∙ omega (arith, counter);
-      register = λ r register. there.register r register ∙ omega (arith, registers);
-    }
-
+-- in the wide form the words of a later processor of the block lie two words a processor further
 own_later : (y : LayoutData) (g i more : ℕ) (own : OwnWords) → y.form ≡ Wide g →
-    i + more < y.procs → AreOwn y i own →
+    i % grain y + more < grain y → i + more < y.procs → AreOwn y i own →
     AreOwn y (i + more) (record {
-      counter = own.counter + 16 * more;
-      registers = own.registers + 16 * more;
+      counter = own.counter + 2 * more;
+      registers = own.registers + 2 * more;
+      stride = own.stride;
     })
-own_later y g i more own form below is =
-    let here = own_wide y g i (lines_at y i) form (omega (arith, below)) refl in
-    let there = own_wide y g (i + more) (lines_at y (i + more)) form below refl in
+own_later y g i more own form room below is =
+    let here = own_wide y g i (row_at y i 0) form (omega (arith, below)) refl in
+    let there = own_wide y g (i + more) (row_at y (i + more) 0) form below refl in
+    let further = row_later y i more 0 room in
     let counter = sym is.counter ∙ here.counter in
-    let registers = sym (is.register 0 (lit< tt)) ∙ here.register 0 (lit< tt) in
     record {
-      counter = there.counter ∙ omega (arith, counter);
-      register = λ r register. there.register r register ∙ omega (arith, registers);
+      counter = there.counter ∙ omega (arith, further, counter);
+      register = λ r register. let same = sym (is.register r register) ∙ here.register r register in
+          there.register r register ∙ omega (arith, further, same);
     }
 
 -- the leaf at a later processor
@@ -188,8 +188,9 @@ pub later_leaf : (at : PostData) (t : ℕ) (kind : Kind) (i : ℕ) (own : OwnWor
     IsWide at.layout.form → IsLeafOf at t kind i own first →
     IsLeafPost (at_rank at (at.rank + more)) →
     IsLeafOf (at_rank at (at.rank + more)) t kind (i + more) (record {
-      counter = own.counter + 16 * more;
-      registers = own.registers + 16 * more;
+      counter = own.counter + 2 * more;
+      registers = own.registers + 2 * more;
+      stride = own.stride;
     }) first
 later_leaf at t kind i own first more wide is later = record {
   leaf = later;
@@ -200,27 +201,40 @@ later_leaf at t kind i own first more wide is later = record {
   cells = is.cells;
 }
   where
+    rank : i % grain at.layout ≡ at.rank
+    rank =
+        let g = grain at.layout in
+        let b = at.node - at.layout.leaves in
+        let split : i ≡ b * g + at.rank = omega (arith, is.processor, mul_comm g b) in
+        ap (λ n. n % g) split ∙ mod-mul-add b g at.rank is.leaf.rank
+
     by_wide : (form : Form) → IsWide form → at.layout.form ≡ form → AreOwn at.layout (i + more)
-        (record { counter = own.counter + 16 * more; registers = own.registers + 16 * more })
+        (record {
+          counter = own.counter + 2 * more;
+          registers = own.registers + 2 * more;
+          stride = own.stride;
+        })
     by_wide Compact wide e = absurd wide
-    by_wide (Wide g) wide e =
-        own_later at.layout g i more own e (omega (arith, is.processor, later.last)) is.own
+    by_wide (Wide g) wide e = own_later at.layout g i more own e
+        (omega (arith, rank, later.rank)) (omega (arith, is.processor, later.last)) is.own
 
 -- the one after that of a rank
 pub after_leaf : (at : PostData) (t : ℕ) (kind : Kind) (i : ℕ) (own : OwnWords) (first rank : ℕ) →
     IsWide at.layout.form → IsLeafOf at t kind i own first → at.rank ≤ rank →
     IsLeafPost (at_rank at (suc rank)) →
     IsLeafOf (at_rank at (rank + 1)) t kind (i + (rank - at.rank + 1)) (record {
-      counter = own.counter + 16 * (rank - at.rank + 1);
-      registers = own.registers + 16 * (rank - at.rank + 1);
+      counter = own.counter + 2 * (rank - at.rank + 1);
+      registers = own.registers + 2 * (rank - at.rank + 1);
+      stride = own.stride;
     }) first
 after_leaf at t kind i own first rank wide is low leaf =
     let more = rank - at.rank + 1 in
     let to : suc rank ≡ at.rank + more = omega (arith, low) in
     let from : at.rank + more ≡ rank + 1 = omega (arith, low) in
     subst (λ (r : ℕ). IsLeafOf (at_rank at r) t kind (i + more) (record {
-      counter = own.counter + 16 * more;
-      registers = own.registers + 16 * more;
+      counter = own.counter + 2 * more;
+      registers = own.registers + 2 * more;
+      stride = own.stride;
     }) first) from (later_leaf at t kind i own first more wide is
     (subst (λ (r : ℕ). IsLeafPost (at_rank at r)) to leaf))
 
@@ -229,25 +243,11 @@ pub next_leaf : (at : PostData) (t : ℕ) (kind : Kind) (i : ℕ) (own : OwnWord
     IsWide at.layout.form → IsLeafOf at t kind i own first →
     IsLeafPost (at_rank at (suc at.rank)) →
     IsLeafOf (at_rank at (at.rank + 1)) t kind (i + 1)
-    (record { counter = own.counter + 16; registers = own.registers + 16 }) first
+    (record { counter = own.counter + 2; registers = own.registers + 2; stride = own.stride }) first
 next_leaf at t kind i own first wide is next =
-    let same : suc i ≡ i + 1 = omega arith in
-    let further = by_wide at.layout.form wide refl in
-    let rank : suc at.rank ≡ at.rank + 1 = omega arith in record {
-      leaf = subst (λ (rank : ℕ). IsLeafPost (at_rank at rank)) rank next;
-      step = is.step;
-      does = is.does;
-      processor = omega (arith, is.processor);
-      own = subst (λ (k : ℕ). AreOwn at.layout k
-          (record { counter = own.counter + 16; registers = own.registers + 16 })) same further;
-      cells = is.cells;
-    }
-  where
-    by_wide : (form : Form) → IsWide form → at.layout.form ≡ form → AreOwn at.layout (suc i)
-        (record { counter = own.counter + 16; registers = own.registers + 16 })
-    by_wide Compact wide e = absurd wide
-    by_wide (Wide g) wide e =
-        own_next at.layout g i own e (omega (arith, is.processor, next.last)) is.own
+    let rank : suc at.rank ≡ at.rank + 1 = omega arith in
+    later_leaf at t kind i own first 1 wide is
+    (subst (λ (rank : ℕ). IsLeafPost (at_rank at rank)) rank next)
 
 -- where a request's data goes, plus 1
 pub place_shape : (job : JobData) (i : ℕ) (r : Request) → i < job.procs → HasShape job i r →

@@ -1,15 +1,15 @@
 -- A processor that goes on alone.
-use Rattle.std.proofs.Common.{◌≡◌, ℕ, zero, suc, ◌+◌, ◌%◌, ◌<◌, ◌≤◌, ◌==◌, ◌&&◌, Bool, true, false}
-use Rattle.std.proofs.Common.{not, length, slice_get, Some, None, refl, sym, ◌∙◌, arith}
+use Rattle.std.proofs.Common.{◌≡◌, ℕ, zero, suc, ◌+◌, ◌<◌, ◌≤◌, ◌&&◌, Bool, true, false}
+use Rattle.std.proofs.Common.{not, length, slice_get, Some, None, refl, sym, ap, ◌∙◌, arith}
 use Rattle.std.specs.Prelude.{◌||◌, is_some, is_none, if◌then◌else◌}
-use Rattle.std.proofs.lemmas.Bool.{eq-eqb, le-leb, lt-leb, ne_eqb}
+use Rattle.std.proofs.lemmas.Bool.{le-leb, lt-leb}
 use Rattle.std.proofs.lemmas.Option.{slice_get_within}
 use Rattle.pram_job.specs.declared.instr.Instr.{Instr}
 use Rattle.pram_job.specs.Job.{JobData}
 use Rattle.pram_machine.specs.declared.requests.Request.{Request}
 use Rattle.walk_memory.specs.declared.memo.Memo.{Memo}
 use Rattle.walk_memory.specs.declared.memo.Own.{Own}
-use Rattle.walk_memory.specs.Memory.{asked_by, goes_alone, goes_on_alone, has_stopped, is_common}
+use Rattle.walk_memory.specs.Memory.{asked_by, goes_alone, goes_on_alone, has_stopped, is_common, is_due}
 use Rattle.walk_memory.specs.Memory.{is_load, one_alone, own_after, own_alone, settles_in}
 use Rattle.walk_memory.specs.OwnWrites.{cell_write}
 use Rattle.walk_memory.proofs.Halted.{past_end}
@@ -20,8 +20,9 @@ module _ (job : JobData) (own : Own) (instr : Instr)
   pub still_goes : has_stopped job own ≡ false
   still_goes = lt-leb (length job.code) own.counter (slice_get_within job.code own.counter instr some)
 
-  pub settles_by : (t : ℕ) → settles_in job t own ≡ (is_load (Some instr) || (t % 64 == 0))
-  settles_by t = rw (some, still_goes) (all_and (is_load (Some instr)) (t % 64 == 0))
+  pub settles_by : (t since : ℕ) →
+      settles_in job t since own ≡ (is_load (Some instr) || is_due since t)
+  settles_by t since = rw (some, still_goes) (all_and (is_load (Some instr)) (is_due since t))
     where
       all_and : (a b : Bool) → (a || (b && not false)) ≡ (a || b)
       all_and true b = refl
@@ -34,24 +35,27 @@ module _ (job : JobData) (i : ℕ) (memo : Memo) (instr : Instr)
   no_store = is_common job.rule || is_none (cell_write job (asked_by job i memo.own (Some instr) 0).put)
 
   pub goes_by : goes_alone job i memo
-      ≡ (not (is_load (Some instr) || (suc memo.step % 64 == 0)) && no_store)
-  goes_by = rw (settles_by job memo.own instr some (suc memo.step), some) refl
+      ≡ (not (is_load (Some instr) || is_due memo.settled (suc memo.step)) && no_store)
+  goes_by = rw (settles_by job memo.own instr some (suc memo.step) memo.settled, some) refl
 
   pub stays_load : is_load (Some instr) ≡ true → false ≡ goes_alone job i memo
   stays_load e = sym (goes_by ∙ rw e refl)
 
-  pub stays_at : (memo.step + 1) % 64 ≡ 0 → false ≡ goes_alone job i memo
-  stays_at e = sym (goes_by ∙ rw (eq-eqb (suc memo.step % 64) 0 (omega (arith, e)))
-      (none_left (is_load (Some instr)) no_store))
+  due_next : is_due memo.settled (suc memo.step) ≡ is_due memo.settled (memo.step + 1)
+  due_next =
+      let next : suc memo.step ≡ memo.step + 1 = omega arith in
+      ap (λ (t : ℕ). is_due memo.settled t) next
+
+  pub stays_at : is_due memo.settled (memo.step + 1) ≡ true → false ≡ goes_alone job i memo
+  stays_at e = sym (goes_by ∙ rw (due_next ∙ e) (none_left (is_load (Some instr)) no_store))
     where
       none_left : (a b : Bool) → (not (a || true) && b) ≡ false
       none_left true b = refl
       none_left false b = refl
 
-  pub goes_if : ((memo.step + 1) % 64 ≡ 0 → ⊥) → is_load (Some instr) ≡ false → (b : Bool) →
+  pub goes_if : is_due memo.settled (memo.step + 1) ≡ false → is_load (Some instr) ≡ false → (b : Bool) →
       no_store ≡ b → b ≡ goes_alone job i memo
-  goes_if other load b is = sym (goes_by
-      ∙ rw (ne_eqb (suc memo.step % 64) 0 (λ e. other (omega (arith, e))), load) is)
+  goes_if other load b is = sym (goes_by ∙ rw (due_next ∙ other, load) is)
 
 -- it has stopped
 module _ (job : JobData) (own : Own) (none : slice_get job.code own.counter ≡ None) where

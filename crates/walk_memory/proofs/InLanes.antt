@@ -1,5 +1,5 @@
 -- A step alone of processors whose registers are side by side, lane by lane.
-use Rattle.std.proofs.Common.{◌≡◌, ℕ, zero, suc, ◌+◌, ◌-◌, ◌%◌, ◌<◌, ◌≤◌, ◌==◌, true, false, List}
+use Rattle.std.proofs.Common.{◌≡◌, ℕ, zero, suc, ◌+◌, ◌-◌, ◌<◌, ◌≤◌, ◌==◌, true, false, List}
 use Rattle.std.proofs.Common.{[], ◌∷◌, map, get_or, set, slice_get, Option, Some, None, refl, sym}
 use Rattle.std.proofs.Common.{ap, ◌∙◌, inl, inr, arith}
 use Rattle.std.specs.Prelude.{◌*◌, ◌||◌, if◌then◌else◌, is_none, is_some, IfSome, IsSome}
@@ -29,11 +29,12 @@ use Rattle.walk_memory.specs.declared.block.Block.{Block}
 use Rattle.walk_memory.specs.declared.memo.Memo.{Memo}
 use Rattle.walk_memory.specs.declared.memo.Own.{Own}
 use Rattle.walk_memory.specs.declared.span.Span.{Span}
-use Rattle.walk_memory.specs.Memory.{asked_by, goes_alone, gone_on, is_common, is_load, one_alone}
+use Rattle.walk_memory.specs.Memory.{asked_by, goes_alone, gone_on, is_common, is_due, is_load, one_alone}
 use Rattle.walk_memory.specs.Memory.{own_after, registers_after}
 use Rattle.walk_memory.specs.OwnWrites.{cell_write}
 use Rattle.walk_memory.specs.AsOne.{Stands}
 use Rattle.walk_memory.specs.Lanes.{entries, lane}
+use Rattle.walk_memory.specs.Standing.{StandThere}
 use Rattle.walk_memory.specs.Rows.{AllGo, AllGoBy, AllRest, AreSame, FarIn, GoesBy, Puts, SameLane}
 use Rattle.walk_memory.specs.Rows.{Stores, Written, divides, held_in, lane_as, own_of, reach_at}
 use Rattle.walk_memory.specs.Rows.{store_of}
@@ -228,19 +229,21 @@ module _ (job : JobData) (i counter : ℕ) (registers : List ℕ) (instr : Instr
 -- ---- all go on
 
 -- only registers are written
-pub unwritten : (block : Block) (registers : List (List ℕ)) →
-    AreSame block (record block { registers = registers })
-unwritten block registers = record {
+pub unwritten : (block : Block) (registers : List (List ℕ)) (stand : StandThere block.standing
+    block.acted block.step block.settled block.counter block.stored) →
+    AreSame block (record block { registers = registers; stand = stand })
+unwritten block registers stand = record {
   acted = refl;
   step = refl;
   counter = refl;
+  settled = refl;
   told_counter = refl;
   told = refl;
   stored = refl;
 }
 
 module _ (job : JobData) (lanes : Span) (instr : Instr) (at next : Together) (old new : Block)
-    (step : next.step ≡ suc at.step) where
+    (step : next.step ≡ suc at.step) (settled : next.settled ≡ at.settled) where
   -- a register of each is written
   pub all_give : (r : ℕ) (value : ℕ → ℕ) → next.counter ≡ at.counter + 1 → next.stored ≡ false →
       Puts lanes.start lanes.end r value old.registers new.registers → AreSame old new →
@@ -250,6 +253,7 @@ module _ (job : JobData) (lanes : Span) (instr : Instr) (at next : Together) (ol
       AllGoBy job lanes instr at next old new
   all_give r value counter none puts is cells values asks = record {
     step = step;
+    settled = settled;
     same = is;
     there = λ k from to. rw (counter, none) (gives_goes job (lanes.first + k) at.counter
         (entries old.registers k) instr r (value k) (entries new.registers k) (asks k from to)
@@ -271,10 +275,12 @@ module _ (job : JobData) (lanes : Span) (instr : Instr) (at next : Together) (ol
       AllGoBy job lanes instr at next old new
   all_jump none is asks = rw is (record {
     step = step;
+    settled = settled;
     same = record {
       acted = refl;
       step = refl;
       counter = refl;
+      settled = refl;
       told_counter = refl;
       told = refl;
       stored = refl;
@@ -290,6 +296,7 @@ module _ (job : JobData) (lanes : Span) (instr : Instr) (at next : Together) (ol
       next.stored ≡ true → Stores job lanes place b old new → AllGoBy job lanes instr at next old new
   all_store place b is counter some stores = record {
     step = step;
+    settled = settled;
     same = stores.same;
     there = λ k from to. rw (counter, some, stores.registers) (stores_goes job (lanes.first + k)
         at.counter (entries old.registers k) instr (slice_index new.cell k) (slice_index new.value k)
@@ -324,7 +331,7 @@ module _ (job : JobData) (i : ℕ) (memo : Memo) (instr : Instr)
   lane_alone = rw (goes.own, goes.writes, some) refl
 
   -- and could go so
-  pub lane_goes : is_load (Some instr) ≡ false → ((memo.step + 1) % 64 ≡ 0 → ⊥) →
+  pub lane_goes : is_load (Some instr) ≡ false → is_due memo.settled (memo.step + 1) ≡ false →
       goes_alone job i memo ≡ true
   lane_goes other step = sym (goes_if job i memo instr some step other true
       (ap (λ (w : Option (ℕ × ℕ)). is_common job.rule || is_none w) (sym goes.writes) ∙ goes.unclaimed))
@@ -343,6 +350,7 @@ module _ (old new : Block) (same : AreSame old new) (k : ℕ) where
   lane_same here = rw (
     same.acted,
     same.step,
+    same.settled,
     same.counter,
     same.told_counter,
     same.told,
@@ -353,20 +361,21 @@ module _ (old new : Block) (same : AreSame old new) (k : ℕ) where
   ) refl
 
   -- a lane that goes on
-  pub lane_next : (at next : Together) → next.step ≡ suc at.step → lane_as next new k
+  pub lane_next : (at next : Together) → next.step ≡ suc at.step → next.settled ≡ at.settled →
+      lane_as next new k
       ≡ record (lane_as at old k) {
         step = suc at.step;
         own = own_of next.counter new k;
         store = store_of next.stored new k;
       }
-  lane_next at next step = rw (acted_is, told_is, step) refl
+  lane_next at next step settled = rw (acted_is, told_is, step, settled) refl
 
 pub all_go : (job : JobData) (lanes : Span) (instr : Instr) (at next : Together) (old new : Block) →
-    Stands job at instr → is_load (Some instr) ≡ false → ((at.step + 1) % 64 ≡ 0 → ⊥) →
+    Stands job at instr → is_load (Some instr) ≡ false → is_due at.settled (at.step + 1) ≡ false →
     AllGoBy job lanes instr at next old new → AllGo job lanes at next old new
 all_go job lanes instr at next old new stand load settles goes = record {
   step = goes.step;
-  one = λ k from to. lane_next old new goes.same k at next goes.step
+  one = λ k from to. lane_next old new goes.same k at next goes.step goes.settled
       ∙ sym (lane_alone job (lanes.first + k) (lane_as at old k) instr stand.0
       (own_of next.counter new k) (store_of next.stored new k) (goes.there k from to));
   alone = λ k from to. lane_goes job (lanes.first + k) (lane_as at old k) instr stand.0
@@ -445,7 +454,8 @@ reach_most at steps low = elim (cases_Bool at.stored) [
 pub stored_rest : (job : JobData) (lanes : Span) (at : Together) (block : Block) →
     at.step ≤ job.steps → at.stored ≡ true → AllRest job lanes at block
 stored_rest job lanes at block low stored = record {
-  there = λ k from to. stored_stays job (lanes.first + k) (lane_as at block k) 64 (rw stored refl);
+  there = λ k from to. stored_stays job (lanes.first + k) (lane_as at block k)
+      (suc (at.settled + 64 - at.step)) (rw stored refl);
   last = low;
 }
 

@@ -7,25 +7,31 @@ use Rattle.std.specs.Slice.{IsItemAt}
 use Rattle.std.proofs.Math.ListN.{length-set}
 use Rattle.std.proofs.lemmas.Bool.{cases_lt}
 use Rattle.std.proofs.lemmas.Option.{slice_get-get_or, slice_get_past}
+use Rattle.walk_memory.specs.declared.as_one.Standing.{Standing}
 use Rattle.walk_memory.specs.declared.block.Block.{Block}
 use Rattle.walk_memory.specs.declared.memo.Memo.{Memo}
 use Rattle.walk_memory.specs.Lanes.{lane, lane_at, lane_in, memos_from, memos_of}
 use Rattle.walk_memory.specs.Memory.{at_start, blank, memo_of}
+use Rattle.walk_memory.specs.Standing.{StandThere}
 use Rattle.walk_memory.proofs.Memories.{set_past}
 
 -- ---- a block before the first step
 
-abbrev pub block_at_start : ℕ → Block
-block_at_start n = record {
+abbrev pub block_at_start : (n : ℕ) (standing : Standing) → StandThere standing (replicate n 0)
+    (replicate n 0) (replicate n 0) (replicate n 0) (replicate n false) → Block
+block_at_start n standing stand = record {
   acted = replicate n 0;
   step = replicate n 0;
   counter = replicate n 0;
   registers = replicate n 0 ∷ replicate n 0 ∷ replicate n 0 ∷ replicate n 0 ∷ [];
+  settled = replicate n 0;
   told_counter = replicate n 0;
   told = replicate n 0 ∷ replicate n 0 ∷ replicate n 0 ∷ replicate n 0 ∷ [];
   stored = replicate n false;
   cell = replicate n 0;
   value = replicate n 0;
+  standing = standing;
+  stand = stand;
 }
 
 zero_there : (n k : ℕ) → slice_index (replicate n 0) k ≡ 0
@@ -38,8 +44,10 @@ false_there zero k = refl
 false_there (suc n) zero = refl
 false_there (suc n) (suc k) = false_there n k
 
-pub start_lane : (n k : ℕ) → lane (block_at_start n) k ≡ at_start
-start_lane n k = rw (zero_there n k, false_there n k) refl
+pub start_lane : (n k : ℕ) (standing : Standing) (stand : StandThere standing (replicate n 0)
+    (replicate n 0) (replicate n 0) (replicate n 0) (replicate n false)) →
+    lane (block_at_start n standing stand) k ≡ at_start
+start_lane n k standing stand = rw (zero_there n k, false_there n k) refl
 
 -- ---- what is known of a processor
 

@@ -4,6 +4,7 @@ pub mod AsOne
 pub mod Beginnings
 pub mod Blocks
 pub mod Boards
+pub mod Carrying
 pub mod Cells
 pub mod ClaimWords
 pub mod GoingAlone
@@ -21,5 +22,6 @@ pub mod Ranks
 pub mod RowGone
 pub mod Shaped
 pub mod Storing
+pub mod Taken
 pub mod Timing
 pub mod Ways

@@ -18,7 +18,7 @@ use Rattle.walk_memory.specs.declared.memo.Own.{Own}
 use Rattle.walk_memory.specs.Memory.{FitsMemo, FitsMemory, FitsOwn, asked, asked_by, at_start}
 use Rattle.walk_memory.specs.Memory.{goes_alone, goes_on_alone, gone_on, has_stopped, has_store}
 use Rattle.walk_memory.specs.Memory.{memo_of, one_alone, own_after, own_alone, own_at_start}
-use Rattle.walk_memory.specs.Memory.{registers_after, settles_in}
+use Rattle.walk_memory.specs.Memory.{registers_after, settles_in, steps_left}
 use Rattle.walk_memory.specs.OwnWrites.{cell_write}
 use Rattle.walk_memory.specs.Learned.{carried, loaded_memo, memo_after, newest_of, told_by}
 use Rattle.walk_memory.specs.Blocks.{IsBoard, block_gone_on, has_rank, processor_at}
@@ -111,7 +111,7 @@ pub after_fits : (job : JobData) (t i : ℕ) (memo : Memo) (request : Request) �
 after_fits job t i memo request fits shape last = record {
   step = last;
   own = own_fits job i memo.own request fits.own shape;
-  told = cond_both (settles_in job t memo.own) (own_after job i memo.own request) memo.told
+  told = cond_both (settles_in job t memo.settled memo.own) (own_after job i memo.own request) memo.told
       (FitsOwn job) (λ e. own_fits job i memo.own request fits.own shape) (λ e. fits.told);
   store = store_fits job i request shape;
 }
@@ -200,7 +200,7 @@ module _ (job : JobData) (i : ℕ) (is_job : IsJob job) (low : i < 2 ^ 32) where
       ends_there false last e = absurd (let f = rw (le-leb job.steps memo.step last) at e in cc)
 
   pub gone_fits : (memo : Memo) → FitsMemo job memo → FitsMemo job (gone_on job i memo)
-  gone_fits memo fits = goes_fit 64 memo fits
+  gone_fits memo fits = goes_fit (suc (steps_left memo)) memo fits
 
 -- ---- of each processor
 

@@ -19,7 +19,7 @@ use Rattle.walk_memory.specs.declared.memo.Own.{Own}
 use Rattle.walk_memory.specs.Memory.{FitsMemo, FitsOwn, asked, asked_by, at_start, cell_named}
 use Rattle.walk_memory.specs.Memory.{cell_next, goes_alone, goes_on_alone, gone_on, has_stopped}
 use Rattle.walk_memory.specs.Memory.{has_store, one_alone, own_after, own_alone, own_at_start}
-use Rattle.walk_memory.specs.Memory.{registers_after, settles_in}
+use Rattle.walk_memory.specs.Memory.{registers_after, settles_in, steps_left}
 use Rattle.walk_memory.specs.OwnWrites.{cell_write}
 use Rattle.walk_memory.specs.Learned.{carried, loaded_memo, memo_after, newest_of, told_by}
 
@@ -166,7 +166,7 @@ after_fits job t i known request time fits shape =
     record {
       step = time;
       own = own;
-      told = cond_both (settles_in job t known.own) _ _ (FitsOwn job) (λ e. own)
+      told = cond_both (settles_in job t known.settled known.own) _ _ (FitsOwn job) (λ e. own)
           (λ e. fits.told);
       store = store_fits job i request shape;
     }
@@ -216,7 +216,7 @@ module _ (job : JobData) (i : ℕ) (limits : IsJob job) (below : i < job.procs) 
       (second_false (is_some memo.store) (nat_le job.steps memo.step) e)) fits)) (λ g. fits)))
 
   pub gone_on_fits : (memo : Memo) → FitsMemo job memo → FitsMemo job (gone_on job i memo)
-  gone_on_fits memo fits = goes_on_fits 64 memo fits
+  gone_on_fits memo fits = goes_on_fits (suc (steps_left memo)) memo fits
 
   -- what its words tell, and what is then known of it
   pub loaded_fits : (t c a b d e : ℕ) → t ≤ job.steps → payload_of c ≤ out_of_range job →

@@ -13,7 +13,7 @@ use Rattle.walk_memory.specs.Memory.{FitsMemo, at_start, memo_of}
 use Rattle.walk_memory.specs.Plain.{AllStore, HasStore}
 use Rattle.walk_memory.specs.Rows.{AllIn}
 use Rattle.walk_memory.proofs.Lanes.{memo_of_all, set_all}
-use Rattle.walk_memory.proofs.Memories.{memo_other}
+use Rattle.walk_memory.proofs.Memories.{memo_other, memo_past}
 
 -- the store of a lane is its cell and its value
 abbrev write_in : Block → ℕ → ℕ × ℕ
@@ -75,3 +75,9 @@ all_stores at len memory block first start end begin row second length_is most h
     let has = all k low high in
     subst (λ (o : Option Memo). HasStore (at_rank at rank) (unwrap_or o at_start)) (sym there)
     (record { second = second; step = has.0; some = has.1 })
+
+-- where nothing is remembered, no store is
+pub no_store : (at : PostData) (memory : List Memo) → length memory ≤ processor_of at →
+    HasStore at (memo_of memory (processor_of at)) → ⊥
+no_store at memory past has =
+    let none = rw (memo_past memory (processor_of at) past) at has.some in absurd (cc)

@@ -21,7 +21,7 @@ use Rattle.walk_memory.proofs.Lanes.{get_other, get_same, length_all, memo_of_al
 use Rattle.walk_memory.proofs.Memories.{memo_other, memo_past}
 
 -- two memories of one length that know the same of each
-same_memories : (xs ys : List Memo) → length xs ≡ length ys →
+pub same_memories : (xs ys : List Memo) → length xs ≡ length ys →
     ((i : ℕ) → memo_of xs i ≡ memo_of ys i) → xs ≡ ys
 same_memories [] [] long each = refl
 same_memories [] (y ∷ ys) long each = absurd (omega (arith, long))
@@ -137,6 +137,24 @@ module _ (job : JobData) (y : LayoutData) (n : ℕ) where
     | inr e ↦ rw e (none_gone rank before after (λ r low there. none_later rank r e low there) have)
   ]
 
+-- what is known of each, where a block is now another
+module _ (blocks : List Block) (q : ℕ) (old block : Block) (low : q < length blocks)
+    (is : slice_get blocks q ≡ Some old) where
+  pub now_at : (i : ℕ) → i / 64 ≡ q → memo_of (memos_of (slice_set blocks q block)) i ≡ lane block (i % 64)
+  now_at i e = memo_of_all (slice_set blocks q block) i
+      ∙ ap (λ (o : Option Block). lane_in o (i % 64))
+      (ap (slice_get (slice_set blocks q block)) e ∙ get_same blocks q block low)
+
+  pub was_at : (i : ℕ) → i / 64 ≡ q → memo_of (memos_of blocks) i ≡ lane old (i % 64)
+  was_at i e = memo_of_all blocks i
+      ∙ ap (λ (o : Option Block). lane_in o (i % 64)) (ap (slice_get blocks) e ∙ is)
+
+  pub elsewhere : (i : ℕ) → i / 64 ≢ q →
+      memo_of (memos_of (slice_set blocks q block)) i ≡ memo_of (memos_of blocks) i
+  elsewhere i other = memo_of_all (slice_set blocks q block) i
+      ∙ (ap (λ (o : Option Block). lane_in o (i % 64)) (get_other blocks q (i / 64) block other)
+      ∙ sym (memo_of_all blocks i))
+
 -- the lanes of a board's block in a block of 64 have gone on
 module _ (at : PostData) (blocks : List Block) (q start end : ℕ) (old block : Block)
     (low : q < length blocks) (is : slice_get blocks q ≡ Some old)
@@ -146,21 +164,6 @@ module _ (at : PostData) (blocks : List Block) (q start end : ℕ) (old block : 
     goes_as_far at.job (64 * q + k) (lane old k) (lane block k))
     (before : (k : ℕ) → k < start → lane block k ≡ lane old k)
     (after : (k : ℕ) → end ≤ k → lane block k ≡ lane old k) where
-  now_at : (i : ℕ) → i / 64 ≡ q → memo_of (memos_of (slice_set blocks q block)) i ≡ lane block (i % 64)
-  now_at i e = memo_of_all (slice_set blocks q block) i
-      ∙ ap (λ (o : Option Block). lane_in o (i % 64))
-      (ap (slice_get (slice_set blocks q block)) e ∙ get_same blocks q block low)
-
-  was_at : (i : ℕ) → i / 64 ≡ q → memo_of (memos_of blocks) i ≡ lane old (i % 64)
-  was_at i e = memo_of_all blocks i
-      ∙ ap (λ (o : Option Block). lane_in o (i % 64)) (ap (slice_get blocks) e ∙ is)
-
-  elsewhere : (i : ℕ) → i / 64 ≢ q →
-      memo_of (memos_of (slice_set blocks q block)) i ≡ memo_of (memos_of blocks) i
-  elsewhere i other = memo_of_all (slice_set blocks q block) i
-      ∙ (ap (λ (o : Option Block). lane_in o (i % 64)) (get_other blocks q (i / 64) block other)
-      ∙ sym (memo_of_all blocks i))
-
   rank_goes : (r : ℕ) → has_rank at.layout at.node r ≡ true →
       goes_as_far at.job (processor_at at.layout at.node r)
       (memo_of (memos_of blocks) (processor_at at.layout at.node r))
@@ -172,8 +175,8 @@ module _ (at : PostData) (blocks : List Block) (q start end : ℕ) (old block : 
       let k : i % 64 ≡ start + r = omega (arith, first, less, most) in
       let same : 64 * q + i % 64 ≡ i = omega (arith, first, k) in
       subst (λ (m : Memo). goes_as_far at.job i m (memo_of (memos_of (slice_set blocks q block)) i))
-      (sym (was_at i here))
-      (subst (λ (m : Memo). goes_as_far at.job i (lane old (i % 64)) m) (sym (now_at i here))
+      (sym (was_at blocks q old block low is i here))
+      (subst (λ (m : Memo). goes_as_far at.job i (lane old (i % 64)) m) (sym (now_at blocks q old block low is i here))
       (subst (λ (j : ℕ). goes_as_far at.job j (lane old (i % 64)) (lane block (i % 64))) same
       (gone (i % 64) (omega (arith, k)) (omega (arith, k, less)))))
 
@@ -181,12 +184,12 @@ module _ (at : PostData) (blocks : List Block) (q start end : ℕ) (old block : 
       processor_at at.layout at.node r ≢ i) →
       memo_of (memos_of (slice_set blocks q block)) i ≡ memo_of (memos_of blocks) i
   rank_stays i none = elim (cases_lt (i / 64) q) [
-    | inl less ↦ elsewhere i (λ e. absurd (omega (arith, e, less)))
+    | inl less ↦ elsewhere blocks q old block low is i (λ e. absurd (omega (arith, e, less)))
     | inr not_less ↦ elim (cases_lt q (i / 64)) [
-      | inl more ↦ elsewhere i (λ e. absurd (omega (arith, e, more)))
+      | inl more ↦ elsewhere blocks q old block low is i (λ e. absurd (omega (arith, e, more)))
       | inr not_more ↦
           let e : i / 64 ≡ q = omega (arith, not_less, not_more) in
-          now_at i e ∙ (stays e ∙ sym (was_at i e))
+          now_at blocks q old block low is i e ∙ (stays e ∙ sym (was_at blocks q old block low is i e))
     ]
   ]
     where
@@ -224,7 +227,7 @@ module _ (at : PostData) (blocks : List Block) (q start end : ℕ) (old block : 
       let here : i / 64 ≡ q = omega (arith, first, less, most) in
       let k : i % 64 ≡ start + r = omega (arith, first, less, most) in
       let same : 64 * q + i % 64 ≡ i = omega (arith, first, k) in
-      subst (λ (m : Memo). P i m) (sym (now_at i here))
+      subst (λ (m : Memo). P i m) (sym (now_at blocks q old block low is i here))
       (subst (λ (j : ℕ). P j (lane block (i % 64))) same
       (each (i % 64) (omega (arith, k)) (omega (arith, k, less))))
 

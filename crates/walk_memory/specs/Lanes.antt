@@ -19,6 +19,7 @@ lane block k = record {
     counter = slice_index block.counter k;
     registers = entries block.registers k;
   };
+  settled = slice_index block.settled k;
   told = record {
     counter = slice_index block.told_counter k;
     registers = entries block.told k;

@@ -16,7 +16,9 @@ memo_after job t i known request = record {
   acted = phase_of t Compute;
   step = t;
   own = own_after job i known.own request;
-  told = if settles_in job t known.own then own_after job i known.own request else known.told;
+  settled = if settles_in job t known.settled known.own then t else known.settled;
+  told = if settles_in job t known.settled known.own
+      then own_after job i known.own request else known.told;
   store = cell_write job request.put;
 }
 
@@ -40,6 +42,7 @@ loaded_memo job t i words = record {
   acted = 3 * (t - 1);
   step = t - 1;
   own = own_alone job i (t - 1 - newest_of words) (told_by words);
+  settled = newest_of words;
   told = told_by words;
   store = None;
 }

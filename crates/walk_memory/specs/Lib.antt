@@ -12,3 +12,4 @@ pub mod AsOne
 pub mod Rows
 pub mod Plain
 pub mod Lagging
+pub mod Standing

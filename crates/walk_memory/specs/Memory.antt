@@ -1,5 +1,5 @@
 -- What a worker of the wide form remembers of a processor, and how that goes on by itself.
-use Rattle.std.specs.Prelude.{◌≡◌, ℕ, zero, suc, ◌-◌, ◌*◌, ◌%◌, ◌^◌, ◌<◌, ◌≤◌, nat_lt, nat_le}
+use Rattle.std.specs.Prelude.{◌≡◌, ℕ, zero, suc, ◌+◌, ◌-◌, ◌*◌, ◌^◌, ◌<◌, ◌≤◌, nat_lt, nat_le}
 use Rattle.std.specs.Prelude.{if◌then◌else◌, Bool, true, false, not, ◌&&◌, ◌||◌, ◌==◌, is_none}
 use Rattle.std.specs.Prelude.{is_some, List, [], ◌∷◌, length, map, slice_get, slice_set, Option}
 use Rattle.std.specs.Prelude.{Some, None, IfSome, unwrap_or, replicate}
@@ -94,22 +94,27 @@ own_after job i own request = record {
 abbrev pub has_stopped : JobData → Own → Bool
 has_stopped job own = nat_le (length job.code) own.counter
 
--- ---- its words lag: they are written in steps in which it *settles*, that is, in loads, and in each
--- 64th step until it has stopped
+-- ---- its words lag: they are written in steps in which it *settles*, that is, in loads, and 64
+-- steps after it last did, until it has stopped
 
--- in step t, being this before it
-abbrev pub settles_in : JobData → ℕ → Own → Bool
-settles_in job t own =
-    loads_next job own || ((t % 64 == 0) && not (has_stopped job own))
+-- they are due in step t, having last been written in that step
+abbrev pub is_due : ℕ → ℕ → Bool
+is_due since t = nat_le (since + 64) t
 
--- in the step after t steps
-abbrev pub settles : JobData → ℕ → ℕ → Bool
-settles job t i = settles_in job (suc t) (own_at job t i)
+-- in step t, being this before it, having last settled in that step
+abbrev pub settles_in : JobData → ℕ → ℕ → Own → Bool
+settles_in job t since own =
+    loads_next job own || (is_due since t && not (has_stopped job own))
 
 -- the last step up to t in which it did, or 0
 unfoldable pub settled_at : JobData → ℕ → ℕ → ℕ
 settled_at job zero i = 0
-settled_at job (suc t) i = if settles job t i then suc t else settled_at job t i
+settled_at job (suc t) i = if settles_in job (suc t) (settled_at job t i) (own_at job t i) then suc t
+    else settled_at job t i
+
+-- in the step after t steps
+abbrev pub settles : JobData → ℕ → ℕ → Bool
+settles job t i = settles_in job (suc t) (settled_at job t i) (own_at job t i)
 
 -- ---- what is remembered
 
@@ -119,6 +124,7 @@ at_start = record {
   acted = 0;
   step = 0;
   own = own_at_start;
+  settled = 0;
   told = own_at_start;
   store = None;
 }
@@ -154,7 +160,7 @@ is_common Crew = false
 
 -- in the next step it need do nothing in the first pass
 abbrev pub goes_alone : JobData → ℕ → Memo → Bool
-goes_alone job i memo = not (settles_in job (suc memo.step) memo.own)
+goes_alone job i memo = not (settles_in job (suc memo.step) memo.settled memo.own)
     && (is_common job.rule || is_none (cell_write job (asked job i memo.own 0).put))
 
 abbrev pub one_alone : JobData → ℕ → Memo → Memo
@@ -172,8 +178,12 @@ goes_on_alone (suc more) job i memo =
     else (if has_stopped job memo.own then record memo { step = job.steps }
     else (if goes_alone job i memo then goes_on_alone more job i (one_alone job i memo) else memo))
 
+-- up to the step in which its words are due
+abbrev pub steps_left : Memo → ℕ
+steps_left memo = memo.settled + 64 - memo.step
+
 abbrev pub gone_on : JobData → ℕ → Memo → Memo
-gone_on job i memo = goes_on_alone 64 job i memo
+gone_on job i memo = goes_on_alone (suc (steps_left memo)) job i memo
 
 -- so many steps alone, whatever they are
 abbrev pub own_alone : JobData → ℕ → ℕ → Own → Own
@@ -198,6 +208,7 @@ IsIdle rule Verify job t i = store_in job i (suc t) ≡ None
 pub record IsTrueMemo (job : JobData) (i : ℕ) (memo : Memo) : Type 0 where
   pub step : memo.step ≤ job.steps
   pub own : memo.own ≡ own_at job memo.step i
+  pub settled : memo.settled ≡ settled_at job memo.step i
   pub told : memo.told ≡ own_at job (settled_at job memo.step i) i
   pub store : (write : ℕ × ℕ) → memo.store ≡ Some write → store_in job i memo.step ≡ Some write
   pub idle : (t : ℕ) (kind : Kind) → memo.acted < phase_of (suc t) kind →

@@ -1,6 +1,7 @@
 -- Loads of which little is to be done.
-use Rattle.std.specs.Prelude.{◌≡◌, ℕ, suc, ◌+◌, ◌%◌, ◌<◌, ◌≤◌, List, length, slice_get, slice_index}
-use Rattle.std.specs.Prelude.{slice_set, IsSome, Some, None, ◌==◌, false, true, is_some}
+use Rattle.std.specs.Prelude.{◌≡◌, ℕ, zero, suc, ◌+◌, ◌%◌, ◌<◌, ◌≤◌, List, length, slice_get}
+use Rattle.std.specs.Prelude.{slice_index, slice_set, IsSome, Option, Some, None, false, true}
+use Rattle.std.specs.Prelude.{is_some}
 use Rattle.pram_job.specs.declared.instr.Instr.TheVariants.{Ld, St}
 use Rattle.pram_job.specs.declared.instr.Operand.{Operand}
 use Rattle.pram_job.specs.declared.instr.Place.{Place}
@@ -14,7 +15,7 @@ use Rattle.walk_memory.specs.declared.memo.Memo.{Memo}
 use Rattle.walk_memory.specs.declared.span.Span.{Span}
 use Rattle.walk_memory.specs.Inner.Posts.{PostData, at_rank, processor_of, step_of}
 use Rattle.walk_memory.specs.Lanes.{lane}
-use Rattle.walk_memory.specs.Memory.{cell_named, is_common, memo_of}
+use Rattle.walk_memory.specs.Memory.{at_start, cell_named, is_common, is_due, memo_of}
 use Rattle.walk_memory.specs.Rows.{held_in}
 
 -- lane i % 64 of this block is one of these, and what is known of processor i
@@ -51,12 +52,27 @@ loaded at memo r value = record {
     counter = memo.told.counter;
     registers = slice_set memo.own.registers r value;
   };
+  settled = step_of at;
   told = record {
     counter = memo.told.counter;
     registers = slice_set memo.told.registers r value;
   };
   store = None;
 }
+
+-- and once it was late, or took what it loaded
+abbrev pub loaded_or_late : PostData → Memo → ℕ → Option ℕ → Memo
+loaded_or_late at memo r (Some value) = loaded at memo r value
+loaded_or_late at memo r None = at_start
+
+-- what is remembered once the register of each of so many processors, from the post's on, took its
+-- lane's value
+unfoldable pub taken : PostData → ℕ → ℕ → List ℕ → List Memo → List Memo
+taken at zero r values memory = memory
+taken at (suc more) r values memory =
+    slice_set (taken at more r values memory) (processor_of (at_rank at (at.rank + more)))
+    (loaded at (memo_of memory (processor_of (at_rank at (at.rank + more)))) r
+    (slice_index values (processor_of (at_rank at (at.rank + more)) % 64)))
 
 -- these are the loads of the post's processor, by what is remembered of it
 abbrev pub LoadsBy : PostData → List Memo → Loads → Type 0
@@ -83,7 +99,7 @@ pub record ClaimsPlainly (at : PostData) (memo : Memo) (cell value : ℕ) : Type
   pub holds : held_in operand memo.own.registers ≡ value
   pub below : cell < at.job.cells
   pub rule : is_common at.job.rule ≡ false
-  pub lags : (step_of at % 64 == 0) ≡ false
+  pub lags : is_due memo.settled (step_of at) ≡ false
 
 -- what is known once it is claimed
 abbrev pub claimed : PostData → Memo → ℕ → ℕ → Memo
@@ -91,6 +107,7 @@ claimed at memo cell value = record {
   acted = at.phase;
   step = step_of at;
   own = record { counter = memo.own.counter + 1; registers = memo.own.registers };
+  settled = memo.settled;
   told = memo.told;
   store = Some (cell, value);
 }
@@ -118,3 +135,28 @@ pub record HasStore (at : PostData) (memo : Memo) : Type 0 where
 abbrev pub AllStore : PostData → ℕ → List Memo → Type 0
 AllStore at len memory = (rank : ℕ) → at.rank ≤ rank → rank < len →
     HasStore (at_rank at rank) (memo_of memory (processor_of (at_rank at rank)))
+
+-- the block has the store of the post's processor in its lane, still to be carried out
+pub record HoldsStore (at : PostData) (memory : List Memo) (block : Block) : Type 0 where
+  pub has : HasStore at (memo_of memory (processor_of at))
+  pub write : (memo_of memory (processor_of at)).store
+      ≡ Some (
+        slice_index block.cell (processor_of at % 64),
+        slice_index block.value (processor_of at % 64),
+      )
+
+-- and that of each processor of the post's block of this length, from its rank on
+abbrev pub AllHoldStore : PostData → ℕ → List Memo → Block → Type 0
+AllHoldStore at len memory block = (rank : ℕ) → at.rank ≤ rank → rank < len →
+    HoldsStore (at_rank at rank) memory block
+
+-- what is known once it is carried out
+abbrev pub carried_in : PostData → Memo → Memo
+carried_in at memo = record memo { acted = at.phase; store = None }
+
+-- what is remembered once those of so many processors are, from the post's on
+unfoldable pub carried_all : PostData → ℕ → List Memo → List Memo
+carried_all at zero memory = memory
+carried_all at (suc n) memory = slice_set (carried_all at n memory)
+    (processor_of (at_rank at (at.rank + n)))
+    (carried_in at (memo_of memory (processor_of (at_rank at (at.rank + n)))))

@@ -58,6 +58,7 @@ pub record AreSame (old new : Block) : Type 0 where
   pub acted : new.acted ≡ old.acted
   pub step : new.step ≡ old.step
   pub counter : new.counter ≡ old.counter
+  pub settled : new.settled ≡ old.settled
   pub told_counter : new.told_counter ≡ old.told_counter
   pub told : new.told ≡ old.told
   pub stored : new.stored ≡ old.stored
@@ -105,6 +106,7 @@ pub record SameLane (old new : Block) (k : ℕ) : Type 0 where
 pub record AllGoBy (job : JobData) (lanes : Span) (instr : Instr) (at next : Together)
     (old new : Block) : Type 0 where
   pub step : next.step ≡ suc at.step
+  pub settled : next.settled ≡ at.settled
   pub same : AreSame old new
   pub there : (k : ℕ) → lanes.start ≤ k → k < lanes.end → GoesBy job (lanes.first + k) instr
       (own_of at.counter old k) (own_of next.counter new k) (store_of next.stored new k)
@@ -119,6 +121,7 @@ lane_as at block k = record {
   acted = slice_index block.acted k;
   step = at.step;
   own = own_of at.counter block k;
+  settled = at.settled;
   told = (lane block k).told;
   store = store_of at.stored block k;
 }

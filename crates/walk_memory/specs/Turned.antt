@@ -24,6 +24,7 @@ turned at memo request = record {
   acted = at.phase;
   step = step_of at;
   own = own_after at.job (processor_of at) memo.own request;
+  settled = memo.settled;
   told = memo.told;
   store = cell_write at.job request.put;
 }
@@ -42,6 +43,7 @@ landed at taken = record {
   acted = at.phase;
   step = step_of at;
   own = taken.own;
+  settled = step_of at;
   told = taken.own;
   store = None;
 }

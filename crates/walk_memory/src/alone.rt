@@ -1,13 +1,14 @@
 //! A processor that neither reads a cell nor stores goes on alone.
-ghost use Rattle.std.specs.Prelude.{◌≡◌, ◌≢◌, ◌<◌, ℕ, false, true, slice_get, IfSome, Some};
+ghost use Rattle.std.specs.Prelude.{◌≡◌, ◌≢◌, ◌<◌, ℕ, false, true, slice_get, IfSome, Some, suc};
 ghost use Rattle.pram_machine.specs.Turns.{request_of};
 ghost use Rattle.walk_memory.specs.Inner.Posts.{processor_of};
 ghost use Rattle.walk_memory.specs.Lanes.{lane};
 ghost use Rattle.walk_memory.specs.Memory.{goes_alone, gone_on, is_load, one_alone, own_alone};
+ghost use Rattle.walk_memory.specs.Memory.{steps_left};
 ghost use Rattle.walk_memory.specs.Turned.{stepped, IsShaped};
 ghost use Rattle.walk_memory.specs.Together.{goes_as_far};
 
-use crate::asked::{fetch, is_load, turn_by, turn_of};
+use crate::asked::{fetch, is_due, is_load, turn_by, turn_of};
 use crate::block::Block;
 use crate::memo::{Own, Stand, store_of};
 use crate::post::Leaf;
@@ -17,8 +18,8 @@ use crate::turn_in::put_in;
 use pram_job::{Instr, Job};
 use pram_machine::Turn;
 
-/// Processor i, of lane k, goes on as far as it can, for 64 steps at most. One that has stopped goes
-/// on to the end.
+/// Processor i, of lane k, goes on as far as it can, up to the step in which its words are due. One
+/// that has stopped goes on to the end.
 #[inline(never)]
 pub(crate) fn go_on(job: &Job, i: u32, block: &mut Block, k: usize)
     requires processor { i < job.now.procs }
@@ -27,7 +28,8 @@ pub(crate) fn go_on(job: &Job, i: u32, block: &mut Block, k: usize)
     ensures others { (j : ℕ) → j ≢ k → lane block.new j ≡ lane block.old j }
 {
     let steps = job.steps();
-    for _ in 0..64u32 {
+    let left = steps_left(block, k);
+    for _ in 0..left {
         if block.has_store(k) || steps <= block.step[k] {
             return;
         }
@@ -45,6 +47,16 @@ pub(crate) fn go_on(job: &Job, i: u32, block: &mut Block, k: usize)
     }
 }
 
+// More than the steps up to the one in which its words are due.
+#[inline(always)]
+fn steps_left(block: &Block, k: usize) -> u64
+    requires { k < 64 }
+    ensures { result ≡ suc (steps_left (lane block.now k)) }
+{
+    let due = u64::from(block.settled[k]) + 64;
+    due.saturating_sub(u64::from(block.step[k])) + 1
+}
+
 // So many steps are gone.
 #[inline(always)]
 fn stand_after(block: &mut Block, k: usize, steps: u32)
@@ -52,6 +64,7 @@ fn stand_after(block: &mut Block, k: usize, steps: u32)
     ensures same { lane block.new k ≡ record (lane block.old k) { step = steps } }
     ensures others { (j : ℕ) → j ≢ k → lane block.new j ≡ lane block.old j }
 {
+    block.standing.end = 0;
     block.step[k] = steps;
 }
 
@@ -69,7 +82,7 @@ fn go_one(job: &Job, i: u32, block: &mut Block, k: usize, instr: &Instr) -> bool
 {
     job.limits_hold();
     let step = block.step[k] + 1;
-    if step % 64 == 0 || is_load(instr) {
+    if is_due(block.settled[k], step) || is_load(instr) {
         return false;
     }
     let turn = turn_of(job, i, &block.own(k), instr, 0);
@@ -92,6 +105,7 @@ fn step_on(job: &Job, i: u32, block: &mut Block, k: usize, turn: Turn)
     ensures others { (j : ℕ) → j ≢ k → lane block.new j ≡ lane block.old j }
 {
     job.limits_hold();
+    block.standing.end = 0;
     put_in(job, i, &mut block.registers, k, turn);
     block.counter[k] = turn.next;
     block.step[k] += 1;

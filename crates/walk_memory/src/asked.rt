@@ -3,7 +3,7 @@ ghost use Rattle.std.specs.Prelude.{◌≡◌, ◌<◌, length, slice_get, IfSom
 ghost use Rattle.pram_job.specs.Job.{IsInstr};
 ghost use Rattle.pram_machine.specs.Turns.{request_of};
 ghost use Rattle.walk_memory.specs.Inner.Posts.{processor_of};
-ghost use Rattle.walk_memory.specs.Memory.{asked_by, is_load};
+ghost use Rattle.walk_memory.specs.Memory.{asked_by, is_due, is_load};
 ghost use Rattle.walk_memory.specs.Turned.{IsShaped};
 
 use crate::memo::Own;
@@ -52,4 +52,12 @@ pub fn is_load(instr: &Instr) -> bool
     ensures { result ≡ is_load (Some instr.now) }
 {
     matches!(*instr, Instr::Ld(_, _))
+}
+
+/// Words that were last written in one step are due in the other.
+#[inline(always)]
+pub fn is_due(since: u32, step: u32) -> bool
+    ensures { result ≡ is_due since step }
+{
+    step.saturating_sub(since) >= 64
 }

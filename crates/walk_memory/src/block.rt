@@ -1,25 +1,33 @@
 //! What a worker remembers of 64 processors in a row, side by side by kind.
-ghost use Rattle.std.specs.Prelude.{◌≡◌, ◌≢◌, ◌<◌, ℕ, None, slice_set, slice_index, is_some};
-ghost use Rattle.walk_memory.specs.Lanes.{entries, lane};
-ghost use Rattle.walk_memory.specs.Memory.{at_start};
+ghost use Rattle.walk_memory.specs.Standing.{StandThere};
 
+use crate::as_one::Standing;
+use crate::entries::{entries_of, set_entries};
 use crate::memo::{Memo, Own};
 
-/// The memos of 64 processors: entry k of each of these is of lane k.
+/// The memos of 64 processors: entry k of each of these is of lane k. It remembers some lanes that
+/// stand together, if it knows of any.
 #[derive(Clone, Copy)]
 pub struct Block {
     pub acted: [u64; 64],
     pub step: [u32; 64],
     pub counter: [u32; 64],
     pub registers: [[u32; 64]; 4],
+    pub settled: [u32; 64],
     pub told_counter: [u32; 64],
     pub told: [[u32; 64]; 4],
     pub stored: [bool; 64],
     pub cell: [u32; 64],
     pub value: [u32; 64],
+    pub standing: Standing,
+    ghost stand: { StandThere standing acted step settled counter stored },
 }
 
 impl Block {
+    ghost use Rattle.std.specs.Prelude.{◌≡◌, ◌≢◌, ◌<◌, ℕ, None, is_some};
+    ghost use Rattle.walk_memory.specs.Lanes.{lane};
+    ghost use Rattle.walk_memory.specs.Memory.{at_start};
+
     /// What is known of each before the first step.
     pub fn at_start() -> Block
         ensures { (k : ℕ) → lane result k ≡ at_start }
@@ -29,11 +37,13 @@ impl Block {
             step: [0; 64],
             counter: [0; 64],
             registers: [[0; 64]; 4],
+            settled: [0; 64],
             told_counter: [0; 64],
             told: [[0; 64]; 4],
             stored: [false; 64],
             cell: [0; 64],
             value: [0; 64],
+            standing: Standing::none(),
         }
     }
 
@@ -55,6 +65,7 @@ impl Block {
                 counter: self.counter[k],
                 registers: entries_of(&self.registers, k),
             },
+            settled: self.settled[k],
             told: Own {
                 counter: self.told_counter[k],
                 registers: entries_of(&self.told, k),
@@ -91,10 +102,12 @@ impl Block {
         ensures same { lane self.new k ≡ memo.now }
         ensures others { (j : ℕ) → j ≢ k → lane self.new j ≡ lane self.old j }
     {
+        self.standing.end = 0;
         self.acted[k] = memo.acted;
         self.step[k] = memo.step;
         self.counter[k] = memo.own.counter;
         set_entries(&mut self.registers, k, &memo.own.registers);
+        self.settled[k] = memo.settled;
         self.told_counter[k] = memo.told.counter;
         set_entries(&mut self.told, k, &memo.told.registers);
         match memo.store {
@@ -116,6 +129,7 @@ impl Block {
         ensures same { lane self.new k ≡ record (lane self.old k) { acted = acted; store = store } }
         ensures others { (j : ℕ) → j ≢ k → lane self.new j ≡ lane self.old j }
     {
+        self.standing.end = 0;
         self.acted[k] = acted;
         match store {
             Some((cell, value)) => {
@@ -136,50 +150,8 @@ impl Block {
         ensures same { lane self.new k ≡ record (lane self.old k) { acted = phase; store = None } }
         ensures others { (j : ℕ) → j ≢ k → lane self.new j ≡ lane self.old j }
     {
+        self.standing.end = 0;
         self.acted[k] = phase;
         self.stored[k] = false;
     }
-}
-
-// Entry k of each of four rows.
-#[inline(always)]
-fn entries_of(rows: &[[u32; 64]; 4], k: usize) -> [u32; 4]
-    requires { k < 64 }
-    ensures { result ≡ entries rows.now k }
-{
-    [rows[0][k], rows[1][k], rows[2][k], rows[3][k]]
-}
-
-// They are these now.
-#[inline(always)]
-fn set_entries(rows: &mut [[u32; 64]; 4], k: usize, row: &[u32; 4])
-    requires { k < 64 }
-    ensures same { entries rows.new k ≡ row.now }
-    ensures others { (j : ℕ) → j ≢ k → entries rows.new j ≡ entries rows.old j }
-{
-    set_entry(rows, 0, k, row[0]);
-    set_entry(rows, 1, k, row[1]);
-    set_entry(rows, 2, k, row[2]);
-    set_entry(rows, 3, k, row[3]);
-}
-
-/// Entry k of row r is this now.
-#[inline(always)]
-pub fn set_entry(rows: &mut [[u32; 64]; 4], r: usize, k: usize, value: u32)
-    requires row { r < 4 }
-    requires lane { k < 64 }
-    ensures same { entries rows.new k ≡ slice_set (entries rows.old k) r value }
-    ensures others { (j : ℕ) → j ≢ k → entries rows.new j ≡ entries rows.old j }
-{
-    set_in(&mut rows[r], k, value);
-}
-
-// Entry k of a row is this now.
-#[inline(always)]
-fn set_in(row: &mut [u32; 64], k: usize, value: u32)
-    requires { k < 64 }
-    ensures same { slice_index row.new k ≡ value }
-    ensures others { (j : ℕ) → j ≢ k → slice_index row.new j ≡ slice_index row.old j }
-{
-    row[k] = value;
 }

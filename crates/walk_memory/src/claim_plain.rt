@@ -1,18 +1,19 @@
 //! Claims of which little is to be done.
-ghost use Rattle.std.specs.Prelude.{◌≡◌, ◌≢◌, ◌+◌, ◌^◌, ◌<◌, ℕ, IfSome, slice_index};
+ghost use Rattle.std.specs.Prelude.{◌≡◌, ◌≢◌, ◌+◌, ◌^◌, ◌<◌, ℕ, IfSome, IsTrue, false, slice_index};
 ghost use Rattle.walk_memory.specs.Lanes.{lane};
+ghost use Rattle.walk_memory.specs.Memory.{is_due};
 ghost use Rattle.walk_memory.specs.Stands.{IsStand};
 ghost use Rattle.walk_memory.specs.Plain.{ClaimsPlainly, claimed};
 ghost use Rattle.walk_memory.specs.Rows.{AllIn};
 
+use crate::asked::is_due;
 use crate::block::Block;
 use crate::load_in::{ClaimIn, Claims};
 use crate::memo::Stand;
-use crate::plain::all_before;
 use crate::post::Leaf;
-use crate::row_walk::all_equal;
 use crate::rows::{cells_of, held, is_common};
-use crate::span::Span;
+use crate::span::{LANES, Span};
+use crate::standing::stand_before;
 use pram_job::Instr;
 
 /// The claims of these lanes, if all claim plainly by the instruction that the leaf's stands at.
@@ -32,18 +33,28 @@ pub(crate) fn plain_claims(
     };
     let job = leaf.job();
     job.limits_hold();
-    if is_common(job) || leaf.step() % 64 == 0 {
+    if is_common(job) || !none_due(&block.settled, lanes, leaf.step()) {
         return None;
     }
-    if !all_before(leaf, block, lanes) {
-        return None;
-    }
-    if !all_equal(&block.counter, lanes, stand.counter) {
+    if !stand_before(leaf, block, lanes, stand.counter) {
         return None;
     }
     let cells = cells_of(job, lanes, block, place)?;
     let values = held(&block.registers, b);
     Some(Claims { cells, values })
+}
+
+// The words of none are due in this step, if so.
+#[inline(always)]
+fn none_due(x: &[u32; LANES], lanes: Span, step: u32) -> bool
+    ensures { IsTrue result → AllIn lanes.start lanes.end (λ k.
+        is_due (slice_index x.now k) step ≡ false) }
+{
+    let mut none = true;
+    for k in lanes.start..lanes.end {
+        none &= !is_due(x[k], step);
+    }
+    none
 }
 
 /// Its store is remembered.
@@ -55,6 +66,7 @@ pub fn take_claim(leaf: &Leaf, block: &mut Block, claim: ClaimIn)
     ensures others { (j : ℕ) → j ≢ claim.lane → lane block.new j ≡ lane block.old j }
 {
     let k = claim.lane;
+    block.standing.end = 0;
     block.acted[k] = leaf.phase();
     block.step[k] = leaf.step();
     block.counter[k] += 1;

@@ -9,11 +9,10 @@ ghost use Rattle.walk_memory.specs.Stands.{IsStand, LoadsKnown};
 use crate::block::Block;
 use crate::load_in::Loads;
 use crate::memo::{Memory, Stand};
-use crate::plain::all_before;
 use crate::post::Leaf;
-use crate::row_walk::all_equal;
 use crate::rows::cells_of;
 use crate::span::Span;
+use crate::standing::stand_before;
 use pram_job::Instr;
 
 impl Memory {
@@ -43,10 +42,7 @@ fn known_loads(leaf: &Leaf, block: &Block, lanes: Span, stand: Stand<'_>) -> Opt
     };
     let job = leaf.job();
     job.limits_hold();
-    if !all_before(leaf, block, lanes) {
-        return None;
-    }
-    if !all_equal(&block.counter, lanes, stand.counter) {
+    if !stand_before(leaf, block, lanes, stand.counter) {
         return None;
     }
     let cells = cells_of(job, lanes, block, place)?;

@@ -15,7 +15,7 @@ ghost use Rattle.walk_memory.specs.Together.{gone_from};
 ghost use Rattle.walk_memory.specs.Memory.{at_start, blank, has_store, is_past, memo_of, own_after};
 ghost use Rattle.walk_memory.specs.Memory.{own_at_start, reach, settles_in};
 ghost use Rattle.walk_memory.specs.OwnWrites.{cell_write};
-ghost use Rattle.walk_memory.specs.Plain.{AllClaimBy, AllHeld, AllLoadBy, AllStore};
+ghost use Rattle.walk_memory.specs.Plain.{AllClaimBy, AllHeld, AllLoadBy, AllStore, taken};
 ghost use Rattle.walk_memory.specs.Turned.{IsShaped, landed, stored};
 ghost use Rattle.walk_memory.specs.Learned.{memo_after};
 ghost use Rattle.walk_memory.specs.Stands.{IsStand, StandsAt};
@@ -26,9 +26,9 @@ use crate::asked::fetch;
 use crate::block::Block;
 use crate::claim_plain::plain_claims;
 use crate::load_in::{Claims, Loads};
-use crate::plain::{last_stands, plain_loads};
+use crate::plain::{last_stands, plain_loads, take_loads};
 use crate::post::{Leaf, Post};
-use crate::row_walk::{all_stored, go_far, lanes_from, span_of};
+use crate::row_walk::{all_stored, go_far, lanes_from, lanes_to, span_of};
 use crate::span::Span;
 use crate::together::go_apart;
 use pram_job::{Instr, Job};
@@ -92,6 +92,8 @@ pub struct Memo {
     /// After how many steps it is so.
     pub step: u32,
     pub own: Own,
+    /// The step in which it last settled.
+    pub settled: u32,
     /// What its words tell, which are written where it settles.
     pub told: Own,
     /// The cell and the value of the store in the last of the steps, while it is still to be carried
@@ -109,6 +111,7 @@ impl Memo {
             acted: 0,
             step: 0,
             own: Own::at_start(),
+            settled: 0,
             told: Own::at_start(),
             store: None,
         }
@@ -164,7 +167,8 @@ impl Memo {
     pub fn take_up(&mut self, leaf: &Leaf, turn: Turn, settles: bool)
         requires first { kind_at leaf.now.phase ≡ Kind.Compute }
         requires shape { IsShaped leaf.now.job (processor_of leaf.now) turn }
-        requires settles { settles ≡ settles_in leaf.now.job (step_of leaf.now) self.old.own }
+        requires settles { settles ≡ settles_in leaf.now.job (step_of leaf.now) self.old.settled
+            self.old.own }
         ensures { self.new ≡ memo_after leaf.now.job (step_of leaf.now) (processor_of leaf.now)
             self.old (request_of turn) }
     {
@@ -172,6 +176,7 @@ impl Memo {
         self.acted = leaf.phase();
         self.step = leaf.step();
         if settles {
+            self.settled = leaf.step();
             self.told = self.own;
         }
         self.store = store_of(leaf.job(), turn);
@@ -183,6 +188,7 @@ impl Memo {
         ensures { self.new ≡ landed leaf.now self.old }
     {
         self.told = self.own;
+        self.settled = leaf.step();
         self.acted = leaf.phase();
         self.step = leaf.step();
         self.store = None;
@@ -284,9 +290,9 @@ impl Memory {
         }
     }
 
-    // Block q, if there is memory of it.
+    /// Block q, if there is memory of it.
     #[inline(always)]
-    fn block(&self, q: u32) -> Option<&Block>
+    pub(crate) fn block(&self, q: u32) -> Option<&Block>
         ensures some { IfSome result (λ block. (k : ℕ) → k < 64 →
             slice_get self.now (64 * q + k) ≡ Some (lane block.now k)) }
         ensures none { IfNone result (length self.now ≤ 64 * q) }
@@ -320,6 +326,14 @@ impl Memory {
             }
             None => {}
         }
+    }
+
+    /// What was known of it is forgotten.
+    #[inline(never)]
+    pub fn forget(&mut self, i: u32)
+        ensures { self.new ≡ slice_set self.old i at_start }
+    {
+        self.put(i, &Memo::at_start());
     }
 
     /// Whether the processors of a block of this length, from the leaf's on, all have their stores
@@ -513,6 +527,28 @@ impl Memory {
         }
         let (block, lanes) = self.block_standing(leaf, len, stand.counter)?;
         plain_loads(leaf, block, lanes, stand)
+    }
+
+    /// The register of each processor from the leaf's on, up to this rank of its block, took its
+    /// lane's value.
+    #[inline(always)]
+    pub fn take_loads(&mut self, leaf: &Leaf, end: u32, register: u8, values: &[u32; 64])
+        requires later { leaf.now.rank ≤ end }
+        requires within { end ≤ grain leaf.now.layout }
+        requires four { register < 4 }
+        ensures { self.new ≡ taken leaf.now (end - leaf.now.rank) register values.now self.old }
+    {
+        let lanes = lanes_to(leaf, end);
+        let q = (lanes.first / 64) as usize;
+        match &mut self.blocks {
+            Some(blocks) => {
+                if q < blocks.len() {
+                    let block = &mut blocks[q];
+                    take_loads(leaf, block, lanes, register, values);
+                }
+            }
+            None => {}
+        }
     }
 }
 

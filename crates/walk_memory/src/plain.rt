@@ -1,21 +1,19 @@
 //! Loads of which little is to be done.
-ghost use Rattle.std.specs.Prelude.{◌≡◌, ◌≢◌, ◌+◌, ◌^◌, ◌<◌, ℕ, IfSome, IsTrue, slice_index, slice_set, suc};
-ghost use Rattle.pram_words.specs.Phases.{kind_at};
-ghost use Rattle.pram_words.specs.declared.phases.Kind.{Kind};
-ghost use Rattle.walk_memory.specs.Inner.Posts.{step_of};
+ghost use Rattle.std.specs.Prelude.{◌≡◌, ◌≢◌, ◌<◌, ◌≤◌, ℕ, IfSome, IsTrue, slice_index, slice_set};
 ghost use Rattle.walk_memory.specs.Lanes.{entries, lane};
 ghost use Rattle.walk_memory.specs.Memory.{at_start};
 ghost use Rattle.walk_memory.specs.Stands.{IsStand};
 ghost use Rattle.walk_memory.specs.Plain.{LoadsPlainly, loaded};
-ghost use Rattle.walk_memory.specs.Rows.{AllIn};
+ghost use Rattle.walk_memory.specs.Rows.{AllIn, Written};
 
-use crate::block::{Block, set_entry};
-use crate::load_in::{LoadIn, Loads};
+use crate::block::Block;
+use crate::load_in::Loads;
 use crate::memo::{Memo, Stand};
 use crate::post::Leaf;
-use crate::row_walk::all_equal;
-use crate::rows::cells_of;
+use crate::row_walk::{all_equal, so_in};
+use crate::rows::{cells_of, copy_in, put_values, set_in};
 use crate::span::{LANES, Span};
+use crate::standing::{remember_done, stand_before};
 use pram_job::Instr;
 
 /// The loads of these lanes, if all load plainly by the instruction that the leaf's stands at.
@@ -35,10 +33,10 @@ pub(crate) fn plain_loads(
     };
     let job = leaf.job();
     job.limits_hold();
-    if !all_before(leaf, block, lanes) {
+    if !stand_before(leaf, block, lanes, stand.counter) {
         return None;
     }
-    if !all_at(block, lanes, stand.counter) {
+    if !all_equal(&block.told_counter, lanes, stand.counter + 1) {
         return None;
     }
     if !all_told(&block.told, &block.registers, lanes, register) {
@@ -54,31 +52,6 @@ pub(crate) fn last_stands(block: &Block, lanes: Span, counter: u32) -> bool
     ensures { IsTrue result → lanes.start < lanes.end }
 {
     lanes.start < lanes.end && block.counter[lanes.end - 1] == counter
-}
-
-/// All are known before the leaf's step, if so.
-#[inline(always)]
-pub(crate) fn all_before(leaf: &Leaf, block: &Block, lanes: Span) -> bool
-    requires { kind_at leaf.now.phase ≡ Kind.Compute }
-    ensures { IsTrue result → AllIn lanes.start lanes.end (λ k.
-        suc (slice_index block.now.step k) ≡ step_of leaf.now) }
-{
-    all_equal(&block.step, lanes, leaf.step() - 1)
-}
-
-// All stand at this counter, and their words tell the next one, if so.
-#[inline(always)]
-fn all_at(block: &Block, lanes: Span, counter: u32) -> bool
-    requires { counter + 1 < 2 ^ 32 }
-    ensures own { IsTrue result → AllIn lanes.start lanes.end (λ k.
-        slice_index block.now.counter k ≡ counter) }
-    ensures told { IsTrue result → AllIn lanes.start lanes.end (λ k.
-        slice_index block.now.told_counter k ≡ counter + 1) }
-{
-    if !all_equal(&block.counter, lanes, counter) {
-        return false;
-    }
-    all_equal(&block.told_counter, lanes, counter + 1)
 }
 
 // Their words tell their registers but for this one, if so.
@@ -122,21 +95,46 @@ fn all_same(x: &[u32; LANES], y: &[u32; LANES], lanes: Span) -> bool
     all
 }
 
-/// The register took this value.
+/// The register of each of these took its lane's value.
 #[inline(always)]
-pub fn take_load(leaf: &Leaf, block: &mut Block, load: LoadIn, value: u32)
-    ensures same { lane block.new load.lane
-        ≡ loaded leaf.now (lane block.old load.lane) load.register value }
-    ensures others { (j : ℕ) → j ≢ load.lane → lane block.new j ≡ lane block.old j }
+pub(crate) fn take_loads(leaf: &Leaf, block: &mut Block, lanes: Span, r: u8, values: &[u32; LANES])
+    requires { r < 4 }
+    ensures there { AllIn lanes.start lanes.end (λ k. lane block.new k
+        ≡ loaded leaf.now (lane block.old k) r (slice_index values.now k)) }
+    ensures before { (k : ℕ) → k < lanes.start → lane block.new k ≡ lane block.old k }
+    ensures after { (k : ℕ) → lanes.end ≤ k → lane block.new k ≡ lane block.old k }
 {
-    let k = load.lane;
-    let r = load.register as usize;
-    block.acted[k] = leaf.phase();
-    block.step[k] = leaf.step();
-    block.counter[k] = block.told_counter[k];
-    set_entry(&mut block.registers, r, k, value);
-    set_entry(&mut block.told, r, k, value);
-    block.stored[k] = false;
+    put_loads(leaf, block, lanes, r, values);
+    remember_done(block, lanes, leaf.step(), leaf.phase());
+}
+
+// The same, by their rows.
+#[inline(always)]
+fn put_loads(leaf: &Leaf, block: &mut Block, lanes: Span, r: u8, values: &[u32; LANES])
+    requires { r < 4 }
+    ensures there { AllIn lanes.start lanes.end (λ k. lane block.new k
+        ≡ loaded leaf.now (lane block.old k) r (slice_index values.now k)) }
+    ensures before { (k : ℕ) → k < lanes.start → lane block.new k ≡ lane block.old k }
+    ensures after { (k : ℕ) → lanes.end ≤ k → lane block.new k ≡ lane block.old k }
+{
+    block.standing.end = 0;
+    phase_in(&mut block.acted, lanes, leaf.phase());
+    set_in(&mut block.step, lanes, leaf.step());
+    set_in(&mut block.settled, lanes, leaf.step());
+    copy_in(&mut block.counter, lanes, &block.told_counter);
+    put_values(&mut block.registers, lanes, r, values);
+    put_values(&mut block.told, lanes, r, values);
+    so_in(&mut block.stored, lanes, false);
+}
+
+/// Each of these lanes takes this phase.
+#[inline(always)]
+pub(crate) fn phase_in(to: &mut [u64; LANES], lanes: Span, phase: u64)
+    ensures { Written lanes.start lanes.end (λ k. phase) to.old to.new }
+{
+    for k in lanes.start..lanes.end {
+        to[k] = phase;
+    }
 }
 
 /// What was known of it is forgotten.

@@ -242,8 +242,9 @@ impl<'a> Leaf<'a> {
             rank: self.rank + 1,
             processor: self.processor + 1,
             own: OwnWords {
-                counter: self.own.counter + 16,
-                registers: self.own.registers + 16,
+                counter: self.own.counter + 2,
+                registers: self.own.registers + 2,
+                stride: self.own.stride,
             },
             ..*self
         }
@@ -263,8 +264,9 @@ impl<'a> Leaf<'a> {
             rank: rank + 1,
             processor: self.processor + more,
             own: OwnWords {
-                counter: self.own.counter + 16 * more,
-                registers: self.own.registers + 16 * more,
+                counter: self.own.counter + 2 * more,
+                registers: self.own.registers + 2 * more,
+                stride: self.own.stride,
             },
             ..*self
         }
@@ -405,7 +407,7 @@ impl<'a> Leaf<'a> {
         ensures { IsPairAt self.now.layout
             (register_place self.now.job (processor_of self.now) register) result }
     {
-        self.own.registers + 2 * u32::from(register)
+        self.own.registers + self.own.stride * u32::from(register)
     }
 
     /// That of a cell.

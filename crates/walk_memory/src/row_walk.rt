@@ -1,21 +1,23 @@
 //! Processors of a row that all stand at one instruction go on alone as one.
-ghost use Rattle.std.specs.Prelude.{◌≡◌, ◌≢◌, ◌+◌, ◌-◌, ◌*◌, ◌/◌, ◌%◌, ◌<◌, ◌≤◌, ℕ, IsTrue, true, false};
+ghost use Rattle.std.specs.Prelude.{◌≡◌, ◌+◌, ◌-◌, ◌*◌, ◌/◌, ◌%◌, ◌<◌, ◌≤◌, ℕ, IsTrue, true, false};
 ghost use Rattle.std.specs.Prelude.{IfSome, MatchOption, None, Some, nat_lt, slice_get};
 ghost use Rattle.std.specs.Prelude.{is_some, slice_index, slice_index_or};
-ghost use Rattle.walk_memory.specs.AsOne.{Stands};
+ghost use Rattle.pram_words.specs.Words.{grain};
+ghost use Rattle.walk_memory.specs.AsOne.{GoesUnsettled, Stands};
 ghost use Rattle.walk_memory.specs.Inner.Posts.{processor_of};
 ghost use Rattle.walk_memory.specs.Lanes.{lane};
-ghost use Rattle.walk_memory.specs.Memory.{gone_on, is_load};
+ghost use Rattle.walk_memory.specs.Memory.{gone_on};
 ghost use Rattle.walk_memory.specs.Rows.{AllIn, AllRest, FarIn, RestIn, lane_as, reach_at};
 ghost use Rattle.walk_memory.specs.Together.{goes_as_far};
 ghost use Rattle.walk_memory.specs.Blocks.{has_rank, processor_at};
 
 use crate::as_one::Together;
-use crate::asked::is_load;
+use crate::asked::{is_due, is_load};
 use crate::block::Block;
 use crate::post::{Leaf, Post};
 use crate::rows::{all_have, go_by_form, is_common, set_in};
 use crate::span::{LANES, Span};
+use crate::standing::{is_of, remember, remembered};
 use pram_job::{Instr, Job};
 
 /// The lanes of a block's processors in their row.
@@ -45,13 +47,27 @@ pub(crate) fn lanes_from(leaf: &Leaf, len: u32) -> Span
     ensures row { result.first ≡ 64 * (processor_of leaf.now / 64) }
     ensures start { result.start ≡ processor_of leaf.now % 64 }
     ensures end { result.end + leaf.now.rank ≡ result.start + len }
+    ensures some { leaf.now.rank < len }
+{
+    let _ = leaf.job();
+    lanes_to(leaf, len)
+}
+
+/// Those of the processors from the leaf's on, up to this rank of its block.
+#[inline(always)]
+pub(crate) fn lanes_to(leaf: &Leaf, end: u32) -> Span
+    requires later { leaf.now.rank ≤ end }
+    requires within { end ≤ grain leaf.now.layout }
+    ensures row { result.first ≡ 64 * (processor_of leaf.now / 64) }
+    ensures start { result.start ≡ processor_of leaf.now % 64 }
+    ensures end { result.end + leaf.now.rank ≡ result.start + end }
 {
     let i = leaf.processor();
     let start = i % 64;
     Span {
         first: i - start,
         start: start as usize,
-        end: (start + (len - leaf.rank())) as usize,
+        end: (start + (end - leaf.rank())) as usize,
     }
 }
 
@@ -65,13 +81,30 @@ pub(crate) fn go_far(job: &Job, phase: u64, lanes: Span, block: &mut Block) -> O
     ensures after { (k : ℕ) → lanes.end ≤ k → lane block.new k ≡ lane block.old k }
     ensures rest { IfSome result (λ reach. RestIn job.now lanes phase reach block.new) }
 {
-    let start = all_at(block, lanes, phase)?;
+    let start = together_at(block, lanes, phase)?;
     let gone = go_steps(job, lanes, start, block);
     stand_from(block, lanes, start, gone.0);
+    remember(block, lanes, gone.0, phase);
     gone.1
 }
 
-// Where all stand, if they stand together, and none acted in a later phase.
+// Where all stand, if they stand together, and none acted in a later phase. Mostly the block
+// remembers it.
+#[inline(always)]
+fn together_at(block: &Block, lanes: Span, phase: u64) -> Option<Together>
+    ensures lanes { IfSome result (λ at. AllIn lanes.start lanes.end (λ k.
+        lane_as at block.now k ≡ lane block.now k)) }
+    ensures acted { IfSome result (λ _. AllIn lanes.start lanes.end (λ k.
+        slice_index block.now.acted k ≤ phase)) }
+    ensures some { IfSome result (λ _. lanes.start < lanes.end) }
+{
+    match remembered(block, lanes, phase) {
+        Some(at) => Some(at),
+        None => all_at(block, lanes, phase),
+    }
+}
+
+// The same by their rows.
 #[inline(always)]
 fn all_at(block: &Block, lanes: Span, phase: u64) -> Option<Together>
     ensures lanes { IfSome result (λ at. AllIn lanes.start lanes.end (λ k.
@@ -85,11 +118,15 @@ fn all_at(block: &Block, lanes: Span, phase: u64) -> Option<Together>
     }
     let counter = block.counter[lanes.start];
     let step = block.step[lanes.start];
+    let settled = block.settled[lanes.start];
     let stored = block.stored[lanes.start];
     if !all_equal(&block.counter, lanes, counter) {
         return None;
     }
     if !all_equal(&block.step, lanes, step) {
+        return None;
+    }
+    if !all_equal(&block.settled, lanes, settled) {
         return None;
     }
     if !all_so(&block.stored, lanes, stored) {
@@ -101,6 +138,7 @@ fn all_at(block: &Block, lanes: Span, phase: u64) -> Option<Together>
     Some(Together {
         counter,
         step,
+        settled,
         stored,
     })
 }
@@ -190,14 +228,16 @@ fn stand_at(block: &mut Block, lanes: Span, at: Together)
     ensures before { (k : ℕ) → k < lanes.start → lane block.new k ≡ lane block.old k }
     ensures after { (k : ℕ) → lanes.end ≤ k → lane block.new k ≡ lane block.old k }
 {
+    block.standing.end = 0;
     set_in(&mut block.counter, lanes, at.counter);
     set_in(&mut block.step, lanes, at.step);
+    set_in(&mut block.settled, lanes, at.settled);
     so_in(&mut block.stored, lanes, at.stored);
 }
 
-// Each of these lanes is so.
+/// Each of these lanes is so.
 #[inline(always)]
-fn so_in(to: &mut [bool; LANES], lanes: Span, value: bool)
+pub(crate) fn so_in(to: &mut [bool; LANES], lanes: Span, value: bool)
     ensures there { AllIn lanes.start lanes.end (λ k. slice_index_or to.new k false ≡ value) }
     ensures before { (k : ℕ) → k < lanes.start →
         slice_index_or to.new k false ≡ slice_index_or to.old k false }
@@ -271,13 +311,13 @@ fn rests_at(job: &Job, lanes: Span, block: &Block, at: Together, instr: &Instr) 
     requires stand { Stands job.now at instr.now }
     ensures rest { result ≡ true → AllIn lanes.start lanes.end (λ k.
         gone_on job.now (lanes.first + k) (lane_as at block.now k) ≡ lane_as at block.now k) }
-    ensures goes { result ≡ false → (is_load (Some instr.now) ≡ false) × ((at.step + 1) % 64 ≢ 0) }
+    ensures goes { result ≡ false → GoesUnsettled at instr.now }
 {
     job.limits_hold();
     if is_load(instr) {
         return true;
     }
-    if (at.step + 1) % 64 == 0 {
+    if is_due(at.settled, at.step + 1) {
         return true;
     }
     all_store(job, lanes, block, at, instr)
@@ -309,5 +349,9 @@ pub(crate) fn all_stored(block: &Block, lanes: Span, step: u32) -> bool
     ensures { IsTrue result → AllIn lanes.start lanes.end (λ k. ((lane block.now k).step ≡ step)
         × (is_some (lane block.now k).store ≡ true)) }
 {
+    let standing = block.standing;
+    if is_of(standing, lanes) {
+        return standing.at.step == step && standing.at.stored;
+    }
     all_equal(&block.step, lanes, step) && all_so(&block.stored, lanes, true)
 }

@@ -1,14 +1,14 @@
 //! A step alone of processors that stand at one instruction, over arrays.
-ghost use Rattle.std.specs.Prelude.{◌≡◌, ◌≢◌, ◌+◌, ◌%◌, ◌^◌, ◌<◌, ◌≤◌, ℕ, IsTrue, slice_index};
+ghost use Rattle.std.specs.Prelude.{◌≡◌, ◌≢◌, ◌+◌, ◌^◌, ◌<◌, ◌≤◌, ℕ, IsTrue, slice_index};
 ghost use Rattle.std.specs.Prelude.{true, false, suc, unwrap_or, IfNone, IfSome, IsSome, Some, length};
 ghost use Rattle.std.specs.Prelude.{◌==◌, if◌then◌else◌};
 ghost use Rattle.pram_job.specs.declared.instr.Operands.TheVariants.{TargetTwo};
 ghost use Rattle.pram_job.specs.Instructions.{IsOperand, IsPlace, row_of};
 ghost use Rattle.pram_job.specs.Job.{IsInstr};
 ghost use Rattle.pram_machine.specs.Instructions.{computed, index_of, reached};
-ghost use Rattle.walk_memory.specs.AsOne.{Stands};
+ghost use Rattle.walk_memory.specs.AsOne.{GoesUnsettled, Stands};
 ghost use Rattle.walk_memory.specs.Lanes.{entries};
-ghost use Rattle.walk_memory.specs.Memory.{is_common, is_load};
+ghost use Rattle.walk_memory.specs.Memory.{is_common};
 ghost use Rattle.walk_memory.specs.Stands.{Spells};
 ghost use Rattle.walk_memory.specs.Rows.{AllGo, AllGoBy, AllIn, Puts, Stores, Written, divides};
 ghost use Rattle.walk_memory.specs.Rows.{held_in};
@@ -22,7 +22,7 @@ use pram_machine::computed;
 
 // ---- loops over arrays
 
-// Each of these lanes takes this number.
+/// Each of these lanes takes this number.
 #[inline(always)]
 pub(crate) fn set_in(to: &mut [u32; LANES], lanes: Span, number: u32)
     ensures { Written lanes.start lanes.end (λ k. number) to.old to.new }
@@ -53,9 +53,9 @@ fn shift_in(to: &mut [u32; LANES], lanes: Span, base: u32, x: &[u32; LANES])
     }
 }
 
-// Each takes its own of these.
+/// Each takes its own of these.
 #[inline(always)]
-fn copy_in(to: &mut [u32; LANES], lanes: Span, x: &[u32; LANES])
+pub(crate) fn copy_in(to: &mut [u32; LANES], lanes: Span, x: &[u32; LANES])
     ensures { Written lanes.start lanes.end (λ k. slice_index x.now k) to.old to.new }
 {
     for k in lanes.start..lanes.end {
@@ -131,6 +131,15 @@ fn all_of(number: u32) -> [u32; LANES]
     ensures { AllIn 0 64 (λ k. slice_index result k ≡ number) }
 {
     [number; LANES]
+}
+
+/// The register takes its own of these.
+#[inline(always)]
+pub(crate) fn put_values(rows: &mut [[u32; LANES]; 4], lanes: Span, r: u8, values: &[u32; LANES])
+    requires { r < 4 }
+    ensures { Puts lanes.start lanes.end r (slice_index values.now) rows.old rows.new }
+{
+    copy_in(&mut rows[r as usize], lanes, values);
 }
 
 // The register takes this number.
@@ -307,11 +316,12 @@ pub(crate) fn is_common(job: &Job) -> bool
 #[inline(always)]
 fn next_at(at: Together, counter: u32, stored: bool) -> Together
     requires { at.step + 1 < 2 ^ 32 }
-    ensures { result ≡ record { counter = counter; step = suc at.step; stored = stored } }
+    ensures { result ≡ record at { counter = counter; step = suc at.step; stored = stored } }
 {
     Together {
         counter,
         step: at.step + 1,
+        settled: at.settled,
         stored,
     }
 }
@@ -380,7 +390,7 @@ pub(crate) fn go_by_form(
     instr: &Instr,
 ) -> Option<Together>
     requires stand { Stands job.now at instr.now }
-    requires alone { (is_load (Some instr.now) ≡ false) × ((at.step + 1) % 64 ≢ 0) }
+    requires alone { GoesUnsettled at instr.now }
     ensures all { IfSome result (λ next. AllGo job.now lanes at next block.old block.new) }
     ensures none { IfNone result (block.new ≡ block.old) }
 {
@@ -423,7 +433,7 @@ fn go_by_sum(
     stand: Stand<'_>,
 ) -> Option<Together>
     requires stand { Stands job.now at stand.instr.now }
-    requires alone { (is_load (Some stand.instr.now) ≡ false) × ((at.step + 1) % 64 ≢ 0) }
+    requires alone { GoesUnsettled at stand.instr.now }
     ensures all { IfSome result (λ next. AllGo job.now lanes at next block.old block.new) }
     ensures none { IfNone result (block.new ≡ block.old) }
 {
@@ -447,7 +457,7 @@ fn go_by_bits(
     stand: Stand<'_>,
 ) -> Option<Together>
     requires stand { Stands job.now at stand.instr.now }
-    requires alone { (is_load (Some stand.instr.now) ≡ false) × ((at.step + 1) % 64 ≢ 0) }
+    requires alone { GoesUnsettled at stand.instr.now }
     ensures all { IfSome result (λ next. AllGo job.now lanes at next block.old block.new) }
     ensures none { IfNone result (block.new ≡ block.old) }
 {
@@ -472,7 +482,7 @@ fn go_all<F: Fn() -> Instr>(
 ) -> Option<Together>
     requires stand { Stands job.now at by.now.stand.instr.now }
     requires form { Spells F.Fn by.now.form by.now.stand.instr.now }
-    requires alone { (is_load (Some by.now.stand.instr.now) ≡ false) × ((at.step + 1) % 64 ≢ 0) }
+    requires alone { GoesUnsettled at by.now.stand.instr.now }
     ensures all { IfSome result (λ next. AllGo job.now lanes at next block.old block.new) }
     ensures none { IfNone result (block.new ≡ block.old) }
 {

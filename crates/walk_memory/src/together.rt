@@ -7,7 +7,7 @@ ghost use Rattle.walk_memory.specs.Stands.{Spells};
 ghost use Rattle.walk_memory.specs.Rows.{AllIn};
 
 use crate::alone::{go_on, go_one_at, rests};
-use crate::asked::is_load;
+use crate::asked::{is_due, is_load};
 use crate::block::Block;
 use crate::memo::{Formed, Stand};
 use crate::row_walk::fetch_at;
@@ -80,7 +80,10 @@ fn stand_in<'a>(job: &'a Job, block: &Block, k: usize) -> Option<Stand<'a>>
     ensures { IfSome result (λ stand. slice_get job.now.code stand.counter
         ≡ Some stand.instr.now) }
 {
-    if block.has_store(k) || job.steps() <= block.step[k] || (block.step[k] + 1) % 64 == 0 {
+    if block.has_store(k) || job.steps() <= block.step[k] {
+        return None;
+    }
+    if is_due(block.settled[k], block.step[k] + 1) {
         return None;
     }
     let counter = block.counter[k];

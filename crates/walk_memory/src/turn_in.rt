@@ -10,7 +10,8 @@ ghost use Rattle.walk_memory.specs.Stands.{LoadsKnown, StandsKnown};
 ghost use Rattle.walk_memory.specs.Turned.{turned, IsShaped};
 
 use crate::asked::fetch;
-use crate::block::{Block, set_entry};
+use crate::block::Block;
+use crate::entries::set_entry;
 use crate::load_in::LoadIn;
 use crate::memo::store_of;
 use crate::post::Leaf;
@@ -76,6 +77,7 @@ pub fn take_value(leaf: &Leaf, block: &mut Block, load: LoadIn, value: u32)
 {
     let _ = leaf.job();
     let k = load.lane;
+    block.standing.end = 0;
     block.acted[k] = leaf.phase();
     block.step[k] = leaf.step();
     block.counter[k] += 1;
@@ -91,6 +93,7 @@ pub fn take_turn(leaf: &Leaf, block: &mut Block, k: usize, turn: Turn)
     ensures same { lane block.new k ≡ turned leaf.now (lane block.old k) (request_of turn) }
     ensures others { (j : ℕ) → j ≢ k → lane block.new j ≡ lane block.old j }
 {
+    block.standing.end = 0;
     put_in(leaf.job(), leaf.processor(), &mut block.registers, k, turn);
     block.counter[k] = turn.next;
     block.step[k] = leaf.step();

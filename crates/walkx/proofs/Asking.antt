@@ -76,7 +76,7 @@ module _ (job : JobData) (y : LayoutData) (board : IsBoard job y) where
   part_asks n q rank memo low high last formed there fits =
       form_asks job y board (FitsThen job) y.form (kind_at q) (step_at q)
       (processor_at y n rank) memo
-      (after_part y n q rank) (step_most job.steps q last) ((rank_parts y n rank there).1) fits
+      (after_part y n q rank) refl (step_most job.steps q last) ((rank_parts y n rank there).1) fits
       (λ m fit. form_both y.form (marks_node y n q q) (ends (worked n q rank m))
       (AllAsk job y (FitsThen job))
       (marks_ask n q q low high (phase_marks job.steps y q last formed))

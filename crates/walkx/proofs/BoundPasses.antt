@@ -53,7 +53,7 @@ registers_few job i known r (which ∷ registers) n others few =
 
 landings_few : (job : JobData) (t i : ℕ) (known : Memo) (r : Request) →
     length (landings job t i known r) ≤ 5
-landings_few job t i known r = cond_both (settles_in job t known.own) _ [] (λ ws. length ws ≤ 5)
+landings_few job t i known r = cond_both (settles_in job t known.settled known.own) _ [] (λ ws. length ws ≤ 5)
     (λ e. registers_few job i known r all_registers 1 _
     (put_few (lands_counter job known r) (counter_place job i) r.next 0 [] (omega arith)))
     (λ e. omega arith)

@@ -1,7 +1,7 @@
 -- What the first pass asks for, by whether a cell is read.
-use Rattle.std.proofs.Common.{◌≡◌, ℕ, ◌%◌, ◌==◌, Bool, true, false, Option, Some, None, slice_get}
+use Rattle.std.proofs.Common.{◌≡◌, ℕ, true, false, Option, Some, None, slice_get}
 use Rattle.std.proofs.Common.{refl, sym, subst, ◌∙◌}
-use Rattle.std.specs.Prelude.{◌||◌, is_some}
+use Rattle.std.specs.Prelude.{is_some}
 use Rattle.pram_job.specs.declared.instr.Instr.{Instr}
 use Rattle.pram_job.specs.declared.instr.Operands.{Operands}
 use Rattle.pram_job.specs.declared.instr.Operands.TheVariants.{Bare, Target, TargetNumber}
@@ -66,18 +66,14 @@ module _ (job : JobData) (own : Own) (instr : Instr)
     pub next_is : cell_next job own ≡ cell_named job own (Some instr)
     next_is = rw some refl
 
-    pub settles_reading : (t cell : ℕ) → cell_named job own (Some instr) ≡ Some cell →
-        settles_in job t own ≡ true
-    settles_reading t cell reads =
-        settles_by job own instr some t ∙ rw (loads_some job own instr cell reads) refl
+    pub settles_reading : (t since cell : ℕ) → cell_named job own (Some instr) ≡ Some cell →
+        settles_in job t since own ≡ true
+    settles_reading t since cell reads =
+        settles_by job own instr some t since ∙ rw (loads_some job own instr cell reads) refl
 
     pub reads_some : (cell : ℕ) → cell_named job own (Some instr) ≡ Some cell →
         true ≡ is_some (cell_next job own)
     reads_some cell reads = rw (some, reads) refl
-
-    pub settles_found : (t : ℕ) (load sixty : Bool) → load ≡ is_load (Some instr) →
-        sixty ≡ (t % 64 == 0) → (load || sixty) ≡ settles_in job t own
-    settles_found t load sixty is at = rw (is, at) (sym (settles_by job own instr some t))
 
 -- ---- what is asked for is made
 

@@ -92,7 +92,7 @@ module _ (at : PostData) (known : Memo) (request : Request) (taken : Memo) (tell
         (slice_index taken.own.registers r) late
         (λ done. landed_from at taken tells registers late next) (register_same r) (rw is.own refl)
 
-    pub settled_landed : settles_in at.job (step_of at) known.own ≡ true →
+    pub settled_landed : settles_in at.job (step_of at) known.settled known.own ≡ true →
         own_written at known request after next ≡ own_landed at taken tells late next
     settled_landed settles =
         ap (λ (b : Bool). writes_each at.layout (step_of at) (if b
@@ -137,12 +137,13 @@ module _ (at : PostData) (known taken : Memo) (register value : ℕ)
           acted = q;
           step = step_of at;
           own = taken.own;
+          settled = step_of at;
           told = taken.own;
           store = None;
         }) (compute_is at.phase first)
         ∙ rw (
           own,
-          settles_reading at.job known.own instr code (step_of at) cell reads,
+          settles_reading at.job known.own instr code (step_of at) known.settled cell reads,
           le-ltb (register_place at.job (processor_of at) register) at.job.cells (omega arith),
         ) refl
 
@@ -156,7 +157,7 @@ module _ (at : PostData) (known taken : Memo) (register value : ℕ)
         (settled_landed at known given taken (Some register)
         (load_taken told (reads_some at.job known.own instr code cell reads)) late (next known)
         (λ done. next (learned at known given))
-        (settles_reading at.job known.own instr code (step_of at) cell reads))
+        (settles_reading at.job known.own instr code (step_of at) known.settled cell reads))
         (loads_then stands at known instr from next d value given
         (load_gives at.job (processor_of at) known.own instr register place cell value is reads)
         (load_claims at.job (processor_of at) known.own.counter register value at.job.rule) here)

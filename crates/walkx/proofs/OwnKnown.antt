@@ -1,5 +1,5 @@
 -- The first pass of a processor that is known, or past, or has stopped.
-use Rattle.std.proofs.Common.{◌≡◌, ◌==◌, ◌%◌, true, false, slice_get, Some, None, refl}
+use Rattle.std.proofs.Common.{◌≡◌, true, false, slice_get, Some, None, refl}
 use Rattle.std.proofs.lemmas.Bool.{and_right}
 use Rattle.pram_job.specs.declared.instr.Instr.{Instr}
 use Rattle.pram_job.specs.declared.instr.Rule.{Rule}
@@ -7,7 +7,7 @@ use Rattle.pram_job.specs.declared.instr.Rule.TheVariants.{Common, Priority, Cre
 use Rattle.pram_machine.specs.Instructions.{goes_to}
 use Rattle.walk_memory.specs.declared.memo.Memo.{Memo}
 use Rattle.walk_memory.specs.Inner.Posts.{PostData, step_of}
-use Rattle.walk_memory.specs.Memory.{is_past}
+use Rattle.walk_memory.specs.Memory.{is_due, is_past}
 use Rattle.walkx.specs.Scripts.{Script}
 use Rattle.walkx.specs.Walk.{Then}
 use Rattle.walkx.specs.WideParts.{does_own, does_own_by, learned, memo_known, own_known}
@@ -34,19 +34,19 @@ module _ (at : PostData) (known : Memo) (next : Memo → Script Then) where
       e,
       none,
       no_more at.job known.own none,
-      and_right (step_of at % 64 == 0) false refl,
+      and_right (is_due known.settled (step_of at)) false refl,
     ) refl
     stopped_by Priority e = rw (
       e,
       none,
       no_more at.job known.own none,
-      and_right (step_of at % 64 == 0) false refl,
+      and_right (is_due known.settled (step_of at)) false refl,
     ) refl
     stopped_by Crew e = rw (
       e,
       none,
       no_more at.job known.own none,
-      and_right (step_of at % 64 == 0) false refl,
+      and_right (is_due known.settled (step_of at)) false refl,
     ) refl
 
     pub stopped_does : own_known at next known ≡ next (learned at known (goes_to known.own.counter))

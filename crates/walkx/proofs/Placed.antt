@@ -42,12 +42,12 @@ use Rattle.walkx.proofs.WidePasses.{own_is, same_wide_kind}
 
 module _ (at : PostData) (memo : Memo) (request : Request)
     (first : kind_at at.phase ≡ Compute) where
-  pub turned_quiet : settles_in at.job (step_of at) memo.own ≡ false →
+  pub turned_quiet : settles_in at.job (step_of at) memo.settled memo.own ≡ false →
       turned at memo request ≡ learned at memo request
   turned_quiet lags = ap (λ (q : ℕ). record (turned at memo request) { acted = q })
       (compute_is at.phase first) ∙ rw lags refl
 
-  pub turned_settled : settles_in at.job (step_of at) memo.own ≡ true →
+  pub turned_settled : settles_in at.job (step_of at) memo.settled memo.own ≡ true →
       tells_all (turned at memo request) ≡ learned at memo request
   turned_settled settles = ap (λ (q : ℕ). record (tells_all (turned at memo request)) { acted = q })
       (compute_is at.phase first) ∙ rw settles refl
@@ -61,6 +61,7 @@ pub turned_load : (at : PostData) (memo : Memo) (r value : ℕ) →
         counter = memo.own.counter + 1;
         registers = slice_set memo.own.registers r value;
       };
+      settled = memo.settled;
       told = memo.told;
       store = None;
     } ≡ turned at memo (gives at.job (processor_of at) memo.own.counter r value)
@@ -238,12 +239,13 @@ module _ {D : Type 0} (stands : Standing D) (at : PostData) (old : D) (block : B
       then ≡ tells_counter known → then ≡ tells_all memo
   counter_tells four then lo told = told ∙ ap tells_counter (is.told ∙ ap (told_to memo) four)
       ∙ ap (λ (rs : List ℕ). record memo {
+        settled = memo.step;
         told = record { counter = memo.own.counter; registers = rs };
       }) (four_set memo.told.registers memo.own.registers (is.four (omega (arith, four))) lo)
 
 -- ---- where it does not settle, nothing is written
 
 pub lags_written : (at : PostData) (memo : Memo) (request : Request) (after : Script Then)
-    (next : Unit {0} → Script Then) → settles_in at.job (step_of at) memo.own ≡ false →
+    (next : Unit {0} → Script Then) → settles_in at.job (step_of at) memo.settled memo.own ≡ false →
     own_written at memo request after next ≡ next tt
 lags_written at memo request after next lags = rw lags refl

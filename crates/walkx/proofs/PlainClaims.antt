@@ -48,8 +48,8 @@ module _ (at : PostData) (memo : Memo) (cell value : ℕ) (is : ClaimsPlainly at
     pub claim_cell : claimed_cell at.job.rule at.job claim ≡ Some cell
     claim_cell = cell_by at.job.rule is.rule
 
-    pub claim_lags : settles_in at.job (step_of at) memo.own ≡ false
-    claim_lags = settles_by at.job memo.own claiming is.code (step_of at) ∙ is.lags
+    pub claim_lags : settles_in at.job (step_of at) memo.settled memo.own ≡ false
+    claim_lags = settles_by at.job memo.own claiming is.code (step_of at) memo.settled ∙ is.lags
 
     pub claim_learned : claimed at memo cell value ≡ learned at memo claim
     claim_learned = ap (λ (q : ℕ). record (claimed at memo cell value) { acted = q })

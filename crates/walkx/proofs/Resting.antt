@@ -1,5 +1,5 @@
 -- Whether a task asks something.
-use Rattle.std.proofs.Common.{◌≡◌, ℕ, suc, ◌-◌, ◌*◌, ◌%◌, ◌≤◌, ◌==◌, Bool, true}
+use Rattle.std.proofs.Common.{◌≡◌, ℕ, suc, ◌-◌, ◌*◌, ◌≤◌, ◌==◌, Bool, true}
 use Rattle.std.proofs.Common.{false, nat_lt, nat_le, slice_get, List, [], Option, Some, None}
 use Rattle.std.proofs.Common.{refl, ap, ◌∙◌, inl, inr, arith}
 use Rattle.std.specs.Prelude.{is_some, if◌then◌else◌, option_map, slice_index}
@@ -16,7 +16,7 @@ use Rattle.pram_words.specs.Phases.{phase_of}
 use Rattle.walk_memory.specs.declared.memo.Memo.{Memo}
 use Rattle.walk_memory.specs.Inner.Posts.{PostData, step_of, processor_of}
 use Rattle.walk_memory.specs.Memory.{cell_named, cell_next, has_store, is_past, own_after, reach}
-use Rattle.walk_memory.specs.Memory.{settles_in}
+use Rattle.walk_memory.specs.Memory.{is_due, settles_in}
 use Rattle.walk_memory.specs.OwnWrites.{cell_write}
 use Rattle.walkx.specs.Passes.{carry_task, claims_store, crew_carry_task, lands_counter}
 use Rattle.walkx.specs.Passes.{lands_register, own_claim_task, own_task, priority_carry_task}
@@ -92,7 +92,7 @@ module _ (at : PostData) (memo : Memo) where
         before,
         none,
         no_more at.job memo.own none,
-        and_right (step_of at % 64 == 0) false refl,
+        and_right (is_due memo.settled (step_of at)) false refl,
       ) refl
   stopped_by past before none Priority =
       rw (
@@ -100,7 +100,7 @@ module _ (at : PostData) (memo : Memo) where
         before,
         none,
         no_more at.job memo.own none,
-        and_right (step_of at % 64 == 0) false refl,
+        and_right (is_due memo.settled (step_of at)) false refl,
       ) refl
   stopped_by past before none Crew =
       rw (
@@ -108,7 +108,7 @@ module _ (at : PostData) (memo : Memo) where
         before,
         none,
         no_more at.job memo.own none,
-        and_right (step_of at % 64 == 0) false refl,
+        and_right (is_due memo.settled (step_of at)) false refl,
       ) refl
 
   pub stopped_rests : Past false → (suc memo.step == step_of at) ≡ true →
@@ -171,13 +171,13 @@ module _ (at : PostData) (memo : Memo) (request : Request) (none : cell_next at.
         lands : lands_counter at.job memo request ≡ true
         lands = rw none refl
 
-    settling_asks : settles_in at.job (step_of at) memo.own ≡ true → asked_alone written ≡ None
+    settling_asks : settles_in at.job (step_of at) memo.settled memo.own ≡ true → asked_alone written ≡ None
     settling_asks is =
         ap (λ (b : Bool). left (if b then one 0 (one 1 (one 2 (one 3 last))) else [])) is
         ∙ one_asks 0 (one 1 (one 2 (one 3 last))) (one_asks 1 (one 2 (one 3 last))
         (one_asks 2 (one 3 last) (one_asks 3 last last_asks)))
 
-    lagging_rests : settles_in at.job (step_of at) memo.own ≡ false →
+    lagging_rests : settles_in at.job (step_of at) memo.settled memo.own ≡ false →
         asked_alone written ≡ Some (learned at memo request)
     lagging_rests is =
         ap (λ (b : Bool). left (if b then one 0 (one 1 (one 2 (one 3 last))) else [])) is
@@ -217,19 +217,19 @@ module _ (at : PostData) (memo : Memo) (instr : Instr) (before : suc memo.step �
   unfolding wide_task_of own_claim_task
   crew_is = rw (past, same, some, none) refl
 
-  settled_by : settles_in at.job (step_of at) memo.own ≡ true → (o : Option (ℕ × ℕ)) →
+  settled_by : settles_in at.job (step_of at) memo.settled memo.own ≡ true → (o : Option (ℕ × ℕ)) →
       cell_write at.job request.put ≡ o → asked_alone (claimed at memo request next_none) ≡ None
   settled_by is None e =
       claims_none at memo request next_none e ∙ settling_asks at memo request next_none is
   settled_by is (Some w) e = claims_some at memo request next_none w e
 
-  settles_ask_by : settles_in at.job (step_of at) memo.own ≡ true → (r : Rule) →
+  settles_ask_by : settles_in at.job (step_of at) memo.settled memo.own ≡ true → (r : Rule) →
       first_by at memo r ≡ None
   settles_ask_by is Common = common_is ∙ settling_asks at memo request next_none is
   settles_ask_by is Priority = priority_is ∙ settled_by is (cell_write at.job request.put) refl
   settles_ask_by is Crew = crew_is ∙ settled_by is (cell_write at.job request.put) refl
 
-  pub settles_ask : settles_in at.job (step_of at) memo.own ≡ true → idle_in Compute at memo ≡ None
+  pub settles_ask : settles_in at.job (step_of at) memo.settled memo.own ≡ true → idle_in Compute at memo ≡ None
   settles_ask is = settles_ask_by is at.job.rule
 
   claim_by : (cell : ℕ) (o : Option (ℕ × ℕ)) → cell_write at.job request.put ≡ o →
@@ -249,20 +249,20 @@ module _ (at : PostData) (memo : Memo) (instr : Instr) (before : suc memo.step �
       idle_in Compute at memo ≡ None
   claim_asks cell is = claim_asks_by cell at.job.rule is
 
-  lags_by : settles_in at.job (step_of at) memo.own ≡ false → (o : Option (ℕ × ℕ)) →
+  lags_by : settles_in at.job (step_of at) memo.settled memo.own ≡ false → (o : Option (ℕ × ℕ)) →
       cell_write at.job request.put ≡ o → option_map (λ (w : ℕ × ℕ). w.0) o ≡ None →
       asked_alone (claimed at memo request next_none) ≡ Some (learned at memo request)
   lags_by lags None e is =
       claims_none at memo request next_none e ∙ lagging_rests at memo request next_none lags
   lags_by lags (Some w) e is = absurd (cc)
 
-  rests_by : settles_in at.job (step_of at) memo.own ≡ false → (r : Rule) →
+  rests_by : settles_in at.job (step_of at) memo.settled memo.own ≡ false → (r : Rule) →
       claimed_cell r at.job request ≡ None → first_by at memo r ≡ Some (learned at memo request)
   rests_by lags Common is = common_is ∙ lagging_rests at memo request next_none lags
   rests_by lags Priority is = priority_is ∙ lags_by lags (cell_write at.job request.put) refl is
   rests_by lags Crew is = crew_is ∙ lags_by lags (cell_write at.job request.put) refl is
 
-  pub decided_rests : settles_in at.job (step_of at) memo.own ≡ false →
+  pub decided_rests : settles_in at.job (step_of at) memo.settled memo.own ≡ false →
       claimed_cell at.job.rule at.job request ≡ None →
       idle_in Compute at memo ≡ Some (learned at memo request)
   decided_rests lags is = rests_by lags at.job.rule is

@@ -1,5 +1,5 @@
 -- Where a task asks nothing, no step is made.
-use Rattle.std.proofs.Common.{◌≡◌, ℕ, suc, ◌%◌, ◌==◌, Bool, true, false, Option, Some, None}
+use Rattle.std.proofs.Common.{◌≡◌, ℕ, suc, ◌==◌, Bool, true, false, Option, Some, None}
 use Rattle.std.proofs.Common.{slice_get}
 use Rattle.std.proofs.Common.{refl, sym, subst, ◌∙◌, inl, inr}
 use Rattle.std.specs.Prelude.{◌||◌, is_some}
@@ -11,7 +11,7 @@ use Rattle.pram_words.specs.declared.phases.Kind.TheVariants.{Compute, Verify}
 use Rattle.pram_words.specs.Phases.{kind_at}
 use Rattle.walk_memory.specs.declared.memo.Memo.{Memo}
 use Rattle.walk_memory.specs.Inner.Posts.{PostData, step_of}
-use Rattle.walk_memory.specs.Memory.{cell_named, is_load, is_past, settles_in}
+use Rattle.walk_memory.specs.Memory.{cell_named, is_due, is_load, is_past, settles_in}
 use Rattle.walkx.specs.Passing.{Passes, idle_in, if_so}
 use Rattle.walkx.specs.WideParts.{asked_with, claimed_cell, learned}
 use Rattle.walkx.proofs.FirstPass.{reads_none}
@@ -24,31 +24,31 @@ use Rattle.walk_memory.proofs.Timing.{compute_is, verify_is}
 module _ (at : PostData) (memo : Memo) (instr : Instr) (before : suc memo.step ≡ step_of at)
     (some : slice_get at.job.code memo.own.counter ≡ Some instr) where
   -- it settles
-  pub settling_asks : (is_load (Some instr) || (step_of at % 64 == 0)) ≡ true →
+  pub settling_asks : (is_load (Some instr) || is_due memo.settled (step_of at)) ≡ true →
       idle_in Compute at memo ≡ None
   settling_asks is = by (cell_named at.job memo.own (Some instr)) refl
     where
       by : (o : Option ℕ) → cell_named at.job memo.own (Some instr) ≡ o →
           idle_in Compute at memo ≡ None
       by None none = settles_ask at memo instr before some none
-          (settles_by at.job memo.own instr some (step_of at) ∙ is)
+          (settles_by at.job memo.own instr some (step_of at) memo.settled ∙ is)
       by (Some cell) reads = reads_ask at memo instr cell (not_past memo (step_of at) before)
           (eq-eqb (suc memo.step) (step_of at) before) some reads
 
   -- it does not
-  module _ (lags : (is_load (Some instr) || (step_of at % 64 == 0)) ≡ false) (request : Request)
+  module _ (lags : (is_load (Some instr) || is_due memo.settled (step_of at)) ≡ false) (request : Request)
       (is : request ≡ asked_with at memo (Some instr) 0) (o : Option ℕ)
       (claims : o ≡ claimed_cell at.job.rule at.job request) where
     none : cell_named at.job memo.own (Some instr) ≡ None
     none = reads_none at.job memo.own instr
-        (no_load (is_load (Some instr)) (step_of at % 64 == 0) lags)
+        (no_load (is_load (Some instr)) (is_due memo.settled (step_of at)) lags)
       where
         no_load : (a b : Bool) → (a || b) ≡ false → a ≡ false
         no_load true b e = absurd (cc)
         no_load false b e = refl
 
-    pub settles_not : false ≡ settles_in at.job (step_of at) memo.own
-    settles_not = sym (settles_by at.job memo.own instr some (step_of at) ∙ lags)
+    pub settles_not : false ≡ settles_in at.job (step_of at) memo.settled memo.own
+    settles_not = sym (settles_by at.job memo.own instr some (step_of at) memo.settled ∙ lags)
 
     pub claiming_asks : is_some o ≡ true → idle_in Compute at memo ≡ None
     claiming_asks there =
@@ -103,7 +103,7 @@ module _ {D : Type 0} (at : PostData) (memo : Memo) (old new : D) (known : Memo)
 
     pub where_decides : cell_named at.job memo.own (Some instr) ≡ None → (request : Request) →
         request ≡ asked_with at memo (Some instr) 0 →
-        (settles_in at.job (step_of at) memo.own ≡ false →
+        (settles_in at.job (step_of at) memo.settled memo.own ≡ false →
         claimed_cell at.job.rule at.job request ≡ None →
         (known ≡ learned at memo request) × (new ≡ old)) → First
     where_decides none request is each =
@@ -113,7 +113,7 @@ module _ {D : Type 0} (at : PostData) (memo : Memo) (old new : D) (known : Memo)
             ≡ o →
             First
         by (Some cell) claims = rw (claim_asks at memo instr before some none cell claims) tt
-        by None claims = elim (cases_Bool (settles_in at.job (step_of at) memo.own)) [
+        by None claims = elim (cases_Bool (settles_in at.job (step_of at) memo.settled memo.own)) [
           | inl settles ↦ rw (settles_ask at memo instr before some none settles) tt
           | inr lags ↦ rw (decided_rests at memo instr before some none lags claims)
               (subst (λ (r : Request). (known ≡ learned at memo r) × (new ≡ old)) is

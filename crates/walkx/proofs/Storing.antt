@@ -16,8 +16,7 @@ use Rattle.walkx.specs.Parts.{does_wide}
 use Rattle.walkx.specs.Passes.{if_write}
 use Rattle.walkx.specs.Passing.{idle}
 use Rattle.walkx.specs.Scripts.{Script}
-use Rattle.walk_memory.specs.Plain.{HasStore}
-use Rattle.walkx.specs.Storing.{Carries, carried_in, due_if, left_of, none_due}
+use Rattle.walk_memory.specs.Plain.{HasStore, carried_in}
 use Rattle.walkx.specs.Walk.{Then}
 use Rattle.walkx.specs.WideParts.{carried_until, store_carried, store_left}
 use Rattle.walk_memory.specs.Turned.{stored}
@@ -88,50 +87,3 @@ module _ (at : PostData) (memo : Memo) (is : HasStore at memo) where
         (left_if at.job.rule at (cell, value) (next (carried_in at memo)))
     carries_until = carries
         ∙ until_is at.job.rule at (cell, value) (next memo) (λ done. next (carried_in at memo))
-
--- what the worker came to: the store, if its report is due, and what is known
-abbrev pub due_as : ℕ × ℕ → Result Bool Left → Result (Option (ℕ × ℕ)) Stopped
-due_as write (Ok other) = Ok (due_if write other)
-due_as write (Err why) = none_due why
-
-abbrev pub known_as : PostData → Memo → Result Bool Left → Memo
-known_as at memo (Ok other) = carried_in at memo
-known_as at memo (Err why) = memo
-
-due_goes : (at : PostData) (memo : Memo) (write : ℕ × ℕ) (next : Memo → Script Then)
-    (done : Result Bool Left) →
-    comes (next memo) (left_if at.job.rule at write (next (carried_in at memo))) done
-    ≡ goes (λ due. left_of at due (next (known_as at memo done))) (due_as write done)
-due_goes at memo write next (Ok true) = refl
-due_goes at memo write next (Ok false) = refl
-due_goes at memo write next (Err Late) = refl
-due_goes at memo write next (Err Held) = refl
-
-due_cell : (at : PostData) (write : ℕ × ℕ) → IsCellOf at write.0 → (done : Result Bool Left) →
-    IfOk (due_as write done) (λ due. IfSome due (λ w. IsCellOf at w.0))
-due_cell at write cell (Ok true) = cell
-due_cell at write cell (Ok false) = tt
-due_cell at write cell (Err Late) = tt
-due_cell at write cell (Err Held) = tt
-
--- it was carried out up to the report
-pub carries_up : {D : Type 0} (stands : Standing D) (at : PostData) (memo : Memo)
-    (store : HasStore at memo) (write : ℕ × ℕ) → memo.store ≡ Some write →
-    IsCellOf at write.0 → (old new : D) (memory now : List Memo) →
-    memo_of memory (processor_of at) ≡ memo → (done : Result Bool Left) →
-    now ≡ slice_set memory (processor_of at) (known_as at memo done) →
-    (rule : Rule) → rule ≡ at.job.rule → Plays stands old (carried_until rule at write) new done →
-    Carries stands at old memory new now (due_as write done)
-carries_up {D} stands at memo store write some cell old new memory now is done kept rule same by =
-    let plays = subst (λ (r : Rule). Plays stands old (carried_until r at write) new done) same
-    by in
-    record {
-      learned = known_as at memo done;
-      kept = kept;
-      asks = subst (λ (m : Memo). idle at m ≡ None) (sym is) (store_asks at memo store);
-      cell = due_cell at write cell done;
-      on = λ from late next here. comes_to stands from new _ _ (due_goes at memo write next done)
-          (plays.on from (next memo) (left_if at.job.rule at write (next (carried_in at memo)))
-          (moved stands from old _ _ (carries_until at memo store write.0 write.1 some late next)
-          (subst (λ (m : Memo). stands from old (Some (does_wide at m late next))) is here)));
-    }

@@ -7,6 +7,7 @@ use Rattle.std.specs.List.{AllByRecursion}
 use Rattle.std.proofs.lemmas.Bool.{cond_both, cases_Bool, eqb-false}
 use Rattle.std.proofs.lemmas.Bool.{ltb-true, le-ltb, lt-ltb}
 use Rattle.std.proofs.lemmas.Option.{slice_get_within}
+use Rattle.pram_words.specs.declared.layout.Form.TheVariants.{Compact}
 use Rattle.pram_job.specs.declared.instr.Instr.{Instr}
 use Rattle.pram_job.specs.declared.instr.Operands.{Operands}
 use Rattle.pram_job.specs.declared.instr.Operands.TheVariants.{Bare, Target, TargetNumber}
@@ -220,14 +221,15 @@ module _ {R : Type 0} (job : JobData) (y : LayoutData) (board : IsBoard job y)
 
   -- ---- the compute task
 
-  hears_ask : (t i j : ℕ) (after : Script R) (next : ℕ → Script R) →
+  hears_ask : y.form ≡ Compact → (t i j : ℕ) (after : Script R) (next : ℕ → Script R) →
       i < y.procs → j < 3 → AllAsk job y E after →
       ((v : ℕ) → v < 2 ^ 32 → v ≤ most_asked y job j → AllAsk job y E (next v)) →
       AllAsk job y E (hears_part y t i j after next)
-  hears_ask t i j after next proc part late each =
-      load_of (Asked i j) _ (proc, part)
+  hears_ask compact t i j after next proc part late each =
+      load_of (Asked i j) _ (compact, proc, part)
       (λ found ok. cond_both (stamp_of found == t) _ after (AllAsk job y E) (λ e. each
-      (payload_of found) (omega arith) (asked_part job y i j found board proc part ok)) (λ e. late))
+      (payload_of found) (omega arith) (asked_part job y i j found board compact proc part ok))
+      (λ e. late))
 
   pub registers_ask : (t i : ℕ) (rs values : List ℕ)
       (after : Script R) (next : List ℕ → Script R) → i < y.procs → AllByRecursion (λ r. r < 4) rs →
@@ -253,31 +255,31 @@ module _ {R : Type 0} (job : JobData) (y : LayoutData) (board : IsBoard job y)
       reads_ask t c after next (place_in job y board c (omega arith)) late
       (λ v fits most. each v fits)
 
-  raises_ask : (t i : ℕ) (request : Request) (after : Script R) →
+  raises_ask : y.form ≡ Compact → (t i : ℕ) (request : Request) (after : Script R) →
       t ≤ job.steps → i < y.procs → Shape job request → AllAsk job y E after →
       AllAsk job y E (raises_request y t i request after)
-  raises_ask t i request after time proc shape late =
+  raises_ask compact t i request after time proc shape late =
       let c = same_cells job y board in
       let d = same_procs job y board in
       let place = shape.place in
       let value = shape.value in
       let next = shape.next in
       let limits = board.limits in
-      max_of (Asked i 0) _ _ (proc, lit< tt)
+      max_of (Asked i 0) _ _ (compact, proc, lit< tt)
       (stamps job.steps (most_asked y job 0) t
       (place_part request) time (omega arith) (omega (arith, limits.cells, limits.procs)))
-      (max_of (Asked i 1) _ _ (proc, lit< tt)
+      (max_of (Asked i 1) _ _ (compact, proc, lit< tt)
       (stamps job.steps (most_asked y job 1) t (value_part request) time (omega arith) value)
-      (max_of (Asked i 2) _ _ (proc, lit< tt) (stamps job.steps
+      (max_of (Asked i 2) _ _ (compact, proc, lit< tt) (stamps job.steps
       (most_asked y job 2) t request.next time next (omega (arith, limits.code_len))) late))
 
-  executes_ask : (t i counter : ℕ) (o : Option Instr) (after : Script R) →
+  executes_ask : y.form ≡ Compact → (t i counter : ℕ) (o : Option Instr) (after : Script R) →
       slice_get job.code counter ≡ o → t ≤ job.steps → i < y.procs → counter ≤ length job.code + 1 →
       AllAsk job y E after → AllAsk job y E (executes job y t i counter o after)
-  executes_ask t i counter None after e time proc most late =
-      raises_ask t i (goes_to counter) after time proc
+  executes_ask compact t i counter None after e time proc most late =
+      raises_ask compact t i (goes_to counter) after time proc
       (record { place = omega arith; value = omega arith; next = most }) late
-  executes_ask t i counter (Some instr) after e time proc most late =
+  executes_ask compact t i counter (Some instr) after e time proc most late =
       let d = same_procs job y board in
       let limits = board.limits in
       let is = instr_is job counter instr limits e in
@@ -286,20 +288,20 @@ module _ {R : Type 0} (job : JobData) (y : LayoutData) (board : IsBoard job y)
       (sources_fit job.cells (length job.code) instr is) tt late
       (λ values fit. cell_asks t (cell_read job instr (slice_index values 0)) after _
       (λ c f. cell_is job instr (slice_index values 0) c is f) late
-      (λ v fits. raises_ask t i _ after time proc (shape_of job i _ _ (omega arith)
+      (λ v fits. raises_ask compact t i _ after time proc (shape_of job i _ _ (omega arith)
       (decided_shape job i counter (slice_index values 0) (slice_index values 1) v instr is (omega (
         arith,
         limits.procs,
       )) (at_index values 0 fit) (at_index values 1 fit) fits within)) late))
 
-  compute_asks : (t i : ℕ) (after : Script R) → t ≤ job.steps → i < y.procs →
+  compute_asks : y.form ≡ Compact → (t i : ℕ) (after : Script R) → t ≤ job.steps → i < y.procs →
       AllAsk job y E after → AllAsk job y E (compute_task job y t i after)
   unfolding compute_task
-  compute_asks t i after time proc late =
+  compute_asks compact t i after time proc late =
       let c = same_procs job y board in
       reads_ask t (counter_place job i) after _
       (place_in job y board (counter_place job i) (omega arith)) late
-      (λ counter fits most. executes_ask t i counter
+      (λ counter fits most. executes_ask compact t i counter
       (slice_get job.code counter) after refl time proc (counter_most job y board i counter most)
       late)
 
@@ -324,24 +326,24 @@ module _ {R : Type 0} (job : JobData) (y : LayoutData) (board : IsBoard job y)
       last)
 
   -- all three parts of a request, and what is carried out of them
-  hears_all : (t i : ℕ) (after : Script R) (next : ℕ → ℕ → ℕ → Script R) →
+  hears_all : y.form ≡ Compact → (t i : ℕ) (after : Script R) (next : ℕ → ℕ → ℕ → Script R) →
       t ≤ job.steps → i < y.procs → AllAsk job y E after →
       ((a b c : ℕ) → a ≤ counters_of y →
       ((p : ℕ) → p ≤ counters_of y → AllAsk job y E (carries job y t i p b c after)) →
       AllAsk job y E (next a b c)) →
       AllAsk job y E (hears_part y t i 0 after
       (λ a. hears_part y t i 1 after (λ b. hears_part y t i 2 after (next a b))))
-  hears_all t i after next time proc late each =
-      hears_ask t i 0 after _ proc (lit< tt) late (λ a fit range. hears_ask t i 1 after _ proc
-      (lit< tt) late (λ b fits h. hears_ask t i 2 after _ proc (lit< tt) late (λ c small most.
-      each a b c range
+  hears_all compact t i after next time proc late each =
+      hears_ask compact t i 0 after _ proc (lit< tt) late (λ a fit range.
+      hears_ask compact t i 1 after _ proc (lit< tt) late (λ b fits h.
+      hears_ask compact t i 2 after _ proc (lit< tt) late (λ c small most. each a b c range
       (λ p inside. carries_ask t i p b c after time proc inside fits small most late))))
 
-  apply_asks : (t i : ℕ) (after : Script R) → t ≤ job.steps → i < y.procs →
+  apply_asks : y.form ≡ Compact → (t i : ℕ) (after : Script R) → t ≤ job.steps → i < y.procs →
       AllAsk job y E after → AllAsk job y E (apply_task job y t i after)
   unfolding apply_task
-  apply_asks t i after time proc late =
-      hears_all t i after _ time proc late (λ a b c range carried. carried a range)
+  apply_asks compact t i after time proc late =
+      hears_all compact t i after _ time proc late (λ a b c range carried. carried a range)
 
   pub claims_ask : (t i p : ℕ) (after : Script R) → t ≤ job.steps →
       IsTrue (has_claims job.rule) → AllAsk job y E after →
@@ -354,11 +356,12 @@ module _ {R : Type 0} (job : JobData) (y : LayoutData) (board : IsBoard job y)
       (stamps job.steps
       y.procs t (claim_of job i) time (omega arith) (omega (arith, limits.procs))) late) (λ e. late)
 
-  crew_apply_asks : (t i : ℕ) (after : Script R) →
+  crew_apply_asks : y.form ≡ Compact → (t i : ℕ) (after : Script R) →
       t ≤ job.steps → IsTrue (has_claims job.rule) → i < y.procs → AllAsk job y E after →
       AllAsk job y E (crew_apply_task job y t i after)
   unfolding crew_apply_task
-  crew_apply_asks t i after time has proc late = hears_all t i after _ time proc late
+  crew_apply_asks compact t i after time has proc late =
+      hears_all compact t i after _ time proc late
       (λ a b c range carried.
       cond_both (a == 0) _ _ (AllAsk job y E) (λ e. carried a range)
       (λ e. claims_ask t i (a - 1) _ time has (carried a range)))
@@ -368,41 +371,43 @@ module _ {R : Type 0} (job : JobData) (y : LayoutData) (board : IsBoard job y)
   reports_ask t b after time late = cond_both b _ after (AllAsk job y E)
       (λ e. swap_of Conflict 0 t after tt (omega arith) time late) (λ e. late)
 
-  verify_asks : (t i : ℕ) (after : Script R) → t ≤ job.steps → i < y.procs →
+  verify_asks : y.form ≡ Compact → (t i : ℕ) (after : Script R) → t ≤ job.steps → i < y.procs →
       AllAsk job y E after → AllAsk job y E (verify_task job y t i after)
   unfolding verify_task
-  verify_asks t i after time proc late = hears_ask t i 0 after _ proc (lit< tt) late (λ a fit range.
+  verify_asks compact t i after time proc late =
+      hears_ask compact t i 0 after _ proc (lit< tt) late (λ a fit range.
       cond_both (a == 0) after _ (AllAsk job y E) (λ e. late)
-      (λ e. hears_ask t i 1 after _ proc (lit< tt) late (λ v fits h.
+      (λ e. hears_ask compact t i 1 after _ proc (lit< tt) late (λ v fits h.
       let p = data_in job y board a (eqb-false a 0 e) range in
       both_ask (a - 1) _ (omega arith)
       (λ b c ok ok_too. reports_ask t (differs t v b || differs t v c) after time late))))
 
-  crew_verify_asks : (t i : ℕ) (after : Script R) →
+  crew_verify_asks : y.form ≡ Compact → (t i : ℕ) (after : Script R) →
       t ≤ job.steps → IsTrue (has_claims job.rule) → i < y.procs → AllAsk job y E after →
       AllAsk job y E (crew_verify_task job y t i after)
   unfolding crew_verify_task
-  crew_verify_asks t i after time has proc late =
-      hears_ask t i 0 after _ proc (lit< tt) late (λ a fit range.
+  crew_verify_asks compact t i after time has proc late =
+      hears_ask compact t i 0 after _ proc (lit< tt) late (λ a fit range.
       cond_both (a == 0) after _ (AllAsk job y E) (λ e. late)
       (λ e. cond_both (nat_lt (a - 1) job.cells) _ after (AllAsk job y E)
       (λ h. load_of (Claim (a - 1)) _
       (claim_word job y board (a - 1) has (ltb-true (a - 1) job.cells h))
       (λ found ok. reports_ask t (differs t (claim_of job i) found) after time late)) (λ h. late)))
 
-  claim_asks : (t i : ℕ) (after : Script R) →
+  claim_asks : y.form ≡ Compact → (t i : ℕ) (after : Script R) →
       t ≤ job.steps → IsTrue (has_claims job.rule) → i < y.procs → AllAsk job y E after →
       AllAsk job y E (claim_task job y t i after)
   unfolding claim_task
-  claim_asks t i after time has proc late = hears_ask t i 0 after _ proc (lit< tt) late
+  claim_asks compact t i after time has proc late =
+      hears_ask compact t i 0 after _ proc (lit< tt) late
       (λ a fit range. cond_both (a == 0) after _ (AllAsk job y E) (λ e. late)
       (λ e. claims_ask t i (a - 1) after time has late))
 
-  priority_asks : (t i : ℕ) (after : Script R) → t ≤ job.steps →
+  priority_asks : y.form ≡ Compact → (t i : ℕ) (after : Script R) → t ≤ job.steps →
       IsTrue (has_claims job.rule) → i < y.procs → AllAsk job y E after →
       AllAsk job y E (priority_apply_task job y t i after)
   unfolding priority_apply_task
-  priority_asks t i after time has proc late = hears_all t i after _ time proc late
+  priority_asks compact t i after time has proc late = hears_all compact t i after _ time proc late
       (λ a b c range carried. cond_both (a == 0) _ _ (AllAsk job y E) (λ e. carried a range)
       (λ e. cond_both (nat_lt (a - 1) job.cells) _ _ (AllAsk job y E)
       (λ h. load_of (Claim (a - 1)) _
@@ -412,20 +417,29 @@ module _ {R : Type 0} (job : JobData) (y : LayoutData) (board : IsBoard job y)
       (cond_both (payload_of found == claim_of job i) a 0 (λ (n : ℕ). n ≤ counters_of y)
       (λ f. range) (λ f. omega arith))))) (λ h. carried a range)))
 
-  pub task_asks : (rule : Rule) (kind : Kind) (t i : ℕ) (after : Script R) →
+  pub task_asks : y.form ≡ Compact → (rule : Rule) (kind : Kind) (t i : ℕ) (after : Script R) →
       job.rule ≡ rule → t ≤ job.steps → i < y.procs → AllAsk job y E after →
       AllAsk job y E (task_of rule kind job y t i after)
   unfolding task_of
-  task_asks Common Compute t i after is time proc late = compute_asks t i after time proc late
-  task_asks Common Apply t i after is time proc late = apply_asks t i after time proc late
-  task_asks Common Verify t i after is time proc late = verify_asks t i after time proc late
-  task_asks Priority Compute t i after is time proc late = compute_asks t i after time proc late
-  task_asks Priority Apply t i after is time proc late = claim_asks t i after time
+  task_asks compact Common Compute t i after is time proc late =
+      compute_asks compact t i after time proc late
+  task_asks compact Common Apply t i after is time proc late =
+      apply_asks compact t i after time proc late
+  task_asks compact Common Verify t i after is time proc late =
+      verify_asks compact t i after time proc late
+  task_asks compact Priority Compute t i after is time proc late =
+      compute_asks compact t i after time proc late
+  task_asks compact Priority Apply t i after is time proc late =
+      claim_asks compact t i after time
       (subst (λ (r : Rule). IsTrue (has_claims r)) (sym is) refl) proc late
-  task_asks Priority Verify t i after is time proc late = priority_asks t i after time
+  task_asks compact Priority Verify t i after is time proc late =
+      priority_asks compact t i after time
       (subst (λ (r : Rule). IsTrue (has_claims r)) (sym is) refl) proc late
-  task_asks Crew Compute t i after is time proc late = compute_asks t i after time proc late
-  task_asks Crew Apply t i after is time proc late = crew_apply_asks t i after time
+  task_asks compact Crew Compute t i after is time proc late =
+      compute_asks compact t i after time proc late
+  task_asks compact Crew Apply t i after is time proc late =
+      crew_apply_asks compact t i after time
       (subst (λ (r : Rule). IsTrue (has_claims r)) (sym is) refl) proc late
-  task_asks Crew Verify t i after is time proc late = crew_verify_asks t i after time
+  task_asks compact Crew Verify t i after is time proc late =
+      crew_verify_asks compact t i after time
       (subst (λ (r : Rule). IsTrue (has_claims r)) (sym is) refl) proc late

@@ -86,7 +86,7 @@ module _ (job : JobData) (y : LayoutData) (board : IsBoard job y) where
       let d = same_procs job y board in
       let next = shape.next in
       let limits = board.limits in
-      cond_both (settles_in job t known.own) _ [] AllWrites
+      cond_both (settles_in job t known.settled known.own) _ [] AllWrites
       (λ e. registers_fit i known r all_registers _ proc
       (own_after_fits job i known.own r fits.own shape)
       (lit< tt, (lit< tt, (lit< tt, (lit< tt, tt))))
@@ -328,11 +328,11 @@ module _ {R : Type 0} (job : JobData) (y : LayoutData) (board : IsBoard job y)
       (subst (λ (r : Rule). IsTrue (has_claims r)) (sym is) refl) proc fits each
 
   pub form_asks : (form : Form) (kind : Kind) (t i : ℕ) (memo : Memo)
-      (after : Memo → Script R) → t ≤ job.steps → i < y.procs → FitsMemo job memo →
-      ((m : Memo) → FitsMemo job m → AllAsk job y E (after m)) →
+      (after : Memo → Script R) → y.form ≡ form → t ≤ job.steps → i < y.procs →
+      FitsMemo job memo → ((m : Memo) → FitsMemo job m → AllAsk job y E (after m)) →
       AllAsk job y E (task_in form job.rule kind job y t i memo after)
   unfolding task_in
-  form_asks Compact kind t i memo after time proc fits each =
-      task_asks job y board E job.rule kind t i (after memo) refl time proc (each memo fits)
-  form_asks (Wide g) kind t i memo after time proc fits each =
+  form_asks Compact kind t i memo after is time proc fits each =
+      task_asks job y board E is job.rule kind t i (after memo) refl time proc (each memo fits)
+  form_asks (Wide g) kind t i memo after is time proc fits each =
       wide_asks job.rule kind t i memo after refl time proc fits each

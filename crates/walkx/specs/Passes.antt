@@ -100,7 +100,7 @@ registers_landing job i known request (r ∷ registers) others =
 
 -- the places that are written, and the values
 abbrev pub landings : JobData → ℕ → ℕ → Memo → Request → List (ℕ × ℕ)
-landings job t i known request = if settles_in job t known.own
+landings job t i known request = if settles_in job t known.settled known.own
     then registers_landing job i known request all_registers
     (put_if (lands_counter job known request) (counter_place job i) request.next [])
     else []

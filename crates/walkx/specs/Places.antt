@@ -34,13 +34,16 @@ told_to memo r = record memo {
   };
 }
 
--- what its counter is
+-- what its counter is, which is written last
 abbrev pub tells_counter : Memo → Memo
-tells_counter memo = record memo { told = record memo.told { counter = memo.own.counter } }
+tells_counter memo = record memo {
+  settled = memo.step;
+  told = record memo.told { counter = memo.own.counter };
+}
 
 -- and what all is
 abbrev pub tells_all : Memo → Memo
-tells_all memo = record memo { told = memo.own }
+tells_all memo = record memo { settled = memo.step; told = memo.own }
 
 -- the task of the processor of lane k of a block
 abbrev pub wide_in_lane : PostData → Block → ℕ → Part Memo

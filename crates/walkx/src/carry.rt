@@ -1,4 +1,5 @@
 //! The apply tasks: a request is heard and carried out.
+ghost use Rattle.pram_words.specs.declared.layout.Form.TheVariants.{Compact};
 ghost use Rattle.std.specs.Prelude.{◌≡◌, ◌≤◌, ◌==◌};
 ghost use Rattle.pram_words.specs.Words.{counters_of};
 ghost use Rattle.walkx.specs.Driving.{Ends, IsDue, IsNextPart, Plays};
@@ -53,6 +54,7 @@ pub(crate) fn carry<S: Steps>(
 /// The request of the processor is heard, and carried out by the rule.
 #[inline(always)]
 pub(crate) fn apply<S: Steps>(steps: &mut S, leaf: &Leaf) -> Result<(), Left>
+    requires compact { leaf.now.layout.form ≡ Compact }
     requires due { IsDue (S.stands leaf.now) steps.old (applies leaf.now.job.rule leaf.now) }
     ensures ends { Ends (S.stands leaf.now) steps.old (applies leaf.now.job.rule leaf.now)
         steps.new result }

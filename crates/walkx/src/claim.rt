@@ -1,5 +1,6 @@
 //! Claims to cells.
-ghost use Rattle.std.specs.Prelude.{◌≢◌, ◌≤◌, IfOk};
+ghost use Rattle.pram_words.specs.declared.layout.Form.TheVariants.{Compact};
+ghost use Rattle.std.specs.Prelude.{◌≡◌, ◌≢◌, ◌≤◌, IfOk};
 ghost use Rattle.walkx.specs.Driving.{Ends, IsDue, IsNextPart, Plays};
 ghost use Rattle.walkx.specs.Parts.{claims_cell, claims_data, owns, readies};
 
@@ -65,6 +66,7 @@ pub(crate) fn ready<S: Steps>(steps: &mut S, leaf: &Leaf, place: u32) -> Result<
 /// The cell of the request is claimed.
 #[inline(always)]
 pub(crate) fn claim_cell<S: Steps>(steps: &mut S, leaf: &Leaf) -> Result<(), Left>
+    requires compact { leaf.now.layout.form ≡ Compact }
     requires rule { leaf.now.job.rule ≢ Rule.Common }
     requires due { IsDue (S.stands leaf.now) steps.old (claims_cell leaf.now) }
     ensures ends { Ends (S.stands leaf.now) steps.old (claims_cell leaf.now) steps.new result }

@@ -1,4 +1,5 @@
 //! The verify tasks: what stands in a place, or in a claim, is compared.
+ghost use Rattle.pram_words.specs.declared.layout.Form.TheVariants.{Compact};
 ghost use Rattle.std.specs.Prelude.{◌≡◌, ◌≢◌, ◌<◌, ◌≤◌};
 ghost use Rattle.pram_words.specs.Words.{counters_of, places_of};
 ghost use Rattle.walkx.specs.Driving.{Ends, IsDue, IsNextPart, Plays};
@@ -41,6 +42,7 @@ fn compare_place<S: Steps>(steps: &mut S, leaf: &Leaf, place: u32, value: u32) -
 /// The value of the request is compared with what its data place holds, if there is one.
 #[inline(always)]
 pub(crate) fn compare_data<S: Steps>(steps: &mut S, leaf: &Leaf, place: u32) -> Result<(), Left>
+    requires compact { leaf.now.layout.form ≡ Compact }
     requires place { place ≤ counters_of leaf.now.layout }
     requires next { IsNextPart (S.stands leaf.now) steps.old (compares_data leaf.now place) }
     ensures plays { Plays (S.stands leaf.now) steps.old (compares_data leaf.now place) steps.new
@@ -56,6 +58,7 @@ pub(crate) fn compare_data<S: Steps>(steps: &mut S, leaf: &Leaf, place: u32) -> 
 /// The verify task of the rule common.
 #[inline(always)]
 pub(crate) fn compare<S: Steps>(steps: &mut S, leaf: &Leaf) -> Result<(), Left>
+    requires compact { leaf.now.layout.form ≡ Compact }
     requires due { IsDue (S.stands leaf.now) steps.old (compares leaf.now) }
     ensures ends { Ends (S.stands leaf.now) steps.old (compares leaf.now) steps.new result }
 {
@@ -81,6 +84,7 @@ pub(crate) fn compare_claim<S: Steps>(steps: &mut S, leaf: &Leaf, place: u32) ->
 /// The verify task of the rule crew.
 #[inline(always)]
 pub(crate) fn compare_claims<S: Steps>(steps: &mut S, leaf: &Leaf) -> Result<(), Left>
+    requires compact { leaf.now.layout.form ≡ Compact }
     requires rule { leaf.now.job.rule ≢ Rule.Common }
     requires due { IsDue (S.stands leaf.now) steps.old (compares_claims leaf.now) }
     ensures ends { Ends (S.stands leaf.now) steps.old (compares_claims leaf.now) steps.new result }

@@ -6,7 +6,7 @@ pub struct Stopped;
 
 /// Why a part of a task was left.
 #[derive(Clone, Copy, Debug, PartialEq, Eq)]
-pub(crate) enum Left {
+pub enum Left {
     /// The rest of the task is not for the worker: it is late, or the processor asks for nothing.
     Late,
     /// The walk is held.

@@ -33,12 +33,12 @@ mod words;
 mod worker;
 
 pub use laws::own_steps_are_bounded;
-pub use left::Stopped;
+pub use left::{Left, Stopped};
 pub use operation::{Activity, Ended, Op, ReadOp, Reading};
 pub use reader::Reader;
 pub use record::Recorded;
 pub use steps::Steps;
-pub use walk_memory::{Claims, Formed, Leaf, Loads, Memo, Memory, Own, Post, Stand};
-pub use wide_store::report_store;
+pub use walk_memory::{Claims, Formed, Leaf, Loads, Memo, Memory, Own, Post, Stand, Stores};
+pub use wide_store::{carry_until, report_store};
 pub use words::{request_of, seen_step};
 pub use worker::Worker;

@@ -79,8 +79,8 @@ pub(crate) fn load_in<S: Steps>(
     )
 }
 
-// The first pass, where it reads no cell: a store is claimed, and in each 64th step, and in a load,
-// it settles.
+// The first pass, where it reads no cell: a store is claimed, and in a load, and 64 steps after it
+// last did, it settles.
 #[inline(always)]
 fn decide_in<S: Steps>(
     steps: &mut S,
@@ -101,8 +101,9 @@ fn decide_in<S: Steps>(
     let _ = leaf.job();
     let turn = turn_by(leaf, &block.own(k), instr, 0);
     claim_store(steps, leaf, turn)?;
+    let settles = settles_by(leaf, block.settled[k], instr);
     take_turn(leaf, block, k, turn);
-    if settles_by(leaf, instr) {
+    if settles {
         land_in(
             steps,
             leaf,
@@ -199,6 +200,8 @@ fn land_counter_in<S: Steps>(
     let k = landing.lane;
     let due = counter_due_in(block, landing);
     let value = block.counter[k];
+    block.standing.end = 0;
+    block.settled[k] = block.step[k];
     block.told_counter[k] = value;
     let write = (leaf.counter_place(), leaf.counter_word(), value);
     write_if(steps, leaf, due, write)

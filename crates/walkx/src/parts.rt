@@ -1,4 +1,5 @@
 //! Parts of a task.
+ghost use Rattle.pram_words.specs.declared.layout.Form.TheVariants.{Compact};
 ghost use Rattle.std.specs.Prelude.{◌≡◌, ℕ, ◌+◌, ◌^◌, ◌<◌, ◌≤◌, ◌==◌, IfOk};
 ghost use Rattle.pram_words.specs.Words.{most_asked};
 ghost use Rattle.walkx.specs.Driving.{IsNextPart, Plays};
@@ -16,6 +17,7 @@ use walk_memory::Leaf;
 /// Part j of the request, as long as it is of the step.
 #[inline(always)]
 pub(crate) fn hear_part<S: Steps>(steps: &mut S, leaf: &Leaf, j: u32) -> Result<u32, Left>
+    requires compact { leaf.now.layout.form ≡ Compact }
     requires part { j < 3 }
     requires next { IsNextPart (S.stands leaf.now) steps.old (hears_request leaf.now j) }
     ensures most { IfOk result (λ v. v ≤ most_asked leaf.now.layout leaf.now.job j) }

@@ -1,40 +1,45 @@
 //! Loads of which little is to be done: each is a look at its cell, and a write of its register.
-ghost use Rattle.std.specs.Prelude.{◌≡◌, ◌≢◌, ◌<◌, ℕ};
-ghost use Rattle.walkx.specs.Driving.{IsNextPart, Plays, learns};
-ghost use Rattle.walk_memory.specs.Lanes.{lane};
+ghost use Rattle.std.specs.Prelude.{◌<◌};
+ghost use Rattle.walkx.specs.Driving.{IsNextPart};
 ghost use Rattle.walkx.specs.Parts.{does_wide};
+ghost use Rattle.walkx.specs.Passing.{LoadsUp};
+ghost use Rattle.walk_memory.specs.Inner.Posts.{processor_of};
+ghost use Rattle.walk_memory.specs.Memory.{memo_of};
 ghost use Rattle.walk_memory.specs.Plain.{LoadsPlainly};
 
-use crate::left::Left;
+use crate::left::{Left, Stopped};
 use crate::parts::write_place;
 use crate::request::read_place;
 use crate::steps::Steps;
-use walk_memory::{Block, Leaf, LoadIn, forget, take_load};
+use crate::turns::settle;
+use walk_memory::{Leaf, Memory};
 
-/// The first pass of the leaf's processor, where it loads plainly.
+/// The first pass of the leaf's processor, where it loads this cell plainly: what it loaded, or none
+/// where the worker was late.
 #[inline(always)]
 pub(crate) fn load_plainly<S: Steps>(
+    memory: &Memory,
     steps: &mut S,
     leaf: &Leaf,
-    block: &mut Block,
-    load: LoadIn,
-) -> Result<(), Left>
-    requires plain { LoadsPlainly leaf.now (lane block.old load.lane) load.register load.cell }
+    register: u8,
+    cell: u32,
+) -> Result<Option<u32>, Stopped>
+    requires four { register < 4 }
+    requires plain { LoadsPlainly leaf.now (memo_of memory.now (processor_of leaf.now)) register
+        cell }
     requires next { IsNextPart (S.stands leaf.now) steps.old
-        (does_wide leaf.now (lane block.old load.lane)) }
-    ensures others { (j : ℕ) → j ≢ load.lane → lane block.new j ≡ lane block.old j }
-    ensures plays { Plays (S.stands leaf.now) steps.old
-        (does_wide leaf.now (lane block.old load.lane)) steps.new
-        (learns result (lane block.new load.lane)) }
+        (does_wide leaf.now (memo_of memory.now (processor_of leaf.now))) }
+    ensures { LoadsUp (S.stands leaf.now) leaf.now steps.old
+        (memo_of memory.now (processor_of leaf.now)) register steps.new result }
 {
-    let value = match read_place(steps, leaf, load.cell, leaf.cell_word(load.cell)) {
+    let _ = memory;
+    let value = match read_place(steps, leaf, cell, leaf.cell_word(cell)) {
         Ok(value) => value,
-        Err(why) => {
-            forget(block, load.lane);
-            return Err(why);
-        }
+        Err(Left::Late) => return Ok(None),
+        Err(Left::Held) => return Err(Stopped),
     };
-    take_load(leaf, block, load, value);
-    let place = leaf.register_place(load.register);
-    write_place(steps, leaf, place, leaf.register_word(load.register), value)
+    let place = leaf.register_place(register);
+    let done = write_place(steps, leaf, place, leaf.register_word(register), value);
+    settle(done)?;
+    Ok(Some(value))
 }

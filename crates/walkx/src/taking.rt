@@ -6,20 +6,19 @@ ghost use Rattle.walk_memory.specs.Inner.Posts.{processor_of};
 ghost use Rattle.walk_memory.specs.Memory.{FitsMemo, memo_of};
 ghost use Rattle.walkx.specs.Parts.{does_wide};
 ghost use Rattle.walk_memory.specs.Stands.{IsStand};
-ghost use Rattle.walkx.specs.Passing.{TakesUp, TakesUpIf};
+ghost use Rattle.walkx.specs.Passing.{LoadsUp, TakesUp, TakesUpIf};
 ghost use Rattle.walk_memory.specs.Lagging.{LagsBy};
-ghost use Rattle.walk_memory.specs.Plain.{ClaimsBy, LoadsBy, HasStore};
-ghost use Rattle.walkx.specs.Storing.{Carries};
+ghost use Rattle.walk_memory.specs.Plain.{ClaimsBy, LoadsBy};
 
 use crate::claim_plain::claim_plainly;
 use crate::left::Stopped;
 use crate::own_in::{load_in, own_in};
 use crate::plain::load_plainly;
 use crate::steps::Steps;
-use crate::stores::{carry_known, carry_lane_until};
+use crate::stores::carry_known;
 use crate::tasks::wide_task;
 use crate::turns::settle;
-use pram_job::{Instr, Rule};
+use pram_job::Instr;
 use pram_words::Kind;
 use walk_memory::{ClaimIn, Claims, Leaf, LoadIn, Loads, Memory, known_in, stands_in};
 
@@ -137,36 +136,6 @@ fn carry_second<S: Steps>(memory: &mut Memory, steps: &mut S, leaf: &Leaf) -> Re
     }
 }
 
-/// The second pass of the leaf's processor, whose store is remembered, up to the report: the
-/// store, if one is due. A caller that knows the rule gets code for that rule alone.
-#[inline(always)]
-pub fn carry_until<S: Steps>(
-    memory: &mut Memory,
-    steps: &mut S,
-    leaf: &Leaf,
-    rule: Rule,
-) -> Result<Option<(u32, u32)>, Stopped>
-    requires rule { rule ≡ leaf.now.job.rule }
-    requires store { HasStore leaf.now (memo_of memory.old (processor_of leaf.now)) }
-    requires memo { FitsMemo leaf.now.job (memo_of memory.old (processor_of leaf.now)) }
-    requires next { IsNextPart (S.stands leaf.now) steps.old
-        (does_wide leaf.now (memo_of memory.old (processor_of leaf.now))) }
-    ensures { Carries (S.stands leaf.now) leaf.now steps.old memory.old steps.new memory.new
-        result }
-{
-    let i = leaf.processor() as usize;
-    match &mut memory.blocks {
-        Some(blocks) => {
-            if i / 64 < blocks.len() {
-                let block = &mut blocks[i / 64];
-                return carry_lane_until(steps, leaf, block, i % 64, rule);
-            }
-            unreachable!()
-        }
-        None => unreachable!(),
-    }
-}
-
 /// As `take_up`, where the leaf's processor is known to stand at this instruction of the first
 /// pass, which is the one at this counter; else nothing is done. A caller that knows the
 /// instruction's form gets code for that form alone.
@@ -199,44 +168,23 @@ pub fn take_up_at<S: Steps>(
     }
 }
 
-/// As `take_up`, where the leaf's processor loads plainly.
+/// As `take_up`, where the leaf's processor loads plainly: what it loaded, or none where the worker
+/// was late. The caller remembers it.
 #[inline(always)]
 pub fn take_load<S: Steps>(
-    memory: &mut Memory,
+    memory: &Memory,
     steps: &mut S,
     leaf: &Leaf,
     loads: &Loads,
-) -> Result<(), Stopped>
-    requires plain { LoadsBy leaf.now memory.old loads.now }
+) -> Result<Option<u32>, Stopped>
+    requires plain { LoadsBy leaf.now memory.now loads.now }
     requires next { IsNextPart (S.stands leaf.now) steps.old
-        (does_wide leaf.now (memo_of memory.old (processor_of leaf.now))) }
-    ensures { TakesUp (S.stands leaf.now) leaf.now steps.old memory.old steps.new memory.new
-        result }
+        (does_wide leaf.now (memo_of memory.now (processor_of leaf.now))) }
+    ensures { LoadsUp (S.stands leaf.now) leaf.now steps.old
+        (memo_of memory.now (processor_of leaf.now)) loads.now.register steps.new result }
 {
-    let i = leaf.processor() as usize;
-    match &mut memory.blocks {
-        Some(blocks) => {
-            if i / 64 < blocks.len() {
-                let block = &mut blocks[i / 64];
-                let lane = i % 64;
-                let register = loads.register;
-                let cell = loads.cells[lane];
-                let done = load_plainly(
-                    steps,
-                    leaf,
-                    block,
-                    LoadIn {
-                        lane,
-                        register,
-                        cell,
-                    },
-                );
-                return settle(done);
-            }
-            unreachable!()
-        }
-        None => unreachable!(),
-    }
+    let cell = loads.cells[(leaf.processor() % 64) as usize];
+    load_plainly(memory, steps, leaf, loads.register, cell)
 }
 
 /// As `take_up`, where the leaf's processor is known to load this, whatever its words tell.

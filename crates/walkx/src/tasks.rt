@@ -1,4 +1,5 @@
 //! The task of a phase, by the form of the board, the kind of the phase and the rule of writing.
+ghost use Rattle.pram_words.specs.declared.layout.Form.TheVariants.{Compact};
 ghost use Rattle.std.specs.Prelude.{◌≡◌, true};
 ghost use Rattle.pram_words.specs.Phases.{kind_at};
 ghost use Rattle.walkx.specs.Driving.{Ends, IsDue, IsNextPart, Plays, learns};
@@ -21,6 +22,7 @@ use walk_memory::{Leaf, Memo};
 /// The task of the phase in the compact form.
 #[inline(always)]
 pub(crate) fn compact_task<S: Steps>(steps: &mut S, leaf: &Leaf) -> Result<(), Left>
+    requires compact { leaf.now.layout.form ≡ Compact }
     requires due { IsDue (S.stands leaf.now) steps.old (does_compact leaf.now) }
     ensures ends { Ends (S.stands leaf.now) steps.old (does_compact leaf.now) steps.new result }
 {

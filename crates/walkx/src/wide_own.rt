@@ -1,12 +1,12 @@
 //! The first pass of the wide form: what is a processor's own is written, and a store claimed.
-ghost use Rattle.std.specs.Prelude.{◌≡◌, ◌<◌, ◌==◌, ◌%◌, ◌||◌, suc, false, slice_get};
+ghost use Rattle.std.specs.Prelude.{◌≡◌, ◌<◌, ◌||◌, suc, false, slice_get};
 ghost use Rattle.std.specs.Prelude.{IfSome, Ok, None, Some};
 ghost use Rattle.pram_machine.specs.Instructions.{goes_to};
 ghost use Rattle.pram_machine.specs.Turns.{request_of};
 ghost use Rattle.pram_words.specs.Phases.{kind_at};
 ghost use Rattle.walkx.specs.Driving.{IsNextPart, Plays, learns};
 ghost use Rattle.walk_memory.specs.Inner.Posts.{IsCell, IsPairAt, processor_of, step_of};
-ghost use Rattle.walk_memory.specs.Memory.{cell_named, cell_next, is_load, settles_in};
+ghost use Rattle.walk_memory.specs.Memory.{cell_named, cell_next, is_due, is_load, settles_in};
 ghost use Rattle.walk_memory.specs.Stands.{IsStand};
 ghost use Rattle.walkx.specs.Passing.{Passes, idle_in, if_so};
 ghost use Rattle.walk_memory.specs.Turned.{IsShaped};
@@ -23,7 +23,7 @@ use crate::wide_request::know;
 use pram_job::{Instr, Rule};
 use pram_machine::{Put, Turn, cell_named};
 use pram_words::Kind;
-use walk_memory::{Leaf, Memo, fetch, is_load, turn_by};
+use walk_memory::{Leaf, Memo, fetch, is_due, is_load, turn_by};
 
 // A place of the processor's own, of which this is the first word, is written, if it is to be.
 #[inline(always)]
@@ -137,7 +137,8 @@ fn settle_own<S: Steps>(
 ) -> Result<(), Left>
     requires shape { IsShaped leaf.now.job (processor_of leaf.now) turn }
     requires reads { cell_next leaf.now.job known.now.own ≡ None }
-    requires settles { settles ≡ settles_in leaf.now.job (step_of leaf.now) known.now.own }
+    requires settles { settles ≡ settles_in leaf.now.job (step_of leaf.now) known.now.settled
+        known.now.own }
     requires next { IsNextPart (S.stands leaf.now) steps.old
         (own_written leaf.now known.now (request_of turn)) }
     ensures none { settles ≡ false → (result ≡ Ok tt) × (steps.new ≡ steps.old) }
@@ -231,8 +232,8 @@ fn own_loaded<S: Steps>(
     }
 }
 
-// The same, where it reads no cell: a store is claimed, and in each 64th step, and in a load, it
-// settles.
+// The same, where it reads no cell: a store is claimed, and in a load, and 64 steps after it last
+// did, it settles.
 #[inline(always)]
 fn own_decided<S: Steps>(
     steps: &mut S,
@@ -252,7 +253,7 @@ fn own_decided<S: Steps>(
     let _ = leaf.job();
     let turn = turn_by(leaf, &memo.own, instr, 0);
     claim_store(steps, leaf, turn)?;
-    let settles = settles_by(leaf, instr);
+    let settles = settles_by(leaf, memo.settled, instr);
     settle_own(steps, leaf, memo, turn, settles)?;
     memo.take_up(leaf, turn, settles);
     Ok(())
@@ -302,7 +303,7 @@ pub(crate) fn passes_by(leaf: &Leaf, memo: &mut Memo, instr: &Instr) -> bool
     ensures other { result ≡ false → memo.new ≡ memo.old }
 {
     let _ = leaf.job();
-    if settles_by(leaf, instr) {
+    if settles_by(leaf, memo.settled, instr) {
         return false;
     }
     let turn = turn_by(leaf, &memo.own, instr, 0);
@@ -313,12 +314,12 @@ pub(crate) fn passes_by(leaf: &Leaf, memo: &mut Memo, instr: &Instr) -> bool
     true
 }
 
-// It settles in the step, by its instruction.
+// It settles in the step, by its instruction, having last settled in that step.
 #[inline(always)]
-pub(crate) fn settles_by(leaf: &Leaf, instr: &Instr) -> bool
-    ensures { result ≡ (is_load (Some instr.now) || (step_of leaf.now % 64 == 0)) }
+pub(crate) fn settles_by(leaf: &Leaf, since: u32, instr: &Instr) -> bool
+    ensures { result ≡ (is_load (Some instr.now) || is_due since (step_of leaf.now)) }
 {
-    is_load(instr) || leaf.step() % 64 == 0
+    is_load(instr) || is_due(since, leaf.step())
 }
 
 // The cell that the turn claims, if it claims one.

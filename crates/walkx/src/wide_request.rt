@@ -100,6 +100,7 @@ fn memo_of_words(leaf: &Leaf, words: [u64; 5]) -> Memo
         acted: 3 * u64::from(before),
         step: before,
         own: own_alone(leaf, told, before.saturating_sub(newest)),
+        settled: newest,
         told,
         store: None,
     }

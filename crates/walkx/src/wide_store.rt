@@ -131,9 +131,10 @@ pub(crate) fn carry_store<S: Steps>(
     Ok(())
 }
 
-/// The same up to the report of another's write: whether one is due.
+/// The same up to the report of another's write: whether one is due. A caller that knows the rule
+/// gets code for that rule alone.
 #[inline(always)]
-pub(crate) fn carry_until<S: Steps>(
+pub fn carry_until<S: Steps>(
     steps: &mut S,
     leaf: &Leaf,
     write: (u32, u32),

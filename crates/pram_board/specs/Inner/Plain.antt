@@ -3,12 +3,11 @@ use Rattle.std.specs.Prelude.{◌≡◌, ◌≤◌, ◌<◌, ℕ, ◌%◌, List,
 use Rattle.std.specs.Prelude.{unwrap_or}
 use Rattle.std.proofs.Common.{sym, subst}
 use Rattle.walk_memory.specs.declared.load_in.Claims.{Claims}
-use Rattle.walk_memory.specs.declared.load_in.Loads.{Loads}
 use Rattle.walk_memory.specs.declared.memo.Memo.{Memo}
 use Rattle.walk_memory.specs.Inner.Posts.{PostData, at_rank, processor_of}
 use Rattle.walk_memory.specs.Memory.{at_start}
 use Rattle.walk_memory.specs.Lagging.{LagsBy}
-use Rattle.walk_memory.specs.Plain.{ClaimsBy, ClaimsPlainly, LoadsBy, LoadsPlainly}
+use Rattle.walk_memory.specs.Plain.{ClaimsBy, ClaimsPlainly}
 use Rattle.walk_memory.specs.Stands.{LoadsKnown}
 use Rattle.pram_board.specs.declared.plain.Lagging.{Lagging}
 
@@ -19,13 +18,6 @@ AllBy by at len memory plain =
     (rank : ℕ) → at.rank ≤ rank → rank < len → by (at_rank at rank) memory plain
 
 -- what is remembered of other processors does not matter
-pub loads_alone : (at : PostData) (memory now : List Memo) (loads : Loads) →
-    slice_get now (processor_of at) ≡ slice_get memory (processor_of at) →
-    LoadsBy at memory loads → LoadsBy at now loads
-loads_alone at memory now loads same by =
-    subst (λ (o : Option Memo). LoadsPlainly at (unwrap_or o at_start) loads.register
-    (slice_index loads.cells (processor_of at % 64))) (sym same) by
-
 pub claims_alone : (at : PostData) (memory now : List Memo) (claims : Claims) →
     slice_get now (processor_of at) ≡ slice_get memory (processor_of at) →
     ClaimsBy at memory claims → ClaimsBy at now claims

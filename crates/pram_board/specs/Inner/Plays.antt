@@ -1,12 +1,12 @@
 -- A script that is played through a seat, and the ticks that come of it.
-use Rattle.std.specs.Prelude.{◌≡◌, ◌≤◌, ◌<◌, ℕ, Bool, true, false, ◌⊎◌, ◌+◌, ◌%◌, ◌^◌, nat_lt, suc}
+use Rattle.std.specs.Prelude.{◌≡◌, ◌≤◌, ◌<◌, ℕ, Bool, true, false, ◌⊎◌, ◌+◌, ◌-◌, ◌%◌, ◌^◌, nat_lt, suc}
 use Rattle.std.specs.Prelude.{List, [], ◌∷◌, length, slice_set, Option, Some, None, IfSome}
 use Rattle.walkx.specs.declared.operation.Op.{Op}
 use Rattle.walk_memory.specs.Inner.Posts.{IsCellOf, IsLeafPost, PostData, at_rank, processor_of}
 use Rattle.walk_memory.specs.Memory.{FitsMemory, memo_of}
 use Rattle.walkx.specs.Passing.{idle}
 use Rattle.walkx.specs.Rests.{has_worked}
-use Rattle.walk_memory.specs.Plain.{AllStore}
+use Rattle.walk_memory.specs.Plain.{AllStore, carried_all}
 use Rattle.walkx.specs.Storing.{left_of}
 use Rattle.walkx.specs.Bound.{told_all}
 use Rattle.walkx.specs.Inner.Workers.{WorkerData}
@@ -211,6 +211,14 @@ pub record StoredTo (at : PostData) (len : ℕ) (before : Driving) (memory : Lis
   pub there : AtTask last.0 len mid between
   pub stores : AllStore last.0 len between
   pub swapped : Swapped last.0 mid between last.1 later now
+
+-- And so it was where the stores of those up to this rank are yet to be remembered as carried out.
+pub record StoredIn (at : PostData) (len : ℕ) (before : Driving) (memory : List Memo)
+    (last : PostData × Option (ℕ × ℕ) × ℕ) (later : Driving) : Type 0 where
+  pub from : at.rank ≤ last.2
+  pub most : last.2 ≤ len
+  pub stored : StoredTo at len before memory (last.0, last.1) later
+      (carried_all at (last.2 - at.rank) memory)
 
 -- where a turn leads it
 abbrev pub led_to : PostData → List Memo → Turned → Walking

@@ -5,17 +5,17 @@ use Rattle.walk_memory.specs.declared.memo.Own.{Own}
 use Rattle.walk_memory.specs.Lanes.{lane}
 use Rattle.walk_memory.proofs.GoingAlone.{stays_at, stays_load}
 use Rattle.walk_memory.proofs.alone.go_one.Goals as goal
-use Rattle.walk_memory.proofs.alone.go_one.Goals.{then-step-eq0-via-then-step-eq0}
-use Rattle.walk_memory.proofs.alone.go_one.Goals.{then-step-eq0-via-else-step-eq0+then-is_load}
+use Rattle.walk_memory.proofs.alone.go_one.Goals.{then-is_due-via-then-is_due}
+use Rattle.walk_memory.proofs.alone.go_one.Goals.{then-is_due-via-else-is_due+then-is_load}
 
-pub returns-then-step-eq0-clause-value : goal.returns-then-step-eq0-clause-value
-returns-then-step-eq0-clause-value c =
+pub returns-then-is_due-clause-value : goal.returns-then-is_due-clause-value
+returns-then-is_due-clause-value c =
     let job = c.args.job.now in
     let memo = lane c.args.block.now c.args.k in
-    elim c.then-step-eq0.branch [
-      | then-step-eq0-via-then-step-eq0 w ↦
-          stays_at job c.args.i memo c.args.instr.now c.requires.instr w.if-step-eq0.true
-      | then-step-eq0-via-else-step-eq0+then-is_load w ↦
+    elim c.then-is_due.branch [
+      | then-is_due-via-then-is_due w ↦
+          stays_at job c.args.i memo c.args.instr.now c.requires.instr (sym c.is_due.ensures ∙ w.if-is_due.true)
+      | then-is_due-via-else-is_due+then-is_load w ↦
           stays_load job c.args.i memo c.args.instr.now c.requires.instr
           (sym w.is_load.ensures ∙ w.if-is_load.true)
     ]

@@ -1,7 +1,7 @@
-use Rattle.std.proofs.Common.{◌≡◌, true, slice_get, sym, ◌∙◌, arith}
+use Rattle.std.proofs.Common.{◌≡◌, suc, true, slice_get, sym, ◌∙◌, arith}
 use Rattle.std.proofs.lemmas.Bool.{eqb-true}
 use Rattle.walk_memory.specs.Lanes.{lane}
-use Rattle.walk_memory.specs.Memory.{is_load}
+use Rattle.walk_memory.specs.Memory.{is_load, steps_left}
 use Rattle.walk_memory.proofs.AsFar.{at_load}
 use Rattle.walk_memory.proofs.GoingAlone.{last_stays, stored_stays}
 use Rattle.walk_memory.proofs.alone.rests.Goals as goal
@@ -14,9 +14,9 @@ returns-then-has_store c = λ yes i.
     let memo = lane c.args.block.now c.args.k in
     elim c.then-has_store.branch [
       | then-has_store-via-then-has_store w ↦
-          stored_stays job i memo 64 (sym c.has_store.ensures ∙ w.if-has_store.true)
+          stored_stays job i memo (suc (steps_left memo)) (sym c.has_store.ensures ∙ w.if-has_store.true)
       | then-has_store-via-else-has_store+then-steps-block w ↦
-          last_stays job i memo 64 (omega (arith, w.if-steps-block.true, w.steps.ensures.value))
+          last_stays job i memo (suc (steps_left memo)) (omega (arith, w.if-steps-block.true, w.steps.ensures.value))
     ]
 
 pub returns-in-Some : goal.returns-in-Some

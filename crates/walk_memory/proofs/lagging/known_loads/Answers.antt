@@ -1,4 +1,4 @@
-use Rattle.std.proofs.Common.{ℕ, length, Some, slice_get, sym, ap, subst, ◌∙◌}
+use Rattle.std.proofs.Common.{length, Some, slice_get, ap, subst, ◌∙◌}
 use Rattle.pram_job.specs.declared.instr.Instr.{Instr}
 use Rattle.pram_job.specs.Job.{IsInstr, IsJob}
 use Rattle.pram_machine.proofs.Shapes.{instr_is}
@@ -17,11 +17,11 @@ cells_of-requires c =
 pub returns : goal.returns
 returns c = λ k from to.
     let at = c.args.leaf.now in
-    let own = c.all_equal.ensures c.if-not-all_equal.false k from to in record {
+    let own = c.stand_before.ensures.there c.if-not-stand_before.false k from to in record {
       place = c.in-Ld.place;
       stands = record {
         first = c.requires.0;
-        before = c.all_before.ensures c.if-not-all_before.false k from to;
+        before = c.stand_before.ensures.before c.if-not-stand_before.false k from to;
         code = ap (slice_get at.job.code) own ∙ c.requires.1 ∙ ap Some c.in-Ld.is;
       };
       reads = load_reads at.job (lane c.args.block.now k).own c.in-Ld.register c.in-Ld.place

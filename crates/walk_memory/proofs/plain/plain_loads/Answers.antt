@@ -7,8 +7,8 @@ use Rattle.walk_memory.specs.Lanes.{lane}
 use Rattle.walk_memory.proofs.Plainly.{four_entries, load_reads}
 use Rattle.walk_memory.proofs.plain.plain_loads.Goals as goal
 
-pub all_at-requires : goal.all_at-requires
-all_at-requires c =
+pub overflow_add-stand : goal.overflow_add-stand
+overflow_add-stand c =
     let job = c.args.leaf.now.job in
     let low = slice_get_within job.code c.args.stand.counter c.args.stand.instr.now c.requires.1 in
     let most : length job.code ≤ 4096 = rw c.job-job.ensures.value at c.limits_hold.ensures.code_len.1 in
@@ -27,16 +27,16 @@ returns c = λ k from to.
     let at = c.args.leaf.now in
     let block = c.args.block.now in
     let counter = c.args.stand.counter in
-    let own = c.all_at.ensures.own c.if-not-all_at.false k from to in record {
+    let own = c.stand_before.ensures.there c.if-not-stand_before.false k from to in record {
       first = c.requires.0;
-      before = c.all_before.ensures c.if-not-all_before.false k from to;
+      before = c.stand_before.ensures.before c.if-not-stand_before.false k from to;
       place = c.in-Ld.place;
       code = ap (slice_get at.job.code) own ∙ c.requires.1 ∙ ap Some c.in-Ld.is;
       reads = load_reads at.job (lane block k).own c.in-Ld.register c.in-Ld.place
           ∙ rw c.job-job.ensures.value at (rw c.in-Ld.place-is at c.in_ok-cells.ensures.there k from to);
       below = rw c.job-job.ensures.value at c.in_ok-cells.ensures.below k from to;
       four = four_entries block.registers k (search rules);
-      counter = c.all_at.ensures.told c.if-not-all_at.false k from to
+      counter = c.all_equal.ensures c.if-not-all_equal.false k from to
           ∙ ap (λ (n : ℕ). n + 1) (sym own);
       told = c.all_told.ensures c.if-not-all_told.false k from to;
     }

@@ -25,6 +25,7 @@ returns-clause-all c = λ t.
         acted = refl;
         step = refl;
         counter = refl;
+        settled = refl;
         told_counter = refl;
         told = refl;
         stored = refl;

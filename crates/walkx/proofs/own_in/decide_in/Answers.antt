@@ -88,9 +88,9 @@ land_in-requires g c =
     let r = own_next at memo instr s.first s.before s.code stands c.args.steps.now
     c.requires.next in
     let taken = lane c.take_turn.new.block c.args.k in
-    let settles : settles_in at.job (step_of at) memo.own ≡ true =
-    settles_by at.job memo.own instr s.code (step_of at)
-    ∙ sym c.settles_by.ensures ∙ c.if-settles_by.true in
+    let settles : settles_in at.job (step_of at) memo.settled memo.own ≡ true =
+    settles_by at.job memo.own instr s.code (step_of at) memo.settled
+    ∙ sym c.settles_by-settles.ensures ∙ c.if-settles.true in
     let quiet = quiet_taken at memo request taken
     (ap (λ (m : Memo). m.own) c.take_turn.ensures.same)
     (ap (λ (m : Memo). m.told) c.take_turn.ensures.same)
@@ -110,8 +110,8 @@ land_in-requires g c =
       };
     }
 
-pub returns-then-settles_by-clause-idle : goal.returns-then-settles_by-clause-idle
-returns-then-settles_by-clause-idle g c =
+pub returns-then-settles-clause-idle : goal.returns-then-settles-clause-idle
+returns-then-settles-clause-idle g c =
     let at = c.args.leaf.now in
     let memo = lane c.args.block.now c.args.k in
     let instr = c.args.instr.now in
@@ -120,15 +120,15 @@ returns-then-settles_by-clause-idle g c =
     let request : Request = request_of c.turn_by-turn.result in
     let asks : request ≡ asked_with at memo (Some instr) 0 = c.turn_by-turn.ensures.value
     ∙ ap (λ (o : Own). asked_by at.job (processor_of at) o (Some instr) 0) c.own.ensures in
-    let settles : settles_in at.job (step_of at) memo.own ≡ true =
-    settles_by at.job memo.own instr s.code (step_of at)
-    ∙ sym c.settles_by.ensures ∙ c.if-settles_by.true in
+    let settles : settles_in at.job (step_of at) memo.settled memo.own ≡ true =
+    settles_by at.job memo.own instr s.code (step_of at) memo.settled
+    ∙ sym c.settles_by-settles.ensures ∙ c.if-settles.true in
     own_idle at memo instr s.first s.before s.code _ _ _
     (where_decides at memo _ _ _ instr s.before s.code c.requires.none request asks
     (λ lags none. absurd (let e = sym settles ∙ lags in cc)))
 
-pub returns-then-settles_by-clause-done : goal.returns-then-settles_by-clause-done
-returns-then-settles_by-clause-done g c =
+pub returns-then-settles-clause-done : goal.returns-then-settles-clause-done
+returns-then-settles-clause-done g c =
     let at = c.args.leaf.now in
     let memo = lane c.args.block.now c.args.k in
     let instr = c.args.instr.now in
@@ -138,9 +138,9 @@ returns-then-settles_by-clause-done g c =
     let asks : request ≡ asked_with at memo (Some instr) 0 = c.turn_by-turn.ensures.value
     ∙ ap (λ (o : Own). asked_by at.job (processor_of at) o (Some instr) 0) c.own.ensures in
     let taken = lane c.take_turn.new.block c.args.k in
-    let settles : settles_in at.job (step_of at) memo.own ≡ true =
-    settles_by at.job memo.own instr s.code (step_of at)
-    ∙ sym c.settles_by.ensures ∙ c.if-settles_by.true in
+    let settles : settles_in at.job (step_of at) memo.settled memo.own ≡ true =
+    settles_by at.job memo.own instr s.code (step_of at) memo.settled
+    ∙ sym c.settles_by-settles.ensures ∙ c.if-settles.true in
     let quiet = quiet_taken at memo request taken
     (ap (λ (m : Memo). m.own) c.take_turn.ensures.same)
     (ap (λ (m : Memo). m.told) c.take_turn.ensures.same)
@@ -164,8 +164,8 @@ returns-then-settles_by-clause-done g c =
       });
     }
 
-pub returns-else-settles_by-clause-idle : goal.returns-else-settles_by-clause-idle
-returns-else-settles_by-clause-idle g c =
+pub returns-else-settles-clause-idle : goal.returns-else-settles-clause-idle
+returns-else-settles-clause-idle g c =
     let at = c.args.leaf.now in
     let memo = lane c.args.block.now c.args.k in
     let instr = c.args.instr.now in
@@ -181,8 +181,8 @@ returns-else-settles_by-clause-idle g c =
       (c.in_ok-claim_store.ensures.none none).1,
     )))
 
-pub returns-else-settles_by-clause-done : goal.returns-else-settles_by-clause-done
-returns-else-settles_by-clause-done g c =
+pub returns-else-settles-clause-done : goal.returns-else-settles-clause-done
+returns-else-settles-clause-done g c =
     let at = c.args.leaf.now in
     let memo = lane c.args.block.now c.args.k in
     let instr = c.args.instr.now in
@@ -192,9 +192,9 @@ returns-else-settles_by-clause-done g c =
     let asks : request ≡ asked_with at memo (Some instr) 0 = c.turn_by-turn.ensures.value
     ∙ ap (λ (o : Own). asked_by at.job (processor_of at) o (Some instr) 0) c.own.ensures in
     let taken = lane c.take_turn.new.block c.args.k in
-    let lags : settles_in at.job (step_of at) memo.own ≡ false =
-    settles_by at.job memo.own instr s.code (step_of at)
-    ∙ sym c.settles_by.ensures ∙ c.if-settles_by.false in
+    let lags : settles_in at.job (step_of at) memo.settled memo.own ≡ false =
+    settles_by at.job memo.own instr s.code (step_of at) memo.settled
+    ∙ sym c.settles_by-settles.ensures ∙ c.if-settles.false in
     let known = learned at memo request in
     let is : taken ≡ known = c.take_turn.ensures.same ∙ turned_quiet at memo request s.first lags in
     record {

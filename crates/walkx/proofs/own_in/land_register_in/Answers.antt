@@ -1,6 +1,8 @@
-use Rattle.std.proofs.Common.{◌≡◌, ℕ, List, length, slice_index, sym, ◌∙◌, arith}
-use Rattle.std.proofs.lemmas.List.{length-map}
+use Rattle.std.proofs.Common.{ℕ, List, length, rules, sym, ap, ◌∙◌}
+use Rattle.std.proofs.Math.ListN.{length-set}
+use Rattle.walk_memory.specs.Lanes.{entries}
 use Rattle.walk_memory.proofs.InLanes.{entry_is}
+use Rattle.walk_memory.proofs.Plainly.{four_entries}
 use Rattle.walkx.proofs.own_in.land_register_in.Goals as goal
 
 pub write_if-requires-clause-next : goal.write_if-requires-clause-next
@@ -12,5 +14,8 @@ write_if-requires-clause-next g c = rw (
 
 pub returns-clause-four : goal.returns-clause-four
 returns-clause-four g c =
-    let long : length c.set_entry.new.rows ≡ 4 = omega (arith, c.set_entry.array_long) in
-    length-map c.set_entry.new.rows (λ (r : List ℕ). slice_index r c.args.landing.lane) ∙ long
+    let rows = c.args.block.now.told in
+    let k = c.args.landing.lane in
+    ap (λ (row : List ℕ). length row) c.set_entry.ensures.same
+    ∙ length-set (entries rows k) c.args.r _
+    ∙ four_entries rows k (search rules)

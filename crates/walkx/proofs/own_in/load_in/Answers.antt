@@ -110,7 +110,8 @@ returns g c =
     let known = learned at memo given in
     let told : tells_all taken ≡ known = ap tells_all c.take_value.ensures.same
     ∙ turned_settled at memo given p.stands.first
-    (settles_reading at.job memo.own instr p.stands.code (step_of at) cell p.reads) in
+    (settles_reading at.job memo.own instr p.stands.code (step_of at) memo.settled cell
+    p.reads) in
     record {
       others = λ j other. c.land_in.ensures.others j other ∙ c.take_value.ensures.others j other;
       plays = own_plays at memo instr p.stands.first p.stands.before p.stands.code stands

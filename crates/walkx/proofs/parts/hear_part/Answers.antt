@@ -30,7 +30,7 @@ returns-then-is_of-clause-most g c =
       here = r.here;
     }) in
     rw c.payload.ensures (asked_part at.job at.layout (processor_of at) c.args.j _ limits.board
-    (omega (arith, limits.first, limits.last)) c.requires.part admitted)
+    c.requires.compact (omega (arith, limits.first, limits.last)) c.requires.part admitted)
 
 pub returns-then-is_of-clause-plays : goal.returns-then-is_of-clause-plays
 returns-then-is_of-clause-plays g c =

@@ -1,7 +1,7 @@
 use Rattle.std.proofs.Common.{ℕ, Err}
 use Rattle.std.specs.Prelude.{slice_index}
 use Rattle.walk_memory.specs.Lanes.{lane}
-use Rattle.walkx.specs.Storing.{carried_in}
+use Rattle.walk_memory.specs.Plain.{carried_in}
 use Rattle.walk_memory.proofs.ClaimWords.{cell_of}
 use Rattle.walkx.proofs.Passing.{passed}
 use Rattle.walkx.proofs.Settling.{learned_comes}

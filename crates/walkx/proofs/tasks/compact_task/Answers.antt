@@ -18,13 +18,12 @@ returns-in-Compute-default g c = let at = c.args.leaf.now in record {
       _ _ c.compute.ensures.ends;
 }
 
-pub apply-requires : goal.apply-requires
-apply-requires g c = let at = c.args.leaf.now in record {
-  due = due_as (g.S.Steps.stands at) _ _ _
-      (λ after. same_kind at after _ _ (sym c.kind.ensures.value ∙ c.in-Apply-Common.is-0)
-      ∙ second_common at after _ (sym c.rule.ensures.value ∙ c.in-Apply-Common.is-1))
-      c.requires.due;
-}
+pub apply-requires-clause-due : goal.apply-requires-clause-due
+apply-requires-clause-due g c =
+    let at = c.args.leaf.now in due_as (g.S.Steps.stands at) _ _ _
+    (λ after. same_kind at after _ _ (sym c.kind.ensures.value ∙ c.in-Apply-Common.is-0)
+    ∙ second_common at after _ (sym c.rule.ensures.value ∙ c.in-Apply-Common.is-1))
+    c.requires.due
 
 pub returns-in-Apply-Common : goal.returns-in-Apply-Common
 returns-in-Apply-Common g c = let at = c.args.leaf.now in record {
@@ -48,13 +47,12 @@ returns-in-Apply-Priority g c = let at = c.args.leaf.now in record {
       _ _ c.claim_cell.ensures.ends;
 }
 
-pub apply-requires-in-Apply-Crew : goal.apply-requires-in-Apply-Crew
-apply-requires-in-Apply-Crew g c = let at = c.args.leaf.now in record {
-  due = due_as (g.S.Steps.stands at) _ _ _
-      (λ after. same_kind at after _ _ (sym c.kind.ensures.value ∙ c.in-Apply-Crew.is-0)
-      ∙ second_crew at after _ (sym c.rule.ensures.value ∙ c.in-Apply-Crew.is-1))
-      c.requires.due;
-}
+pub apply-requires-in-Apply-Crew-clause-due : goal.apply-requires-in-Apply-Crew-clause-due
+apply-requires-in-Apply-Crew-clause-due g c =
+    let at = c.args.leaf.now in due_as (g.S.Steps.stands at) _ _ _
+    (λ after. same_kind at after _ _ (sym c.kind.ensures.value ∙ c.in-Apply-Crew.is-0)
+    ∙ second_crew at after _ (sym c.rule.ensures.value ∙ c.in-Apply-Crew.is-1))
+    c.requires.due
 
 pub returns-in-Apply-Crew : goal.returns-in-Apply-Crew
 returns-in-Apply-Crew g c = let at = c.args.leaf.now in record {
@@ -64,13 +62,12 @@ returns-in-Apply-Crew g c = let at = c.args.leaf.now in record {
       _ _ c.apply-in-Apply-Crew.ensures.ends;
 }
 
-pub compare-requires : goal.compare-requires
-compare-requires g c = let at = c.args.leaf.now in record {
-  due = due_as (g.S.Steps.stands at) _ _ _
-      (λ after. same_kind at after _ _ (sym c.kind.ensures.value ∙ c.in-Verify-Common.is-0)
-      ∙ third_common at after _ (sym c.rule.ensures.value ∙ c.in-Verify-Common.is-1))
-      c.requires.due;
-}
+pub compare-requires-clause-due : goal.compare-requires-clause-due
+compare-requires-clause-due g c =
+    let at = c.args.leaf.now in due_as (g.S.Steps.stands at) _ _ _
+    (λ after. same_kind at after _ _ (sym c.kind.ensures.value ∙ c.in-Verify-Common.is-0)
+    ∙ third_common at after _ (sym c.rule.ensures.value ∙ c.in-Verify-Common.is-1))
+    c.requires.due
 
 pub returns-in-Verify-Common : goal.returns-in-Verify-Common
 returns-in-Verify-Common g c = let at = c.args.leaf.now in record {
@@ -80,13 +77,12 @@ returns-in-Verify-Common g c = let at = c.args.leaf.now in record {
       _ _ c.compare.ensures.ends;
 }
 
-pub apply-requires-in-Verify-Priority : goal.apply-requires-in-Verify-Priority
-apply-requires-in-Verify-Priority g c = let at = c.args.leaf.now in record {
-  due = due_as (g.S.Steps.stands at) _ _ _
-      (λ after. same_kind at after _ _ (sym c.kind.ensures.value ∙ c.in-Verify-Priority.is-0)
-      ∙ third_priority at after _ (sym c.rule.ensures.value ∙ c.in-Verify-Priority.is-1))
-      c.requires.due;
-}
+pub apply-requires-in-Verify-Priority-clause-due : goal.apply-requires-in-Verify-Priority-clause-due
+apply-requires-in-Verify-Priority-clause-due g c =
+    let at = c.args.leaf.now in due_as (g.S.Steps.stands at) _ _ _
+    (λ after. same_kind at after _ _ (sym c.kind.ensures.value ∙ c.in-Verify-Priority.is-0)
+    ∙ third_priority at after _ (sym c.rule.ensures.value ∙ c.in-Verify-Priority.is-1))
+    c.requires.due
 
 pub returns-in-Verify-Priority : goal.returns-in-Verify-Priority
 returns-in-Verify-Priority g c = let at = c.args.leaf.now in record {

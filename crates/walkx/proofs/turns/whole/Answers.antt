@@ -6,16 +6,14 @@ use Rattle.walkx.proofs.Turning.{comes_to, compact_does, moved}
 use Rattle.walk_memory.proofs.Posts.{phase_is}
 use Rattle.walkx.proofs.turns.whole.Goals as goal
 
-pub compact_task-requires : goal.compact_task-requires
-compact_task-requires g c =
+pub compact_task-requires-clause-due : goal.compact_task-requires-clause-due
+compact_task-requires-clause-due g c =
     let at = c.args.post.now in
     let r = c.requires.here in
     rw c.leaf.ensures (record {
-      due = record {
-        from = r.from;
-        after = then_marks at at.phase;
-        here = moved (g.S.Steps.stands at) r.from _ _ _ (compact_does at c.requires.compact) r.here;
-      };
+      from = r.from;
+      after = then_marks at at.phase;
+      here = moved (g.S.Steps.stands at) r.from _ _ _ (compact_does at c.requires.compact) r.here;
     })
 
 pub returns-in_err-settle : goal.returns-in_err-settle

@@ -47,7 +47,7 @@ pub settle_own-requires-clause-settles : goal.settle_own-requires-clause-settles
 settle_own-requires-clause-settles g c =
     let at = c.args.leaf.now in
     c.settles_by-settles.ensures ∙ sym (settles_by at.job c.args.memo.now.own c.args.instr.now
-    c.requires.stand.1 (step_of at))
+    c.requires.stand.1 (step_of at) c.args.memo.now.settled)
 
 pub settle_own-requires-clause-next : goal.settle_own-requires-clause-next
 settle_own-requires-clause-next g c =
@@ -71,7 +71,7 @@ pub take_up-requires-clause-settles : goal.take_up-requires-clause-settles
 take_up-requires-clause-settles g c =
     let at = c.args.leaf.now in
     c.settles_by-settles.ensures ∙ sym (settles_by at.job c.args.memo.now.own c.args.instr.now
-    c.requires.stand.1 (step_of at))
+    c.requires.stand.1 (step_of at) c.args.memo.now.settled)
 
 pub returns-in_err-claim_store-clause-plays : goal.returns-in_err-claim_store-clause-plays
 returns-in_err-claim_store-clause-plays g c =
@@ -118,7 +118,7 @@ returns-in_err-settle_own-clause-idle g c = λ before.
     where_decides at c.args.memo.now _ _ _ c.args.instr.now before c.requires.stand.1
     c.requires.none (request_of c.turn_by-turn.result) c.turn_by-turn.ensures.value
     (λ lags none. absurd (let ok = (c.in_err-settle_own.ensures.none (c.settles_by-settles.ensures
-    ∙ sym (settles_by at.job c.args.memo.now.own c.args.instr.now c.requires.stand.1 (step_of at))
+    ∙ sym (settles_by at.job c.args.memo.now.own c.args.instr.now c.requires.stand.1 (step_of at) c.args.memo.now.settled)
     ∙ lags)).0 in cc))
 
 pub returns-clause-plays : goal.returns-clause-plays
@@ -147,6 +147,6 @@ returns-clause-idle g c = λ before.
       c.take_up.ensures,
       (c.in_ok-settle_own.ensures.none (c.settles_by-settles.ensures
           ∙ sym (settles_by at.job c.args.memo.now.own c.args.instr.now
-          c.requires.stand.1 (step_of at))
+          c.requires.stand.1 (step_of at) c.args.memo.now.settled)
           ∙ lags)).1 ∙ (c.in_ok-claim_store.ensures.none none).1,
     ))

@@ -1,118 +1,174 @@
-use Rattle.std.proofs.Common.{◌≡◌, ◌<◌, ℕ, suc, Option, None, refl, sym, ap, subst, ◌∙◌, arith}
+use Rattle.std.proofs.Common.{◌≡◌, ◌<◌, ◌-◌, suc, Ok, Err, refl, sym, ap, ◌∙◌, arith}
 use Rattle.walk_memory.specs.Inner.Posts.{PostData}
-use Rattle.pram_board.specs.Inner.Plays.{AtPart, Swapped, driving}
-use Rattle.pram_board.proofs.Storing.{is_none, still_stores, swap_done}
+use Rattle.walk_memory.specs.Plain.{carried_all}
+use Rattle.walkx.specs.declared.left.Left.TheVariants.{Held, Late}
+use Rattle.pram_board.specs.Inner.Plays.{driving}
+use Rattle.pram_board.proofs.Storing.{store_cell, store_done, store_due, store_held, store_last}
+use Rattle.pram_board.proofs.Storing.{store_late, store_next, store_same}
 use Rattle.pram_board.proofs.Tasks.{at_next, done_from, is_within, leaf_at, not_moved, same_next}
 use Rattle.pram_board.proofs.driver.Driver.store_on.Goals as goal
 
-pub loop-rule-init : goal.loop-rule-init
-loop-rule-init g c = record {
-  seat = refl;
-  same = refl;
-  later = omega arith;
-  at = c.requires.at;
-  stores = c.requires.stores;
-  moved = not_moved _ _ _ c.requires.at.walks;
-}
+pub loop-stores-init : goal.loop-stores-init
+unfolding carried_all
+loop-stores-init g c =
+    let none : c.args.leaf.rank - c.args.leaf.rank ≡ 0 = omega arith in
+    rw none (record {
+      seat = refl;
+      same = refl;
+      later = omega arith;
+      at = c.requires.at;
+      moved = not_moved _ _ _ c.requires.at.walks;
+    })
 
-pub store_at-due-requires-clause-rule : goal.store_at-due-requires-clause-rule
-store_at-due-requires-clause-rule g c =
-    c.requires.rule ∙ sym (ap (λ (a : PostData). a.job.rule) c.loop-rule.invariant.same)
+pub carry_until-done-requires-clause-cell : goal.carry_until-done-requires-clause-cell
+carry_until-done-requires-clause-cell g c =
+    let i = c.loop-stores.invariant in
+    let at = c.loop-stores.leaf in
+    let stores = c.args.stores in
+    let rule = c.requires.rule ∙ sym (ap (λ (a : PostData). a.job.rule) i.same) in
+    store_cell c.args.leaf at i.same i.later c.args.len stores.memory.now stores.block.now c.requires.stores
+    c.loop-stores.self i.at c.args.rule rule c.write.result c.write.ensures
 
-pub store_at-due-requires-clause-at : goal.store_at-due-requires-clause-at
-store_at-due-requires-clause-at g c =
-    let i = c.loop-rule.invariant in
-    record { leaf = i.at.leaf; fits = i.at.fits; walks = i.at.walks }
+pub carry_until-done-requires-clause-next : goal.carry_until-done-requires-clause-next
+carry_until-done-requires-clause-next g c =
+    let i = c.loop-stores.invariant in
+    let at = c.loop-stores.leaf in
+    let stores = c.args.stores in
+    let rule = c.requires.rule ∙ sym (ap (λ (a : PostData). a.job.rule) i.same) in
+    store_next c.args.leaf at i.same i.later c.args.len stores.memory.now stores.block.now c.requires.stores
+    c.loop-stores.self i.at c.args.rule rule c.write.result c.write.ensures
 
-pub store_at-due-requires-clause-store : goal.store_at-due-requires-clause-store
-store_at-due-requires-clause-store g c =
-    let i = c.loop-rule.invariant in
-    i.stores c.loop-rule.leaf.rank (omega arith) (is_within _ _ _ _ i.at)
+pub returns-in-Ok-true-clause-same : goal.returns-in-Ok-true-clause-same
+returns-in-Ok-true-clause-same g c =
+    let i = c.loop-stores.invariant in
+    let at = c.loop-stores.leaf in
+    let stores = c.args.stores in
+    let rule = c.requires.rule ∙ sym (ap (λ (a : PostData). a.job.rule) i.same) in
+    store_same c.args.leaf at i.same i.later c.args.len stores.memory.now stores.block.now c.requires.stores
+    c.loop-stores.self i.at c.args.rule rule c.write.result c.write.ensures
+    c.carry_until-done.new.steps c.carry_until-done.result c.carry_until-done.ensures.plays
+    c.facts.ensures ∙ i.seat
 
-pub returns-then-is_some-clause-same : goal.returns-then-is_some-clause-same
-returns-then-is_some-clause-same g c =
-    c.store_at-due.ensures.same ∙ c.loop-rule.invariant.seat
+pub returns-in-Ok-true-clause-stored : goal.returns-in-Ok-true-clause-stored
+returns-in-Ok-true-clause-stored g c =
+    let i = c.loop-stores.invariant in
+    let at = c.loop-stores.leaf in
+    let stores = c.args.stores in
+    let rule = c.requires.rule ∙ sym (ap (λ (a : PostData). a.job.rule) i.same) in
+    store_due c.args.leaf at i.same i.later c.args.len stores.memory.now stores.block.now c.requires.stores
+    c.loop-stores.self i.at c.args.rule rule c.write.result c.write.ensures
+    c.carry_until-done.new.steps c.carry_until-done.result c.carry_until-done.ensures.plays
+    c.facts.ensures
+    (driving c.args.self.now) i.moved (c.in-Ok-true.is ∙ ap Ok c.in-Ok-true.field-0-test)
+    c.write-due.result c.write-due.ensures c.rank-rank.result c.rank-rank.ensures
 
-pub returns-then-is_some-clause-stored : goal.returns-then-is_some-clause-stored
-returns-then-is_some-clause-stored g c =
-    let i = c.loop-rule.invariant in
-    record {
-      same = i.same;
-      onward = i.later;
-      mid = driving c.loop-rule.self;
-      between = c.loop-rule.memory;
-      moved = i.moved;
-      there = i.at;
-      stores = i.stores;
-      swapped = c.store_at-due.ensures.swapped;
-    }
+pub returns-in-Err-Late-clause-same : goal.returns-in-Err-Late-clause-same
+returns-in-Err-Late-clause-same g c =
+    let i = c.loop-stores.invariant in
+    let at = c.loop-stores.leaf in
+    let stores = c.args.stores in
+    let rule = c.requires.rule ∙ sym (ap (λ (a : PostData). a.job.rule) i.same) in
+    store_same c.args.leaf at i.same i.later c.args.len stores.memory.now stores.block.now c.requires.stores
+    c.loop-stores.self i.at c.args.rule rule c.write.result c.write.ensures
+    c.carry_until-done.new.steps c.carry_until-done.result c.carry_until-done.ensures.plays
+    c.facts.ensures ∙ i.seat
+
+pub returns-in-Err-Late-clause-stored : goal.returns-in-Err-Late-clause-stored
+returns-in-Err-Late-clause-stored g c =
+    let i = c.loop-stores.invariant in
+    let at = c.loop-stores.leaf in
+    let stores = c.args.stores in
+    let rule = c.requires.rule ∙ sym (ap (λ (a : PostData). a.job.rule) i.same) in
+    let why : c.in-Err-Late.field-0 ≡ Late = rw c.in-Err-Late.is at c.in-Err-Late.field-0-is in
+    store_late c.args.leaf at i.same i.later c.args.len stores.memory.now stores.block.now c.requires.stores
+    c.loop-stores.self i.at c.args.rule rule c.write.result c.write.ensures
+    c.carry_until-done.new.steps c.carry_until-done.result c.carry_until-done.ensures.plays
+    c.facts.ensures
+    (driving c.args.self.now) i.moved (c.in-Err-Late.is ∙ ap Err why)
+    c.rank-rank.result c.rank-rank.ensures
+
+pub unreachable-requires : goal.unreachable-requires
+unreachable-requires g c =
+    let i = c.loop-stores.invariant in
+    let at = c.loop-stores.leaf in
+    let stores = c.args.stores in
+    let rule = c.requires.rule ∙ sym (ap (λ (a : PostData). a.job.rule) i.same) in
+    let why : c.in-Err-Held.field-0 ≡ Held = rw c.in-Err-Held.is at c.in-Err-Held.field-0-is in
+    store_held c.args.leaf at i.same i.later c.args.len stores.memory.now stores.block.now c.requires.stores
+    c.loop-stores.self i.at c.args.rule rule c.write.result c.write.ensures
+    c.carry_until-done.new.steps c.carry_until-done.result c.carry_until-done.ensures.plays
+    c.facts.ensures (c.in-Err-Held.is ∙ ap Err why)
 
 pub returns-then-rank-len-clause-same : goal.returns-then-rank-len-clause-same
 returns-then-rank-len-clause-same g c =
-    c.store_at-due.ensures.same ∙ c.loop-rule.invariant.seat
+    let i = c.loop-stores.invariant in
+    let at = c.loop-stores.leaf in
+    let stores = c.args.stores in
+    let rule = c.requires.rule ∙ sym (ap (λ (a : PostData). a.job.rule) i.same) in
+    store_same c.args.leaf at i.same i.later c.args.len stores.memory.now stores.block.now c.requires.stores
+    c.loop-stores.self i.at c.args.rule rule c.write.result c.write.ensures
+    c.carry_until-done.new.steps c.carry_until-done.result c.carry_until-done.ensures.plays
+    c.facts.ensures ∙ i.seat
 
 pub returns-then-rank-len-clause-stored : goal.returns-then-rank-len-clause-stored
 returns-then-rank-len-clause-stored g c =
-    let i = c.loop-rule.invariant in
-    record {
-      same = i.same;
-      onward = i.later;
-      mid = driving c.loop-rule.self;
-      between = c.loop-rule.memory;
-      moved = i.moved;
-      there = i.at;
-      stores = i.stores;
-      swapped = c.store_at-due.ensures.swapped;
-    }
+    let i = c.loop-stores.invariant in
+    let at = c.loop-stores.leaf in
+    let stores = c.args.stores in
+    let rule = c.requires.rule ∙ sym (ap (λ (a : PostData). a.job.rule) i.same) in
+    store_last c.args.leaf at i.same i.later c.args.len stores.memory.now stores.block.now c.requires.stores
+    c.loop-stores.self i.at c.args.rule rule c.write.result c.write.ensures
+    c.carry_until-done.new.steps c.carry_until-done.result c.carry_until-done.ensures.plays
+    c.facts.ensures
+    (driving c.args.self.now) i.moved (c.in-Ok-false.is ∙ ap Ok c.in-Ok-false.field-0-test)
+    (omega (arith, c.rank-rank.ensures, c.if-rank-len.true))
 
 pub next-leaf-requires-clause-leaf : goal.next-leaf-requires-clause-leaf
 next-leaf-requires-clause-leaf g c =
-    let i = c.loop-rule.invariant in
+    let i = c.loop-stores.invariant in
     let within = is_within _ _ _ _ i.at in
-    let more : suc c.loop-rule.leaf.rank < c.args.len =
-    omega (arith, within, c.rank.ensures, c.if-rank-len.false) in
-    leaf_at c.loop-rule.leaf c.args.len (suc c.loop-rule.leaf.rank) i.at.leaf i.at.ranks more
+    let more : suc c.loop-stores.leaf.rank < c.args.len =
+    omega (arith, within, c.rank-rank.ensures, c.if-rank-len.false) in
+    leaf_at c.loop-stores.leaf c.args.len (suc c.loop-stores.leaf.rank) i.at.leaf i.at.ranks more
 
-pub next-leaf-requires-clause-wide : goal.next-leaf-requires-clause-wide
-next-leaf-requires-clause-wide g c = c.loop-rule.invariant.at.walks.fits.block.2
-
-pub loop-rule-smaller : goal.loop-rule-smaller
-loop-rule-smaller g c =
-    let i = c.loop-rule.invariant in
+pub loop-stores-smaller : goal.loop-stores-smaller
+loop-stores-smaller g c =
+    let i = c.loop-stores.invariant in
     let within = is_within _ _ _ _ i.at in
     let next = ap (λ (a : PostData). a.rank) c.next-leaf.ensures in
     omega (arith, within, next)
 
-pub loop-rule-preserved : goal.loop-rule-preserved
-loop-rule-preserved g c =
-    let i = c.loop-rule.invariant in
+pub loop-stores-preserved : goal.loop-stores-preserved
+loop-stores-preserved g c =
+    let i = c.loop-stores.invariant in
+    let at = c.loop-stores.leaf in
+    let stores = c.args.stores in
+    let rule = c.requires.rule ∙ sym (ap (λ (a : PostData). a.job.rule) i.same) in
     let within = is_within _ _ _ _ i.at in
-    let leaf = c.loop-rule.leaf in
-    let more : suc leaf.rank < c.args.len =
-    omega (arith, within, c.rank.ensures, c.if-rank-len.false) in
+    let more : suc at.rank < c.args.len =
+    omega (arith, within, c.rank-rank.ensures, c.if-rank-len.false) in
     let from = c.args.leaf in
     let p = driving c.args.self.now in
-    let q = driving c.loop-rule.self in
-    let z = driving c.store_at-due.new.self in
-    let memory = c.args.memory.now in
-    let mid = c.loop-rule.memory in
-    let now = c.store_at-due.new.memory in
-    let none : c.store_at-due.result ≡ None =
-    is_none c.store_at-due.result (sym c.is_some.ensures ∙ c.if-is_some.false) in
-    let swapped = subst (λ (due : Option (ℕ × ℕ)). Swapped leaf q mid due z now) none
-    c.store_at-due.ensures.swapped in
-    let there : AtPart leaf q mid =
-    record { leaf = i.at.leaf; fits = i.at.fits; walks = i.at.walks } in
-    let on = swap_done leaf q mid there z now swapped in
-    let done = done_from from.rank from leaf i.same i.later c.args.len p memory q mid i.at i.moved z now
+    let q = driving c.loop-stores.self in
+    let z = driving c.carry_until-done.new.steps in
+    let memory = stores.memory.now in
+    let mid = carried_all from (at.rank - from.rank) memory in
+    let now = carried_all from (suc at.rank - from.rank) memory in
+    let on = store_done c.args.leaf at i.same i.later c.args.len stores.memory.now stores.block.now c.requires.stores
+    c.loop-stores.self i.at c.args.rule rule c.write.result c.write.ensures
+    c.carry_until-done.new.steps c.carry_until-done.result c.carry_until-done.ensures.plays
+    c.facts.ensures (c.in-Ok-false.is ∙ ap Ok c.in-Ok-false.field-0-test) in
+    let done = done_from from.rank from at i.same i.later c.args.len p memory q mid i.at i.moved z now
     on.moved on.fits in
     rw c.next-leaf.ensures (record {
-      seat = c.store_at-due.ensures.same ∙ i.seat;
-      same = same_next from.rank from leaf i.same i.later c.args.len p memory q mid i.at i.moved z now
+      seat = store_same c.args.leaf at i.same i.later c.args.len stores.memory.now stores.block.now c.requires.stores
+          c.loop-stores.self i.at c.args.rule rule c.write.result c.write.ensures
+          c.carry_until-done.new.steps c.carry_until-done.result c.carry_until-done.ensures.plays
+          c.facts.ensures ∙ i.seat;
+      same = same_next from.rank from at i.same i.later c.args.len p memory q mid i.at i.moved z now
           on.moved on.fits;
       later = omega (arith, i.later);
-      at = at_next from.rank from leaf i.same i.later c.args.len p memory q mid i.at i.moved z now
+      at = at_next from.rank from at i.same i.later c.args.len p memory q mid i.at i.moved z now
           on.moved on.fits more;
-      stores = still_stores leaf c.args.len q mid _ z now i.stores swapped;
       moved = done.moved;
     })

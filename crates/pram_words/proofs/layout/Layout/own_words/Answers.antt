@@ -20,7 +20,7 @@ returns-in-Compact c =
 pub returns-in-Wide : goal.returns-in-Wide
 returns-in-Wide c =
     let y = c.args.self.now in
-    let form : y.form ≡ Wide c.in-Wide.field-0 =
+    let form : y.form ≡ Wide c.in-Wide.grain =
     ap (λ (z : LayoutData). z.form) (sym c.self.view_is) ∙ c.in-Wide.is in
-    own_wide y c.in-Wide.field-0 c.args.i c.lines-first.result form c.requires
-    c.lines-first.ensures.value
+    own_wide y c.in-Wide.grain c.args.i c.row-counter.result form c.requires
+    c.row-counter.ensures.value

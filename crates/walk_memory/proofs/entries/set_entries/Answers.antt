@@ -2,7 +2,7 @@ use Rattle.std.proofs.Common.{◌≡◌, ℕ, List, length, slice_index, ◌∙�
 use Rattle.std.proofs.lemmas.List.{length-map}
 use Rattle.walk_memory.specs.Lanes.{entries}
 use Rattle.walk_memory.proofs.Lanes.{four_set}
-use Rattle.walk_memory.proofs.block.set_entries.Goals as goal
+use Rattle.walk_memory.proofs.entries.set_entries.Goals as goal
 
 pub returns-clause-same : goal.returns-clause-same
 returns-clause-same c =

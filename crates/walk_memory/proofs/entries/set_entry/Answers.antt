@@ -3,7 +3,7 @@ use Rattle.std.specs.Prelude.{slice_set}
 use Rattle.std.proofs.lemmas.List.{map-set}
 use Rattle.std.proofs.Math.Seq.{map-set_same}
 use Rattle.walk_memory.specs.Lanes.{entries}
-use Rattle.walk_memory.proofs.block.set_entry.Goals as goal
+use Rattle.walk_memory.proofs.entries.set_entry.Goals as goal
 
 pub returns-clause-same : goal.returns-clause-same
 returns-clause-same c =

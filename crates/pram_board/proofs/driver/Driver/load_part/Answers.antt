@@ -1,0 +1,56 @@
+use Rattle.std.proofs.Common.{refl}
+use Rattle.walk_memory.specs.Plain.{loaded_or_late}
+use Rattle.walk_memory.specs.Inner.Posts.{processor_of}
+use Rattle.walk_memory.specs.Memory.{memo_of}
+use Rattle.walkx.specs.Scripts.{ends}
+use Rattle.walkx.specs.Walk.{begins}
+use Rattle.pram_board.specs.Inner.Plays.{driving, task_at}
+use Rattle.pram_board.proofs.Loading.{follows, load_done, load_starts, script_there}
+use Rattle.pram_board.proofs.Working.{sound_at}
+use Rattle.pram_board.proofs.driver.Driver.load_part.Goals as goal
+
+pub take_load-requires-clause-next : goal.take_load-requires-clause-next
+take_load-requires-clause-next g c =
+    let at = c.args.leaf.now in
+    let a = c.requires.at in
+    let memory = c.args.memory.now in
+    let p = driving c.args.self.now in
+    record {
+      from = (c.args.self.now, script_there at a.held memory a.same p a.part);
+      after = ends (begins 1);
+      next = follows at a.held memory a.same p a.part;
+      here = (refl, load_starts at a.held memory a.same p a.part (ends (begins 1)));
+    }
+
+pub unreachable-requires : goal.unreachable-requires
+unreachable-requires g c =
+    let at = c.args.leaf.now in
+    let a = c.requires.at in
+    let memory = c.args.memory.now in
+    let p = driving c.args.self.now in
+    (c.in-Err.ensures.on (c.args.self.now, script_there at a.held memory a.same p a.part)
+    (ends (begins 1)) (follows at a.held memory a.same p a.part)
+    (refl, load_starts at a.held memory a.same p a.part (ends (begins 1)))).1
+
+pub returns-clause-same : goal.returns-clause-same
+returns-clause-same g c =
+    let at = c.args.leaf.now in
+    let a = c.requires.at in
+    let memory = c.args.memory.now in
+    let p = driving c.args.self.now in
+    (c.in-Ok.ensures.on (c.args.self.now, script_there at a.held memory a.same p a.part)
+    (ends (begins 1)) (follows at a.held memory a.same p a.part)
+    (refl, load_starts at a.held memory a.same p a.part (ends (begins 1)))).0
+
+pub returns-clause-done : goal.returns-clause-done
+returns-clause-done g c = λ held same part.
+    let at = c.args.leaf.now in
+    let memory = c.args.memory.now in
+    let p = driving c.args.self.now in
+    let z = driving c.take_load.new.steps in
+    let done = (c.in-Ok.ensures.on (c.args.self.now, script_there at held memory same p part)
+    (ends (begins 1)) (follows at held memory same p part)
+    (refl, load_starts at held memory same p part (ends (begins 1)))).1 in
+    load_done at held memory same p part z (loaded_or_late at (memo_of memory (processor_of at))
+    c.args.loads.now.register c.in-Ok.found) c.in-Ok.ensures.asks
+    (sound_at (task_at at) z done.here c.facts.ensures) done

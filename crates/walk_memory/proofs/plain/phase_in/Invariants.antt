@@ -1,0 +1,6 @@
+use Rattle.walk_memory.specs.Rows.{Written}
+use Rattle.walk_memory.proofs.plain.phase_in.Given as goal
+
+-- the lanes so far are written
+abbrev pub invariant-loop-k : goal.invariant-loop-k
+invariant-loop-k l = Written l.fn.lanes.start l.k (λ k. l.fn.phase) l.fn.to l.to
