@@ -1,5 +1,5 @@
 //! Answers that are heard while a worker is held, and after all have left.
-ghost use Rattle.std.specs.Prelude.{⊤};
+ghost use Rattle.std.specs.Prelude.{⊤, ◌≤◌};
 
 use crate::gates::{SWAP, TWO_CELLS};
 use crate::jobs::plan_of;
@@ -91,18 +91,22 @@ impl Listener for Hears<'_> {
     }
 }
 
-// What is heard of a run of three workers under rows of a plan, at a gate.
+// What is heard of a run of so many workers under rows of a plan, at a gate.
 fn heard_at<G: Gate + Sync>(
     rt: &(impl AllocGlobal + Abort + Threads + Wait),
     text: &str,
+    workers: u32,
     rows: &str,
     gate: &G,
     ear: &Ear,
-) -> Result<Sound, Fail> {
+) -> Result<Sound, Fail>
+    requires some { 1 ≤ workers }
+    requires most { workers ≤ 64 }
+{
     let alloc = rt.alloc();
     let job = read_job(alloc, text.as_bytes())?;
-    let plan = plan_of(rt, 3, rows)?;
-    let (board, seat) = Board::open_wide(alloc, &job, 3)?;
+    let plan = plan_of(rt, workers, rows)?;
+    let (board, seat) = Board::open_wide(alloc, &job, workers)?;
     let bell = Bell::new();
     let shared = Shared::new(alloc, &job, &board, &plan, gate, &bell);
     let reader = ReadsNothing {
@@ -123,9 +127,42 @@ fn expect_heard<C: Clock + Sync + Drop>(
 ) -> Result<(), Fail> {
     let ear = Ear::new();
     let gate = Held { clock, ear: &ear };
-    let sound = heard_at(rt, text, plan, &gate, &ear)?;
+    let sound = heard_at(rt, text, 3, plan, &gate, &ear)?;
     assert!(rt; sound == wanted && !ear.let_go.load(Ordering::SeqCst));
     Ok(())
+}
+
+// A gate that says that it holds nobody, so that workers stand by. It holds the first ones until the
+// last one has come.
+#[derive(Drop)]
+struct Stuck<C: Clock> {
+    clock: C,
+    first: u32,
+    last: u32,
+    came: AtomicBool,
+    let_go: AtomicBool,
+}
+
+impl<C: Clock> Gate for Stuck<C> {
+    fn pass(&self, worker: u32, _tick: u64) {
+        if worker == self.last {
+            self.came.store(true, Ordering::SeqCst);
+        }
+        if worker >= self.first {
+            return;
+        }
+        for _ in 0..LIMIT {
+            if self.came.load(Ordering::SeqCst) {
+                return;
+            }
+            thread::sleep(&self.clock, Duration::from_millis(1));
+        }
+        self.let_go.store(true, Ordering::SeqCst);
+    }
+
+    fn is_open(&self) -> bool {
+        true
+    }
 }
 
 // Texts, plans, and what is heard.
@@ -148,5 +185,22 @@ fn an_answer_is_heard_while_a_worker_is_held(rt: HostRuntime) -> Result<(), Fail
     for (text, plan, wanted) in &HEARD {
         expect_heard(&rt, rt.clone()?, text, plan, *wanted)?;
     }
+    Ok(())
+}
+
+// Where as many workers as the machine has processors stand still, the others take part.
+#[test]
+fn workers_that_stand_by_take_part(rt: HostRuntime) -> Result<(), Fail> {
+    let processors = thread::available_parallelism(&rt)?;
+    let gate = Stuck {
+        clock: rt.clone()?,
+        first: u32::try_from(processors.get()).unwrap_or(64),
+        last: 63,
+        came: AtomicBool::new(false),
+        let_go: AtomicBool::new(false),
+    };
+    let ear = Ear::new();
+    let sound = heard_at(&rt, SWAP, 64, "", &gate, &ear)?;
+    assert!(&rt; sound == Sound::Done && !gate.let_go.load(Ordering::SeqCst));
     Ok(())
 }

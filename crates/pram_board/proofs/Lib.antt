@@ -16,4 +16,4 @@ pub mod Storing
 pub mod Working
 pub mod Remembering
 pub mod Tasks
-pub mod Loading
+pub mod Doing

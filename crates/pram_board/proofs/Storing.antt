@@ -13,14 +13,14 @@ use Rattle.walkx.specs.Passing.{idle}
 use Rattle.walkx.specs.Rests.{has_worked}
 use Rattle.walkx.specs.Scripts.{Script, ends}
 use Rattle.walk_memory.specs.Plain.{AllHoldStore, AllStore, HasStore, HoldsStore, carried_all}
-use Rattle.walk_memory.specs.Plain.{carried_in}
+use Rattle.walk_memory.specs.Plain.{carried_in, done_all}
 use Rattle.walkx.specs.Driving.{IsNextPart, Plays, Standing, comes}
 use Rattle.walkx.specs.declared.left.Left.{Left}
 use Rattle.walkx.specs.declared.left.Left.TheVariants.{Held, Late}
 use Rattle.walkx.specs.Storing.{left_of}
 use Rattle.walkx.specs.Walk.{Then, script_of}
 use Rattle.walkx.specs.WideParts.{carried_until}
-use Rattle.walk_memory.proofs.Carrying.{carried_other}
+use Rattle.walk_memory.proofs.Done.{done_other}
 use Rattle.walk_memory.proofs.ClaimWords.{cell_of}
 use Rattle.walk_memory.proofs.Memories.{memo_again}
 use Rattle.walk_memory.proofs.Storing.{cell_fits, stores_left}
@@ -168,7 +168,8 @@ module _ {G : Type 0} (from at : PostData) (same : at ≡ at_rank from at.rank)
   -- what is known of the later ones is as it was
   still : (rank : ℕ) → at.rank ≤ rank → memo_of between (processor_of (at_rank from rank))
       ≡ memo_of memory (processor_of (at_rank from rank))
-  still rank least = carried_other from n memory (processor_of (at_rank from rank))
+  still rank least = done_other from memory (λ j. carried_in from (memo_of memory j)) n
+      (processor_of (at_rank from rank))
       (λ k few e. absurd (omega (arith, later, least, few, e)))
 
   known : memo_of between i ≡ memo
@@ -212,7 +213,7 @@ module _ {G : Type 0} (from at : PostData) (same : at ≡ at_rank from at.rank)
   -- it is the last one of which the store was carried out
   next_carried : carried_all from (suc at.rank - from.rank) memory
       ≡ slice_set between i (carried_in at memo)
-  unfolding carried_all
+  unfolding done_all
   next_carried =
       let more : suc at.rank - from.rank ≡ suc n = omega (arith, later) in
       let rank : from.rank + n ≡ at.rank = omega (arith, later) in

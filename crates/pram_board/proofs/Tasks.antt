@@ -1,16 +1,15 @@
 -- The tasks of a block, one after the other.
 use Rattle.std.proofs.Common.{◌≡◌, ℕ, ◌<◌, ◌≤◌, ◌-◌, suc, Bool, true, false, List, [], refl, sym, ap}
 use Rattle.std.proofs.Common.{subst, ◌∙◌, arith}
-use Rattle.std.specs.Prelude.{◌≢◌, nat_lt, slice_get}
+use Rattle.std.specs.Prelude.{nat_lt}
 use Rattle.std.proofs.lemmas.Bool.{lt-ltb, ltb-true}
 use Rattle.walk_memory.specs.declared.memo.Memo.{Memo}
-use Rattle.walk_memory.specs.Inner.Posts.{IsLeafPost, PostData, at_rank, processor_of}
+use Rattle.walk_memory.specs.Inner.Posts.{IsLeafPost, PostData, at_rank}
 use Rattle.walk_memory.specs.Memory.{FitsMemory}
 use Rattle.walkx.specs.Walk.{Walking}
 use Rattle.walk_memory.specs.Blocks.{has_rank}
 use Rattle.walk_memory.proofs.Ranks.{rank_parts, rank_there}
 use Rattle.pram_board.specs.declared.task.Task.{Task}
-use Rattle.pram_board.specs.Inner.Plain.{AllBy}
 use Rattle.pram_board.specs.Inner.Plays.{AtTask, DoneFrom, DoneMore, DoneTo, Driving, IsWalking}
 use Rattle.pram_board.specs.Inner.Plays.{Moved, PastTask, Tried, in_block, task_at}
 use Rattle.pram_board.proofs.Telling.{went_more}
@@ -171,16 +170,3 @@ module _ (at : PostData) (len : ℕ) (p : Driving) (memory : List Memo)
     fits = is.fits;
     walks = is.walks;
   }
-
--- after the plain task of one, those of the others of its block are as they were
-pub others_by : {P : Type 0} (by : PostData → List Memo → P → Type 0) →
-    ((at : PostData) (memory now : List Memo) (plain : P) →
-    slice_get now (processor_of at) ≡ slice_get memory (processor_of at) → by at memory plain →
-    by at now plain) →
-    (at : PostData) (len : ℕ) (memory now : List Memo) (plain : P) →
-    ((i : ℕ) → i ≢ processor_of at → slice_get now i ≡ slice_get memory i) →
-    AllBy by at len memory plain → AllBy by (at_rank at (suc at.rank)) len now plain
-others_by by alone at len memory now plain others all = λ rank from to.
-    alone (at_rank at rank) memory now plain
-    (others (processor_of (at_rank at rank)) (λ e. absurd (omega (arith, from, e))))
-    (all rank (omega (arith, from)) to)

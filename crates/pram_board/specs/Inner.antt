@@ -1,5 +1,5 @@
 -- What private contracts cite.
-pub mod Loading
+pub mod Doing
 pub mod Next
 pub mod Plain
 pub mod Plays

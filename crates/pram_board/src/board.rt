@@ -181,6 +181,13 @@ impl Board {
         shared.compare_exchange::<Swaps>(&mut seat.seat, word as usize, old, new)
     }
 
+    /// What the root holds: the greater, the farther the workers are. It is no atomic step, and a
+    /// hint: no clause tells what comes of it.
+    pub fn hint(&self) -> u64 {
+        self.task.layout.limits_hold();
+        self.peek(1)
+    }
+
     // What a node holds. It is no atomic step of a worker, and tells nothing.
     #[inline(always)]
     pub(crate) fn peek(&self, node: u32) -> u64

@@ -61,13 +61,14 @@ impl<'a, G: Gate> Driver<'a, G> {
     ghost use Rattle.pram_board.specs.Inner.Plays.{AtPart, AtTask, DonePart, in_block, led_to};
     ghost use Rattle.pram_board.specs.Inner.Plays.{next_turn, task_at, turning_at};
 
-    /// A driver that has made no step.
+    /// A driver that has made no step, where so many workers take part.
     #[inline(always)]
     pub(crate) fn new(
         board: &'a Board,
         seat: &'a mut Seat,
         gate: &'a G,
         worker: u32,
+        fellows: u32,
     ) -> Driver<'a, G>
         ensures same { result.seat.ghost_name ≡ seat.entry.ghost_name }
         ensures is { driving result ≡ record { desk = board.now; seat = seat.old; made = 0 } }
@@ -78,7 +79,7 @@ impl<'a, G: Gate> Driver<'a, G> {
             gate,
             worker,
             made: 0,
-            rest: Rest::new(worker),
+            rest: Rest::new(worker, fellows),
         }
     }
 

@@ -1,7 +1,8 @@
 //! The tasks of a block in the first pass, by a driver.
-ghost use Rattle.std.specs.Prelude.{◌≡◌, ◌≢◌, ◌<◌, ◌≤◌, ℕ, slice_index};
+ghost use Rattle.std.specs.Prelude.{◌≡◌, ◌≢◌, ◌+◌, ◌<◌, ◌≤◌, ℕ, slice_index};
 ghost use Rattle.walk_memory.specs.Inner.Posts.{IsLeafPost, at_rank};
-ghost use Rattle.pram_board.specs.Inner.Loading.{taken_to};
+ghost use Rattle.pram_board.specs.Inner.Doing.{done_up_to};
+ghost use Rattle.pram_board.specs.Inner.Plain.{AllBy, by_lanes};
 
 use crate::driver::Driver;
 use crate::plain::{Lagging, PlainTasks};
@@ -9,19 +10,19 @@ use pram_job::{Instr, Place};
 use pram_words::Kind;
 use std::mem;
 use stop_plan::Gate;
-use walkx::taking::{take_load, take_up_at};
+use walkx::taking::take_up_at;
 use walkx::{Claims, Formed, Leaf, Loads, Memory, Stand};
 
 impl<'a, G: Gate> Driver<'a, G> {
-    ghost use Rattle.std.specs.Prelude.{◌≡◌, ◌≢◌, ℕ, slice_get};
-    ghost use Rattle.walk_memory.specs.Inner.Posts.{processor_of};
+    ghost use Rattle.std.specs.Prelude.{◌≡◌};
     ghost use Rattle.pram_words.specs.Phases.{kind_at};
-    ghost use Rattle.walk_memory.specs.Plain.{AllLoadBy, LoadsBy};
+    ghost use Rattle.walk_memory.specs.Inner.Posts.{processor_of};
+    ghost use Rattle.walk_memory.specs.Memory.{memo_of};
     ghost use Rattle.walk_memory.specs.Stands.{IsStand, Spells};
-    ghost use Rattle.pram_board.specs.Inner.Plain.{AllBy};
-    ghost use Rattle.pram_board.specs.Inner.Loading.{AtLoad, LoadDone, taken_to};
+    ghost use Rattle.pram_board.specs.Inner.Doing.{AtAlike, DoneAlike, done_up_to};
+    ghost use Rattle.pram_board.specs.Inner.Plain.{AllBy, by_lanes};
     ghost use Rattle.pram_board.specs.Inner.Plays.{Moved, driving, AtPart, AtTask, DoneMore};
-    ghost use Rattle.pram_board.specs.Inner.Plays.{DonePart, DoneTo, PastTask, Tried, in_block};
+    ghost use Rattle.pram_board.specs.Inner.Plays.{DoneTo, PastTask, Tried, in_block};
     ghost use Rattle.pram_board.specs.Inner.Plays.{task_at};
 
     /// The tasks of a block of this length, from the leaf's processor on, in the first pass.
@@ -111,8 +112,8 @@ impl<'a, G: Gate> Driver<'a, G> {
         ensures done { DoneTo leaf.now len (driving self.old) memory.old result
             (driving self.new) memory.new }
     {
-        match memory.plain_loads(leaf, len, stand) {
-            Some(loads) => self.loads(leaf, len, memory, &loads),
+        match Loads::of(memory, leaf, len, stand) {
+            Some(loads) => self.plain_by(leaf, len, memory, &loads),
             None => self.plain_tasks::<Lagging>(leaf, len, memory, stand),
         }
     }
@@ -138,7 +139,8 @@ impl<'a, G: Gate> Driver<'a, G> {
         }
     }
 
-    // Plain tasks, by a driver and a memory of its own: so what the loop uses is in registers.
+    // Plain tasks, by a driver and a copy of their own: so what the loop uses is in registers. What
+    // they did is remembered once all is done, so the loop writes no memory of the worker's.
     #[inline(always)]
     fn plain_by<P: PlainTasks>(
         &mut self,
@@ -157,100 +159,36 @@ impl<'a, G: Gate> Driver<'a, G> {
             seat: self.seat,
             ..*self
         };
-        let mut own = mem::replace(memory, Memory::none());
-        let last = driver.plain_all(leaf.again(), len, &mut own, plain);
-        *memory = own;
+        let own = *plain;
+        let mut values = [0; 64];
+        let last = driver.plain_all(leaf.again(), len, memory, &own, &mut values);
         (self.made, self.rest) = driver.end();
-        last
+        remember(memory, leaf, last, plain, &values);
+        last.0
     }
 
-    // The first pass of all from the leaf's on, by plain tasks: the rank of the last of them.
+    // The first pass of all from the leaf's on, by plain tasks, which gave these values: the rank
+    // of the last of them, and whether the worker was late there.
     #[inline(always)]
     fn plain_all<P: PlainTasks>(
         &mut self,
         leaf: Leaf<'_>,
         len: u32,
-        memory: &mut Memory,
-        plain: &P,
-    ) -> u32
-        requires at { AtTask leaf len (driving self.old) memory.old }
-        requires plain { AllBy P.by leaf len memory.old plain.now }
-        ensures same { self.new.seat.ghost_name ≡ self.old.seat.ghost_name }
-        ensures done { DoneTo leaf.entry len (driving self.old) memory.old result
-            (driving self.new) memory.new }
-    {
-        let mut leaf = leaf;
-        loop {
-            self.plain_part(&leaf, memory, plain);
-            let rank = leaf.rank();
-            if rank + 1 == len {
-                return rank;
-            }
-            leaf = leaf.next();
-        }
-    }
-
-    // The first pass of the leaf's processor, by a plain task.
-    #[inline(always)]
-    fn plain_part<P: PlainTasks>(&mut self, leaf: &Leaf, memory: &mut Memory, plain: &P)
-        requires at { AtPart leaf.now (driving self.old) memory.old }
-        requires plain { P.by leaf.now memory.old plain.now }
-        ensures same { self.new.seat.ghost_name ≡ self.old.seat.ghost_name }
-        ensures done { DonePart leaf.now (driving self.old) memory.old (driving self.new)
-            memory.new }
-        ensures others { (i : ℕ) → i ≢ processor_of leaf.now →
-            slice_get memory.new i ≡ slice_get memory.old i }
-    {
-        match plain.take(memory, self, leaf) {
-            Ok(()) => self.seat.facts(),
-            Err(_) => unreachable!(),
-        }
-    }
-
-    // The first pass of all from the leaf's on, where all load plainly, by a driver of its own: the
-    // rank of the last of them. What they load is remembered once it is loaded, so the loop touches
-    // no memory.
-    #[inline(always)]
-    fn loads(&mut self, leaf: &Leaf, len: u32, memory: &mut Memory, loads: &Loads) -> u32
-        requires at { AtTask leaf.now len (driving self.old) memory.old }
-        requires plain { AllLoadBy leaf.now len memory.old loads.now }
-        ensures same { self.new.seat.ghost_name ≡ self.old.seat.ghost_name }
-        ensures done { DoneTo leaf.now len (driving self.old) memory.old result
-            (driving self.new) memory.new }
-    {
-        let mut driver = Driver {
-            seat: self.seat,
-            ..*self
-        };
-        let mut values = [0; 64];
-        let last = driver.load_all(leaf.again(), len, memory, loads, &mut values);
-        (self.made, self.rest) = driver.end();
-        remember(memory, leaf, last, loads.register, &values);
-        last.0
-    }
-
-    // The same by this driver: these values are loaded. Also whether the worker was late at the
-    // last of them.
-    #[inline(always)]
-    fn load_all(
-        &mut self,
-        leaf: Leaf<'_>,
-        len: u32,
         memory: &Memory,
-        loads: &Loads,
+        plain: &P,
         values: &mut [u32; 64],
     ) -> (u32, bool)
         requires at { AtTask leaf len (driving self.old) memory.now }
-        requires plain { AllLoadBy leaf len memory.now loads.now }
+        requires plain { AllBy P.by leaf len memory.now plain.now }
         ensures same { self.new.seat.ghost_name ≡ self.old.seat.ghost_name }
         ensures done { DoneTo leaf.entry len (driving self.old) memory.now result.0
-            (driving self.new)
-            (taken_to leaf.entry loads.now.register values.new memory.now result) }
+            (driving self.new) (done_up_to leaf.entry (by_lanes (P.does plain.now leaf.entry)
+            values.new memory.now) memory.now result) }
     {
         let mut leaf = leaf;
         loop {
             let rank = leaf.rank();
-            match self.load_part(&leaf, memory, loads) {
+            match self.plain_part(&leaf, memory, plain) {
                 Some(value) => set_lane(values, (leaf.processor() % 64) as usize, value),
                 None => return (rank, true),
             }
@@ -261,20 +199,21 @@ impl<'a, G: Gate> Driver<'a, G> {
         }
     }
 
-    // The first pass of the leaf's processor, by a plain load of what is given, unless the worker
-    // was late.
+    // The first pass of the leaf's processor, by a plain task: the value that it gave, unless the
+    // worker was late.
     #[inline(always)]
-    fn load_part(&mut self, leaf: &Leaf, memory: &Memory, loads: &Loads) -> Option<u32>
-        requires at { AtLoad leaf.now (driving self.old) memory.now }
-        requires plain { LoadsBy leaf.now memory.now loads.now }
+    fn plain_part<P: PlainTasks>(&mut self, leaf: &Leaf, memory: &Memory, plain: &P) -> Option<u32>
+        requires at { AtAlike leaf.now (driving self.old) memory.now }
+        requires plain { P.by leaf.now memory.now plain.now }
         ensures same { self.new.seat.ghost_name ≡ self.old.seat.ghost_name }
-        ensures done { LoadDone leaf.now (driving self.old) memory.now loads.now.register result
+        ensures done { DoneAlike leaf.now (driving self.old) memory.now (P.does plain.now leaf.now
+            (processor_of leaf.now) (memo_of memory.now (processor_of leaf.now))) result
             (driving self.new) }
     {
-        match take_load(memory, self, leaf, loads) {
-            Ok(found) => {
+        match plain.take(memory, self, leaf) {
+            Ok(value) => {
                 self.seat.facts();
-                found
+                value
             }
             Err(_) => unreachable!(),
         }
@@ -418,21 +357,28 @@ impl<'a, G: Gate> Driver<'a, G> {
     }
 }
 
-// The processors from the leaf's on, up to this rank, loaded these values, but for the last one, if
-// the worker was late there.
+// The plain tasks of the processors from the leaf's on, up to this rank, gave these values, but for
+// the last one, if the worker was late there.
 #[inline(always)]
-fn remember(memory: &mut Memory, leaf: &Leaf, last: (u32, bool), register: u8, values: &[u32; 64])
+fn remember<P: PlainTasks>(
+    memory: &mut Memory,
+    leaf: &Leaf,
+    last: (u32, bool),
+    plain: &P,
+    values: &[u32; 64],
+)
     requires later { leaf.now.rank ≤ last.0 }
     requires leaf { IsLeafPost (at_rank leaf.now last.0) }
-    requires four { register < 4 }
-    ensures { memory.new ≡ taken_to leaf.now register values.now memory.old last }
+    requires plain { AllBy P.by leaf.now (last.0 + 1) memory.old plain.now }
+    ensures { memory.new ≡ done_up_to leaf.now (by_lanes (P.does plain.now leaf.now) values.now
+        memory.old) memory.old last }
 {
     let (rank, late) = last;
     if late {
-        memory.take_loads(leaf, rank, register, values);
+        plain.remember(memory, leaf, rank, values);
         memory.forget(leaf.processor() + (rank - leaf.rank()));
     } else {
-        memory.take_loads(leaf, rank + 1, register, values);
+        plain.remember(memory, leaf, rank + 1, values);
     }
 }
 

@@ -12,9 +12,12 @@ const FIRST: u32 = 16;
 
 const MOST: u32 = 1_024;
 
+// Most workers of a board.
+const MOST_FELLOWS: u32 = 64;
+
 // How often in a phase it looks whether another one has finished a block, and how long it rests
-// between two looks.
-const LOOKS: u32 = 128;
+// between two looks: in all about as long as it takes to load a block.
+const LOOKS: u32 = 512;
 
 const BETWEEN: u32 = 8;
 
@@ -26,10 +29,12 @@ const BETWEEN: u32 = 8;
 /// In the wide form each worker has a share of the leaves, into which its first turns lead. To load
 /// a block that it does not remember costs a worker as much as several that it does, and the other
 /// as much again when it comes back. So it leaves a block of another's share to that one for about
-/// as long, once in a phase, and takes it over then. The idea is that of renting skis.
+/// as long, once in a phase, and takes it over then. The idea is that of renting skis. The shares
+/// are those of so many fellows as take part.
 #[derive(Clone, Copy, Debug)]
 pub(crate) struct Rest {
     worker: u32,
+    fellows: u32,
     phase: u64,
     pauses: u32,
     patience: u32,
@@ -40,9 +45,10 @@ pub(crate) struct Rest {
 impl Rest {
     /// A worker that has not rested.
     #[inline(always)]
-    pub(crate) fn new(worker: u32) -> Rest {
+    pub(crate) fn new(worker: u32, fellows: u32) -> Rest {
         Rest {
             worker,
+            fellows,
             phase: 0,
             pauses: 0,
             patience: 0,
@@ -73,7 +79,7 @@ impl Rest {
     /// A phase begins: the rest before it, if the last one was in vain.
     pub(crate) fn take(&mut self, phase: u64)
         ensures most { self.new.pauses ≤ 1024 }
-        ensures looks { self.new.patience ≡ 128 }
+        ensures looks { self.new.patience ≡ 512 }
     {
         self.phase = phase;
         self.patience = LOOKS;
@@ -97,10 +103,23 @@ impl Rest {
         let layout = &board.task().layout;
         if layout.leaves() <= node
             && !knows(layout, memory, node, self.phase)
-            && is_anothers(layout, self.worker, node)
+            && self.is_anothers(layout, node)
         {
             self.patience = wait(board, node, self.phase, self.patience);
         }
+    }
+
+    // The form is wide, and the leaf lies in no share of this worker.
+    fn is_anothers(self, layout: &Layout, node: u32) -> bool {
+        layout.form() != Form::Compact && !self.is_in_share(layout, node)
+    }
+
+    // The leaf lies in the share of this worker. Where there are more workers than leaves, those
+    // beyond have none.
+    fn is_in_share(self, layout: &Layout, node: u32) -> bool {
+        let shares = self.fellows.clamp(1, MOST_FELLOWS).next_power_of_two();
+        let share = (layout.leaves() / shares).max(1);
+        self.worker < layout.leaves() && node / share == layout.first_leaf(self.worker) / share
     }
 }
 
@@ -135,16 +154,4 @@ fn knows(layout: &Layout, memory: &Memory, node: u32, phase: u64) -> bool
 {
     let first = layout.grain().saturating_mul(node - layout.leaves());
     phase <= 3 * u64::from(memory.memo(first).step) + 1
-}
-
-// The form is wide, and the leaf lies in no share of this worker.
-fn is_anothers(layout: &Layout, worker: u32, node: u32) -> bool {
-    layout.form() != Form::Compact && !is_in_share(layout, worker, node)
-}
-
-// The leaf lies in the share of this worker. Where there are more workers than leaves, those beyond
-// have none.
-fn is_in_share(layout: &Layout, worker: u32, node: u32) -> bool {
-    let share = (layout.leaves() / layout.workers().next_power_of_two()).max(1);
-    worker < layout.leaves() && node / share == layout.first_leaf(worker) / share
 }

@@ -65,8 +65,31 @@ impl Board {
         ensures later { IsLater self.now seat.old seat.new }
         ensures works { Works self.now seat.new worker.new }
     {
-        let mut driver = Driver::new(self, seat, gate, worker.number());
+        let fellows = self.task.layout.workers();
+        let mut driver = Driver::new(self, seat, gate, worker.number(), fellows);
         let stay = driver.work(worker, limit);
+        driver.end();
+        stay
+    }
+
+    /// As `work` without a limit, where only so many workers take part so far: this one leaves to
+    /// each of them as large a share of the blocks as there is for so many. That is a hint: what is
+    /// promised is so whoever takes part.
+    pub fn work_among<G: Gate>(
+        &self,
+        seat: &mut Seat,
+        worker: &mut Worker,
+        gate: &G,
+        fellows: u32,
+    ) -> Stay
+        requires works { Works self.now seat.old worker.old }
+        ensures worked { Worked self.now.task seat.old worker.old.walking None seat.new
+            worker.new.walking result }
+        ensures later { IsLater self.now seat.old seat.new }
+        ensures works { Works self.now seat.new worker.new }
+    {
+        let mut driver = Driver::new(self, seat, gate, worker.number(), fellows);
+        let stay = driver.work(worker, None);
         driver.end();
         stay
     }

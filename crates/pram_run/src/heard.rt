@@ -13,9 +13,10 @@ ghost use Rattle.pram_step.specs.declared.answer.RunAnswer.{RunAnswer};
 
 use crate::ending::answer;
 use crate::listener::{Listener, Reads};
-use crate::runner::{Team, join_all, start_all};
+use crate::runner::{Team, join_all};
 use crate::shared::Shared;
 use crate::sight::Sight;
+use crate::stand_by::start_few;
 use pram_board::Seat;
 use pram_step::RunAnswer;
 use std::alloc::{AllocError, Global};
@@ -28,7 +29,8 @@ use stop_plan::Gate;
 /// then hears the answer as soon as a worker knows it: before the threads are joined, though some
 /// of them may be kept from going on. A thread that is refused is a worker that takes no part: the
 /// reader then waits until the others come to the end. Where they do not, that is out of memory;
-/// the reader hears it, and does not read.
+/// the reader hears it, and does not read. Where nobody is held or stopped and nothing is read,
+/// workers beyond the machine's processors take part only once the others stand still.
 pub fn run_heard<R: Threads + Wait, G: Gate + Sync, H, P: Reads<Heard = H>>(
     rt: &R,
     shared: &Shared<'_, G>,
@@ -94,7 +96,7 @@ pub fn run_beside<'s, E, R: Threads + Wait, G: Gate + Sync, H, P: Reads<Heard = 
         return (seat, refused, heard);
     };
     let (seat, theirs) = shared.board.split(seat);
-    let team = start_all(scope, shared, seat);
+    let team = start_few(scope, rt, shared, seat);
     let (mut theirs, answers) = await_missing(rt, shared, &team, theirs);
     if !answers {
         let heard = reader.hear(&refused);

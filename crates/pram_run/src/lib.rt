@@ -11,6 +11,7 @@ mod runner;
 mod schedule;
 mod shared;
 mod sight;
+mod stand_by;
 mod trace;
 mod watcher;
 

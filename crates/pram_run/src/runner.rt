@@ -104,6 +104,18 @@ pub(crate) struct Team<'s> {
 }
 
 impl Team<'_> {
+    /// No thread, and room for one for each worker, if there is memory for it.
+    pub fn new<G>(shared: &Shared<'_, G>, seat: Seat) -> Self
+        ensures { IsAtWork (plan_of shared.now) seat result }
+    {
+        let count = shared.plan.workers() as usize;
+        let threads = match Vec::with_capacity(shared.alloc, count) {
+            Ok(threads) => threads,
+            Err(_) => Vec::new(shared.alloc),
+        };
+        Team { seat, threads }
+    }
+
     /// Whether no worker is missing.
     pub fn is_whole<G>(&self, shared: &Shared<'_, G>) -> bool
         ensures { IsTrue result ↔ (vec_len self.now.threads ≡ (plan_of shared.now).workers) }
@@ -116,19 +128,42 @@ impl Team<'_> {
 pub(crate) fn start_all<'s, E, G: Gate + Sync>(
     scope: &Scope<'s, E>,
     shared: &Shared<'s, G>,
-    mut seat: Seat,
+    seat: Seat,
 ) -> Team<'s>
     requires { seat.desk ≡ board_of shared.now }
     ensures { IsAtWork (plan_of shared.now) seat result }
 {
+    start_to(
+        scope,
+        shared,
+        Team::new(shared, seat),
+        shared.plan.workers(),
+    )
+}
+
+/// Starts a thread for each worker that has none yet, up to so many in all, until one is refused.
+/// Each rings the bell as it leaves.
+pub(crate) fn start_to<'s, E, G: Gate + Sync>(
+    scope: &Scope<'s, E>,
+    shared: &Shared<'s, G>,
+    team: Team<'s>,
+    count: u32,
+) -> Team<'s>
+    requires seat { team.seat.desk ≡ board_of shared.now }
+    requires team { IsAtWork (plan_of shared.now) team.seat team }
+    ensures { IsAtWork (plan_of shared.now) team.entry.seat result }
+{
     let (job, board, plan) = (shared.job, shared.board, shared.plan);
     let (alloc, gate, bell) = (shared.alloc, shared.gate, shared.bell);
-    let count = plan.workers() as usize;
-    let Ok(mut threads) = Vec::with_capacity(alloc, count) else {
-        let threads = Vec::new(alloc);
-        return Team { seat, threads };
-    };
-    for worker in 0..plan.workers() {
+    let Team {
+        mut seat,
+        mut threads,
+    } = team;
+    let end = count.min(plan.workers());
+    for worker in threads.len() as u32..end {
+        if threads.len() == threads.capacity() {
+            break;
+        }
         let (mine, theirs) = board.split(seat);
         seat = mine;
         let rows = plan.rows();
@@ -145,7 +180,7 @@ pub(crate) fn start_all<'s, E, G: Gate + Sync>(
             ensures obeys { ObeysAnew theirs.desk.task worker rows.entry.now theirs result }
         {
             let shared = Shared::new(alloc, job, board, plan, gate, bell);
-            let seat = obey_rows(&shared, theirs, worker, rows);
+            let seat = obey_rows(&shared, theirs, worker, rows, end);
             bell.ring();
             seat
         };
@@ -175,8 +210,14 @@ pub(crate) fn join_all<'s, R: Threads, G>(rt: &R, shared: &Shared<'s, G>, team: 
     seat
 }
 
-// Obeys the worker's rows, and then goes on without a limit.
-fn obey_rows<G: Gate>(shared: &Shared<'_, G>, mut seat: Seat, number: u32, rows: &[Row]) -> Seat
+// Obeys the worker's rows, and then goes on without a limit, among so many that take part.
+fn obey_rows<G: Gate>(
+    shared: &Shared<'_, G>,
+    mut seat: Seat,
+    number: u32,
+    rows: &[Row],
+    fellows: u32,
+) -> Seat
     requires worker { number < (shared_task shared.now).layout.workers }
     requires seat { seat.desk ≡ board_of shared.now }
     ensures goes_on { GoesOn seat result }
@@ -192,7 +233,9 @@ fn obey_rows<G: Gate>(shared: &Shared<'_, G>, mut seat: Seat, number: u32, rows:
             obey_row(shared, &mut seat, &mut worker, row);
         }
     }
-    let stay = shared.board.work(&mut seat, &mut worker, shared.gate, None);
+    let stay = shared
+        .board
+        .work_among(&mut seat, &mut worker, shared.gate, fellows);
     shared.note(stay);
     seat
 }

@@ -8,6 +8,7 @@ use std::alloc::Global;
 use std::sync::Wait;
 use std::sync::atomic::{AtomicBool, AtomicU64, Ordering};
 use std::thread::Parker;
+use std::time::Duration;
 use stop_plan::{Gate, Plan};
 
 /// What the workers of a run go over, and a reader beside them: a board that was opened for the
@@ -148,6 +149,11 @@ impl Bell {
     /// Whether a worker has seen that.
     pub(crate) fn is_over(&self) -> bool {
         self.over.load(Ordering::Relaxed)
+    }
+
+    /// Waits so long, or until it is rung.
+    pub(crate) fn wait_for<R: Wait>(&self, rt: &R, time: Duration) {
+        self.parker.park_timeout(rt, time);
     }
 
     /// Waits until it was rung since the last wait.

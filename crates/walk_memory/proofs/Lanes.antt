@@ -203,20 +203,6 @@ pub set_none : (blocks : List Block) (i q : ℕ) (memo : Memo) → q ≡ i / 64 
 set_none blocks i q memo at past = set_past (memos_of blocks) i memo
     (let long = length_all blocks in omega (arith, at, past, long))
 
--- of a processor whose block is there
-module _ (memory : List Memo) (blocks : List Block) (i : ℕ) (old : Block)
-    (view : memos_of blocks ≡ memory) (low : i / 64 < length blocks)
-    (is : slice_get blocks (i / 64) ≡ Some old) where
-  pub memo_here : memo_of memory i ≡ lane old (i % 64)
-  memo_here = ap (λ (m : List Memo). memo_of m i) (sym view) ∙ memo_of_all blocks i
-      ∙ ap (λ (o : Option Block). lane_in o (i % 64)) is
-
-  pub kept_here : (block : Block) → ((j : ℕ) → j ≢ i % 64 → lane block j ≡ lane old j) →
-      memos_of (slice_set blocks (i / 64) block) ≡ slice_set memory i (lane block (i % 64))
-  kept_here block others =
-      set_all blocks i (i / 64) (i % 64) old block (lane block (i % 64)) refl refl low is refl others
-      ∙ ap (λ (m : List Memo). slice_set m i (lane block (i % 64))) view
-
 -- ---- before the first step
 
 blank_from : (blocks : List Block) (i more : ℕ) → ((j : ℕ) → lane_at blocks j ≡ at_start) →

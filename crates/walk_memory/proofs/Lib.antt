@@ -4,9 +4,9 @@ pub mod AsOne
 pub mod Beginnings
 pub mod Blocks
 pub mod Boards
-pub mod Carrying
 pub mod Cells
 pub mod ClaimWords
+pub mod Done
 pub mod GoingAlone
 pub mod Halted
 pub mod InLanes
@@ -22,6 +22,5 @@ pub mod Ranks
 pub mod RowGone
 pub mod Shaped
 pub mod Storing
-pub mod Taken
 pub mod Timing
 pub mod Ways

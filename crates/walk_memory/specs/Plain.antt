@@ -60,19 +60,26 @@ loaded at memo r value = record {
   store = None;
 }
 
--- and once it was late, or took what it loaded
-abbrev pub loaded_or_late : PostData → Memo → ℕ → Option ℕ → Memo
-loaded_or_late at memo r (Some value) = loaded at memo r value
-loaded_or_late at memo r None = at_start
+-- what is known of one that did this with a value, or was late
+abbrev pub done_or_late : (ℕ → Memo) → Option ℕ → Memo
+done_or_late does (Some value) = does value
+done_or_late does None = at_start
 
--- what is remembered once the register of each of so many processors, from the post's on, took its
--- lane's value
-unfoldable pub taken : PostData → ℕ → ℕ → List ℕ → List Memo → List Memo
-taken at zero r values memory = memory
-taken at (suc more) r values memory =
-    slice_set (taken at more r values memory) (processor_of (at_rank at (at.rank + more)))
-    (loaded at (memo_of memory (processor_of (at_rank at (at.rank + more)))) r
-    (slice_index values (processor_of (at_rank at (at.rank + more)) % 64)))
+-- the same of a load
+abbrev pub loaded_or_late : PostData → Memo → ℕ → Option ℕ → Memo
+loaded_or_late at memo r found = done_or_late (loaded at memo r) found
+
+-- what is remembered once this is known of each of so many processors, from the post's on
+unfoldable pub done_all : PostData → ℕ → (ℕ → Memo) → List Memo → List Memo
+done_all at zero does memory = memory
+done_all at (suc more) does memory =
+    slice_set (done_all at more does memory) (processor_of (at_rank at (at.rank + more)))
+    (does (processor_of (at_rank at (at.rank + more))))
+
+-- and once the register of each took its lane's value
+abbrev pub taken : PostData → ℕ → ℕ → List ℕ → List Memo → List Memo
+taken at n r values memory =
+    done_all at n (λ i. loaded at (memo_of memory i) r (slice_index values (i % 64))) memory
 
 -- these are the loads of the post's processor, by what is remembered of it
 abbrev pub LoadsBy : PostData → List Memo → Loads → Type 0
@@ -124,6 +131,15 @@ abbrev pub AllClaimBy : PostData → ℕ → List Memo → Claims → Type 0
 AllClaimBy at len memory claims =
     (rank : ℕ) → at.rank ≤ rank → rank < len → ClaimsBy (at_rank at rank) memory claims
 
+-- what is known of a processor once it made its claim of these
+abbrev pub claimed_of : PostData → Claims → List Memo → ℕ → Memo
+claimed_of at claims memory i = claimed at (memo_of memory i) (slice_index claims.cells (i % 64))
+    (slice_index claims.values (i % 64))
+
+-- what is remembered once so many processors, from the post's on, made theirs
+abbrev pub claimed_all : PostData → ℕ → Claims → List Memo → List Memo
+claimed_all at n claims memory = done_all at n (claimed_of at claims memory) memory
+
 -- in the second pass, a processor of which this is known has its store of the step still to be
 -- carried out
 pub record HasStore (at : PostData) (memo : Memo) : Type 0 where
@@ -155,8 +171,5 @@ abbrev pub carried_in : PostData → Memo → Memo
 carried_in at memo = record memo { acted = at.phase; store = None }
 
 -- what is remembered once those of so many processors are, from the post's on
-unfoldable pub carried_all : PostData → ℕ → List Memo → List Memo
-carried_all at zero memory = memory
-carried_all at (suc n) memory = slice_set (carried_all at n memory)
-    (processor_of (at_rank at (at.rank + n)))
-    (carried_in at (memo_of memory (processor_of (at_rank at (at.rank + n)))))
+abbrev pub carried_all : PostData → ℕ → List Memo → List Memo
+carried_all at n memory = done_all at n (λ i. carried_in at (memo_of memory i)) memory

@@ -20,15 +20,6 @@ pub struct Loads {
     ghost four: { register < 4 },
 }
 
-/// A lane, and the store that it claims: its cell, and its value.
-#[derive(Clone, Copy)]
-pub struct ClaimIn {
-    pub lane: usize,
-    pub cell: u32,
-    pub value: u32,
-    ghost row: { lane < 64 },
-}
-
 /// Claims of processors in a row: the cell and the value of each lane's store.
 #[derive(Clone, Copy)]
 pub struct Claims {

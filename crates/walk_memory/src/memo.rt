@@ -292,7 +292,7 @@ impl Memory {
 
     /// Block q, if there is memory of it.
     #[inline(always)]
-    pub(crate) fn block(&self, q: u32) -> Option<&Block>
+    pub fn block(&self, q: u32) -> Option<&Block>
         ensures some { IfSome result (λ block. (k : ℕ) → k < 64 →
             slice_get self.now (64 * q + k) ≡ Some (lane block.now k)) }
         ensures none { IfNone result (length self.now ≤ 64 * q) }

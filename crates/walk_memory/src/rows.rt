@@ -63,6 +63,17 @@ pub(crate) fn copy_in(to: &mut [u32; LANES], lanes: Span, x: &[u32; LANES])
     }
 }
 
+/// Each is one more.
+#[inline(always)]
+pub(crate) fn count_in(to: &mut [u32; LANES], lanes: Span)
+    requires { AllIn lanes.start lanes.end (λ k. slice_index to.old k + 1 < 2 ^ 32) }
+    ensures { Written lanes.start lanes.end (λ k. slice_index to.old k + 1) to.old to.new }
+{
+    for k in lanes.start..lanes.end {
+        to[k] += 1;
+    }
+}
+
 // Each takes what the instruction makes of its own of these.
 #[inline(always)]
 fn compute_in(to: &mut [u32; LANES], lanes: Span, instr: &Instr, x: &[u32; LANES], y: &[u32; LANES])

@@ -11,7 +11,7 @@ use crate::block::Block;
 use crate::memo::Memory;
 use crate::plain::phase_in;
 use crate::post::Leaf;
-use crate::row_walk::{lanes_from, so_in};
+use crate::row_walk::{lanes_from, lanes_to, so_in};
 use crate::span::Span;
 use crate::standing::{is_of, remember};
 
@@ -66,7 +66,9 @@ impl Memory {
         requires most { end ≤ len }
         ensures { self.new ≡ carried_all leaf.now (end - leaf.now.rank) self.old }
     {
-        let lanes = lanes_up_to(leaf, len, end);
+        let _ = len;
+        let _ = leaf.job();
+        let lanes = lanes_to(leaf, end);
         let q = (lanes.first / 64) as usize;
         match &mut self.blocks {
             Some(blocks) => {
@@ -76,24 +78,6 @@ impl Memory {
             }
             None => {}
         }
-    }
-}
-
-// The lanes of the leaf's processor and those after it in its block, up to this rank.
-#[inline(always)]
-fn lanes_up_to(leaf: &Leaf, len: u32, end: u32) -> Span
-    requires ranks { (rank : ℕ) → has_rank leaf.now.layout leaf.now.node rank ≡ nat_lt rank len }
-    requires from { leaf.now.rank ≤ end }
-    requires most { end ≤ len }
-    ensures row { result.first ≡ 64 * (processor_of leaf.now / 64) }
-    ensures start { result.start ≡ processor_of leaf.now % 64 }
-    ensures end { result.end + leaf.now.rank ≡ result.start + end }
-{
-    let lanes = lanes_from(leaf, len);
-    Span {
-        first: lanes.first,
-        start: lanes.start,
-        end: lanes.start + (end - leaf.rank()) as usize,
     }
 }
 

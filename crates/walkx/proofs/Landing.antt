@@ -1,6 +1,7 @@
 -- What a processor writes where it settles, by what is known once its turn is taken.
 use Rattle.std.proofs.Common.{◌≡◌, ℕ, ◌==◌, ◌&&◌, Bool, true, false, not, List, [], ◌∷◌}
-use Rattle.std.proofs.Common.{Option, Some, None, slice_get, slice_index, refl, sym, ap, ◌∙◌, arith}
+use Rattle.std.proofs.Common.{Option, Some, None, Result, Ok, Err, slice_get, slice_index, refl}
+use Rattle.std.proofs.Common.{sym, ap, ◌∙◌, arith}
 use Rattle.std.specs.Prelude.{◌||◌, if◌then◌else◌, is_none, is_some}
 use Rattle.std.proofs.lemmas.Bool.{eq-eqb, eqb-true, le-ltb, ne_eqb}
 use Rattle.pram_job.specs.declared.instr.Instr.{Instr}
@@ -13,15 +14,16 @@ use Rattle.pram_machine.specs.Machine.{counter_place, register_place}
 use Rattle.pram_words.specs.Phases.{kind_at}
 use Rattle.pram_words.specs.declared.phases.Kind.TheVariants.{Compute}
 use Rattle.walk_memory.specs.declared.memo.Memo.{Memo}
-use Rattle.walkx.specs.Driving.{Standing}
+use Rattle.walkx.specs.Driving.{IsNextPart, Part, Plays, Standing}
 use Rattle.walk_memory.specs.Inner.Posts.{PostData, step_of, processor_of}
 use Rattle.walk_memory.specs.Memory.{all_registers, cell_named, cell_next, own_after, settles_in}
 use Rattle.walkx.specs.Passes.{is_put_to, lands_counter, lands_register, put_if, registers_landing}
 use Rattle.walkx.specs.Passes.{writes_each}
 use Rattle.walkx.specs.Scripts.{Script}
 use Rattle.walkx.specs.Walk.{Then}
+use Rattle.walkx.specs.declared.left.Left.{Left}
 use Rattle.walkx.specs.WideParts.{counter_due, landed_from, learned, own_landed, own_written}
-use Rattle.walkx.specs.WideParts.{register_due, register_tells, writes_if}
+use Rattle.walkx.specs.WideParts.{register_due, register_landed, register_tells, writes_if}
 use Rattle.walk_memory.specs.Turned.{landed}
 use Rattle.walkx.proofs.FirstPass.{loads_then, made_with, reads_some, settles_reading}
 use Rattle.walkx.proofs.Loaded.{load_claims, load_gives}
@@ -98,6 +100,49 @@ module _ (at : PostData) (known : Memo) (request : Request) (taken : Memo) (tell
         ap (λ (b : Bool). writes_each at.layout (step_of at) (if b
         then registers_landing at.job (processor_of at) known request all_registers counter_left
         else []) (next tt)) settles ∙ each_landed all_registers
+
+-- one of these registers, and then the others
+module _ {D : Type 0} (stands : Standing D) (at : PostData) (taken : Memo) (tells : Option ℕ)
+    (r : ℕ) (others : List ℕ) (old : D) where
+  abbrev One : D → Result (Unit {0}) Left → Type 0
+  One mid result = Plays stands old (register_landed at taken tells r) mid result
+
+  abbrev rest : Part (Unit {0})
+  rest = landed_from at taken tells others
+
+  pub one_next : IsNextPart stands old (landed_from at taken tells (r ∷ others)) →
+      IsNextPart stands old (register_landed at taken tells r)
+  one_next is = record {
+    from = is.from;
+    after = is.after;
+    next = λ done. rest is.after is.next;
+    here = is.here;
+  }
+
+  module _ (mid : D) where
+    pub one_left : (why : Left) → One mid (Err why) →
+        Plays stands old (landed_from at taken tells (r ∷ others)) mid (Err why)
+    one_left why one = record {
+      on = λ from after next here. one.on from after (λ done. rest after next) here;
+    }
+
+    module _ (done : Unit {0}) (one : One mid (Ok done)) where
+      pub others_next : IsNextPart stands old (landed_from at taken tells (r ∷ others)) →
+          IsNextPart stands mid (landed_from at taken tells others)
+      others_next is = record {
+        from = is.from;
+        after = is.after;
+        next = is.next;
+        here = one.on is.from is.after (λ done. rest is.after is.next) is.here;
+      }
+
+      pub others_played : (new : D) (result : Result (Unit {0}) Left) →
+          Plays stands mid (landed_from at taken tells others) new result →
+          Plays stands old (landed_from at taken tells (r ∷ others)) new result
+      others_played new result plays = record {
+        on = λ from after next here. plays.on from after next
+            (one.on from after (λ done. rest after next) here);
+      }
 
 -- ---- a load
 

@@ -48,6 +48,7 @@ pub mod FirstPass
 pub mod OwnKnown
 pub mod Kept
 pub mod Storing
+pub mod KnownLoads
 pub mod PlainLoads
 pub mod Plainly
 mod Placed

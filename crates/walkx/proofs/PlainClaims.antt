@@ -1,24 +1,31 @@
 -- Claims of which little is to be done.
-use Rattle.std.proofs.Common.{◌≡◌, ◌≢◌, ℕ, suc, ◌+◌, ◌%◌, false, List, Option, Some, None}
-use Rattle.std.proofs.Common.{slice_get, slice_index, refl, sym, ap, subst, ◌∙◌, arith}
-use Rattle.std.specs.Prelude.{IsSome, unwrap_or}
+use Rattle.std.proofs.Common.{◌≡◌, ℕ, ◌+◌, false, Some, None, Result, Ok, Err, refl, sym, ap}
+use Rattle.std.proofs.Common.{subst, ◌∙◌}
 use Rattle.std.proofs.lemmas.Bool.{lt-ltb}
 use Rattle.pram_job.specs.declared.instr.Instr.{Instr}
 use Rattle.pram_job.specs.declared.instr.Instr.TheVariants.{St}
 use Rattle.pram_job.specs.declared.instr.Rule.{Rule}
 use Rattle.pram_job.specs.declared.instr.Rule.TheVariants.{Common, Priority, Crew}
 use Rattle.pram_machine.specs.declared.requests.Request.{Request}
-use Rattle.walk_memory.specs.declared.load_in.Claims.{Claims}
+use Rattle.pram_words.specs.declared.phases.Kind.{Kind}
 use Rattle.walk_memory.specs.declared.memo.Memo.{Memo}
-use Rattle.walk_memory.specs.Inner.Posts.{PostData, at_rank, processor_of, step_of}
-use Rattle.walk_memory.specs.Memory.{at_start, cell_named, is_common, settles_in}
-use Rattle.walkx.specs.Parts.{claim_raised}
-use Rattle.walk_memory.specs.Plain.{AllClaimBy, ClaimsPlainly, claimed}
+use Rattle.walk_memory.specs.Inner.Posts.{PostData, processor_of, step_of}
+use Rattle.walk_memory.specs.Memory.{cell_named, is_common, settles_in}
+use Rattle.walkx.specs.declared.left.Stopped.{Stopped}
+use Rattle.walkx.specs.declared.left.Left.TheVariants.{Held}
+use Rattle.walkx.specs.Driving.{IsNextPart, Plays, Standing, goes, makes}
+use Rattle.walkx.specs.Parts.{claim_raised, does_wide}
+use Rattle.walkx.specs.Passing.{idle, idle_in}
+use Rattle.walk_memory.specs.Plain.{ClaimsPlainly, claimed}
 use Rattle.walkx.specs.Scripts.{Script, asks}
 use Rattle.walkx.specs.Walk.{Then}
-use Rattle.walkx.specs.WideParts.{asked_with, claimed_cell, learned, own_written, store_claimed}
+use Rattle.walkx.specs.WideParts.{asked_with, claimed_cell, does_own_by, learned, own_written}
+use Rattle.walkx.specs.WideParts.{store_claimed}
 use Rattle.walkx.proofs.Claimed.{claims_some}
-use Rattle.walkx.proofs.FirstPass.{reads_none}
+use Rattle.walkx.proofs.FirstPass.{decides_first, reads_none}
+use Rattle.walkx.proofs.Silent.{claiming_asks}
+use Rattle.walkx.proofs.TakingUp.{own_next, own_plays}
+use Rattle.walkx.proofs.Turning.{moved}
 use Rattle.walk_memory.proofs.GoingAlone.{settles_by}
 use Rattle.walk_memory.proofs.InLanes.{asks_store}
 use Rattle.walk_memory.proofs.Timing.{compute_is}
@@ -66,16 +73,64 @@ module _ (at : PostData) (memo : Memo) (cell value : ℕ) (is : ClaimsPlainly at
         ≡ asks (claim_raised at cell) (λ found. next tt)
     claim_stores late next = claims_some at claim late next at.job.rule cell is.below claim_cell
 
--- after the claim of one, those of the others of its block are as they were
-pub claims_left : (at : PostData) (len : ℕ) (memory now : List Memo) (claims : Claims) →
-    ((i : ℕ) → i ≢ processor_of at → slice_get now i ≡ slice_get memory i) →
-    AllClaimBy at len memory claims → AllClaimBy (at_rank at (suc at.rank)) len now claims
-claims_left at len memory now claims others all = λ rank from to.
-    let i = processor_of (at_rank at rank) in
-    let same = others i (λ e. absurd (omega (arith, from, e))) in
-    let claim = all rank (omega (arith, from)) to in record {
-      there = subst (λ (o : Option Memo). IsSome o) (sym same) claim.there;
-      plain = subst (λ (o : Option Memo). ClaimsPlainly (at_rank at rank) (unwrap_or o at_start)
-          (slice_index claims.cells (i % 64)) (slice_index claims.values (i % 64))) (sym same)
-          claim.plain;
-    }
+    pub claim_idle : idle at memo ≡ None
+    claim_idle = ap (λ (k : Kind). idle_in k at memo) is.first
+        ∙ claiming_asks at memo claiming is.before is.code is.lags claim claim_asks (Some cell)
+        (sym claim_cell) refl
+
+-- the operation that claims is made
+module _ {D : Type 0} (stands : Standing D) (at : PostData) (memo : Memo) (cell value : ℕ)
+    (is : ClaimsPlainly at memo cell value) (old : D) where
+  abbrev instr : Instr
+  instr = claiming at memo cell value is
+
+  abbrev request : Request
+  request = claim at memo cell value is
+
+  -- what follows it
+  abbrev written : (Memo → Script Then) → Script Then
+  written next = own_written at memo request (next memo) (λ done. next (learned at memo request))
+
+  here_then : (from : D × Script Then) (late : Script Then) (next : Memo → Script Then) →
+      stands from old (Some (does_own_by at memo (Some instr) late next)) →
+      stands from old (Some (asks (claim_raised at cell) (λ found. written next)))
+  here_then from late next here = moved stands from _ _ _
+      (claim_stores at memo cell value is (next memo) (λ done. written next))
+      (decides_first stands at memo instr from next old request (claim_asks at memo cell value is)
+      (claim_reads at memo cell value is) late here)
+
+  pub claim_next : IsNextPart stands old (does_wide at memo) →
+      IsNextPart stands old (makes (claim_raised at cell))
+  claim_next next_is =
+      let n = own_next at memo instr is.first is.before is.code stands old next_is in
+      record {
+        from = n.from;
+        after = n.next memo;
+        next = λ found. written n.next;
+        here = here_then n.from n.after n.next n.here;
+      }
+
+  -- it was, from there
+  abbrev Made : D → Result ℕ Stopped → Type 0
+  Made new result = (from : D × Script Then) (next : ℕ → Script Then) →
+      stands from old (Some (asks (claim_raised at cell) next)) →
+      stands from new (goes next result)
+
+  pub claim_held : (new : D) (why : Stopped) → Made new (Err why) →
+      Plays stands old (does_wide at memo) new (Err Held)
+  claim_held new why made =
+      own_plays at memo instr is.first is.before is.code stands old new _ (record {
+        on = λ from late next here. made from (λ found. written next)
+            (here_then from late next here);
+      })
+
+  pub claim_played : (new : D) (found : ℕ) → Made new (Ok found) →
+      Plays stands old (does_wide at memo) new (Ok (claimed at memo cell value))
+  claim_played new found made =
+      subst (λ (m : Memo). Plays stands old (does_wide at memo) new (Ok m))
+      (sym (claim_learned at memo cell value is))
+      (own_plays at memo instr is.first is.before is.code stands old new _ (record {
+        on = λ from late next here. moved stands from _ _ _
+            (claim_made at memo cell value is (next memo) (next (learned at memo request)))
+            (made from (λ found. written next) (here_then from late next here));
+      }))

@@ -10,9 +10,10 @@ use Rattle.walk_memory.specs.declared.memo.Memo.{Memo}
 use Rattle.walk_memory.specs.Inner.Posts.{PostData, processor_of, step_of}
 use Rattle.walk_memory.specs.Memory.{at_start}
 use Rattle.walk_memory.specs.Plain.{LoadsPlainly, loaded}
+use Rattle.walk_memory.specs.Stands.{LoadsKnown}
 use Rattle.walkx.specs.declared.left.Left.{Left}
 use Rattle.walkx.specs.declared.left.Stopped.{Stopped}
-use Rattle.walkx.specs.Driving.{IsNextPart, Plays, Standing, goes, learns, learns_all, learns_load}
+use Rattle.walkx.specs.Driving.{IsNextPart, Plays, Standing, goes, learns, learns_all, learns_value}
 use Rattle.walkx.specs.Driving.{settled_or_late}
 use Rattle.walkx.specs.Parts.{does_wide, reads, writes}
 use Rattle.walkx.specs.Passing.{LoadsUp, idle, idle_in}
@@ -25,39 +26,23 @@ use Rattle.walkx.proofs.Settling.{learned_comes, learned_goes}
 use Rattle.walkx.proofs.TakingUp.{own_next, own_plays}
 use Rattle.walkx.proofs.Turning.{comes_to, moved}
 
+-- it is a load of a processor whose step is known
+pub plain_known : (at : PostData) (memo : Memo) (r cell : ℕ) → LoadsPlainly at memo r cell →
+    LoadsKnown at memo r cell
+plain_known at memo r cell p = record {
+  place = p.place;
+  stands = record { first = p.first; before = p.before; code = p.code };
+  reads = p.reads;
+  below = p.below;
+}
+
 module _ {D : Type 0} (stands : Standing D) (at : PostData) (memo : Memo) (r cell : ℕ)
     (p : LoadsPlainly at memo r cell) (old : D) where
   abbrev instr : Instr
   instr = Ld r p.place
 
-  asks_cell : idle at memo ≡ None
-  asks_cell = ap (λ (k : Kind). idle_in k at memo) p.first
-      ∙ reads_ask at memo instr cell (not_past memo (step_of at) p.before)
-      (eq-eqb _ _ p.before) p.code p.reads
-
-  -- its cell is read first
-  pub reads_cell : IsNextPart stands old (does_wide at memo) → IsNextPart stands old (reads at cell)
-  reads_cell is =
-      let n = own_next at memo instr p.first p.before p.code stands old is in
-      record {
-        from = n.from;
-        after = n.next at_start;
-        next = made_with stands at memo instr n.from n.next;
-        here = reads_first stands at memo instr n.from n.next old cell p.reads n.after n.here;
-      }
-
   module _ (mid : D) where
-    -- the worker was late, or is held
-    pub load_left : (why : Left) → Plays stands old (reads at cell) mid (Err why) →
-        Plays stands old (does_wide at memo) mid (learns (Err why) at_start)
-    load_left why plays = own_plays at memo instr p.first p.before p.code stands old mid _ (record {
-      on = λ from late next here. comes_to stands from _ _ _
-          (learned_comes (Err why) at_start late next)
-          (plays.on from (next at_start) (made_with stands at memo instr from next)
-          (reads_first stands at memo instr from next old cell p.reads late here));
-    })
-
-    -- else its register is written
+    -- once its cell was read its register is written
     module _ (value : ℕ) (plays : Plays stands old (reads at cell) mid (Ok value)) (four : r < 4)
         (place : ℕ) (is : place ≡ register_place at.job (processor_of at) r) where
       abbrev known : Memo
@@ -101,17 +86,3 @@ module _ {D : Type 0} (stands : Standing D) (at : PostData) (memo : Memo) (r cel
                 (plays.on from (next at_start) (made_with stands at memo instr from next)
                 (reads_first stands at memo instr from next old cell p.reads late here)))));
           }))
-
-  -- what it came to
-  pub loads_up : (new : D) (then : Memo) (done : Result (Unit {0}) Left) →
-      Plays stands old (does_wide at memo) new (learns done then) →
-      (result : Result (Option ℕ) Stopped) →
-      learns_all (settled_or_late done) then ≡ learns_load at memo r result →
-      LoadsUp stands at old memo r new result
-  loads_up new then done plays result same = record {
-    asks = asks_cell;
-    on = λ from late next here. comes_to stands from new _ _
-        (learned_goes done then late next
-        ∙ ap (λ (s : Result Memo Stopped). goes next s) same)
-        (plays.on from late next here);
-  }

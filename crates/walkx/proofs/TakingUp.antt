@@ -1,5 +1,5 @@
 -- A task that is done with what is remembered of its processor.
-use Rattle.std.proofs.Common.{◌≡◌, ℕ, suc, true, false, List, Some, Ok, Result}
+use Rattle.std.proofs.Common.{◌≡◌, ℕ, suc, true, false, List, Option, Some, None, Ok, Result}
 use Rattle.std.proofs.Common.{Bool, refl, sym, ap, subst, ◌∙◌, slice_get}
 use Rattle.std.specs.Prelude.{slice_set}
 use Rattle.std.proofs.lemmas.Bool.{eq-eqb}
@@ -11,12 +11,14 @@ use Rattle.pram_words.specs.declared.phases.Kind.{Kind}
 use Rattle.pram_words.specs.declared.phases.Kind.TheVariants.{Compute, Verify}
 use Rattle.walkx.specs.declared.left.Left.{Left}
 use Rattle.walk_memory.specs.declared.memo.Memo.{Memo}
-use Rattle.walkx.specs.Driving.{IsNextPart, Plays, Standing, learns, settled_or_late}
+use Rattle.walkx.specs.declared.left.Stopped.{Stopped}
+use Rattle.walkx.specs.Driving.{IsNextPart, Plays, Standing, goes, learns, learns_all, learns_value}
+use Rattle.walkx.specs.Driving.{settled_or_late}
 use Rattle.walk_memory.specs.Inner.Posts.{PostData, processor_of, step_of}
 use Rattle.walk_memory.specs.Memory.{is_past, memo_of}
 use Rattle.walkx.specs.Parts.{does_wide, does_wide_in}
 use Rattle.walkx.specs.Passes.{carry_task, crew_carry_task, priority_carry_task, wide_task_of}
-use Rattle.walkx.specs.Passing.{Passes, TakesUp, TakesUpIf, idle, idle_in}
+use Rattle.walkx.specs.Passing.{Passes, PlaysUp, TakesUp, TakesUpIf, idle, idle_in}
 use Rattle.walkx.specs.Scripts.{Script}
 use Rattle.walkx.specs.Walk.{Then}
 use Rattle.walkx.specs.WideParts.{does_own_by}
@@ -26,6 +28,7 @@ use Rattle.walkx.proofs.Passes.{next_as, plays_as}
 use Rattle.walkx.proofs.Resting.{not_past}
 use Rattle.walkx.proofs.Settling.{learned_goes}
 use Rattle.walkx.proofs.Silent.{where_over}
+use Rattle.walkx.proofs.Turning.{comes_to}
 use Rattle.walk_memory.proofs.Timing.{compute_is, verify_is}
 use Rattle.walkx.proofs.WidePasses.{own_is, same_wide_kind}
 
@@ -70,6 +73,21 @@ takes_up stands at old new memory now memo learned done is kept passes plays = r
   on = λ from late next here. subst (stands from new) (learned_goes done learned late next)
       (plays.on from late next
       (subst (λ (m : Memo). stands from old (Some (does_wide at m late next))) (sym is) here));
+}
+
+-- the same, where another remembers it: what it came to
+pub plays_up : {D : Type 0} (stands : Standing D) (at : PostData) (memo : Memo) (does : ℕ → Memo)
+    (old new : D) (then : Memo) (done : Result (Unit {0}) Left) → idle at memo ≡ None →
+    Plays stands old (does_wide at memo) new (learns done then) →
+    (result : Result (Option ℕ) Stopped) →
+    learns_all (settled_or_late done) then ≡ learns_value does result →
+    PlaysUp stands at old memo does new result
+plays_up stands at memo does old new then done asks plays result same = record {
+  asks = asks;
+  on = λ from late next here. comes_to stands from new _ _
+      (learned_goes done then late next
+      ∙ ap (λ (s : Result Memo Stopped). goes next s) same)
+      (plays.on from late next here);
 }
 
 -- the second pass

@@ -5,7 +5,7 @@ use Rattle.walkx.specs.declared.operation.Op.{Op}
 use Rattle.walkx.specs.Scripts.{Script, asks, ends}
 use Rattle.walkx.specs.Walk.{Then, HearsAdmitted}
 use Rattle.walk_memory.specs.Inner.Posts.{PostData}
-use Rattle.walk_memory.specs.Plain.{loaded_or_late}
+use Rattle.walk_memory.specs.Plain.{done_or_late}
 use Rattle.walkx.specs.declared.left.Left.{Left}
 use Rattle.walkx.specs.declared.left.Stopped.{Stopped}
 use Rattle.walkx.specs.declared.left.Left.TheVariants.{Late, Held}
@@ -105,10 +105,10 @@ abbrev pub loads : Result (Unit {0}) Left → Memo → Result Memo Left
 loads (Ok done) memo = Ok memo
 loads (Err why) memo = Err why
 
--- that of a load
-abbrev pub learns_load : PostData → Memo → ℕ → Result (Option ℕ) Stopped → Result Memo Stopped
-learns_load at memo r (Ok found) = Ok (loaded_or_late at memo r found)
-learns_load at memo r (Err why) = Err why
+-- what is known by a value
+abbrev pub learns_value : (ℕ → Memo) → Result (Option ℕ) Stopped → Result Memo Stopped
+learns_value does (Ok found) = Ok (done_or_late does found)
+learns_value does (Err why) = Err why
 
 abbrev pub learns_all : Result (Unit {0}) Stopped → Memo → Result Memo Stopped
 learns_all (Ok done) memo = Ok memo

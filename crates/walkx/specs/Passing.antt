@@ -7,8 +7,9 @@ use Rattle.pram_words.specs.declared.phases.Kind.{Kind}
 use Rattle.walk_memory.specs.declared.memo.Memo.{Memo}
 use Rattle.walk_memory.specs.Inner.Posts.{PostData, step_of, processor_of}
 use Rattle.walkx.specs.declared.left.Stopped.{Stopped}
-use Rattle.walkx.specs.Driving.{Standing, goes, learns_all, learns_load}
+use Rattle.walkx.specs.Driving.{Standing, goes, learns_all, learns_value}
 use Rattle.walk_memory.specs.Memory.{memo_of}
+use Rattle.walk_memory.specs.Plain.{loaded}
 use Rattle.walkx.specs.Parts.{does_wide}
 use Rattle.walkx.specs.Passes.{wide_task_of}
 use Rattle.walkx.specs.Scripts.{Script, ends}
@@ -43,14 +44,19 @@ pub record TakesUp {D : Type 0} (stands : Standing D) (at : PostData) (old : D)
         stands from old (Some (does_wide at (memo_of memory (processor_of at)) late next)) →
         stands from new (goes next (learns_all result learned))
 
--- The processor's load was played, of which this was known: its value is given, if the worker was not
--- late. Another remembers it.
-pub record LoadsUp {D : Type 0} (stands : Standing D) (at : PostData) (old : D) (memo : Memo) (r : ℕ)
-    (new : D) (result : Result (Option ℕ) Stopped) : Type 0 where
+-- The processor's task was played, of which this was known: its value is given, by which it is
+-- known what it did, if the worker was not late. Another remembers it.
+pub record PlaysUp {D : Type 0} (stands : Standing D) (at : PostData) (old : D) (memo : Memo)
+    (does : ℕ → Memo) (new : D) (result : Result (Option ℕ) Stopped) : Type 0 where
   pub asks : idle at memo ≡ None
   pub on : (from : D × Script Then) (late : Script Then) (next : Memo → Script Then) →
       stands from old (Some (does_wide at memo late next)) →
-      stands from new (goes next (learns_load at memo r result))
+      stands from new (goes next (learns_value does result))
+
+-- the same of a plain load
+abbrev pub LoadsUp : {D : Type 0} → Standing D → PostData → D → Memo → ℕ → D →
+    Result (Option ℕ) Stopped → Type 0
+LoadsUp stands at old memo r new result = PlaysUp stands at old memo (loaded at memo r) new result
 
 -- It is done so, or, where the answer is no, nothing is.
 abbrev pub TakesUpIf : {D : Type 0} → Standing D → PostData → D → List Memo → D → List Memo →

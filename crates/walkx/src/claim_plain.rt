@@ -1,34 +1,35 @@
-//! Claims of which little is to be done: each is one operation, and a store to be remembered.
-ghost use Rattle.std.specs.Prelude.{◌≡◌, ◌≢◌, ◌<◌, ℕ};
-ghost use Rattle.walkx.specs.Driving.{IsNextPart, Plays, learns};
-ghost use Rattle.walk_memory.specs.Lanes.{lane};
+//! Claims of which little is to be done: each is one operation.
+ghost use Rattle.walk_memory.specs.Inner.Posts.{processor_of};
+ghost use Rattle.walk_memory.specs.Memory.{memo_of};
+ghost use Rattle.walk_memory.specs.Plain.{ClaimsPlainly, claimed};
+ghost use Rattle.walkx.specs.Driving.{IsNextPart};
 ghost use Rattle.walkx.specs.Parts.{does_wide};
-ghost use Rattle.walk_memory.specs.Plain.{ClaimsPlainly};
+ghost use Rattle.walkx.specs.Passing.{PlaysUp};
 
 use crate::judging::claiming;
-use crate::left::Left;
+use crate::left::Stopped;
 use crate::steps::Steps;
-use walk_memory::{Block, ClaimIn, Leaf, take_claim};
+use walk_memory::{Leaf, Memory};
 
-/// The first pass of the leaf's processor, where it claims plainly.
+/// The first pass of the leaf's processor, where it claims this cell for this value plainly: a
+/// value that nobody reads.
 #[inline(always)]
 pub(crate) fn claim_plainly<S: Steps>(
+    memory: &Memory,
     steps: &mut S,
     leaf: &Leaf,
-    block: &mut Block,
-    claim: ClaimIn,
-) -> Result<(), Left>
-    requires plain { ClaimsPlainly leaf.now (lane block.old claim.lane) claim.cell claim.value }
+    write: (u32, u32),
+) -> Result<Option<u32>, Stopped>
+    requires plain { ClaimsPlainly leaf.now (memo_of memory.now (processor_of leaf.now)) write.0
+        write.1 }
     requires next { IsNextPart (S.stands leaf.now) steps.old
-        (does_wide leaf.now (lane block.old claim.lane)) }
-    ensures others { (j : ℕ) → j ≢ claim.lane → lane block.new j ≡ lane block.old j }
-    ensures plays { Plays (S.stands leaf.now) steps.old
-        (does_wide leaf.now (lane block.old claim.lane)) steps.new
-        (learns result (lane block.new claim.lane)) }
+        (does_wide leaf.now (memo_of memory.now (processor_of leaf.now))) }
+    ensures { PlaysUp (S.stands leaf.now) leaf.now steps.old
+        (memo_of memory.now (processor_of leaf.now)) (λ found. claimed leaf.now
+        (memo_of memory.now (processor_of leaf.now)) write.0 write.1) steps.new result }
 {
-    let job = leaf.job();
-    job.limits_hold();
-    steps.make(claiming(leaf, claim.cell))?;
-    take_claim(leaf, block, claim);
-    Ok(())
+    let _ = memory;
+    let _ = leaf.job();
+    steps.make(claiming(leaf, write.0))?;
+    Ok(Some(0))
 }

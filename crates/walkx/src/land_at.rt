@@ -8,3 +8,13 @@ pub struct Landing {
     pub tells: Option<u8>,
     ghost row: { lane < 64 },
 }
+
+/// A lane, and the register that takes a value.
+#[derive(Clone, Copy)]
+pub struct Taking {
+    pub lane: usize,
+    pub register: u8,
+    pub value: u32,
+    ghost row: { lane < 64 },
+    ghost four: { register < 4 },
+}

@@ -8,6 +8,7 @@ mod claim_plain;
 mod compare;
 mod idle;
 mod judging;
+mod lagging;
 mod land_at;
 pub mod laws;
 mod left;

@@ -45,9 +45,9 @@ pub(crate) fn own_in<S: Steps>(
     }
 }
 
-/// The first pass, where it loads this: that goes into a register, and the processor settles.
+// The first pass, where it loads this: that goes into a register, and the processor settles.
 #[inline(always)]
-pub(crate) fn load_in<S: Steps>(
+fn load_in<S: Steps>(
     steps: &mut S,
     leaf: &Leaf,
     block: &mut Block,

@@ -6,13 +6,14 @@ ghost use Rattle.walk_memory.specs.Inner.Posts.{processor_of};
 ghost use Rattle.walk_memory.specs.Memory.{FitsMemo, memo_of};
 ghost use Rattle.walkx.specs.Parts.{does_wide};
 ghost use Rattle.walk_memory.specs.Stands.{IsStand};
-ghost use Rattle.walkx.specs.Passing.{LoadsUp, TakesUp, TakesUpIf};
-ghost use Rattle.walk_memory.specs.Lagging.{LagsBy};
-ghost use Rattle.walk_memory.specs.Plain.{ClaimsBy, LoadsBy};
+ghost use Rattle.walkx.specs.Passing.{LoadsUp, PlaysUp, TakesUp, TakesUpIf};
+ghost use Rattle.walk_memory.specs.Lagging.{LagsBy, load_landed};
+ghost use Rattle.walk_memory.specs.Plain.{ClaimsBy, LoadsBy, claimed_of};
 
 use crate::claim_plain::claim_plainly;
+use crate::lagging::load_lagging;
 use crate::left::Stopped;
-use crate::own_in::{load_in, own_in};
+use crate::own_in::own_in;
 use crate::plain::load_plainly;
 use crate::steps::Steps;
 use crate::stores::carry_known;
@@ -20,7 +21,7 @@ use crate::tasks::wide_task;
 use crate::turns::settle;
 use pram_job::Instr;
 use pram_words::Kind;
-use walk_memory::{ClaimIn, Claims, Leaf, LoadIn, Loads, Memory, known_in, stands_in};
+use walk_memory::{Claims, Leaf, LoadIn, Loads, Memory, known_in, stands_in};
 
 /// The task of a processor of a block, with what is remembered of it, whether it asks something
 /// or not.
@@ -187,73 +188,55 @@ pub fn take_load<S: Steps>(
     load_plainly(memory, steps, leaf, loads.register, cell)
 }
 
-/// As `take_up`, where the leaf's processor is known to load this, whatever its words tell.
+/// As `take_load`, where the leaf's processor is known to load this, whatever its words tell.
 #[inline(always)]
 pub fn take_lagging<S: Steps>(
-    memory: &mut Memory,
+    memory: &Memory,
     steps: &mut S,
     leaf: &Leaf,
     loads: &Loads,
-) -> Result<(), Stopped>
-    requires known { LagsBy leaf.now memory.old loads.now }
+) -> Result<Option<u32>, Stopped>
+    requires known { LagsBy leaf.now memory.now loads.now }
     requires next { IsNextPart (S.stands leaf.now) steps.old
-        (does_wide leaf.now (memo_of memory.old (processor_of leaf.now))) }
-    ensures { TakesUp (S.stands leaf.now) leaf.now steps.old memory.old steps.new memory.new
-        result }
+        (does_wide leaf.now (memo_of memory.now (processor_of leaf.now))) }
+    ensures { PlaysUp (S.stands leaf.now) leaf.now steps.old
+        (memo_of memory.now (processor_of leaf.now)) (load_landed leaf.now
+        (memo_of memory.now (processor_of leaf.now)) loads.now.register) steps.new result }
 {
-    let i = leaf.processor() as usize;
-    match &mut memory.blocks {
-        Some(blocks) => {
-            if i / 64 < blocks.len() {
-                let block = &mut blocks[i / 64];
-                let lane = i % 64;
-                let register = loads.register;
-                let cell = loads.cells[lane];
-                let done = load_in(
-                    steps,
-                    leaf,
-                    block,
-                    LoadIn {
-                        lane,
-                        register,
-                        cell,
-                    },
-                );
-                return settle(done);
-            }
-            unreachable!()
-        }
+    let i = leaf.processor();
+    let lane = (i % 64) as usize;
+    let register = loads.register;
+    let cell = loads.cells[lane];
+    match memory.block(i / 64) {
+        Some(block) => load_lagging(
+            steps,
+            leaf,
+            block,
+            LoadIn {
+                lane,
+                register,
+                cell,
+            },
+        ),
         None => unreachable!(),
     }
 }
 
-/// As `take_up`, where the leaf's processor claims plainly.
+/// As `take_load`, where the leaf's processor claims plainly: a value that nobody reads.
 #[inline(always)]
 pub fn take_claim<S: Steps>(
-    memory: &mut Memory,
+    memory: &Memory,
     steps: &mut S,
     leaf: &Leaf,
     claims: &Claims,
-) -> Result<(), Stopped>
-    requires plain { ClaimsBy leaf.now memory.old claims.now }
+) -> Result<Option<u32>, Stopped>
+    requires plain { ClaimsBy leaf.now memory.now claims.now }
     requires next { IsNextPart (S.stands leaf.now) steps.old
-        (does_wide leaf.now (memo_of memory.old (processor_of leaf.now))) }
-    ensures { TakesUp (S.stands leaf.now) leaf.now steps.old memory.old steps.new memory.new
-        result }
+        (does_wide leaf.now (memo_of memory.now (processor_of leaf.now))) }
+    ensures { PlaysUp (S.stands leaf.now) leaf.now steps.old
+        (memo_of memory.now (processor_of leaf.now)) (λ found. claimed_of leaf.now claims.now
+        memory.now (processor_of leaf.now)) steps.new result }
 {
-    let i = leaf.processor() as usize;
-    match &mut memory.blocks {
-        Some(blocks) => {
-            if i / 64 < blocks.len() {
-                let block = &mut blocks[i / 64];
-                let lane = i % 64;
-                let cell = claims.cells[lane];
-                let value = claims.values[lane];
-                let done = claim_plainly(steps, leaf, block, ClaimIn { lane, cell, value });
-                return settle(done);
-            }
-            unreachable!()
-        }
-        None => unreachable!(),
-    }
+    let k = (leaf.processor() % 64) as usize;
+    claim_plainly(memory, steps, leaf, (claims.cells[k], claims.values[k]))
 }

@@ -26,13 +26,13 @@ pub join_beside-seat-requires-clause-looker : goal.join_beside-seat-requires-cla
 join_beside-seat-requires-clause-looker g c κs within =
     subst (λ (s : SeatData). GoesOn s c.await_missing-theirs.result.0)
     (c.split-seat.ensures.second ∙ sym c.split-seat.ensures.first
-    ∙ sym c.start_all-team.ensures.seat) (looked_goes _ _ c.await_missing-theirs.ensures.looked)
+    ∙ sym c.start_few-team.ensures.seat) (looked_goes _ _ c.await_missing-theirs.ensures.looked)
 
 pub hear_end-requires-clause-seat : goal.hear_end-requires-clause-seat
 hear_end-requires-clause-seat g c κs within =
     subst (λ (s : SeatData). GoesOn s c.read-reader.new.seat)
     (c.split-seat.ensures.second ∙ sym c.split-seat.ensures.first
-    ∙ sym c.start_all-team.ensures.seat)
+    ∙ sym c.start_few-team.ensures.seat)
     (goes_trans _ _ _ (looked_goes _ _ c.await_missing-theirs.ensures.looked)
     c.read-reader.ensures.goes_on)
 
@@ -46,10 +46,10 @@ returns-clause-ran g c =
     let task = shared_task c.args.shared.now in
     let plan = plan_of c.args.shared.now in
     let seen = c.args.shared.now in
-    let team = c.start_all-team.result in
+    let team = c.start_few-team.result in
     let waits = c.await_missing-theirs in
     let given : team.seat ≡ c.args.seat =
-    c.start_all-team.ensures.seat ∙ c.split-seat.ensures.first in
+    c.start_few-team.ensures.seat ∙ c.split-seat.ensures.first in
     let ended = c.hear_end.result in
     inr (watched_with task plan c.args.seat waits.result.0 c.read-reader.new.seat ended.0
     (vec_len team.threads) (g.P.Reads.reads c.args.reader task seen.cells.now seen.rounds)

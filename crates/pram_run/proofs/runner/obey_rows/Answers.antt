@@ -40,15 +40,15 @@ loop-row-preserved g c = elim c.if-row-number.branch [
 ]
 
 pub returns-clause-goes_on : goal.returns-clause-goes_on
-returns-clause-goes_on g c = goes_trans c.args.seat c.loop-row.seat c.work-stay.new.seat
-    c.loop-row.invariant.goes_on (worked_goes _ _ _ _ _ _ _ c.work-stay.ensures.worked)
+returns-clause-goes_on g c = goes_trans c.args.seat c.loop-row.seat c.work_among-stay.new.seat
+    c.loop-row.invariant.goes_on (worked_goes _ _ _ _ _ _ _ c.work_among-stay.ensures.worked)
 
 pub returns-clause-obeys : goal.returns-clause-obeys
 returns-clause-obeys g c =
     subst (λ (t : Task). ObeysAnew t c.args.number c.args.rows.now c.args.seat
-    c.work-stay.new.seat) (sym (ap (λ (d : Desk). d.task) c.requires.seat))
-    (c.loop-row.invariant.obeys c.work-stay.new.seat
-    (no_row _ _ _ _ _ _ _ _ _ c.loop-row-test.false c.work-stay.ensures.worked))
+    c.work_among-stay.new.seat) (sym (ap (λ (d : Desk). d.task) c.requires.seat))
+    (c.loop-row.invariant.obeys c.work_among-stay.new.seat
+    (no_row _ _ _ _ _ _ _ _ _ c.loop-row-test.false c.work_among-stay.ensures.worked))
 
 pub returns-then-eq-clause-obeys : goal.returns-then-eq-clause-obeys
 returns-then-eq-clause-obeys g c =
@@ -58,5 +58,5 @@ returns-then-eq-clause-obeys g c =
     c.if-row-number.true (search rules) refl))
 
 pub returns-clause-ends : goal.returns-clause-ends
-returns-clause-ends g c = inl (worked_ends _ _ _ _ _ _ c.work-stay.ensures.works.desk
-    c.work-stay.ensures.worked)
+returns-clause-ends g c = inl (worked_ends _ _ _ _ _ _ c.work_among-stay.ensures.works.desk
+    c.work_among-stay.ensures.worked)

@@ -5,14 +5,17 @@ use Rattle.walk_memory.specs.Plain.{loaded}
 use Rattle.walkx.specs.declared.left.Stopped.{Stopped}
 use Rattle.walkx.specs.declared.left.Left.TheVariants.{Late, Held}
 use Rattle.walkx.specs.Driving.{learns_all}
-use Rattle.walkx.proofs.PlainLoads.{load_left, load_played, loads_up, reads_cell, writes_register}
+use Rattle.walkx.proofs.KnownLoads.{asks_cell, load_left, reads_cell}
+use Rattle.walkx.proofs.PlainLoads.{load_played, plain_known, writes_register}
+use Rattle.walkx.proofs.TakingUp.{plays_up}
 use Rattle.walkx.proofs.plain.load_plainly.Goals as goal
 
 pub read_place-requires-clause-next : goal.read_place-requires-clause-next
 read_place-requires-clause-next g c =
     let at = c.args.leaf.now in
     let memo = memo_of c.args.memory.now (processor_of at) in
-    reads_cell (g.S.Steps.stands at) at memo c.args.register c.args.cell c.requires.plain
+    reads_cell (g.S.Steps.stands at) at memo c.args.register c.args.cell
+    (plain_known at memo c.args.register c.args.cell c.requires.plain)
     c.args.steps.now c.requires.next
 
 pub returns-in-Err-Late : goal.returns-in-Err-Late
@@ -21,10 +24,14 @@ returns-in-Err-Late g c =
     let memo = memo_of c.args.memory.now (processor_of at) in
     let stands = g.S.Steps.stands at in
     let new = c.read_place.new.steps in
-    let left = load_left stands at memo c.args.register c.args.cell c.requires.plain
+    let left = load_left stands at memo c.args.register c.args.cell
+    (plain_known at memo c.args.register c.args.cell c.requires.plain)
     c.args.steps.now new c.in-Err-Late.field-0 c.in-Err-Late.ensures.plays in
-    loads_up stands at memo c.args.register c.args.cell c.requires.plain c.args.steps.now new
-    at_start (Err Late) (rw c.in-Err-Late.field-0-is at left) (Ok None) refl
+    plays_up stands at memo (loaded at memo c.args.register) c.args.steps.now new at_start
+    (Err Late)
+    (asks_cell stands at memo c.args.register c.args.cell
+    (plain_known at memo c.args.register c.args.cell c.requires.plain) c.args.steps.now)
+    (rw c.in-Err-Late.field-0-is at left) (Ok None) refl
 
 pub returns-in-Err-Held : goal.returns-in-Err-Held
 returns-in-Err-Held g c =
@@ -32,10 +39,14 @@ returns-in-Err-Held g c =
     let memo = memo_of c.args.memory.now (processor_of at) in
     let stands = g.S.Steps.stands at in
     let new = c.read_place.new.steps in
-    let left = load_left stands at memo c.args.register c.args.cell c.requires.plain
+    let left = load_left stands at memo c.args.register c.args.cell
+    (plain_known at memo c.args.register c.args.cell c.requires.plain)
     c.args.steps.now new c.in-Err-Held.field-0 c.in-Err-Held.ensures.plays in
-    loads_up stands at memo c.args.register c.args.cell c.requires.plain c.args.steps.now new
-    at_start (Err Held) (rw c.in-Err-Held.field-0-is at left) (Err (record {})) refl
+    plays_up stands at memo (loaded at memo c.args.register) c.args.steps.now new at_start
+    (Err Held)
+    (asks_cell stands at memo c.args.register c.args.cell
+    (plain_known at memo c.args.register c.args.cell c.requires.plain) c.args.steps.now)
+    (rw c.in-Err-Held.field-0-is at left) (Err (record {})) refl
 
 pub write_place-done-requires-clause-next : goal.write_place-done-requires-clause-next
 write_place-done-requires-clause-next g c =
@@ -54,8 +65,10 @@ returns-in_err-settle g c =
     let done = c.write_place-done.result in
     let why = c.in_err-settle.field-0.0 in
     let e : c.from_residual.result ≡ Err why = search rules in
-    rw e (loads_up stands at memo c.args.register c.args.cell c.requires.plain c.args.steps.now
+    rw e (plays_up stands at memo (loaded at memo c.args.register) c.args.steps.now
     c.write_place-done.new.steps then done
+    (asks_cell stands at memo c.args.register c.args.cell
+    (plain_known at memo c.args.register c.args.cell c.requires.plain) c.args.steps.now)
     (load_played stands at memo c.args.register c.args.cell c.requires.plain c.args.steps.now
     c.read_place.new.steps c.in-Ok.value c.in-Ok.ensures.plays c.requires.four
     c.register_place-place.result c.register_place-place.ensures.value
@@ -70,8 +83,10 @@ returns g c =
     let stands = g.S.Steps.stands at in
     let then = loaded at memo c.args.register c.in-Ok.value in
     let done = c.write_place-done.result in
-    loads_up stands at memo c.args.register c.args.cell c.requires.plain c.args.steps.now
+    plays_up stands at memo (loaded at memo c.args.register) c.args.steps.now
     c.write_place-done.new.steps then done
+    (asks_cell stands at memo c.args.register c.args.cell
+    (plain_known at memo c.args.register c.args.cell c.requires.plain) c.args.steps.now)
     (load_played stands at memo c.args.register c.args.cell c.requires.plain c.args.steps.now
     c.read_place.new.steps c.in-Ok.value c.in-Ok.ensures.plays c.requires.four
     c.register_place-place.result c.register_place-place.ensures.value

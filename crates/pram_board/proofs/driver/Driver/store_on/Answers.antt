@@ -1,6 +1,6 @@
 use Rattle.std.proofs.Common.{◌≡◌, ◌<◌, ◌-◌, suc, Ok, Err, refl, sym, ap, ◌∙◌, arith}
 use Rattle.walk_memory.specs.Inner.Posts.{PostData}
-use Rattle.walk_memory.specs.Plain.{carried_all}
+use Rattle.walk_memory.specs.Plain.{carried_all, done_all}
 use Rattle.walkx.specs.declared.left.Left.TheVariants.{Held, Late}
 use Rattle.pram_board.specs.Inner.Plays.{driving}
 use Rattle.pram_board.proofs.Storing.{store_cell, store_done, store_due, store_held, store_last}
@@ -9,7 +9,7 @@ use Rattle.pram_board.proofs.Tasks.{at_next, done_from, is_within, leaf_at, not_
 use Rattle.pram_board.proofs.driver.Driver.store_on.Goals as goal
 
 pub loop-stores-init : goal.loop-stores-init
-unfolding carried_all
+unfolding done_all
 loop-stores-init g c =
     let none : c.args.leaf.rank - c.args.leaf.rank ≡ 0 = omega arith in
     rw none (record {

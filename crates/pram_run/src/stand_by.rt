@@ -1,0 +1,63 @@
+//! Workers beyond the machine's processors: they take part where the others stand still.
+ghost use Rattle.std.specs.Prelude.{◌≡◌};
+ghost use Rattle.pram_run.specs.Inner.Sharing.{board_of, plan_of};
+ghost use Rattle.pram_run.specs.Inner.Teams.{IsAtWork};
+
+use crate::runner::{Team, start_to};
+use crate::shared::Shared;
+use pram_board::Seat;
+use std::sync::Wait;
+use std::thread;
+use std::thread::{Scope, Threads};
+use std::time::Duration;
+use stop_plan::Gate;
+
+// How long the first ones may stand still before the others take part, in milliseconds.
+const STILL: u64 = 20;
+
+/// Starts threads for as many workers as the machine has processors, and for the others where these
+/// stand still: threads that take turns on a processor forget each other's blocks, and each has a
+/// memory of its own. Where a worker is held or stopped, or a reader reads, all start at once.
+pub(crate) fn start_few<'s, E, R: Threads + Wait, G: Gate + Sync>(
+    scope: &Scope<'s, E>,
+    rt: &R,
+    shared: &Shared<'s, G>,
+    seat: Seat,
+) -> Team<'s>
+    requires { seat.desk ≡ board_of shared.now }
+    ensures { IsAtWork (plan_of shared.now) seat result }
+{
+    let few = first_ones(rt, shared);
+    let team = start_to(scope, shared, Team::new(shared, seat), few);
+    let all = shared.plan.workers();
+    if few == all || stand_by(rt, shared) {
+        team
+    } else {
+        start_to(scope, shared, team, all)
+    }
+}
+
+// How many workers start at once.
+fn first_ones<R: Threads, G: Gate>(rt: &R, shared: &Shared<'_, G>) -> u32 {
+    let all = shared.plan.workers();
+    let held = !shared.gate.is_open() || !shared.plan.rows().is_empty();
+    if held || 0 < shared.rounds {
+        return all;
+    }
+    match thread::available_parallelism(rt) {
+        Ok(count) => count.get().min(all as usize) as u32,
+        Err(_) => all,
+    }
+}
+
+// Waits until a worker leaves, or none gets on for a while: whether the job is over.
+fn stand_by<R: Wait, G>(rt: &R, shared: &Shared<'_, G>) -> bool {
+    for _ in rt.forever() {
+        let before = shared.board.hint();
+        shared.bell.wait_for(rt, Duration::from_millis(STILL));
+        if 0 < shared.bell.left() || shared.board.hint() == before {
+            return shared.bell.is_over();
+        }
+    }
+    unreachable!()
+}

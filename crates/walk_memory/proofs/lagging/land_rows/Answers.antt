@@ -1,0 +1,41 @@
+use Rattle.std.proofs.Common.{refl}
+use Rattle.walk_memory.proofs.lagging.land_rows.Goals as goal
+
+pub returns-clause-there : goal.returns-clause-there
+returns-clause-there c = λ k from to. rw (
+  c.phase_in.ensures.there k from to,
+  c.phase.ensures.value,
+  c.set_in.ensures.there k from to,
+  c.step.ensures.value,
+  c.set_in-2.ensures.there k from to,
+  c.step-2.ensures.value,
+  c.copy_in.ensures.there k from to,
+  c.copy_rows.ensures.there k from to,
+  c.count_in.ensures.there k from to,
+  c.put_values.ensures.there k from to,
+  c.so_in.ensures.there k from to,
+) refl
+
+pub returns-clause-before : goal.returns-clause-before
+returns-clause-before c = λ k low. rw (
+  c.phase_in.ensures.before k low,
+  c.set_in.ensures.before k low,
+  c.set_in-2.ensures.before k low,
+  c.copy_in.ensures.before k low,
+  c.copy_rows.ensures.before k low,
+  c.count_in.ensures.before k low,
+  c.put_values.ensures.before k low,
+  c.so_in.ensures.before k low,
+) refl
+
+pub returns-clause-after : goal.returns-clause-after
+returns-clause-after c = λ k high. rw (
+  c.phase_in.ensures.after k high,
+  c.set_in.ensures.after k high,
+  c.set_in-2.ensures.after k high,
+  c.copy_in.ensures.after k high,
+  c.copy_rows.ensures.after k high,
+  c.count_in.ensures.after k high,
+  c.put_values.ensures.after k high,
+  c.so_in.ensures.after k high,
+) refl
