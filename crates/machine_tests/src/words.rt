@@ -260,8 +260,8 @@ ones 64; length : halt~ -> 4719104
 wide 64; leaves, length : halt~ -> 1024 3817984
 -- workers of a wide board start far apart, and turn by their numbers
 $ board: pram 2~cells 1~procs 8~steps 4~rule common~code~
-ones 4; leaf 0, leaf 1, leaf 2, leaf 3, leaves, right 1 1, right 1 3, right 1 6 : halt~ \
-    -> 8 12 11 15 8 1 0 0
+ones 4; leaf 0, leaf 1, leaf 2, leaf 3, leaves, right 1 1, right 1 6, right 3 3 : halt~ \
+    -> 8 15 11 12 8 1 1 0
 ones 1; leaf 0 : halt~ -> 8
 compact 4; leaf 3 : halt~ -> 11
 ";

@@ -1,6 +1,6 @@
 -- What loads of the request words give once word 0 was heard to name a step.
 use Rattle.std.proofs.Common.{◌≡◌, ◌≢◌, ℕ, suc, ◌+◌, ◌^◌, ◌<◌, List, [], ◌∷◌, ◌++◌, map, sym, ap}
-use Rattle.std.proofs.Common.{ap₂, subst, ◌∙◌, arith, ◌≤◌}
+use Rattle.std.proofs.Common.{ap₂, subst, ◌∙◌, arith}
 use Rattle.std.specs.List.{range_with_len}
 use Rattle.std.proofs.lemmas.List.FromFn.{map-range_with_len_more}
 use Rattle.pram_job.specs.Job.{JobData}

@@ -188,6 +188,13 @@ impl Board {
         self.peek(1)
     }
 
+    /// How many leaves the tree has, each for a block of processors.
+    pub fn leaves(&self) -> u32
+        ensures { result ≡ self.now.task.layout.leaves }
+    {
+        self.task().layout.leaves()
+    }
+
     // What a node holds. It is no atomic step of a worker, and tells nothing.
     #[inline(always)]
     pub(crate) fn peek(&self, node: u32) -> u64

@@ -112,8 +112,9 @@ impl<'a, G: Gate> Driver<'a, G> {
         ensures done { DoneTo leaf.now len (driving self.old) memory.old result
             (driving self.new) memory.new }
     {
-        match Loads::of(memory, leaf, len, stand) {
-            Some(loads) => self.plain_by(leaf, len, memory, &loads),
+        let found = Loads::of(memory, leaf, len, stand);
+        match &found {
+            Some(loads) => self.plain_by(leaf, len, memory, loads),
             None => self.plain_tasks::<Lagging>(leaf, len, memory, stand),
         }
     }
@@ -133,8 +134,9 @@ impl<'a, G: Gate> Driver<'a, G> {
         ensures done { DoneTo leaf.now len (driving self.old) memory.old result
             (driving self.new) memory.new }
     {
-        match P::of(memory, leaf, len, stand) {
-            Some(plain) => self.plain_by(leaf, len, memory, &plain),
+        let found = P::of(memory, leaf, len, stand);
+        match &found {
+            Some(plain) => self.plain_by(leaf, len, memory, plain),
             None => self.form_tasks(leaf, len, memory, stand),
         }
     }

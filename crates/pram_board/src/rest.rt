@@ -12,9 +12,6 @@ const FIRST: u32 = 16;
 
 const MOST: u32 = 1_024;
 
-// Most workers of a board.
-const MOST_FELLOWS: u32 = 64;
-
 // How often in a phase it looks whether another one has finished a block, and how long it rests
 // between two looks: in all about as long as it takes to load a block.
 const LOOKS: u32 = 512;
@@ -117,7 +114,7 @@ impl Rest {
     // The leaf lies in the share of this worker. Where there are more workers than leaves, those
     // beyond have none.
     fn is_in_share(self, layout: &Layout, node: u32) -> bool {
-        let shares = self.fellows.clamp(1, MOST_FELLOWS).next_power_of_two();
+        let shares = self.fellows.clamp(1, layout.workers()).next_power_of_two();
         let share = (layout.leaves() / shares).max(1);
         self.worker < layout.leaves() && node / share == layout.first_leaf(self.worker) / share
     }

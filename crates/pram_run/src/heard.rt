@@ -30,7 +30,8 @@ use stop_plan::Gate;
 /// of them may be kept from going on. A thread that is refused is a worker that takes no part: the
 /// reader then waits until the others come to the end. Where they do not, that is out of memory;
 /// the reader hears it, and does not read. Where nobody is held or stopped and nothing is read,
-/// workers beyond the machine's processors take part only once the others stand still.
+/// workers beyond the machine's processors or the board's leaves take part only once the others
+/// stand still.
 pub fn run_heard<R: Threads + Wait, G: Gate + Sync, H, P: Reads<Heard = H>>(
     rt: &R,
     shared: &Shared<'_, G>,

@@ -1,5 +1,6 @@
-//! Workers beyond the machine's processors: they take part where the others stand still.
-ghost use Rattle.std.specs.Prelude.{◌≡◌};
+//! Workers beyond the machine's processors or the board's leaves: they take part where the others
+//! stand still.
+ghost use Rattle.std.specs.Prelude.{◌≡◌, ◌≤◌, IsTrue, []};
 ghost use Rattle.pram_run.specs.Inner.Sharing.{board_of, plan_of};
 ghost use Rattle.pram_run.specs.Inner.Teams.{IsAtWork};
 
@@ -15,9 +16,10 @@ use stop_plan::Gate;
 // How long the first ones may stand still before the others take part, in milliseconds.
 const STILL: u64 = 20;
 
-/// Starts threads for as many workers as the machine has processors, and for the others where these
-/// stand still: threads that take turns on a processor forget each other's blocks, and each has a
-/// memory of its own. Where a worker is held or stopped, or a reader reads, all start at once.
+/// Starts threads for as many workers as the machine has processors and the board has leaves, and
+/// for the others where these stand still: threads that take turns on a processor, or at a leaf,
+/// forget each other's blocks, and each has a memory of its own. Where a worker is held or stopped,
+/// or a reader reads, all start at once.
 pub(crate) fn start_few<'s, E, R: Threads + Wait, G: Gate + Sync>(
     scope: &Scope<'s, E>,
     rt: &R,
@@ -27,9 +29,13 @@ pub(crate) fn start_few<'s, E, R: Threads + Wait, G: Gate + Sync>(
     requires { seat.desk ≡ board_of shared.now }
     ensures { IsAtWork (plan_of shared.now) seat result }
 {
-    let few = first_ones(rt, shared);
-    let team = start_to(scope, shared, Team::new(shared, seat), few);
     let all = shared.plan.workers();
+    let few = if is_free(shared) {
+        first_ones(rt, shared)
+    } else {
+        all
+    };
+    let team = start_to(scope, shared, Team::new(shared, seat), few);
     if few == all || stand_by(rt, shared) {
         team
     } else {
@@ -37,16 +43,25 @@ pub(crate) fn start_few<'s, E, R: Threads + Wait, G: Gate + Sync>(
     }
 }
 
-// How many workers start at once.
-fn first_ones<R: Threads, G: Gate>(rt: &R, shared: &Shared<'_, G>) -> u32 {
-    let all = shared.plan.workers();
-    let held = !shared.gate.is_open() || !shared.plan.rows().is_empty();
-    if held || 0 < shared.rounds {
-        return all;
-    }
+// Whether nobody is held or stopped, and nothing is read.
+fn is_free<G: Gate>(shared: &Shared<'_, G>) -> bool
+    ensures plan { IsTrue result → (plan_of shared.now).rows ≡ [] }
+    ensures reads { IsTrue result → shared.now.rounds ≡ 0 }
+{
+    shared.gate.is_open() && shared.plan.rows().is_empty() && shared.rounds == 0
+}
+
+// How many workers start at once where all are free: no more than there are processors or leaves.
+fn first_ones<R: Threads, G>(rt: &R, shared: &Shared<'_, G>) -> u32
+    ensures some { 1 ≤ result }
+    ensures workers { result ≤ (plan_of shared.now).workers }
+    ensures leaves { result ≤ (board_of shared.now).task.layout.leaves }
+{
+    shared.board.facts();
+    let most = shared.plan.workers().min(shared.board.leaves());
     match thread::available_parallelism(rt) {
-        Ok(count) => count.get().min(all as usize) as u32,
-        Err(_) => all,
+        Ok(count) => count.get().min(most as usize) as u32,
+        Err(_) => most,
     }
 }
 

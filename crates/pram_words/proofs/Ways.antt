@@ -1,42 +1,31 @@
 -- A worker's way over the tree.
-use Rattle.std.proofs.Common.{◌≡◌, ℕ, Bool, true, false, ◌==◌, ◌+◌, ◌-◌, ◌*◌, ◌/◌, ◌%◌, ◌^◌}
+use Rattle.std.proofs.Common.{◌≡◌, ℕ, Bool, true, false, ◌==◌, ◌+◌, ◌-◌, ◌*◌, ◌/◌, ◌%◌, ◌^◌, bit_and}
 use Rattle.std.proofs.Common.{◌<◌, ◌≤◌, inl, inr, refl, sym, ap, ◌∙◌, arith, zero, suc}
-use Rattle.std.proofs.lemmas.Bool.{cases_lt, lt-ltb, le-ltb, eqb-true, eq-eqb}
+use Rattle.std.proofs.lemmas.Bool.{eqb-true, eq-eqb}
 use Rattle.std.proofs.Math.Nat.{pow-le-pow_right, div-eq_of_lt, div-div-eq-div-mul}
-use Rattle.std.proofs.lemmas.Nat.{mod_below, pow_pos}
+use Rattle.std.proofs.lemmas.Nat.{and_mask, mod_below, pow_pos}
 use Rattle.std.specs.Int.{from_bool}
 use Rattle.pram_words.specs.declared.layout.Form.TheVariants.{Compact}
-use Rattle.pram_words.specs.Tree.{digits_of, depth_of, first_leaf_of, turns_right}
+use Rattle.pram_words.specs.Tree.{depth_of, first_leaf_of, turns_right}
 use Rattle.pram_words.specs.Forms.{by_form}
 use Rattle.pram_words.specs.Words.{LayoutData, IsLayout}
-use Rattle.pram_words.specs.Ways.{turn_bits, turns_right_wide, IsTurnWide}
+use Rattle.pram_words.specs.Ways.{turns_right_wide, IsTurnWide}
 use Rattle.pram_words.specs.Ways.{turns_right_in, way_of, first_leaf_in}
-use Rattle.pram_words.proofs.Halvings.{double, digits, exponents, depth_unique}
+use Rattle.pram_words.proofs.Halvings.{double, exponents, depth_unique}
 use Rattle.pram_words.proofs.Blocks.{leaves_power}
 use Rattle.pram_words.proofs.Numbering.{cases_form, form_compact, form_wide}
 
--- the least b with W ≤ 2 ^ b
-bits_least : (workers b : ℕ) → 1 ≤ workers → workers < 2 ^ 32 → workers ≤ 2 ^ b →
-    ((c : ℕ) → workers ≤ 2 ^ c → b ≤ c) → b ≡ turn_bits workers
-bits_least workers b some fits enough least =
-    let d = digits (workers - 1) (omega arith) in
-    let most : b ≤ digits_of (workers - 1) = least (digits_of (workers - 1)) (omega arith) in
-    elim (cases_lt b (digits_of (workers - 1))) [
-      | inl c ↦ absurd (let up = pow-le-pow_right {n = 2} (omega arith)
-          {i = b + 1} {j = digits_of (workers - 1)} (omega arith) in omega (arith, double b))
-      | inr c ↦ omega arith
-    ]
+-- so many of the lowest bits of a number
+pub low_bits : (w d : ℕ) → 2 * 2 ^ d < 4294967296 →
+    bit_and w (2 * 2 ^ d % 4294967296 - 1) ≡ w % 2 ^ (d + 1)
+low_bits w d fits =
+    let same : 2 * 2 ^ d % 4294967296 ≡ 2 ^ (d + 1) = omega (arith, double d) in
+    ap (λ m. bit_and w (m - 1)) same ∙ and_mask w (d + 1)
 
-pub turn_wide : (workers worker n : ℕ) → 1 ≤ workers → workers < 2 ^ 32 → n < 2 ^ 32 →
-    IsTurnWide workers worker n (turns_right_wide workers worker n)
-turn_wide workers worker n some fits n_fits = λ b d enough least low high.
-    let depth : d ≡ depth_of n = depth_unique n d n_fits low (omega (arith, double d)) in
-    let bits : b ≡ turn_bits workers = bits_least workers b some fits enough least in
-    rw (depth, bits) (elim (cases_lt 1 workers) [
-      | inl c ↦ rw (lt-ltb 1 workers c) (λ t. (c, eqb-true _ 1 t), λ h. eq-eqb _ 1 h.1)
-      | inr c ↦ rw (le-ltb 1 workers c)
-          (λ t. absurd (let f : false ≡ true = t in cc), λ h. absurd (omega (arith, h.0)))
-    ])
+pub turn_wide : (worker n : ℕ) → n < 2 ^ 32 → IsTurnWide worker n (turns_right_wide worker n)
+turn_wide worker n fits = λ d low high.
+    let depth : d ≡ depth_of n = depth_unique n d fits low (omega (arith, double d)) in
+    rw depth (λ t. eqb-true _ 1 t, λ e. eq-eqb _ 1 e)
 
 -- the node at depth d of a worker's way
 one_most : (b : Bool) → from_bool b ≤ 1
@@ -113,9 +102,9 @@ compact_way y worker h e (suc d) form power most sum =
     let half : worker % y.leaves / 2 ^ suc e ≡ worker % y.leaves / 2 ^ e / 2 =
     ap (λ m. worker % y.leaves / m) next ∙ sym (div-div-eq-div-mul (worker % y.leaves) (2 ^ e) 2) in
     let turn : from_bool (by_form y.form (turns_right y.leaves worker (way_of y worker d))
-    (turns_right_wide y.workers worker (way_of y worker d))) ≡ worker % y.leaves / 2 ^ e % 2 = rw (
+    (turns_right_wide worker (way_of y worker d))) ≡ worker % y.leaves / 2 ^ e % 2 = rw (
       form_compact y.form (turns_right y.leaves worker (way_of y worker d))
-          (turns_right_wide y.workers worker (way_of y worker d)) form,
+          (turns_right_wide worker (way_of y worker d)) form,
       bit,
     ) (is_bit _ (omega arith)) in
     omega (arith, turn, half, before, double d)

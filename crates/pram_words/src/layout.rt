@@ -368,7 +368,7 @@ impl Layout {
     {
         match self.form {
             Form::Compact => goes_right(self.leaves, w, n),
-            Form::Wide(_) => goes_right_wide(self.workers, w, n),
+            Form::Wide(_) => goes_right_wide(w, n),
         }
     }
 

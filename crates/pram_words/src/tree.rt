@@ -70,15 +70,16 @@ pub fn goes_right(l: u32, w: u32, n: u32) -> bool
     w >> bit & 1 == 1
 }
 
-// Whether one of so many workers goes right in the wide form: at depth d by bit d of its number,
-// and below the last bit that the workers need by that bit again; with one worker never.
-pub(crate) fn goes_right_wide(workers: u32, w: u32, n: u32) -> bool
-    requires some { 1 ≤ workers }
+// Whether a worker goes right in the wide form: at depth d, where of the bits 0 to d of its number
+// an odd number are 1.
+pub(crate) fn goes_right_wide(w: u32, n: u32) -> bool
     requires node { 1 ≤ n }
-    ensures value { result ≡ turns_right_wide workers w n }
-    ensures turn { IsTurnWide workers w n result }
+    requires most { n < 2 ^ 31 }
+    ensures value { result ≡ turns_right_wide w n }
+    ensures turn { IsTurnWide w n result }
 {
-    workers > 1 && w >> depth(n).min(depth(workers - 1)) & 1 == 1
+    let next = 2 << depth(n);
+    (w & (next - 1)).count_ones() % 2 == 1
 }
 
 // The depth of a node; the root has depth 0.

@@ -4,6 +4,7 @@ use Rattle.std.proofs.Common.{Some, None, slice_get, refl, ap, subst, arith}
 use Rattle.std.specs.Prelude.{IsSome, slice_set}
 use Rattle.std.proofs.lemmas.Option.{slice_get_within}
 use Rattle.pram_job.specs.declared.instr.Instr.TheVariants.{St}
+use Rattle.pram_job.specs.declared.instr.Operand.{Operand}
 use Rattle.walk_memory.specs.declared.load_in.Claims.{Claims}
 use Rattle.walk_memory.specs.declared.memo.Memo.{Memo}
 use Rattle.walk_memory.specs.Inner.Posts.{PostData, at_rank}
@@ -12,16 +13,14 @@ use Rattle.walk_memory.specs.Plain.{AllClaimBy, ClaimsPlainly}
 use Rattle.walk_memory.proofs.Done.{after}
 
 -- the same at another rank
-pub claim_at : (at : PostData) (rank : ℕ) (memo : Memo) (cell value : ℕ) →
-    ClaimsPlainly at memo cell value → ClaimsPlainly (at_rank at rank) memo cell value
-claim_at at rank memo cell value is = record {
+pub claim_at : (at : PostData) (rank : ℕ) (memo : Memo) (cell : ℕ) (operand : Operand) →
+    ClaimsPlainly at memo cell operand → ClaimsPlainly (at_rank at rank) memo cell operand
+claim_at at rank memo cell operand is = record {
   first = is.first;
   before = is.before;
   place = is.place;
-  operand = is.operand;
   code = is.code;
   reaches = is.reaches;
-  holds = is.holds;
   below = is.below;
   rule = is.rule;
   lags = is.lags;
@@ -47,6 +46,6 @@ pub claim_counter : (at : PostData) (end : ℕ) (memory : List Memo) (claims : C
     memo.own.counter < length at.job.code
 claim_counter at end memory claims all start last k ends from to memo is =
     let claim = all (at.rank + (k - start)) (omega arith) (omega (arith, ends, from, to)) in
-    slice_get_within at.job.code memo.own.counter (St claim.plain.place claim.plain.operand)
+    slice_get_within at.job.code memo.own.counter (St claim.plain.place claims.operand)
     (subst (λ (m : Memo). slice_get at.job.code m.own.counter
-    ≡ Some (St claim.plain.place claim.plain.operand)) is claim.plain.code)
+    ≡ Some (St claim.plain.place claims.operand)) is claim.plain.code)

@@ -1,3 +1,4 @@
+pub mod Operands
 pub mod OwnWrites
 pub mod Memory
 pub mod Lanes

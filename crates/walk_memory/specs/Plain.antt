@@ -94,37 +94,35 @@ AllLoadBy at len memory loads =
 -- ---- claims
 
 -- In the first pass, but under common, a processor of which this is known before the step stands at
--- a store of this value to this cell, and does not settle in the step.
-pub record ClaimsPlainly (at : PostData) (memo : Memo) (cell value : ℕ) : Type 0 where
-  pub first : kind_at at.phase ≡ Kind.Compute
-  pub before : suc memo.step ≡ step_of at
-  pub place : Place
-  pub operand : Operand
-  pub code : slice_get at.job.code memo.own.counter ≡ Some (St place operand)
-  pub reaches :
-      reached at.job place (held_in (index_of place) memo.own.registers) ≡ Some cell
-  pub holds : held_in operand memo.own.registers ≡ value
-  pub below : cell < at.job.cells
-  pub rule : is_common at.job.rule ≡ false
-  pub lags : is_due memo.settled (step_of at) ≡ false
+-- a store of this operand to this cell, and does not settle in the step.
+pub record ClaimsPlainly (at : PostData) (memo : Memo) (cell : ℕ) (operand : Operand) : Type 0
+  where
+    pub first : kind_at at.phase ≡ Kind.Compute
+    pub before : suc memo.step ≡ step_of at
+    pub place : Place
+    pub code : slice_get at.job.code memo.own.counter ≡ Some (St place operand)
+    pub reaches :
+        reached at.job place (held_in (index_of place) memo.own.registers) ≡ Some cell
+    pub below : cell < at.job.cells
+    pub rule : is_common at.job.rule ≡ false
+    pub lags : is_due memo.settled (step_of at) ≡ false
 
 -- what is known once it is claimed
-abbrev pub claimed : PostData → Memo → ℕ → ℕ → Memo
-claimed at memo cell value = record {
+abbrev pub claimed : PostData → Memo → ℕ → Operand → Memo
+claimed at memo cell operand = record {
   acted = at.phase;
   step = step_of at;
   own = record { counter = memo.own.counter + 1; registers = memo.own.registers };
   settled = memo.settled;
   told = memo.told;
-  store = Some (cell, value);
+  store = Some (cell, held_in operand memo.own.registers);
 }
 
 -- these are the claims of the post's processor, by what is remembered of it
 pub record ClaimsBy (at : PostData) (memory : List Memo) (claims : Claims) : Type 0 where
   pub there : IsSome (slice_get memory (processor_of at))
   pub plain : ClaimsPlainly at (memo_of memory (processor_of at))
-      (slice_index claims.cells (processor_of at % 64))
-      (slice_index claims.values (processor_of at % 64))
+      (slice_index claims.cells (processor_of at % 64)) claims.operand
 
 -- and of each processor of its block of this length, from its rank on
 abbrev pub AllClaimBy : PostData → ℕ → List Memo → Claims → Type 0
@@ -134,7 +132,7 @@ AllClaimBy at len memory claims =
 -- what is known of a processor once it made its claim of these
 abbrev pub claimed_of : PostData → Claims → List Memo → ℕ → Memo
 claimed_of at claims memory i = claimed at (memo_of memory i) (slice_index claims.cells (i % 64))
-    (slice_index claims.values (i % 64))
+    claims.operand
 
 -- what is remembered once so many processors, from the post's on, made theirs
 abbrev pub claimed_all : PostData → ℕ → Claims → List Memo → List Memo

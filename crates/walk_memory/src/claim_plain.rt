@@ -16,7 +16,7 @@ use crate::memo::{Memory, Stand};
 use crate::plain::phase_in;
 use crate::post::Leaf;
 use crate::row_walk::{lanes_to, so_in};
-use crate::rows::{cells_of, copy_in, count_in, held, is_common, set_in};
+use crate::rows::{cells_of, copy_held, copy_in, count_in, is_common, set_in};
 use crate::span::{LANES, Span};
 use crate::standing::{is_of, remember, stand_before};
 use pram_job::Instr;
@@ -31,27 +31,39 @@ pub(crate) fn plain_claims(
 ) -> Option<Claims>
     requires { IsStand leaf.now stand.counter stand.instr.now }
     ensures { IfSome result (λ claims. AllIn lanes.start lanes.end (λ k. ClaimsPlainly leaf.now
-        (lane block.now k) (slice_index claims.cells k) (slice_index claims.values k))) }
+        (lane block.now k) (slice_index claims.cells k) claims.operand)) }
 {
     let Instr::St(ref place, b) = *stand.instr else {
         return None;
     };
     let job = leaf.job();
     job.limits_hold();
-    if is_common(job) || !none_due(&block.settled, lanes, leaf.step()) {
+    if is_common(job) || !none_due(block, lanes, leaf.step()) {
         return None;
     }
     if !stand_before(leaf, block, lanes, stand.counter) {
         return None;
     }
     let cells = cells_of(job, lanes, block, place)?;
-    let values = held(&block.registers, b);
-    Some(Claims { cells, values })
+    Some(Claims { operand: b, cells })
 }
 
 // The words of none are due in this step, if so.
 #[inline(always)]
-fn none_due(x: &[u32; LANES], lanes: Span, step: u32) -> bool
+fn none_due(block: &Block, lanes: Span, step: u32) -> bool
+    ensures { IsTrue result → AllIn lanes.start lanes.end (λ k.
+        is_due (slice_index block.now.settled k) step ≡ false) }
+{
+    let standing = block.standing;
+    if is_of(standing, lanes) {
+        return !is_due(standing.at.settled, step);
+    }
+    none_due_in(&block.settled, lanes, step)
+}
+
+// The same by their row.
+#[inline(always)]
+fn none_due_in(x: &[u32; LANES], lanes: Span, step: u32) -> bool
     ensures { IsTrue result → AllIn lanes.start lanes.end (λ k.
         is_due (slice_index x.now k) step ≡ false) }
 {
@@ -90,7 +102,7 @@ impl Memory {
 fn claim_in(leaf: &Leaf, block: &mut Block, lanes: Span, claims: &Claims)
     requires { AllIn lanes.start lanes.end (λ k. slice_index block.old.counter k + 1 < 2 ^ 32) }
     ensures there { AllIn lanes.start lanes.end (λ k. lane block.new k ≡ claimed leaf.now
-        (lane block.old k) (slice_index claims.now.cells k) (slice_index claims.now.values k)) }
+        (lane block.old k) (slice_index claims.now.cells k) claims.now.operand) }
     ensures before { (k : ℕ) → k < lanes.start → lane block.new k ≡ lane block.old k }
     ensures after { (k : ℕ) → lanes.end ≤ k → lane block.new k ≡ lane block.old k }
 {
@@ -112,7 +124,7 @@ fn claim_in(leaf: &Leaf, block: &mut Block, lanes: Span, claims: &Claims)
 fn claim_rows(leaf: &Leaf, block: &mut Block, lanes: Span, claims: &Claims)
     requires { AllIn lanes.start lanes.end (λ k. slice_index block.old.counter k + 1 < 2 ^ 32) }
     ensures there { AllIn lanes.start lanes.end (λ k. lane block.new k ≡ claimed leaf.now
-        (lane block.old k) (slice_index claims.now.cells k) (slice_index claims.now.values k)) }
+        (lane block.old k) (slice_index claims.now.cells k) claims.now.operand) }
     ensures before { (k : ℕ) → k < lanes.start → lane block.new k ≡ lane block.old k }
     ensures after { (k : ℕ) → lanes.end ≤ k → lane block.new k ≡ lane block.old k }
 {
@@ -122,5 +134,5 @@ fn claim_rows(leaf: &Leaf, block: &mut Block, lanes: Span, claims: &Claims)
     count_in(&mut block.counter, lanes);
     so_in(&mut block.stored, lanes, true);
     copy_in(&mut block.cell, lanes, &claims.cells);
-    copy_in(&mut block.value, lanes, &claims.values);
+    copy_held(&mut block.value, lanes, &block.registers, claims.operand);
 }

@@ -1,5 +1,9 @@
 //! A load of a lane, and a claim.
 ghost use Rattle.std.specs.Prelude.{◌<◌};
+ghost use Rattle.pram_job.specs.Instructions.{IsOperand};
+ghost use Rattle.walk_memory.specs.Operands.{operand-prop};
+
+use pram_job::Operand;
 
 /// A lane, the register that it loads into, and the cell that it loads.
 #[derive(Clone, Copy)]
@@ -20,9 +24,10 @@ pub struct Loads {
     ghost four: { register < 4 },
 }
 
-/// Claims of processors in a row: the cell and the value of each lane's store.
+/// Claims of processors in a row: the operand that they store, and the cell of each lane's store.
 #[derive(Clone, Copy)]
 pub struct Claims {
+    pub operand: Operand,
     pub cells: [u32; 64],
-    pub values: [u32; 64],
+    ghost fits: { IsOperand operand } by { operand-prop operand },
 }

@@ -53,6 +53,17 @@ fn shift_in(to: &mut [u32; LANES], lanes: Span, base: u32, x: &[u32; LANES])
     }
 }
 
+// Each is this much more.
+#[inline(always)]
+fn raise_in(to: &mut [u32; LANES], lanes: Span, base: u32)
+    requires { AllIn lanes.start lanes.end (λ k. base + slice_index to.old k < 2 ^ 32) }
+    ensures { Written lanes.start lanes.end (λ k. base + slice_index to.old k) to.old to.new }
+{
+    for k in lanes.start..lanes.end {
+        to[k] += base;
+    }
+}
+
 /// Each takes its own of these.
 #[inline(always)]
 pub(crate) fn copy_in(to: &mut [u32; LANES], lanes: Span, x: &[u32; LANES])
@@ -133,6 +144,24 @@ pub(crate) fn held(registers: &[[u32; LANES]; 4], operand: Operand) -> [u32; LAN
     match operand {
         Operand::Register(r) => registers[r as usize],
         Operand::Number(number) => all_of(number),
+    }
+}
+
+/// Each takes what the operand is for it.
+#[inline(always)]
+pub(crate) fn copy_held(
+    to: &mut [u32; LANES],
+    lanes: Span,
+    registers: &[[u32; LANES]; 4],
+    operand: Operand,
+)
+    requires { IsOperand operand }
+    ensures { Written lanes.start lanes.end (λ k. held_in operand (entries registers.now k)) to.old
+        to.new }
+{
+    match operand {
+        Operand::Register(r) => copy_in(to, lanes, &registers[r as usize]),
+        Operand::Number(number) => set_in(to, lanes, number),
     }
 }
 
@@ -265,7 +294,6 @@ fn store_all(job: &Job, lanes: Span, block: &mut Block, place: &Place, b: Operan
     job.limits_hold();
     let parts = parts_of(job, place);
     let x = held(&block.registers, parts.0);
-    let y = held(&block.registers, b);
     if !is_common(job) {
         return false;
     }
@@ -273,7 +301,7 @@ fn store_all(job: &Job, lanes: Span, block: &mut Block, place: &Place, b: Operan
         return false;
     }
     shift_in(&mut block.cell, lanes, parts.1, &x);
-    copy_in(&mut block.value, lanes, &y);
+    copy_held(&mut block.value, lanes, &block.registers, b);
     true
 }
 
@@ -301,12 +329,11 @@ pub(crate) fn cells_of(job: &Job, lanes: Span, block: &Block, place: &Place) -> 
 {
     job.limits_hold();
     let parts = parts_of(job, place);
-    let x = held(&block.registers, parts.0);
-    if !all_below(&x, lanes, parts.2) {
+    let mut cells = held(&block.registers, parts.0);
+    if !all_below(&cells, lanes, parts.2) {
         return None;
     }
-    let mut cells = x;
-    shift_in(&mut cells, lanes, parts.1, &x);
+    raise_in(&mut cells, lanes, parts.1);
     Some(cells)
 }
 

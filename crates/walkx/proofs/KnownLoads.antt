@@ -1,6 +1,6 @@
 -- A load of a processor whose step is known is played, whatever its words tell.
-use Rattle.std.proofs.Common.{◌≡◌, ℕ, ◌-◌, None, Some, Result, Ok, Err, refl, ap, subst, arith}
-use Rattle.std.proofs.Common.{sym, ◌∙◌}
+use Rattle.std.proofs.Common.{◌≡◌, ℕ, ◌-◌, None, Some, Result, Ok, Err, refl, ap, arith}
+use Rattle.std.proofs.Common.{◌∙◌}
 use Rattle.std.proofs.lemmas.Bool.{eq-eqb, le-ltb}
 use Rattle.pram_job.specs.declared.instr.Instr.{Instr}
 use Rattle.pram_job.specs.declared.instr.Instr.TheVariants.{Ld}

@@ -1,28 +1,22 @@
 -- A plain load is played.
-use Rattle.std.proofs.Common.{◌≡◌, ℕ, ◌<◌, None, Result, Ok, Err, Option, refl, sym, ap, ◌∙◌}
-use Rattle.std.proofs.lemmas.Bool.{eq-eqb}
+use Rattle.std.proofs.Common.{◌≡◌, ℕ, ◌<◌, Result, Ok, refl, sym, ap, ◌∙◌}
 use Rattle.pram_job.specs.declared.instr.Instr.{Instr}
 use Rattle.pram_job.specs.declared.instr.Instr.TheVariants.{Ld}
 use Rattle.pram_machine.specs.Instructions.{gives}
 use Rattle.pram_machine.specs.Machine.{register_place}
-use Rattle.pram_words.specs.declared.phases.Kind.{Kind}
 use Rattle.walk_memory.specs.declared.memo.Memo.{Memo}
-use Rattle.walk_memory.specs.Inner.Posts.{PostData, processor_of, step_of}
+use Rattle.walk_memory.specs.Inner.Posts.{PostData, processor_of}
 use Rattle.walk_memory.specs.Memory.{at_start}
 use Rattle.walk_memory.specs.Plain.{LoadsPlainly, loaded}
 use Rattle.walk_memory.specs.Stands.{LoadsKnown}
 use Rattle.walkx.specs.declared.left.Left.{Left}
-use Rattle.walkx.specs.declared.left.Stopped.{Stopped}
-use Rattle.walkx.specs.Driving.{IsNextPart, Plays, Standing, goes, learns, learns_all, learns_value}
-use Rattle.walkx.specs.Driving.{settled_or_late}
+use Rattle.walkx.specs.Driving.{IsNextPart, Plays, Standing, learns}
 use Rattle.walkx.specs.Parts.{does_wide, reads, writes}
-use Rattle.walkx.specs.Passing.{LoadsUp, idle, idle_in}
 use Rattle.walkx.specs.WideParts.{learned}
 use Rattle.walkx.proofs.FirstPass.{made_with, reads_first}
 use Rattle.walkx.proofs.Landing.{load_lands, load_learned}
 use Rattle.walkx.proofs.Plainly.{loaded_landed, loaded_own, plainly_lands, taken}
-use Rattle.walkx.proofs.Resting.{not_past, reads_ask}
-use Rattle.walkx.proofs.Settling.{learned_comes, learned_goes}
+use Rattle.walkx.proofs.Settling.{learned_comes}
 use Rattle.walkx.proofs.TakingUp.{own_next, own_plays}
 use Rattle.walkx.proofs.Turning.{comes_to, moved}
 

@@ -15,7 +15,7 @@ use Rattle.walkx.specs.Scripts.{Script}
 use Rattle.walkx.specs.Walk.{Then}
 use Rattle.walkx.specs.WideParts.{counter_landed, own_landed, register_landed}
 use Rattle.walk_memory.specs.Turned.{landed}
-use Rattle.walk_memory.proofs.Plainly.{set_same, four_ways}
+use Rattle.walk_memory.proofs.Plainly.{four_ways}
 
 module _ (at : PostData) (memo : Memo) (r cell : ℕ) (is : LoadsPlainly at memo r cell) (value : ℕ)
   where

@@ -1,17 +1,14 @@
 -- A store that is remembered, and carried out.
-use Rattle.std.proofs.Common.{◌≡◌, ℕ, ◌-◌, Bool, true, false, List, Option}
-use Rattle.std.proofs.Common.{Some, None, Ok, Err, Result, refl, sym, ap, subst, ◌∙◌}
-use Rattle.std.specs.Prelude.{if◌then◌else◌, slice_set, IfOk, IfSome}
+use Rattle.std.proofs.Common.{◌≡◌, ℕ, Bool, true, false, Option}
+use Rattle.std.proofs.Common.{Some, None, Ok, refl, sym, ap, subst, ◌∙◌}
+use Rattle.std.specs.Prelude.{if◌then◌else◌}
 use Rattle.std.proofs.lemmas.Bool.{eq-eqb}
 use Rattle.pram_job.specs.declared.instr.Rule.{Rule}
 use Rattle.pram_job.specs.declared.instr.Rule.TheVariants.{Common, Priority, Crew}
-use Rattle.walkx.specs.declared.left.Left.{Left}
-use Rattle.walkx.specs.declared.left.Left.TheVariants.{Late, Held}
-use Rattle.walkx.specs.declared.left.Stopped.{Stopped}
 use Rattle.walk_memory.specs.declared.memo.Memo.{Memo}
-use Rattle.walkx.specs.Driving.{Plays, Standing, comes, goes}
-use Rattle.walk_memory.specs.Inner.Posts.{IsCellOf, PostData, processor_of, step_of}
-use Rattle.walk_memory.specs.Memory.{has_store, is_past, memo_of}
+use Rattle.walkx.specs.Driving.{Plays, Standing}
+use Rattle.walk_memory.specs.Inner.Posts.{PostData, step_of}
+use Rattle.walk_memory.specs.Memory.{has_store, is_past}
 use Rattle.walkx.specs.Parts.{does_wide}
 use Rattle.walkx.specs.Passes.{if_write}
 use Rattle.walkx.specs.Passing.{idle}
@@ -23,7 +20,7 @@ use Rattle.walk_memory.specs.Turned.{stored}
 use Rattle.walkx.proofs.Kept.{keeps, still_to_do}
 use Rattle.walkx.proofs.Silent.{second_idle}
 use Rattle.walk_memory.proofs.Timing.{verify_is}
-use Rattle.walkx.proofs.Turning.{comes_to, moved}
+use Rattle.walkx.proofs.Turning.{moved}
 use Rattle.walkx.proofs.WidePasses.{carry_is, same_wide_kind}
 
 -- what is left of a store, if a report is due

@@ -1,6 +1,6 @@
 //! The apply tasks: a request is heard and carried out.
 ghost use Rattle.pram_words.specs.declared.layout.Form.TheVariants.{Compact};
-ghost use Rattle.std.specs.Prelude.{◌≡◌, ◌≤◌, ◌==◌};
+ghost use Rattle.std.specs.Prelude.{◌≡◌, ◌≤◌};
 ghost use Rattle.pram_words.specs.Words.{counters_of};
 ghost use Rattle.walkx.specs.Driving.{Ends, IsDue, IsNextPart, Plays};
 ghost use Rattle.walkx.specs.Parts.{applies, carries_out, writes_data};

@@ -9,16 +9,17 @@ ghost use Rattle.walkx.specs.Passing.{PlaysUp};
 use crate::judging::claiming;
 use crate::left::Stopped;
 use crate::steps::Steps;
+use pram_job::Operand;
 use walk_memory::{Leaf, Memory};
 
-/// The first pass of the leaf's processor, where it claims this cell for this value plainly: a
-/// value that nobody reads.
+/// The first pass of the leaf's processor, where it claims this cell plainly, for a store of this
+/// operand: a value that nobody reads.
 #[inline(always)]
 pub(crate) fn claim_plainly<S: Steps>(
     memory: &Memory,
     steps: &mut S,
     leaf: &Leaf,
-    write: (u32, u32),
+    write: (u32, Operand),
 ) -> Result<Option<u32>, Stopped>
     requires plain { ClaimsPlainly leaf.now (memo_of memory.now (processor_of leaf.now)) write.0
         write.1 }

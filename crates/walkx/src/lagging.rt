@@ -6,7 +6,7 @@ ghost use Rattle.walk_memory.specs.Stands.{LoadsKnown};
 ghost use Rattle.walkx.specs.Driving.{IsNextPart, Plays};
 ghost use Rattle.walkx.specs.Parts.{does_wide};
 ghost use Rattle.walkx.specs.Passing.{PlaysUp};
-ghost use Rattle.walkx.specs.WideParts.{counter_due, counter_landed, own_landed};
+ghost use Rattle.walkx.specs.WideParts.{counter_landed, own_landed};
 ghost use Rattle.walkx.specs.WideParts.{register_due, register_landed};
 
 use crate::land_at::Taking;

@@ -1,5 +1,5 @@
 //! The driver of a worker that is asked and told.
-ghost use Rattle.std.specs.Prelude.{◌≡◌, length};
+ghost use Rattle.std.specs.Prelude.{length};
 ghost use Rattle.walkx.specs.Inner.Heard.{newest};
 ghost use Rattle.walk_memory.specs.Memory.{FitsMemory};
 ghost use Rattle.walkx.specs.Playing.{ScriptComesTo};

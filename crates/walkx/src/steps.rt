@@ -1,5 +1,4 @@
 //! What a walk is played by.
-ghost use Rattle.std.specs.Prelude.{◌≡◌};
 ghost use Rattle.walk_memory.specs.Inner.Posts.{PostData};
 ghost use Rattle.walkx.specs.declared.operation.Op.TheVariants.{Load, Swap};
 ghost use Rattle.walkx.specs.Driving.{IsNextPart, Makes, Standing, makes};

@@ -238,5 +238,5 @@ pub fn take_claim<S: Steps>(
         memory.now (processor_of leaf.now)) steps.new result }
 {
     let k = (leaf.processor() % 64) as usize;
-    claim_plainly(memory, steps, leaf, (claims.cells[k], claims.values[k]))
+    claim_plainly(memory, steps, leaf, (claims.cells[k], claims.operand))
 }

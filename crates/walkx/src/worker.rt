@@ -36,7 +36,6 @@ impl Model for Worker {
 
 impl Worker {
     ghost use Rattle.std.specs.Prelude.{◌≡◌, ◌<◌, ◌≤◌, ◌*◌, Some, None, [], length};
-    ghost use Rattle.std.specs.Prelude.{suc};
     ghost use Rattle.pram_job.specs.Job.{JobData};
     ghost use Rattle.pram_words.specs.Words.{LayoutData};
     ghost use Rattle.walkx.specs.Activities.{activity_of};
@@ -50,7 +49,7 @@ impl Worker {
     ghost use Rattle.walkx.specs.Turns.{beginning, turn_begun};
     ghost use Rattle.walkx.specs.Walk.{AsksAdmitted, HearsAdmitted, IsStepOn, ask_of, come_back};
     ghost use Rattle.walkx.specs.Walk.{end_of, goes_in, rest_of, remembering, started, told};
-    ghost use Rattle.walk_memory.specs.Blocks.{IsBoard, IsLayoutOf};
+    ghost use Rattle.walk_memory.specs.Blocks.{IsLayoutOf};
 
     /// Worker w, at its first leaf.
     pub fn start(w: u32) -> Worker

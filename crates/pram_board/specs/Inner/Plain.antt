@@ -45,7 +45,7 @@ lagging_ranks lagging at rank i value memo = refl
 
 abbrev pub claims_does : Claims → PostData → ℕ → Memo → ℕ → Memo
 claims_does claims at i memo value = claimed at memo (slice_index claims.cells (i % 64))
-    (slice_index claims.values (i % 64))
+    claims.operand
 
 pub claims_ranks : (claims : Claims) (at : PostData) (rank i value : ℕ) (memo : Memo) →
     claims_does claims (at_rank at rank) i memo value ≡ claims_does claims at i memo value

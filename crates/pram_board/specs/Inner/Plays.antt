@@ -16,7 +16,7 @@ use Rattle.walkx.specs.Turns.{beginning, turning}
 use Rattle.walkx.specs.declared.turns.Turned.{Turned}
 use Rattle.walkx.specs.declared.turns.Turned.TheVariants as turned
 use Rattle.walk_memory.specs.declared.memo.Memo.{Memo}
-use Rattle.walkx.specs.Walk.{Then, Walking, Fits, IsGoing, AllAdmitted, end_of, goes_in, begins}
+use Rattle.walkx.specs.Walk.{Then, Walking, Fits, IsGoing, AllAdmitted, end_of, goes_in}
 use Rattle.walkx.specs.Walk.{script_of}
 use Rattle.walk_memory.specs.Blocks.{IsBoard, has_rank}
 use Rattle.pram_board.specs.declared.driver.Driver.{Driver}

@@ -10,7 +10,7 @@ returns-clause-there c = λ k from to. rw (
   c.count_in.ensures.there k from to,
   c.so_in.ensures.there k from to,
   c.copy_in.ensures.there k from to,
-  c.copy_in-2.ensures.there k from to,
+  c.copy_held.ensures.there k from to,
 ) refl
 
 pub returns-clause-before : goal.returns-clause-before
@@ -20,7 +20,7 @@ returns-clause-before c = λ k low. rw (
   c.count_in.ensures.before k low,
   c.so_in.ensures.before k low,
   c.copy_in.ensures.before k low,
-  c.copy_in-2.ensures.before k low,
+  c.copy_held.ensures.before k low,
 ) refl
 
 pub returns-clause-after : goal.returns-clause-after
@@ -30,5 +30,5 @@ returns-clause-after c = λ k high. rw (
   c.count_in.ensures.after k high,
   c.so_in.ensures.after k high,
   c.copy_in.ensures.after k high,
-  c.copy_in-2.ensures.after k high,
+  c.copy_held.ensures.after k high,
 ) refl

@@ -50,9 +50,8 @@ returns-clause-all c = λ t.
         after = c.shift_in.ensures.after;
       };
       values = record {
-        there = λ k from to. c.copy_in.ensures.there k from to
-            ∙ c.held-y.ensures k (omega arith) (omega arith);
-        before = c.copy_in.ensures.before;
-        after = c.copy_in.ensures.after;
+        there = c.copy_held.ensures.there;
+        before = c.copy_held.ensures.before;
+        after = c.copy_held.ensures.after;
       };
     }

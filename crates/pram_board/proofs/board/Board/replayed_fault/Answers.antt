@@ -1,4 +1,4 @@
-use Rattle.std.proofs.Common.{◌≡◌, ap, subst, sym, ◌∙◌}
+use Rattle.std.proofs.Common.{subst, sym}
 use Rattle.pram_step.specs.Runs.{IsFault}
 use Rattle.lawful_walk.proofs.Ending.{conflict_met}
 use Rattle.lawful_walk.specs.Moments.{Sound}

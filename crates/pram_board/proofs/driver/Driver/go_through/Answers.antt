@@ -1,6 +1,6 @@
 use Rattle.std.proofs.Common.{◌≡◌, refl, ap, sym, subst, ◌∙◌, arith}
 use Rattle.walk_memory.specs.Memory.{FitsMemory}
-use Rattle.walkx.specs.Turns.{beginning, turning}
+use Rattle.walkx.specs.Turns.{beginning}
 use Rattle.walkx.specs.Walk.{Walking, end_of}
 use Rattle.pram_board.specs.declared.task.Task.{Task}
 use Rattle.pram_board.specs.Inner.Plays.{driving}

@@ -1,4 +1,4 @@
-use Rattle.std.proofs.Common.{◌≡◌, ◌<◌, ◌≤◌, ◌-◌, suc, sym, subst, refl, ℕ, ap, ◌∙◌, arith}
+use Rattle.std.proofs.Common.{◌<◌, ◌≤◌, ◌-◌, suc, sym, subst, refl, ℕ, ap, ◌∙◌, arith}
 use Rattle.walk_memory.specs.Inner.Posts.{PostData}
 use Rattle.walk_memory.specs.Stands.{IsStand}
 use Rattle.pram_board.specs.Inner.Plays.{DoneMore, Tried, driving}

@@ -1,4 +1,4 @@
-use Rattle.std.proofs.Common.{refl, sym}
+use Rattle.std.proofs.Common.{refl}
 use Rattle.walkx.specs.Rests.{turn_of}
 use Rattle.pram_board.specs.Inner.Plays.{driving, task_at, turning_at}
 use Rattle.pram_board.proofs.Stepping.{driver_starts}

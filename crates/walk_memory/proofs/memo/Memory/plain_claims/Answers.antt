@@ -15,6 +15,6 @@ returns c = IfSome_then c.plain_claims.result c.plain_claims.ensures (λ claims 
     let held = c.in_ok-block.ensures rank from to in record {
       there = rw held.there refl;
       plain = subst (λ (o : Option Memo). ClaimsPlainly at (unwrap_or o at_start)
-          (slice_index claims.cells k) (slice_index claims.values k)) (sym held.there)
+          (slice_index claims.cells k) claims.operand) (sym held.there)
           (claim_at c.args.leaf.now rank _ _ _ (all k held.low held.high));
     })

@@ -59,7 +59,7 @@ returns c =
           let all : lanes.start + n ≡ lanes.end = omega (arith, on.end, c.requires.later) in
           rw w.self-inside-is (row_done at items q lanes.start lanes.end old w.claim_in.new.block
           low there first lanes.within (λ memo k. claimed at memo (slice_index claims.cells k)
-          (slice_index claims.values k))
+          claims.operand)
           w.claim_in.ensures.there w.claim_in.ensures.before w.claim_in.ensures.after n all
           ∙ ap (λ (m : List Memo). claimed_all at n claims m) view))
       | in-Some+else-q-len w ↦ (

@@ -1,7 +1,7 @@
 use Rattle.std.proofs.Common.{◌≡◌, false, true, get_or}
 use Rattle.walk_memory.specs.Memory.{is_due}
 use Rattle.walk_memory.specs.Rows.{AllIn}
-use Rattle.walk_memory.proofs.claim_plain.none_due.Given as goal
+use Rattle.walk_memory.proofs.claim_plain.none_due_in.Given as goal
 
 -- so it is in the lanes so far
 abbrev pub invariant-loop-k : goal.invariant-loop-k

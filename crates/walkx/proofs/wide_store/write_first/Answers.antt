@@ -1,1 +1,0 @@
-use Rattle.walkx.proofs.wide_store.write_first.Goals as goal
