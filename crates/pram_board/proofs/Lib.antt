@@ -17,3 +17,4 @@ pub mod Working
 pub mod Remembering
 pub mod Tasks
 pub mod Doing
+pub mod Stopping

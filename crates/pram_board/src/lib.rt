@@ -12,6 +12,7 @@ mod plays;
 mod rest;
 mod seat;
 mod second_pass;
+mod stops;
 mod task;
 mod work;
 
