@@ -3,3 +3,4 @@ pub mod Digits
 pub mod Rows
 pub mod LineFinding
 pub mod ArrayNames
+pub mod Stopping

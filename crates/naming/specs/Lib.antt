@@ -4,6 +4,7 @@ pub mod CellLists
 pub mod CellNames
 pub mod Costed
 pub mod Costs
+pub mod Drafted
 pub mod Inner
 pub mod LineRecords
 pub mod Names

@@ -4,6 +4,7 @@
 mod array_names;
 mod cell_list;
 mod costs;
+mod drafts;
 mod line_records;
 mod names;
 mod places;
@@ -11,6 +12,7 @@ mod texts;
 
 pub use cell_list::cells_in;
 pub use costs::Costed;
+pub use drafts::{Stop, counted, drafted, stopped};
 pub use line_records::records_of;
 pub use names::{Naming, origin_of, print_styled, print_told, read_costed, read_text};
 pub use texts::Spelled;

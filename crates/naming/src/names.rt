@@ -10,7 +10,6 @@ ghost use Rattle.pram_fates.specs.Told.{line_in};
 ghost use Rattle.naming.specs.Writing.{writing};
 ghost use Rattle.naming.specs.Costed.{AreCosts};
 ghost use Rattle.naming.specs.Puts.{PutText};
-ghost use Rattle.naming.specs.Inner.Refusals.{IsFaultOf};
 ghost use Rattle.naming.specs.BadTexts.{IsBadOrMemory};
 ghost use Rattle.naming.specs.CellLists.{AreAnArrays, IsPlaceOf};
 ghost use Rattle.naming.specs.declared.places.Stretch.{Stretch};
@@ -21,19 +20,20 @@ ghost use Rattle.naming.specs.RowNames.{row_words};
 ghost use Rattle.naming.specs.CellNames.{cell_words, or_number};
 
 use crate::costs::{Costed, push_sums};
+use crate::drafts::{counted, drafted, fault_of, program_draft};
 use crate::places::{Stretch, array_at, cell_at, place_text, push_told};
 use crate::texts::Spelled;
 use pardo_answers::{Names, is_program, print_named, print_records, push_conflict};
 use pardo_costs::{Costs, Run, finish_costed};
-use pardo_job::{Ended, JobFault, JobKind, Refusal as ProgramRefusal, draft_in, finish};
-use pardo_text::{Array, PardoFault, PardoKind, Program};
+use pardo_job::{Ended, Refusal};
+use pardo_text::{Array, Program};
 use pardo_trace::Tracer;
 use pram_cost::{ByCells, CostNames, Meeting, cost_of};
 use pram_fates::Origin;
 use pram_job::Job;
 use pram_rows::print_cells;
 use pram_run::{CellNames, Numbers};
-use pram_step::{Cells, Fault, Nobody, RunAnswer};
+use pram_step::{Cells, Fault, RunAnswer};
 use pram_streams::{PrintFault, Sink, print_answer};
 use pram_text::{TextFault, TextKind, read_job};
 use refusals::CommandFault;
@@ -45,10 +45,10 @@ use std::marker::Model;
 /// and in which lines.
 #[derive(Drop)]
 pub struct Naming {
-    program: Program,
-    places: Vec<u32>,
-    numbers: Vec<u64>,
-    ended: Ended,
+    pub(crate) program: Program,
+    pub(crate) places: Vec<u32>,
+    pub(crate) numbers: Vec<u64>,
+    pub(crate) ended: Ended,
 }
 
 impl Model for Naming {
@@ -238,38 +238,16 @@ pub fn read_text(alloc: Global, text: &[u8]) -> Result<(Job, Option<Naming>), Co
     ensures read { IfOk result (λ read. AreNames text.now read.0 read.1) }
     ensures bad { IfErr result (IsBadOrMemory text.now) }
 {
-    if is_program(text) {
-        let (job, naming) = read_program(alloc, text)?;
-        Ok((job, Some(naming)))
-    } else {
-        let job = read_machine(alloc, text)?;
-        Ok((job, None))
+    match drafted(alloc, text)? {
+        Some(draft) => {
+            let (job, naming) = counted(alloc, text, draft)?;
+            Ok((job, Some(naming)))
+        }
+        None => {
+            let job = read_machine(alloc, text)?;
+            Ok((job, None))
+        }
     }
-}
-
-// The job of a program's text, and what its answers are told by.
-fn read_program(alloc: Global, text: &[u8]) -> Result<(Job, Naming), CommandFault>
-    requires { is_program text.now ≡ true }
-    ensures read { IfOk result (λ read. AreNames text.now read.0 (Some read.1)) }
-    ensures bad { IfErr result (IsBadOrMemory text.now) }
-{
-    let draft = match draft_in(alloc, text) {
-        Ok(draft) => draft,
-        Err(refusal) => return Err(fault_of(refusal)),
-    };
-    let places = Vec::from_slice(alloc, draft.places.as_slice())?;
-    let (program, compiled, _) = match finish(alloc, draft, Nobody) {
-        Ok(given) => given,
-        Err(fault) => return Err(fault_of(ProgramRefusal::Job(fault))),
-    };
-    let (job, numbers, ended) = compiled.into_parts();
-    let naming = Naming {
-        program,
-        places,
-        numbers,
-        ended,
-    };
-    Ok((job, naming))
 }
 
 // The job of a text in the machine's language.
@@ -315,14 +293,11 @@ fn cost_program(alloc: Global, text: &[u8]) -> Result<(Job, Naming, Costs), Comm
     ensures costs { IfOk result (λ read. AreCosts (Some read.1) read.0 read.2) }
     ensures bad { IfErr result (IsBadOrMemory text.now) }
 {
-    let draft = match draft_in(alloc, text) {
-        Ok(draft) => draft,
-        Err(refusal) => return Err(fault_of(refusal)),
-    };
+    let draft = program_draft(alloc, text)?;
     let places = Vec::from_slice(alloc, draft.places.as_slice())?;
     let run = match finish_costed(alloc, draft) {
         Ok(run) => run,
-        Err(fault) => return Err(fault_of(ProgramRefusal::Job(fault))),
+        Err(fault) => return Err(fault_of(Refusal::Job(fault))),
     };
     let Run {
         program,
@@ -338,27 +313,6 @@ fn cost_program(alloc: Global, text: &[u8]) -> Result<(Job, Naming, Costs), Comm
         ended,
     };
     Ok((job, naming, costs))
-}
-
-fn fault_of(refusal: ProgramRefusal) -> CommandFault
-    ensures { IsFaultOf refusal result }
-{
-    match refusal {
-        ProgramRefusal::Text(
-            PardoFault {
-                kind: PardoKind::Memory,
-                ..
-            },
-        ) => CommandFault::Memory,
-        ProgramRefusal::Job(
-            JobFault {
-                kind: JobKind::Memory,
-                ..
-            },
-        ) => CommandFault::Memory,
-        ProgramRefusal::Text(fault) => CommandFault::Program(ProgramRefusal::Text(fault)),
-        ProgramRefusal::Job(fault) => CommandFault::Program(ProgramRefusal::Job(fault)),
-    }
 }
 
 fn copy_of(alloc: Global, answer: &RunAnswer) -> Result<RunAnswer, AllocError>
