@@ -94,6 +94,7 @@ fn serve_by_plan<J: Source + Drop, O: Sink, E: Sink>(
         job,
         plan: Bytes::new(plan),
         text: None,
+        unplanned: false,
     };
     match do_alone(alloc, random.ask, &mut sources, &mut console.out) {
         Ok(status) => {

@@ -26,7 +26,8 @@ use Rattle.command_law.specs.Laws.{PlainRecordsTheProgramsEnd, RunsRecordTheProg
 use Rattle.command_law.specs.Laws.{PlainPrintsTheProgramsAnswer, RunsPrintTheProgramsAnswer}
 use Rattle.naming.specs.Names.{AreNames, IsNaming, NamingData, printed_answer}
 use Rattle.naming.specs.Names.{recorded}
-use Rattle.pram_commands.specs.Threads.{EndsAt}
+use Rattle.naming.proofs.Stopping.{fewer_steps}
+use Rattle.pram_commands.specs.Threads.{EndsAt, MayBeLonger}
 
 -- its job carries it
 carried : (text : List ℕ) (job : JobData) (naming : NamingData) → IsNaming text job naming →
@@ -99,15 +100,25 @@ plain_records text job bytes answer one comes =
     comes.back comes.prints comes.follows
     (told_records text job comes.names comes.ended one comes.are_names comes.ends)
 
+-- the answer of a run is the job's, though the job was run on a longer board
+pub answer_so : (job : JobData) (most : ℕ) (answer : RunAnswer) →
+    (most ≡ job.steps) ⊎ MayBeLonger job most answer →
+    IsAnswer (record job { steps = most }) answer → IsAnswer job answer
+answer_so job most answer (inl same) is =
+    subst (λ (n : ℕ). IsAnswer (record job { steps = n }) answer) same is
+answer_so job most answer (inr may) is = fewer_steps job most answer may.1 may.0 is
+
 -- how a run ended
 pub ended_so : (job : JobData) (plan : PlanData) (later : SeatData) (answer : RunAnswer) →
     EndsAt job plan later answer → IsAnswer job answer ⊎ IsCutOff plan (Some answer)
 ended_so job plan later (Final cells) at =
-    inl (subst (λ (j : JobData). IsAnswer j (Final cells)) at.opened.1.0
-    at.ran.answered.told.tells.0)
+    inl (answer_so job at.most (Final cells) at.enough
+    (subst (λ (j : JobData). IsAnswer j (Final cells)) at.opened.1.0
+    at.ran.answered.told.tells.0))
 ended_so job plan later (Conflict fault) at =
-    inl (subst (λ (j : JobData). IsAnswer j (Conflict fault)) at.opened.1.0
-    at.ran.answered.told.tells.0)
+    inl (answer_so job at.most (Conflict fault) at.enough
+    (subst (λ (j : JobData). IsAnswer j (Conflict fault)) at.opened.1.0
+    at.ran.answered.told.tells.0))
 ended_so job plan later (Unfinished step) at =
     inr (record { stops = at.ran.answered.told.stops tt; step = step; is = refl })
 

@@ -13,7 +13,7 @@ use Rattle.pram_commands.specs.Threads.{EndsAt}
 use Rattle.pram_commands.specs.Why.{Follows}
 use Rattle.command_law.specs.Laws.{IsCutOff, IsProgramsAnswer}
 use Rattle.command_law.specs.Programs.{IsProgramsWhy, PlainTellsWhy, RunsTellWhy}
-use Rattle.command_law.proofs.Answers.{ended_so, told_answer}
+use Rattle.command_law.proofs.Answers.{answer_so, ended_so, told_answer}
 use Rattle.command_law.proofs.Fates.{IsKnown, fates_are}
 use Rattle.command_law.proofs.Jobs.{no_machines, programs_job}
 
@@ -26,14 +26,22 @@ known_answer job (Unfinished step) is = absurd is
 known_end : (job : JobData) (plan : PlanData) (later : SeatData) (ended : RunAnswer) →
     EndsAt job plan later ended → IsKnown job ended
 known_end job plan later (Final cells) at =
-    subst (λ (j : JobData). IsAnswer j (Final cells)) at.opened.1.0 at.ran.answered.told.tells.0
+    answer_so job at.most (Final cells) at.enough
+    (subst (λ (j : JobData). IsAnswer j (Final cells)) at.opened.1.0 at.ran.answered.told.tells.0)
 known_end job plan later (Conflict fault) at =
-    subst (λ (j : JobData). IsAnswer j (Conflict fault)) at.opened.1.0
-    at.ran.answered.told.tells.0
+    answer_so job at.most (Conflict fault) at.enough
+    (subst (λ (j : JobData). IsAnswer j (Conflict fault)) at.opened.1.0
+    at.ran.answered.told.tells.0)
 known_end job plan later (Unfinished step) at =
     let left = at.ran.answered.told.tells in
+    let long : IsReached (record job { steps = at.most }) step × (step < at.most) =
     subst (λ (j : JobData). IsReached j step × (step < j.steps)) at.opened.1.0
-    (left.reached, left.below)
+    (left.reached, left.below) in
+    elim at.enough [
+      | inl same ↦ subst (λ (n : ℕ). IsReached (record job { steps = n }) step × (step < n)) same
+          long
+      | inr may ↦ absurd (may.2 tt)
+    ]
 
 module _ (text : List ℕ) (job : JobData) (bytes : List ℕ) (answer : Option RunAnswer)
     (one : is_program text ≡ true) (ended : RunAnswer) (back : List ℕ)

@@ -117,6 +117,7 @@ fn checked<R: AllocGlobal + Threads + Wait + Clock + Eprint + Sync>(
         job: Bytes::new(job),
         plan: Empty,
         text: None,
+        unplanned: false,
     };
     let check = Line {
         file: "job",

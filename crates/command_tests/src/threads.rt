@@ -58,6 +58,25 @@ $ pramx run job --workers 2 --plan plan --block *
 64 : same under 0,go,40~0,back,0~ | 0 done steps=4~0: 3~1: 4~2: 5~3: 6~4: 7~
 ";
 
+// Programs without a plan: their steps are found once they were run. Where somebody is gone, a step
+// is against the rule, or the program never ends, the plain machine finds the lines.
+const DRAFTED: &str = "\
+$ pramx run job --workers 2 & pramx run job --workers 2 --block 1 & \
+    pramx run job --workers 2 --pace 1
+pardo 1~rule crew~procs i < 4~shared A[4]~code~A[i] := i + 7~ | 0 done steps=4~A = 7 8 9 10~
+pardo 1~rule crew~procs i < 4~shared A[2]~code~A[i] := i + 7~ \
+    | 0 done steps=4~A = 7 8~gone processor=2 line=6~gone processor=3 line=6~
+pardo 1~rule crew~procs i < 4~shared s~code~s := i~ | 1 conflict line=6 place=s processors=0,1~
+pardo 1~rule crew~procs i < 3~shared A[3]~code~if i = 2~for k = 1 to 30~A[i] := A[i] + k~end~end~ \
+    | 0 done steps=395~A = 0 0 465~
+pardo 1~rule crew~procs i < 1~code~x~ | 2 text line=5 kind=UnknownName~
+$ pramx run job --workers 2
+pardo 1~rule crew~procs i < 1~code~while 1~end~ | 2 text line=5 kind=Endless~
+$ pramx run job --workers 2 --why
+pardo 1~rule crew~procs i < 4~shared A[4]~code~A[i] := i + 7~ \
+    | 0 done steps=4~A = 7 8 9 10~stopped step=4~
+";
+
 // The first place that a program does not have is named.
 const PLACES: &str = "\
 $ pramx watch job --workers 2 --plan plan --cells * --rounds 1
@@ -98,6 +117,11 @@ A[4294967297] : same under 0,stop,0~1,stop,0~ | 2 watch place=A[4294967297]~
 fn runs_and_watches_are_answered(rt: HostRuntime) -> Result<(), Fail> {
     expect(&rt, rt.alloc(), RUNS)?;
     expect(&rt, rt.alloc(), PLACES)
+}
+
+#[test]
+fn programs_are_run_before_their_steps_are_counted(rt: HostRuntime) -> Result<(), Fail> {
+    expect(&rt, rt.alloc(), DRAFTED)
 }
 
 // One worker finishes step 2 with its fourth tick: a run tells that step, and so does a watch below

@@ -32,6 +32,7 @@ pub(crate) fn serve(
         job: FromRead::new(text),
         plan: FromRead::new(plan),
         text: None,
+        unplanned: false,
     };
     let mut output = Output::new(alloc);
     match do_alone(alloc, ask, &mut sources, &mut output) {

@@ -1,5 +1,5 @@
 -- What printing an answer as it is heard came to.
-use Rattle.std.proofs.Common.{◌≡◌, ◌∙◌, ◌⊎◌, ℕ, List, Result, Ok, Err, IsTrue, sym, ap}
+use Rattle.std.proofs.Common.{◌≡◌, ◌∙◌, ◌⊎◌, ℕ, List, Result, Ok, Err, IsTrue, refl, sym, ap}
 use Rattle.std.proofs.Common.{subst, inl, inr}
 use Rattle.std.specs.Prelude.{IfOk, IsErrOf, OnOk}
 use Rattle.pram_job.specs.Job.{JobData}
@@ -17,7 +17,6 @@ use Rattle.pram_commands.specs.Inner.Puts.{PutsAnswer, outcome}
 use Rattle.pram_commands.specs.Inner.Watching.{HasHeardAlone, Hearing, IsWatchedBy, CellReading}
 use Rattle.pram_commands.specs.Threads.{SomeRunEndsIn, IsNewBoard}
 use Rattle.pram_commands.specs.Why.{Explaining}
-use Rattle.pram_commands.specs.declared.sources.Inputs.{Inputs}
 use Rattle.pram_run.proofs.Watches.{heard_unread, ran_unread}
 use Rattle.pram_commands.proofs.Told.{told_as}
 
@@ -42,36 +41,52 @@ module _ (style : Style) (job_text : List ℕ) (job : JobData) (plan : PlanData)
         failed = ((λ f. absurd (well h.1 f)), (λ e. absurd (no_device e)));
       })
 
--- what a run on a new board came to
-ends_heard : (job : JobData) (plan : PlanData) (made : Desk × SeatData) (later : SeatData)
-    (ended : Ended) → IsNewBoard job plan made →
-    IfOk ended (HasRunBeside made.0.task plan made.1 later) → IfOk ended (SomeRunEndsIn job plan)
-ends_heard job plan made later (Ok answer) opened ran =
-    (later, record { made = made; opened = opened; ran = ran })
-ends_heard job plan made later (Err refused) opened ran = tt
+-- a run of the job came to the answer
+pub record RunOf (job : JobData) (plan : PlanData) (answer : RunAnswer) : Type 0 where
+  pub made : Desk × SeatData
+  pub opened : IsNewBoard job plan made
+  pub later : SeatData
+  pub ran : HasRunBeside made.0.task plan made.1 later answer
 
 -- what a run came to whose reader read nothing, and what was heard
-module _ {P H : Type 0} (Hears : Hearing P H) (first : P) (inputs : Inputs) (cells : List ℕ)
-    (rounds : ℕ) (ended : Ended × H) where
+module _ {P H : Type 0} (Hears : Hearing P H) (first : P) (job : JobData) (plan : PlanData)
+    (cells : List ℕ) (rounds : ℕ) (ended : Ended × H) where
   abbrev Nothing : CellReading P
   Nothing task listed count before after reader = (after ≡ before) × (reader ≡ first)
 
-  abbrev Ends : Type 0
-  Ends = IfOk ended.0 (SomeRunEndsIn inputs.spelled.job inputs.plan) × Hears first ended.0 ended.1
+  never : (r : Ended) → OnOk r ⊥ → IfOk r (RunOf job plan)
+  never (Ok answer) h = absurd h
+  never (Err refused) h = tt
 
-  pub ends_unread : HasHeardAlone Hears first ended
-      ⊎ IsWatchedBy Nothing Hears inputs.spelled.job inputs.plan cells rounds ended → Ends
-  ends_unread (inl alone) = (never ended.0 alone.0, alone.1)
-    where
-      never : (r : Ended) → OnOk r ⊥ → IfOk r (SomeRunEndsIn inputs.spelled.job inputs.plan)
-      never (Ok answer) h = absurd h
-      never (Err refused) h = tt
-  ends_unread (inr by) =
+  ran_on : (made : Desk × SeatData) (later : SeatData) (r : Ended) → IsNewBoard job plan made →
+      IfOk r (HasRunBeside made.0.task plan made.1 later) → IfOk r (RunOf job plan)
+  ran_on made later (Ok answer) opened ran =
+      record { made = made; opened = opened; later = later; ran = ran }
+  ran_on made later (Err refused) opened ran = tt
+
+  pub ran_unread_on : HasHeardAlone Hears first ended
+      ⊎ IsWatchedBy Nothing Hears job plan cells rounds ended →
+      IfOk ended.0 (RunOf job plan) × Hears first ended.0 ended.1
+  ran_unread_on (inl alone) = (never ended.0 alone.0, alone.1)
+  ran_unread_on (inr by) =
       let task = by.made.0.task in
       let later = by.on.later in (
-        ends_heard inputs.spelled.job inputs.plan by.made later ended.0 by.opened
-            (ran_unread task inputs.plan by.made.1 later first Hears ended.1 ended.0
-            (inr by.on.watched)),
-        heard_unread task inputs.plan by.made.1 later first Hears ended.1 ended.0
-            (inr by.on.watched),
+        ran_on by.made later ended.0 by.opened
+            (ran_unread task plan by.made.1 later first Hears ended.1 ended.0 (inr by.on.watched)),
+        heard_unread task plan by.made.1 later first Hears ended.1 ended.0 (inr by.on.watched),
       )
+
+-- such a run is one that ends in its answer
+pub run_ends : (job : JobData) (plan : PlanData) (ended : Ended) → IfOk ended (RunOf job plan) →
+    IfOk ended (SomeRunEndsIn job plan)
+run_ends job plan (Ok answer) run = (
+  run.later,
+  record {
+    most = job.steps;
+    enough = inl refl;
+    made = run.made;
+    opened = run.opened;
+    ran = run.ran;
+  },
+)
+run_ends job plan (Err refused) run = tt

@@ -1,4 +1,5 @@
 pub mod Doing
+pub mod Uncounted
 pub mod Ends
 pub mod Statuses
 pub mod Told
@@ -9,3 +10,4 @@ pub mod Failing
 pub mod Explaining
 pub mod Judged
 pub mod Recording
+pub mod Refusing

@@ -1,5 +1,5 @@
 -- What reading a job and a plan says of their sources.
-use Rattle.std.specs.Prelude.{◌≡◌, ◌↔◌, ℕ, Bool, false, List, Option, Result, ⊤}
+use Rattle.std.specs.Prelude.{◌≡◌, ◌↔◌, ℕ, Bool, false, List, [], Option, Result, ⊤}
 use Rattle.std.specs.Prelude.{IfOk, IfErr, IsErrOf, IsTrue, nat_lt, ◌&&◌}
 use Rattle.std.specs.Prelude.{if◌then◌else◌, None, Some}
 use Rattle.pram_job.specs.Job.{JobData}
@@ -55,11 +55,12 @@ taking of_job of_plan before after = record {
   Unread = after.plan ≡ before.plan;
 }
 
--- Neither source has failed, nor has the output.
+-- Neither source has failed, nor has the output; where no plan is named its source has no bytes.
 pub record AreReady {J P O : Type 0} (of_job : a_source.Ghosts J) (of_plan : a_source.Ghosts P)
     (of_out : a_sink.Ghosts O) (sources : Sources J P) (out : O) : Type 0 where
   pub job : of_job.has_failed sources.job ≡ false
   pub plan : of_plan.has_failed sources.plan ≡ false
+  pub unplanned : IsTrue sources.unplanned → of_plan.remaining sources.plan ≡ Some []
   pub output : of_out.has_failed out ≡ false
 
 -- The source gave this text, whose job is this.

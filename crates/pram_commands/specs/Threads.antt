@@ -1,5 +1,6 @@
 -- What the commands come to that run a job on threads.
-use Rattle.std.specs.Prelude.{◌≡◌, ◌<◌, ℕ, List, Option, None, Some, ⊤, map, slice_index, All}
+use Rattle.std.specs.Prelude.{◌≡◌, ◌<◌, ◌≤◌, ◌⊎◌, ℕ, List, Option, None, Some, ⊤, map}
+use Rattle.std.specs.Prelude.{slice_index, All}
 use Rattle.std.specs.List.{repeat}
 use Rattle.std.specs.List.Sorted.{IsNonDecreasingBy}
 use Rattle.pram_job.specs.Job.{JobData}
@@ -11,8 +12,10 @@ use Rattle.stop_plan.specs.Plan.{PlanData}
 use Rattle.pram_board.specs.Seats.{Desk, SeatData, IsOpened}
 use Rattle.pram_run.specs.Heard.{HasRunBeside}
 use Rattle.pram_run.specs.Printed.{sights_text}
+use Rattle.pram_run.specs.Running.{IsUnfinished}
 use Rattle.pram_run.specs.Watching.{HasReadBeside, IsWatch}
 use Rattle.pram_run.specs.declared.sight.Sight.{Sight}
+use Rattle.pardo_job.specs.Compiled.{IsWhole}
 use Rattle.command_data.specs.declared.line.Style.{Style}
 use Rattle.naming.specs.CellLists.{AreCellsOf, LacksCell}
 use Rattle.pram_commands.specs.Did.{Answering, Command}
@@ -32,12 +35,19 @@ grain_by None procs = grain_for procs
 abbrev pub IsNewBoard : JobData → PlanData → Desk × SeatData → Type 0
 IsNewBoard job plan made = (grain : ℕ) × IsOpened job (Wide grain) plan.workers made
 
+-- A run of the job to this answer may be one of the job with so many more steps: none of these
+-- is needed, and the answer is the job's end.
+abbrev pub MayBeLonger : JobData → ℕ → RunAnswer → Type 0
+MayBeLonger job most answer = (job.steps ≤ most) × IsWhole job × (IsUnfinished answer → ⊥)
+
 -- The seat is the one that a run of workers of the plan came to, from the first seat of a new board
--- of the job; and what it heard there told the answer.
+-- of the job, or of a longer one; and what it heard there told the answer.
 pub record EndsAt (job : JobData) (plan : PlanData) (later : SeatData) (answer : RunAnswer)
     : Type 0 where
+  pub most : ℕ
+  pub enough : (most ≡ job.steps) ⊎ MayBeLonger job most answer
   pub made : Desk × SeatData
-  pub opened : IsNewBoard job plan made
+  pub opened : IsNewBoard (record job { steps = most }) plan made
   pub ran : HasRunBeside made.0.task plan made.1 later answer
 
 -- some run came to the answer

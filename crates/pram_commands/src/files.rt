@@ -1,5 +1,5 @@
 //! A line served from the files that it names.
-ghost use Rattle.std.specs.Prelude.{◌≡◌, ℕ, false, List, [], Option, Some};
+ghost use Rattle.std.specs.Prelude.{◌≡◌, ℕ, false, IfNone, IsTrue, List, [], None, Option, Some};
 ghost use Rattle.std.specs.Option.{option_map_or};
 ghost use Rattle.command_data.specs.Line.{text_now};
 ghost use Rattle.command_data.specs.declared.line.Ask.TheVariants.{Alone};
@@ -110,6 +110,7 @@ pub fn serve_text<R: Threads + Wait + Clock + Eprint + Sync, F: Folder, O: Sink,
         job,
         plan,
         text: None,
+        unplanned: line.plan.is_none(),
     };
     serve(rt, alloc, line, &mut sources, console)
 }
@@ -135,6 +136,7 @@ pub fn serve_text_alone<F: Folder, O: Sink, E: Sink>(
         job,
         plan,
         text: None,
+        unplanned: line.plan.is_none(),
     };
     serve_alone(alloc, line, ask, &mut sources, console)
 }
@@ -146,6 +148,8 @@ fn sources_of<F: Folder>(folder: &F, line: &Line<'_>) -> Sources<F::File, PlanFi
     ensures job { F.holds folder.now line.now.file.now (F.File.remaining result.job) }
     ensures plan { ArePlanBytes (F.holds folder.now) (text_now line.now.plan)
         (option_map_or F.File.remaining result.plan.file (Some [])) }
+    ensures unplanned { IsTrue result.unplanned →
+        option_map_or F.File.remaining result.plan.file (Some []) ≡ Some [] }
 {
     let job = folder.open(line.file);
     let plan = plan_of(folder, line);
@@ -153,6 +157,7 @@ fn sources_of<F: Folder>(folder: &F, line: &Line<'_>) -> Sources<F::File, PlanFi
         job,
         plan,
         text: None,
+        unplanned: line.plan.is_none(),
     }
 }
 
@@ -161,6 +166,7 @@ fn plan_of<F: Folder>(folder: &F, line: &Line<'_>) -> PlanFile<F::File>
     ensures failed { option_map_or F.File.has_failed result.file false ≡ false }
     ensures plan { ArePlanBytes (F.holds folder.now) (text_now line.now.plan)
         (option_map_or F.File.remaining result.file (Some [])) }
+    ensures none { IfNone line.now.plan (result.file ≡ None) }
 {
     let file = match line.plan {
         Some(name) => Some(folder.open(name)),

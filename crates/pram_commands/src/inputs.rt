@@ -1,22 +1,25 @@
 //! A job and its plan from their sources.
-ghost use Rattle.std.specs.Prelude.{◌≡◌, ◌⊎◌, ◌↔◌, false, IfOk, IfErr, IsErrOf, IsTrue};
+ghost use Rattle.std.specs.Prelude.{◌≡◌, ◌⊎◌, ◌↔◌, false, [], IfOk, IfErr, IsErrOf, IsTrue};
 ghost use Rattle.pram_streams.specs.Transfer.{GivesSome};
 ghost use Rattle.pram_commands.specs.Faults.{fault_of_job_source, fault_of_plan_source};
 ghost use Rattle.pram_commands.specs.Inputs.{ExplainsJob, ExplainsPlan, GivesJob, GivesPlan};
 ghost use Rattle.pram_commands.specs.Inputs.{GivesText, Took, taking};
+ghost use Rattle.naming.specs.BadTexts.{IsBadOrMemory};
 ghost use Rattle.naming.specs.Costed.{IsCosted};
 ghost use Rattle.naming.specs.Names.{AreNames};
+ghost use Rattle.pram_commands.specs.Inner.Unrun.{GivesUnrun, IsUnrun};
 ghost use Rattle.refusals.specs.declared.fault.CommandFault.TheVariants.{JobDevice};
 ghost use Rattle.stop_plan.specs.Records.{FirstFault, SpellsPlan, no_memory, records_of};
 
 use crate::sources::{Inputs, Sources};
 use command_data::Workers;
-use naming::{Spelled, read_costed, read_text};
+use naming::{Spelled, drafted, read_costed, read_text};
 use pardo_costs::Costs;
+use pardo_job::Draft;
 use pram_job::Job;
 use pram_streams::{Source, TakeFault, take};
 use refusals::CommandFault;
-use std::alloc::Global;
+use std::alloc::{AllocError, Global};
 use stop_plan::{Plan, PlanFault, PlanKind, read_plan};
 
 /// The job of the text that a source gives, and then the plan that the bytes of another spell.
@@ -76,6 +79,52 @@ pub(crate) fn take_text<J: Source>(
             *kept = Some(text);
             Err(fault)
         }
+    }
+}
+
+/// A text: of a job, or of a program that was not run.
+#[derive(Drop)]
+pub(crate) enum Unrun {
+    Whole(Spelled),
+    Drafted(Vec<u8>, Draft),
+}
+
+/// The text that a source gives, and its job, of a program before that is run; a text that is
+/// refused is kept.
+pub(crate) fn take_unrun<J: Source>(
+    alloc: Global,
+    source: &mut J,
+    kept: &mut Option<Vec<u8>>,
+) -> Result<Unrun, CommandFault>
+    requires { J.has_failed source.old ≡ false }
+    ensures ok { IfOk result (GivesUnrun (J.remaining source.old) (J.remaining source.new)) }
+    ensures explains { IfErr result (ExplainsJob (J.remaining source.old)
+        (J.remaining source.new)) }
+    ensures failed { IsTrue (J.has_failed source.new) ↔ IsErrOf result JobDevice }
+    ensures reads { GivesSome (J.remaining source.old) (J.remaining source.new) }
+{
+    let text = take(alloc, source).map_err(job_fault)?;
+    match read_unrun(alloc, text) {
+        Ok(unrun) => Ok(unrun),
+        Err((fault, text)) => {
+            *kept = Some(text);
+            Err(fault)
+        }
+    }
+}
+
+// What a text is, or its fault, and the text.
+fn read_unrun(alloc: Global, text: Vec<u8>) -> Result<Unrun, (CommandFault, Vec<u8>)>
+    ensures ok { IfOk result (IsUnrun text.items) }
+    ensures bad { IfErr result (λ refused. IsBadOrMemory text.items refused.0) }
+{
+    match drafted(alloc, text.as_slice()) {
+        Ok(Some(draft)) => Ok(Unrun::Drafted(text, draft)),
+        Ok(None) => match read_text(alloc, text.as_slice()) {
+            Ok((job, names)) => Ok(Unrun::Whole(Spelled { text, job, names })),
+            Err(fault) => Err((fault, text)),
+        },
+        Err(fault) => Err((fault, text)),
     }
 }
 
@@ -142,6 +191,16 @@ fn plan_in(alloc: Global, text: &[u8], workers: Workers) -> Result<Plan, PlanFau
         ⊎ FirstFault workers.count (records_of text.now) fault.row fault.kind) }
 {
     read_plan(alloc, text, workers.count)
+}
+
+/// The plan without rows for so many workers.
+pub(crate) fn no_plan(alloc: Global, workers: Workers) -> Result<Plan, AllocError>
+    ensures { IfOk result (SpellsPlan workers.count (records_of [])) }
+{
+    match plan_in(alloc, b"", workers) {
+        Ok(plan) => Ok(plan),
+        Err(_) => Err(AllocError),
+    }
 }
 
 fn job_fault(fault: TakeFault) -> CommandFault

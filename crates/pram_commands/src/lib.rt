@@ -4,6 +4,7 @@
 
 mod bytes;
 pub mod commands;
+mod drafted;
 mod files;
 mod inputs;
 mod printing;

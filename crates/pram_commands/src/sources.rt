@@ -2,16 +2,18 @@
 ghost use Rattle.std.specs.Prelude.{◌≤◌};
 
 use naming::Spelled;
-use refusals::Look;
+use pardo_job::Draft;
+use refusals::{CommandFault, Look};
 use stop_plan::Plan;
 
 /// The sources of a job and of its plan, and the job's text, once it was refused or is needed no
-/// more. Where a line names no plan, that has no bytes.
+/// more. Where a line names no plan, the source of that has no bytes; whether it is known to be so.
 #[derive(Drop)]
 pub struct Sources<J, P> {
     pub job: J,
     pub plan: P,
     pub text: Option<Vec<u8>>,
+    pub unplanned: bool,
 }
 
 /// A text with its job, and a plan for workers.
@@ -21,6 +23,23 @@ pub struct Inputs {
     pub plan: Plan,
     pub ghost some: { 1 ≤ plan.workers },
     pub ghost most: { plan.workers ≤ 64 },
+}
+
+/// A program's text, its job before it is run, and a plan without rows.
+#[derive(Drop)]
+pub(crate) struct Drafted {
+    pub text: Vec<u8>,
+    pub draft: Draft,
+    pub plan: Plan,
+    pub ghost some: { 1 ≤ plan.workers },
+    pub ghost most: { plan.workers ≤ 64 },
+}
+
+/// Why a program's answer was not told, and its text.
+#[derive(Drop)]
+pub(crate) struct Refused {
+    pub fault: CommandFault,
+    pub text: Vec<u8>,
 }
 
 /// The output, and standard error: whether that is a terminal, whether it is told a sentence after

@@ -1,5 +1,5 @@
 //! Runs over a new board, with a reader beside the workers.
-ghost use Rattle.std.specs.Prelude.{◌≡◌, ◌⊎◌, ◌<◌, ◌*◌, All, IfOk};
+ghost use Rattle.std.specs.Prelude.{◌≡◌, ◌⊎◌, ◌<◌, ◌≤◌, ◌*◌, All, IfOk};
 ghost use Rattle.std.specs.Duration.{as_nanos};
 ghost use Rattle.pram_words.specs.declared.layout.Form.TheVariants.{Wide};
 ghost use Rattle.pram_board.specs.Seats.{IsOpened};
@@ -11,6 +11,7 @@ use crate::progress::{Teller, start_teller};
 use crate::sources::Inputs;
 use command_data::{Block, Manner};
 use pram_board::{Board, Seat};
+use pram_job::Job;
 use pram_run::{Bell, Listener, Reads, Shared, Sight, run_beside};
 use pram_step::RunAnswer;
 use std::alloc::{AllocError, Global};
@@ -38,16 +39,21 @@ fn paced<R: Clock>(rt: &R, micros: u32) -> Paced<'_, R>
     Paced::new(rt, Duration::from_micros(u64::from(micros)))
 }
 
-// A new board with blocks of this size, or of the size that the board chooses.
-fn open(alloc: Global, inputs: &Inputs, block: Option<Block>) -> Result<(Board, Seat), AllocError>
-    ensures { IfOk result (IsOpened inputs.now.spelled.job
-        (Wide (grain_by block inputs.now.spelled.job.procs))
-        inputs.now.plan.workers) }
+/// A new board for a job and so many workers, with blocks of this size, or of the size that the
+/// board chooses.
+pub(crate) fn open(
+    alloc: Global,
+    job: &Job,
+    workers: u32,
+    block: Option<Block>,
+) -> Result<(Board, Seat), AllocError>
+    requires some { 1 ≤ workers }
+    requires most { workers ≤ 64 }
+    ensures { IfOk result (IsOpened job.now (Wide (grain_by block job.now.procs)) workers) }
 {
-    let workers = inputs.plan.workers();
     match block {
-        Some(block) => Board::open_with_blocks(alloc, &inputs.spelled.job, workers, block.size()),
-        None => Board::open_wide(alloc, &inputs.spelled.job, workers),
+        Some(block) => Board::open_with_blocks(alloc, job, workers, block.size()),
+        None => Board::open_wide(alloc, job, workers),
     }
 }
 
@@ -68,21 +74,43 @@ pub(crate) fn run_job<R: Threads + Wait + Clock + Eprint + Sync, H, P: Reads<Hea
         ⊎ IsWatchedBy (P.reads reader) P.hears inputs.spelled.job inputs.plan watched.now.cells.now
         watched.now.rounds result }
 {
-    let (inputs, cells, rounds) = (watched.inputs, watched.cells, watched.rounds);
-    let Ok((board, seat)) = open(alloc, inputs, manner.block) else {
+    let inputs = watched.inputs;
+    let (job, plan) = (&inputs.spelled.job, &inputs.plan);
+    let Ok((board, seat)) = open(alloc, job, plan.workers(), manner.block) else {
         let heard = reader.hear(&Err(AllocError));
         return (Err(AllocError), heard);
     };
-    let (job, plan) = (&inputs.spelled.job, &inputs.plan);
-    let teller = Teller::new(manner.progress, job.steps());
     let bell = Bell::new();
+    let run = Shared::new(alloc, job, &board, plan, &Open, &bell);
+    let piece = if manner.pace.is_some() { 1 } else { 2048 };
+    let run = run.reading(watched.cells, watched.rounds, piece);
+    run_at_pace(rt, &run, manner, seat, reader)
+}
+
+/// Does what `run_job` does on a board that is open, in this manner, what is shared having no pace.
+pub(crate) fn run_at_pace<R: Threads + Wait + Clock + Eprint + Sync, H, P: Reads<Heard = H>>(
+    rt: &R,
+    shared: &Shared<'_, Open>,
+    manner: Manner,
+    seat: Seat,
+    reader: P,
+) -> (Result<RunAnswer, AllocError>, H)
+    requires opened { IsNewBoard shared.now.job.now shared.now.plan.now
+        (shared.now.board.now, seat) }
+    requires reader { P.can_read reader }
+    requires listener { P.can_hear reader }
+    ensures { HasHeardAlone P.hears reader result ⊎ IsWatchedBy (P.reads reader) P.hears
+        shared.now.job.now shared.now.plan.now shared.now.cells.now shared.now.rounds result }
+{
+    let teller = Teller::new(manner.progress, shared.job.steps());
     let Some(micros) = manner.pace else {
-        let run = Shared::new(alloc, job, &board, plan, &Open, &bell);
-        return run_past(rt, &teller, &run.reading(cells, rounds, 2048), seat, reader);
+        return run_past(rt, &teller, shared, seat, reader);
     };
     let gate = paced(rt, micros);
-    let run = Shared::new(alloc, job, &board, plan, &gate, &bell);
-    run_past(rt, &teller, &run.reading(cells, rounds, 1), seat, reader)
+    let (job, board, plan) = (shared.job, shared.board, shared.plan);
+    let run = Shared::new(shared.alloc, job, board, plan, &gate, shared.bell);
+    let run = run.reading(shared.cells, shared.rounds, shared.piece);
+    run_past(rt, &teller, &run, seat, reader)
 }
 
 // Runs the workers of what is shared, beside a teller of how far their board is, and a reader.

@@ -1,19 +1,21 @@
 //! The commands that start threads: `run` and `watch`.
-ghost use Rattle.std.specs.Prelude.{◌≡◌, ⊤, false};
+ghost use Rattle.std.specs.Prelude.{◌≡◌, ⊤, false, true};
 ghost use Rattle.pram_commands.specs.Did.{Answering, Did, tells};
 ghost use Rattle.naming.specs.Writing.{writing};
 ghost use Rattle.pram_commands.specs.Inner.Puts.{PutsAnswer};
 ghost use Rattle.pram_commands.specs.Inputs.{AreReady, taking};
 ghost use Rattle.naming.specs.Names.{AreNames};
-ghost use Rattle.pram_commands.specs.Threads.{TellsSights, running, watching};
+ghost use Rattle.pram_commands.specs.Threads.{SomeRunEndsIn, TellsSights, running, watching};
+ghost use Rattle.pram_commands.specs.Why.{Explaining};
 ghost use Rattle.command_data.specs.CellLists.{parts_of};
 
 use crate::commands::printed;
-use crate::inputs::take_inputs;
+use crate::drafted::put_drafted;
+use crate::inputs::{Unrun, no_plan, take_inputs, take_unrun};
 use crate::printing::{Printing, PrintingReads, outcome, take_back};
-use crate::sources::Sources;
+use crate::sources::{Drafted, Inputs, Refused, Sources};
 use crate::threads::{Watched, run_job};
-use command_data::{AskRun, AskWatch, Manner};
+use command_data::{AskRun, AskWatch, Manner, Telling};
 use naming::cells_in;
 use pram_run::ReadsNothing;
 use pram_step::RunAnswer;
@@ -28,7 +30,8 @@ use std::thread::Threads;
 /// job's answer as soon as a worker knows it: threads that are kept from going on hold back the
 /// return of the call, and not what is printed. Where it is asked for, what became of the
 /// processors is found before that, on the plain machine. Where progress is asked for, that is one
-/// thread more. Workers whose threads are refused take no part; where the others do not come to the
+/// thread more; where it is not, and no plan is named, a program's steps are not counted before it
+/// is run. Workers whose threads are refused take no part; where the others do not come to the
 /// end, that is out of memory.
 pub fn run<R: Threads + Wait + Clock + Eprint + Sync, J: Source, P: Source, O: Sink>(
     rt: &R,
@@ -42,7 +45,62 @@ pub fn run<R: Threads + Wait + Clock + Eprint + Sync, J: Source, P: Source, O: S
         (taking J.Source P.Source sources.old sources.new)
         (writing O.Sink out.old out.new) tells result }
 {
+    if sources.unplanned && ask.manner.progress == Telling::Silent {
+        return run_unplanned(rt, alloc, ask, sources, out);
+    }
     let inputs = take_inputs(alloc, ask.manner.workers, sources)?;
+    printed(put_run(rt, alloc, ask, &inputs, out))
+}
+
+// Does what `run` does where no plan is named: of a program nobody counts the steps before.
+fn run_unplanned<R: Threads + Wait + Clock + Eprint + Sync, J: Source, P: Source, O: Sink>(
+    rt: &R,
+    alloc: Global,
+    ask: AskRun,
+    sources: &mut Sources<J, P>,
+    out: &mut O,
+) -> Result<RunAnswer, CommandFault>
+    requires ready { AreReady J.Source P.Source O.Sink sources.old out.old }
+    requires unplanned { sources.old.unplanned ≡ true }
+    ensures { Did (running ask.style ask.manner.workers.count)
+        (taking J.Source P.Source sources.old sources.new)
+        (writing O.Sink out.old out.new) tells result }
+{
+    let unrun = take_unrun(alloc, &mut sources.job, &mut sources.text)?;
+    let plan = no_plan(alloc, ask.manner.workers)?;
+    match unrun {
+        Unrun::Whole(spelled) => {
+            let inputs = Inputs { spelled, plan };
+            printed(put_run(rt, alloc, ask, &inputs, out))
+        }
+        Unrun::Drafted(text, draft) => {
+            let drafted = Drafted { text, draft, plan };
+            match put_drafted(rt, alloc, ask, drafted, out) {
+                Ok((_, put)) => printed(put),
+                Err(Refused { fault, text }) => {
+                    sources.text = Some(text);
+                    Err(fault)
+                }
+            }
+        }
+    }
+}
+
+// Runs a job by its plan, and prints its answer.
+fn put_run<R: Threads + Wait + Clock + Eprint + Sync, O: Sink>(
+    rt: &R,
+    alloc: Global,
+    ask: AskRun,
+    inputs: &Inputs,
+    out: &mut O,
+) -> Result<RunAnswer, PrintFault>
+    requires output { O.has_failed out.old ≡ false }
+    requires names { let read = inputs.now.spelled in
+        AreNames read.text.items read.job read.names }
+    ensures { let read = inputs.now.spelled in PutsAnswer (Explaining ask.style
+        (SomeRunEndsIn read.job inputs.now.plan) read.text.items read.job) ⊥
+        (writing O.Sink out.old out.new) tells result }
+{
     let listener = Printing {
         alloc,
         style: ask.style,
@@ -50,14 +108,14 @@ pub fn run<R: Threads + Wait + Clock + Eprint + Sync, J: Source, P: Source, O: S
         out,
     };
     let watched = Watched {
-        inputs: &inputs,
+        inputs,
         cells: &[],
         rounds: 0,
     };
     let reader = ReadsNothing { listener };
     let (ended, (out, put)) = run_job(rt, alloc, &watched, ask.manner, reader);
     take_back(out);
-    printed(outcome(put, ended))
+    outcome(put, ended)
 }
 
 /// Does what `run` does, with a reader beside the workers; what each read told is printed before
