@@ -58,7 +58,7 @@ $ pramx run job --workers 2 --plan plan --block *
 64 : same under 0,go,40~0,back,0~ | 0 done steps=4~0: 3~1: 4~2: 5~3: 6~4: 7~
 ";
 
-// Programs without a plan: their steps are found once they were run. Where somebody is gone, a step
+// Programs without plan and pace: their steps are found once they were run. Where somebody is gone, a step
 // is against the rule, or the program never ends, the plain machine finds the lines.
 const DRAFTED: &str = "\
 $ pramx run job --workers 2 & pramx run job --workers 2 --block 1 & \
@@ -70,7 +70,7 @@ pardo 1~rule crew~procs i < 4~shared s~code~s := i~ | 1 conflict line=6 place=s 
 pardo 1~rule crew~procs i < 3~shared A[3]~code~if i = 2~for k = 1 to 30~A[i] := A[i] + k~end~end~ \
     | 0 done steps=395~A = 0 0 465~
 pardo 1~rule crew~procs i < 1~code~x~ | 2 text line=5 kind=UnknownName~
-$ pramx run job --workers 2
+$ pramx run job --workers 2 & pramx run job --workers 2 --pace 1000
 pardo 1~rule crew~procs i < 1~code~while 1~end~ | 2 text line=5 kind=Endless~
 $ pramx run job --workers 2 --why
 pardo 1~rule crew~procs i < 4~shared A[4]~code~A[i] := i + 7~ \

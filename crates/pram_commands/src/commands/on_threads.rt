@@ -30,8 +30,8 @@ use std::thread::Threads;
 /// job's answer as soon as a worker knows it: threads that are kept from going on hold back the
 /// return of the call, and not what is printed. Where it is asked for, what became of the
 /// processors is found before that, on the plain machine. Where progress is asked for, that is one
-/// thread more; where it is not, and no plan is named, a program's steps are not counted before it
-/// is run. Workers whose threads are refused take no part; where the others do not come to the
+/// thread more. Without plan, pace and progress a program's steps are not counted before it is run.
+/// Workers whose threads are refused take no part; where the others do not come to the
 /// end, that is out of memory.
 pub fn run<R: Threads + Wait + Clock + Eprint + Sync, J: Source, P: Source, O: Sink>(
     rt: &R,
@@ -45,11 +45,16 @@ pub fn run<R: Threads + Wait + Clock + Eprint + Sync, J: Source, P: Source, O: S
         (taking J.Source P.Source sources.old sources.new)
         (writing O.Sink out.old out.new) tells result }
 {
-    if sources.unplanned && ask.manner.progress == Telling::Silent {
+    if sources.unplanned && is_straight(ask.manner) {
         return run_unplanned(rt, alloc, ask, sources, out);
     }
     let inputs = take_inputs(alloc, ask.manner.workers, sources)?;
     printed(put_run(rt, alloc, ask, &inputs, out))
+}
+
+// Nobody waits, and nobody is told how far the run is.
+fn is_straight(manner: Manner) -> bool {
+    manner.pace.is_none() && manner.progress == Telling::Silent
 }
 
 // Does what `run` does where no plan is named: of a program nobody counts the steps before.
