@@ -70,21 +70,19 @@ def sum_of(file):
 
 
 def costs():
-    """The processor seconds of each crate's proof, by the first table below the heading "What the
-    gate costs" of docs/TESTING.md. Where there is none nothing is known, and nothing fails."""
+    """The processor seconds of each crate's proof, as docs/gate.csv has them. Where there is none
+    nothing is known, and nothing fails."""
     try:
-        page = (TOP / "docs/TESTING.md").read_text(encoding="utf-8", errors="replace")
+        rows = (TOP / "docs/gate.csv").read_text(encoding="utf-8", errors="replace").splitlines()
     except OSError:
-        page = ""
-    section = re.search(r"(?ms)^##+ +What the gate costs\b.*?(?=^##? |\Z)", page)
-    table = re.search(r"(?m)^\|(?:.*\n\|)*.*", section[0] if section else "")
-    rows = re.findall(r"(?m)^\| *`(\w+)` *\| *(\d+) *\|", table[0] if table else "")
-    return {name: float(seconds) for name, seconds in rows}
+        rows = []
+    cells = [row.split(",") for row in rows]
+    return {it[0]: float(it[1]) for it in cells if len(it) > 1 and it[1].isdigit()}
 
 
 class Progress:
     """Tells each minute how many crates are proved, and how many minutes are left: by the table of
-    docs/TESTING.md, at the pace of the proved ones."""
+    docs/gate.csv, at the pace of the proved ones."""
 
     def __init__(self, lines):
         known = costs()
@@ -136,7 +134,7 @@ def make_copy(to, *words):
     (to / ".git").mkdir(parents=True)
     (to / "crates.txt").write_text("".join(f"{line}\n" for line in lines))
     shutil.copy(TOP / "HANDLES", to)
-    left_out = shutil.ignore_patterns("out", "must-fail", "wrong-bodies")
+    left_out = shutil.ignore_patterns("out", "wrong-bodies")
     for name in map(name_of, lines):
         shutil.copytree(TOP / "crates" / name, to / "crates" / name, ignore=left_out, symlinks=True)
     return lines
