@@ -37,6 +37,18 @@ def copy(room, wanted):
     return [it.split(":")[0].split()[0] for it in kept]
 
 
+def naming(word):
+    """The crates whose code or proofs have a word, but for tests, in the order of crates.txt."""
+    lines = (TOP / "crates.txt").read_text().splitlines()
+    crates = [it.split(":")[0].split()[0] for it in lines if ":" in it]
+    return tuple(it for it in crates if not it.endswith("_tests") and has_word(TOP / "crates" / it, word))
+
+
+def has_word(folder, word):
+    files = (it for part in ("src", "specs", "proofs") for it in folder.glob(f"{part}/**/*") if it.suffix in (".rt", ".antt"))
+    return any(re.search(rf"\b{word}\b", it.read_text()) for it in files)
+
+
 def change(room, file, before, added, replaces=False):
     path = room / file
     if before is None:
