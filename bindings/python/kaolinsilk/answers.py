@@ -3,7 +3,7 @@ from __future__ import annotations
 
 import re
 from html import escape
-from typing import Any, Callable, Dict, List, NamedTuple, Optional, Union
+from typing import Any, Dict, List, NamedTuple, Optional, Union
 
 from . import _library, texts
 from .errors import Conflict, KaolinsilkError, Unfinished
@@ -39,11 +39,13 @@ class Answer:
         step: Optional[int],
         values: Optional[Dict[str, Value]] = None,
         failure: Optional[KaolinsilkError] = None,
-        later: Callable[[], bytes] = bytes,
+        *,
+        said: Optional[bytes] = None,
+        program: bytes = b"",
     ) -> None:
         self.status, self.step, self.failure = status, step, failure
-        self._values, self._later = values or {}, later
-        self._told: Optional[str] = None
+        # Where nothing is said yet, the plain machine says it of the program.
+        self._values, self._said, self._program = values or {}, said, program
 
     @property
     def values(self) -> Dict[str, Value]:
@@ -60,9 +62,9 @@ class Answer:
     @property
     def text(self) -> str:
         """The answer as the program pramx prints it. Of a run, the plain machine is asked."""
-        if self._told is None:
-            self._told = self._later().decode("ascii")
-        return self._told
+        if self._said is None:
+            self._said = bytes(_library.told("ks_plain", self._program).output)
+        return self._said.decode("ascii")
 
     @property
     def gone(self) -> List[Gone]:
@@ -180,8 +182,8 @@ def answer_of(text: bytes, told: _library.Told) -> Answer:
     status = _library.WORDS[told.status]
     if told.status == _library.CONFLICT:
         conflict = _conflict_of(head)
-        return Answer(status, conflict.step, failure=conflict, later=lambda: said)
+        return Answer(status, conflict.step, failure=conflict, said=said)
     step = int(head.partition("=")[2])
     if told.status == _library.UNFINISHED:
-        return Answer(status, step, failure=Unfinished(step), later=lambda: said)
-    return Answer(status, step, _values_told(text, lines), later=lambda: said)
+        return Answer(status, step, failure=Unfinished(step), said=said)
+    return Answer(status, step, _values_told(text, lines), said=said)

@@ -13,7 +13,7 @@ from __future__ import annotations
 
 import threading
 from ctypes import c_uint32
-from typing import Any, List, NamedTuple, Optional, Union
+from typing import Any, List, NamedTuple, NoReturn, Optional, Union
 
 from . import _library, calls, texts
 from ._library import library
@@ -61,7 +61,15 @@ class _Member:
             self._close(self.handle)
 
 
-class Board:
+class _Staying:
+    """What stays in its process, where the library has it."""
+
+    def __reduce_ex__(self, protocol: Any) -> NoReturn:
+        kind = type(self).__name__
+        raise TypeError(f"a {kind} stays in its process: it can be neither pickled nor copied")
+
+
+class Board(_Staying):
     """The board of a job for 1 to 64 workers, at the start of the job.
 
     `grain` says how many processors a leaf of the tree has, a power of two up to 64; with 0 the
@@ -115,7 +123,7 @@ class Board:
         return Seat(self)
 
 
-class Worker:
+class Worker(_Staying):
     """One of a board's workers, and where it stands. One thread at a time uses it; others wait."""
 
     def __init__(self, board: Board, number: int) -> None:
@@ -143,7 +151,7 @@ class Worker:
         self._member.ask(library.ks_back)
 
 
-class Seat:
+class Seat(_Staying):
     """A reader of a board. What it tells never falls. One thread at a time uses it; others wait."""
 
     def __init__(self, board: Board) -> None:
@@ -182,17 +190,13 @@ class Seat:
     def answer(self) -> Answer:
         """The answer by the names of the text. Of a program, the line of a conflict is found on the
         plain machine, as `pramx run` does."""
-        step, steps, conflict = self.progress()
-        later = self._told_later
+        text, (step, steps, conflict) = self.board.text, self.progress()
         if conflict:
-            return Answer("conflict", conflict, failure=self._named_fault(), later=later)
+            return Answer("conflict", conflict, failure=self._named_fault(), program=text)
         if step < steps:
             said = f"unfinished step={step}\n".encode()
-            return Answer("unfinished", step, failure=Unfinished(step), later=lambda: said)
-        return Answer("done", step, values_of(self.board.text, self.memory()), later=later)
-
-    def _told_later(self) -> bytes:
-        return bytes(_library.told("ks_plain", self.board.text).output)
+            return Answer("unfinished", step, failure=Unfinished(step), said=said)
+        return Answer("done", step, values_of(text, self.memory()), program=text)
 
     def _named_fault(self) -> Conflict:
         text, fault = self.board.text, self.fault()

@@ -4,11 +4,21 @@ All are a `KaolinsilkError`. The text of one is a sentence; its fields say the s
 """
 from __future__ import annotations
 
-from typing import Optional, Tuple
+from typing import Any, Optional, Tuple, Type
 
 
 class KaolinsilkError(Exception):
-    """What each exception of this package is."""
+    """What each exception of this package is. Copies, and what `pickle` brings to another process,
+    have all of its fields."""
+
+    def __reduce__(self) -> Tuple[Any, ...]:
+        # As it stands: `__init__` takes other words than `args` has.
+        return _bare, (type(self), self.args), self.__dict__
+
+
+def _bare(kind: Type[KaolinsilkError], args: Tuple[Any, ...]) -> KaolinsilkError:
+    """An exception without its fields."""
+    return kind.__new__(kind, *args)
 
 
 class Refused(KaolinsilkError, ValueError):
