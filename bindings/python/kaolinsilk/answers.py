@@ -3,7 +3,7 @@ from __future__ import annotations
 
 import re
 from html import escape
-from typing import Any, Dict, List, NamedTuple, Optional, Union
+from typing import Any, Dict, ItemsView, Iterator, KeysView, List, NamedTuple, Optional, Union
 
 from . import _library, texts
 from .errors import Conflict, KaolinsilkError, Unfinished
@@ -24,13 +24,16 @@ class Answer:
     `status` is "done", "conflict" or "unfinished"; `step` the last step of the job, that of the
     conflict where it is known, or the last finished one. Where it is done, `answer["A"]` is the
     list of an array's values, of two indices a list of rows, and `answer["total"]` a scalar's value;
-    of a text of the machine `answer[3]` is cell 3. Where it is not, these raise the `Conflict` or the `Unfinished` of
-    `answer.failure`.
+    of a text of the machine `answer[3]` is cell 3. `"A" in answer`, `for name in answer`, `len`,
+    `keys`, `items`, `get` and `dict` are those of `answer.values`. Where it is not done, all these
+    raise the `Conflict` or the `Unfinished` of `answer.failure`. An answer is always true.
 
     >>> import kaolinsilk
     >>> answer = kaolinsilk.plain("pram 1\\ncells 2\\nprocs 1\\nsteps 1\\ncode\\nset r0 7\\n")
     >>> answer.status, answer.step, answer[1], answer.values
     ('done', 1, 0, {'cells': [0, 0]})
+    >>> "cells" in answer, list(answer), len(answer)
+    (True, ['cells'], 1)
     """
 
     def __init__(
@@ -78,11 +81,36 @@ class Answer:
         return re.findall(r"(?m)^(?:running|stopped|lost) .*$", self.text)
 
     def __getitem__(self, name: Union[str, int]) -> Value:
-        if isinstance(name, int):
-            cells = self.values["cells"]
-            assert isinstance(cells, list)
-            return cells[name]
-        return self.values[name]
+        if not isinstance(name, int):
+            return self.values[name]
+        cells = self.values.get("cells")
+        if not isinstance(cells, list):
+            raise KeyError(name)
+        return cells[name]
+
+    def __contains__(self, name: object) -> bool:
+        return name in self.values
+
+    def __iter__(self) -> Iterator[str]:
+        return iter(self.values)
+
+    def __len__(self) -> int:
+        return len(self.values)
+
+    def __bool__(self) -> bool:
+        return True
+
+    def keys(self) -> KeysView[str]:
+        """The names of the values."""
+        return self.values.keys()
+
+    def items(self) -> ItemsView[str, Value]:
+        """The names and their values."""
+        return self.values.items()
+
+    def get(self, name: str, default: Any = None) -> Any:
+        """The value of a name, or another one where there is no such name."""
+        return self.values.get(name, default)
 
     def array(self, name: str = "cells") -> Any:
         """The values of an array as a `numpy.ndarray` of 32 bits without a sign."""
@@ -103,7 +131,7 @@ class Answer:
     __hash__ = None  # type: ignore[assignment]
 
     def __repr__(self) -> str:
-        return f"<{self.status} step={self.step}>" if not self.failure else f"<{self.failure}>"
+        return f"<{self.conflict or f'{self.status} step={self.step}'}>"
 
     def __str__(self) -> str:
         return self.text

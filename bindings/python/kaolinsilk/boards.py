@@ -76,11 +76,14 @@ class Board(_Staying):
     library chooses. With `settings` constants and shared arrays are what these say. `board.cells`,
     `board.procs` and `board.steps` are those of the job.
 
+    Of a board on which nobody has worked yet a seat tells what is so: no step is finished and there
+    is no fault, each cell is read after step 0 as it starts, and the answer is unfinished.
+
     >>> board = Board("pram 1\\ncells 1\\nprocs 1\\nsteps 1\\ncode\\nst r0 r0\\n", workers=1)
     >>> board.worker(0).work(limit=5)
     'unfinished'
-    >>> board.seat().progress()
-    Progress(step=0, steps=1, conflict=0)
+    >>> board.seat().progress(), board.seat().read(0), board.seat().answer()
+    (Progress(step=0, steps=1, conflict=0), Reading(step=0, value=0), <unfinished step=0>)
     """
 
     def __init__(
@@ -103,6 +106,9 @@ class Board(_Staying):
         if status != _library.DONE:
             said = b"there are from 1 to 64 workers, and a grain is a power of two up to 64"
             _library.refuse(status, _library.Answer(sentence=said))
+
+    def __repr__(self) -> str:
+        return f"<board of {self.procs} processors, {self.steps} steps and {self.workers} workers>"
 
     def cell(self, place: str) -> int:
         """The cell of a place of the program, as "A[3]" or "sum"."""
@@ -146,6 +152,9 @@ class Worker(_Staying):
             left -= most
         return _library.WORDS[status]
 
+    def __repr__(self) -> str:
+        return f"<worker {self.number} of {self.board.workers}>"
+
     def back(self) -> None:
         """The worker loses all that it knew, and comes back from its word on the board."""
         self._member.ask(library.ks_back)
@@ -163,6 +172,10 @@ class Seat(_Staying):
         found = _library.Progress()
         self._member.ask(library.ks_progress, found)
         return Progress(found.step, found.steps, found.conflict)
+
+    def __repr__(self) -> str:
+        step, steps, conflict = self.progress()
+        return f"<seat: {f'a conflict in step {conflict}' if conflict else f'step {step}'} of {steps}>"
 
     def read(self, cell: Union[int, str]) -> Reading:
         """What a cell of the job held after a finished step, while workers may be at work. Of a

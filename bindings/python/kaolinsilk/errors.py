@@ -96,8 +96,9 @@ class Conflict(KaolinsilkError):
 
 
 class Unfinished(KaolinsilkError):
-    """All workers were stopped before the end; `step` is the last finished step."""
+    """The job is not at its end, or not yet; `step` is the last finished step, 0 before the first."""
 
     def __init__(self, step: int) -> None:
         self.step = step
-        super().__init__(f"all workers were stopped, and step {step} is the last finished one")
+        finished = f"step {step} is the last finished one" if step else "no step is finished"
+        super().__init__(f"the job is not at its end: {finished}")

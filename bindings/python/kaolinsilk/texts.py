@@ -5,7 +5,7 @@ import operator
 import os
 import re
 from pathlib import Path
-from typing import Iterable, List, Mapping, NamedTuple, Optional, Set, Union
+from typing import Any, Iterable, List, Mapping, NamedTuple, Optional, Set, Tuple, Union
 
 from . import _library
 from .errors import BadRequest, Refused
@@ -15,8 +15,10 @@ Value = Union[int, List[int], List[List[int]]]
 
 # A text as it stands, or the path of a file that has it (a `pathlib.Path`).
 Source = Union[str, bytes, "os.PathLike[str]"]
-# What constants, shared scalars and shared arrays are set to, by their names.
-Settings = Mapping[str, Union[int, Iterable[int]]]
+# What constants, shared scalars and shared arrays are set to, by their names: a number, those of an
+# array in order, the rows of one of two indices, or as `--set` has it after the sign. A numpy array
+# is taken as it is.
+Settings = Mapping[str, Union[int, str, Iterable[int], Iterable[Iterable[int]]]]
 
 
 def bytes_of(source: Source, settings: Optional[Settings] = None) -> bytes:
@@ -33,7 +35,8 @@ def bytes_of(source: Source, settings: Optional[Settings] = None) -> bytes:
 
 def text_as_set(text: Source, settings: Settings) -> bytes:
     """The text of a program with other numbers for its constants, and other values for its shared
-    arrays and scalars to start with. Each call takes it, as it takes settings.
+    arrays and scalars to start with. Each call takes it, as it takes settings. An array of two
+    indices is set by its rows, as many and as long as its own, or by all its values in order.
 
     >>> text = "pardo 1\\nrule crew\\nconst n = 2\\nprocs i < n\\nshared A[n]\\ncode\\nA[i] := i\\n"
     >>> text_as_set(text, {"n": 4, "A": [3, 1, 4, 1]}).decode().splitlines()[2:5]
@@ -43,21 +46,67 @@ def text_as_set(text: Source, settings: Settings) -> bytes:
 
 
 def _set(text: bytes, settings: Settings) -> bytes:
-    names = list(settings)
+    names, given = list(settings), {name: _given(name, it) for name, it in settings.items()}
     try:
-        return _library.text_as_set(text, b"".join(_line(*it) for it in settings.items()))
+        as_set = _library.text_as_set(text, b"".join(_line(*it) for it in given.items()))
     except Refused as refused:
         if refused.subject == "set" and refused.line:
             raise Refused("set", refused.kind, refused.sentence, name=names[refused.line - 1])
         raise
+    by_rows = [name for name, it in given.items() if it.shape]
+    declared = {it.name: it for it in shared_of(as_set)} if by_rows else {}
+    for name in by_rows:
+        _check_rows(declared.get(name), given[name])
+    return as_set
 
 
-def _line(name: str, values: Union[int, Iterable[int]]) -> bytes:
-    """A setting as the library reads it."""
+class _Given(NamedTuple):
+    """The values of a setting, and how many rows and columns they were given by, if by rows."""
+
+    numbers: Union[str, List[int]]
+    shape: Optional[Tuple[int, int]] = None
+
+
+def _given(name: str, values: Any) -> _Given:
+    """What a setting is given by. A numpy array, or what makes itself one, becomes lists first."""
     if "=" in name or "\n" in name:
         raise BadRequest(f"{name!r} is no name")
-    numbers = values if isinstance(values, Iterable) else [values]
-    return f"{name}={','.join(str(operator.index(it)) for it in numbers)}\n".encode()
+    if isinstance(values, str):
+        if not values.isascii() or "\n" in values:
+            raise BadRequest(f"{values!r} is no setting")
+        return _Given(values)
+    if hasattr(values, "__array__"):
+        import numpy
+
+        values = numpy.asarray(values).tolist()
+    if not isinstance(values, Iterable):
+        return _Given([operator.index(values)])
+    listed = list(values)
+    if not listed or not isinstance(listed[0], Iterable):
+        return _Given([operator.index(it) for it in listed])
+    rows = [[operator.index(it) for it in row] for row in listed]
+    if any(len(row) != len(rows[0]) for row in rows):
+        raise Refused("set", "WrongLength", "the rows have not all one length", name=name)
+    return _Given([it for row in rows for it in row], (len(rows), len(rows[0])))
+
+
+def _check_rows(declared: Optional["Shared"], given: _Given) -> None:
+    """Refuses rows that an array does not have."""
+    if not declared:
+        return
+    wide = declared.width
+    has = (declared.length // wide, wide) if wide else (declared.length,)
+    if given.shape != has:
+        is_by, gives = (" by ".join(map(str, it)) for it in (has, given.shape or ()))
+        sentence = f"the array is {is_by}, and not {gives}"
+        raise Refused("set", "WrongLength", sentence, name=declared.name)
+
+
+def _line(name: str, given: _Given) -> bytes:
+    """A setting as the library reads it."""
+    numbers = given.numbers
+    values = numbers if isinstance(numbers, str) else ",".join(map(str, numbers))
+    return f"{name}={values}\n".encode()
 
 
 def _words(line: bytes) -> List[bytes]:

@@ -11,6 +11,7 @@ GALLERY = sorted([*EXAMPLES.glob("*.pram"), *EXAMPLES.glob("*.pardo")])
 PROGRAM = Path(os.environ.get("KAOLINSILK_PROGRAM", TOP / "out/pramx"))
 
 PREFIX = (EXAMPLES / "prefix.pardo").read_text()
+STARTS = [3, 1, 4, 1, 5, 9, 2, 6]
 SUMS = [3, 4, 8, 9, 14, 23, 25, 31]
 CONFLICT = (EXAMPLES / "conflict.pardo").read_text()
 MISTAKEN = CONFLICT.replace(" := ", " = ")

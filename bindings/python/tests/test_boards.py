@@ -9,7 +9,7 @@ import unittest
 from subprocess import PIPE
 
 import kaolinsilk
-from common import CONFLICT, EXAMPLES, GALLERY, PREFIX, SUMS, TINY
+from common import CONFLICT, EXAMPLES, GALLERY, PREFIX, STARTS, SUMS, TINY
 from kaolinsilk.plans import Row, rows_of
 
 # A job that is never at its end.
@@ -43,16 +43,31 @@ class Boards(unittest.TestCase):
         board = kaolinsilk.Board(PREFIX, workers=1)
         worker, seat = board.worker(0), board.seat()
         self.assertEqual(seat.progress(), (0, 72, 0))
-        self.assertEqual(seat.read(0), (0, 3))
-        self.assertEqual(seat.answer().status, "unfinished")
-        with self.assertRaises(kaolinsilk.Unfinished):
-            seat.memory()
         self.assertEqual(worker.work(limit=1), "unfinished")
         self.assertEqual(worker.work(), "done")
         self.assertEqual(seat.progress(), (72, 72, 0))
         self.assertEqual((seat.memory()[:8], seat.answer()["A"]), (SUMS, SUMS))
         self.assertEqual(seat.read(7), (72, 31))
         self.assertIsNone(seat.fault())
+
+    def test_what_is_said_of_a_fresh_board(self):
+        board = kaolinsilk.Board(PREFIX, workers=2)
+        seat = board.seat()
+        self.assertEqual([seat.read(it) for it in range(8)], [(0, it) for it in STARTS])
+        self.assertIsNone(seat.fault())
+        answer = seat.answer()
+        told = (answer.status, answer.step, answer.text, answer.gone, answer.why)
+        self.assertEqual(told, ("unfinished", 0, "unfinished step=0\n", [], []))
+        for ask in (seat.memory, lambda: answer["A"], lambda: list(answer)):
+            with self.assertRaises(kaolinsilk.Unfinished) as caught:
+                ask()
+            said = "the job is not at its end: no step is finished"
+            self.assertEqual((caught.exception.step, str(caught.exception)), (0, said))
+        self.assertEqual(repr(board), "<board of 8 processors, 72 steps and 2 workers>")
+        self.assertEqual(repr(board.worker(1)), "<worker 1 of 2>")
+        self.assertEqual((repr(seat), repr(answer)), ("<seat: step 0 of 72>", "<unfinished step=0>"))
+        board.worker(1).work()
+        self.assertEqual(repr(seat), "<seat: step 72 of 72>")
 
     def test_single_steps(self):
         board = kaolinsilk.Board(TINY, workers=1, grain=1)

@@ -18,6 +18,70 @@ class Calls(unittest.TestCase):
         self.assertEqual(kaolinsilk.plain(EXAMPLES / "maximum.pardo")["greatest"], 47)
         self.assertEqual(kaolinsilk.plain(EXAMPLES / "sum.pram")[0], 31)
 
+    def test_an_answer_is_a_mapping(self):
+        answer = kaolinsilk.plain(PREFIX)
+        self.assertTrue("A" in answer and "B" not in answer and 0 not in answer)
+        self.assertEqual((list(answer), len(answer), dict(answer)), (["A"], 1, {"A": SUMS}))
+        self.assertEqual((dict(**answer), list(answer.items())), ({"A": SUMS}, [("A", SUMS)]))
+        self.assertEqual((answer.get("A"), answer.get("B", 7)), (SUMS, 7))
+        for name in (0, "B"):
+            with self.assertRaises(KeyError):
+                answer[name]
+        nothing = kaolinsilk.plain("pardo 1\nrule crew\nprocs i < 1\nprivate x\ncode\nx := 1\n")
+        self.assertEqual((bool(nothing), list(nothing)), (True, []))
+        cells = kaolinsilk.plain(TINY)
+        self.assertEqual((list(cells), cells[0]), (["cells"], 0))
+        failed = kaolinsilk.plain(CONFLICT)
+        self.assertTrue(failed)
+        for ask in (list, len, dict, lambda it: "sum" in it, lambda it: it.get("sum")):
+            with self.assertRaises(kaolinsilk.Conflict):
+                ask(failed)
+
+    def test_arrays_of_two_indices(self):
+        text = "pardo 1\nrule crew\nconst n = 2\nprocs i < 1\nshared G[n,3]\nshared A[6]\n"
+        text += "code\nA[1] := G[n - 1,1]\n"
+        rows = [[1, 2, 3], [4, 5, 6]]
+        answer = kaolinsilk.plain(text, settings={"G": rows})
+        self.assertEqual((answer["G"], answer["A"][1]), (rows, 5))
+        self.assertEqual(kaolinsilk.plain(text, settings={"G": range(1, 7)}), answer)
+        self.assertEqual(kaolinsilk.plain(text, settings={"G": (tuple(it) for it in rows)}), answer)
+        self.assertEqual(kaolinsilk.run(text, 2, settings={"G": rows}), answer)
+        three = kaolinsilk.plain(text, settings={"n": 3, "G": [*rows, [7, 8, 9]]})
+        self.assertEqual((three["G"][2], three["A"][1]), ([7, 8, 9], 8))
+        self.assertEqual(kaolinsilk.plain(text, settings={"G": "1,2,3,4,5,6"}), answer)
+        for settings, sentence in (
+            ({"G": [[1, 2], [3, 4], [5, 6]]}, "the array is 2 by 3, and not 3 by 2"),
+            ({"G": [[1, 2, 3], [4, 5]]}, "the rows have not all one length"),
+            ({"A": rows}, "the array is 6, and not 2 by 3"),
+            ({"n": 3, "G": rows}, "as many values as places"),
+        ):
+            with self.assertRaises(kaolinsilk.Refused) as caught:
+                kaolinsilk.plain(text, settings=settings)
+            refused = caught.exception
+            told = (refused.subject, refused.name, refused.kind)
+            self.assertEqual(told, ("set", "A" if "A" in settings else "G", "WrongLength"))
+            self.assertIn(sentence, refused.sentence)
+        for wrong in ([[1.5, 2, 3]] * 2, [rows, rows], 1.5, [None]):
+            with self.assertRaises(TypeError):
+                kaolinsilk.plain(text, settings={"G": wrong})
+
+    def test_numpy_arrays_as_settings(self):
+        try:
+            import numpy
+        except ImportError:
+            self.skipTest("numpy is not there")
+        text = "pardo 1\nrule crew\nprocs i < 1\nshared G[2,3]\nshared s\ncode\ns := s + G[1,2]\n"
+        for kind in ("uint8", "uint32", "int64", ">u4"):
+            rows = numpy.arange(6, dtype=kind).reshape(2, 3)
+            for array in (rows, rows.T.copy().T, rows.flatten()):
+                answer = kaolinsilk.plain(text, settings={"G": array, "s": array.dtype.type(7)})
+                self.assertEqual((answer["G"], answer["s"]), ([[0, 1, 2], [3, 4, 5]], 12))
+            self.assertEqual(answer.array("G").shape, (2, 3))
+        with self.assertRaises(kaolinsilk.Refused):
+            kaolinsilk.plain(text, settings={"G": rows.T})
+        with self.assertRaises(TypeError):
+            kaolinsilk.plain(text, settings={"G": rows / 2})
+
     def test_a_scalar_is_a_number_and_an_array_of_one_place_is_a_list(self):
         header = "pardo 1\nrule crew\nprocs i < 1\nshared A[1] = 7\nshared sum ; A[\ncode\n"
         self.assertEqual(kaolinsilk.plain(header + "sum := A[0]\n").values, {"A": [7], "sum": 7})
