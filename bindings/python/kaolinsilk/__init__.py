@@ -28,7 +28,16 @@ from .answers import Answer, Gone
 from .boards import Board, Progress, Reading, Seat, Worker
 from .calls import Cost, cells, check, compile, cost, cost_by_lines, plain, replay, steps
 from .canvas import Picture
-from .errors import BadRequest, Conflict, KaolinsilkError, OutOfMemory, Refused, Unfinished
+from .errors import (
+    BadRequest,
+    Cancelled,
+    Conflict,
+    KaolinsilkError,
+    OutOfMemory,
+    Refused,
+    TimedOut,
+    Unfinished,
+)
 from .judging import Verdict, judge
 from .moments import Moment, moment
 from .pictures import draw_memory, draw_moment, draw_tree, draw_work
@@ -42,6 +51,7 @@ __all__ = [
     "Answer",
     "BadRequest",
     "Board",
+    "Cancelled",
     "Conflict",
     "Cost",
     "Gone",
@@ -55,6 +65,7 @@ __all__ = [
     "Rows",
     "Seat",
     "Sweep",
+    "TimedOut",
     "Unfinished",
     "Verdict",
     "Worker",

@@ -7,11 +7,15 @@ from __future__ import annotations
 import ctypes
 import operator
 import os
-from ctypes import POINTER, c_char, c_char_p, c_size_t, c_uint32, c_uint64, c_void_p
+import struct
+from ctypes import POINTER, c_char_p, c_size_t, c_uint32, c_uint64, c_void_p
 from pathlib import Path
-from typing import Any, Dict, List, NamedTuple, NoReturn, Sequence
+from typing import Any, Callable, Dict, List, NamedTuple, NoReturn, Tuple
 
+from . import callers, calling, processes
+from .calling import Answer, Asked
 from .errors import BadRequest, OutOfMemory, Refused
+from .limits import NONE, Limit
 
 ABI_VERSION = 1
 
@@ -39,23 +43,6 @@ class Request(ctypes.Structure):
     ]
 
 
-class Answer(ctypes.Structure):
-    _fields_ = [
-        ("size", c_uint32),
-        ("subject", c_uint32),
-        ("length", c_uint64),
-        ("line", c_uint64),
-        ("column", c_uint32),
-        ("reserved", c_uint32),
-        ("kind", c_char * 32),
-        ("sentence", c_char * 160),
-    ]
-
-
-class Row(ctypes.Structure):
-    _fields_ = [("worker", c_uint32), ("act", c_uint32), ("ticks", c_uint32)]
-
-
 class Handle(ctypes.Structure):
     """A board, a seat or a worker, or none yet."""
 
@@ -75,39 +62,37 @@ class Fault(ctypes.Structure):
 
 
 HANDLE = POINTER(Handle)
-TEXT = [c_char_p, c_size_t]
-OUTPUT = [c_void_p, c_size_t, POINTER(Answer)]
-COMMAND = [*TEXT, POINTER(Request), *OUTPUT]
+# The calls of boards; calling.py makes the others.
 CALLS = {
-    "ks_check": COMMAND,
-    "ks_compile": COMMAND,
-    "ks_plain": COMMAND,
-    "ks_cost": COMMAND,
-    "ks_steps": COMMAND,
-    "ks_replay": [*TEXT, *COMMAND],
-    "ks_cells": [*TEXT, *OUTPUT],
-    "ks_plan": [*TEXT, c_uint32, *OUTPUT],
-    "ks_set": [*TEXT, *TEXT, *OUTPUT],
-    "ks_judge": [*TEXT, *TEXT, *OUTPUT],
-    "ks_open": [*TEXT, c_uint32, c_uint32, HANDLE],
+    "ks_open": [c_char_p, c_size_t, c_uint32, c_uint32, HANDLE],
     "ks_seat_of": [HANDLE, HANDLE],
     "ks_worker_of": [HANDLE, c_uint32, HANDLE],
     "ks_work": [HANDLE, c_uint64],
+    "ks_turns": [HANDLE, c_uint64],
     "ks_back": [HANDLE],
     "ks_progress": [HANDLE, POINTER(Progress)],
     "ks_read": [HANDLE, c_uint32, POINTER(Reading)],
     "ks_memory": [HANDLE, c_void_p, c_size_t],
     "ks_fault": [HANDLE, POINTER(Fault)],
 }
+# Those that libraries before 0.9 do not have.
+LATER = ("ks_turns",)
 CLOSES = ("ks_close", "ks_close_seat", "ks_close_worker")
 
 
+_BESIDE = Path(__file__).with_name("libkaolinsilk.so")
+_NAMED = os.environ.get("KAOLINSILK_LIBRARY", str(_BESIDE))
+# A name alone is looked for where the system has its libraries.
+PATH = os.path.abspath(_NAMED) if os.sep in _NAMED else _NAMED
+
+
 def _load() -> ctypes.CDLL:
-    beside = Path(__file__).with_name("libkaolinsilk.so")
-    loaded = ctypes.CDLL(os.environ.get("KAOLINSILK_LIBRARY", str(beside)))
+    loaded = ctypes.CDLL(PATH)
     for name in ("ks_version", "ks_abi_version"):
         getattr(loaded, name).argtypes, getattr(loaded, name).restype = [], c_uint32
     for name, kinds in CALLS.items():
+        if name in LATER and not hasattr(loaded, name):
+            continue
         getattr(loaded, name).argtypes, getattr(loaded, name).restype = kinds, c_uint32
     for name in CLOSES:
         getattr(loaded, name).argtypes, getattr(loaded, name).restype = [HANDLE], None
@@ -127,10 +112,10 @@ def version() -> str:
 
 
 class Told(NamedTuple):
-    """What a call told: its status, and its output or the part of a buffer that it wrote."""
+    """What a call told: its status, and its output."""
 
     status: int
-    output: Any
+    output: bytes
 
 
 def refuse(status: int, answer: Answer) -> NoReturn:
@@ -157,44 +142,46 @@ def number_of(value: int, name: str, most: int = MOST, least: int = 0) -> int:
 _rooms: Dict[str, int] = {}
 
 
-def told(name: str, *texts: bytes, **asked: int) -> Told:
-    """A command over texts. Where its output is longer than there is room, it is made again."""
-    return _printed(name, texts, [Request(size=ctypes.sizeof(Request), **asked)])
+def told(name: str, *texts: bytes, limit: Limit = NONE, **asked: int) -> Told:
+    """What a command tells of texts."""
+    request = Request(size=ctypes.sizeof(Request), **asked)
+    return _told(Asked(name, texts, bytes(request)), limit)
 
 
 def text_as_set(text: bytes, settings: bytes) -> bytes:
     """A text as another one sets names of it, by lines `NAME=V,V,..`."""
-    return bytes(_printed("ks_set", (text, settings), []).output)
+    return _told(Asked("ks_set", (text, settings))).output
 
 
-def verdict(exercise: bytes, submission: bytes) -> str:
+def verdict(exercise: bytes, submission: bytes, limit: Limit) -> str:
     """What is said of a submission by an exercise: a record `passed,input,what`."""
-    return str(_printed("ks_judge", (exercise, submission), []).output, "ascii")
+    return str(_told(Asked("ks_judge", (exercise, submission)), limit).output, "ascii")
 
 
-def _printed(name: str, texts: Sequence[bytes], asked: List[Any]) -> Told:
-    call, answer = getattr(library, name), Answer(size=ctypes.sizeof(Answer))
-    words = [word for text in texts for word in (text, len(text))] + asked
-    room = _rooms.get(name, LEAST_ROOM)
-    while True:
-        out = ctypes.create_string_buffer(room)
-        status = call(*words, out, room, answer)
-        if status not in (DONE, CONFLICT, UNFINISHED):
-            refuse(status, answer)
-        if answer.length <= room:
-            return Told(status, ctypes.string_at(out, answer.length))
-        room = answer.length
-        _rooms[name] = min(room, MOST_ROOM)
+def cells(text: bytes, limit: Limit) -> Told:
+    """The final cells of a job, as numbers of 32 bits."""
+    return _told(Asked("ks_cells", (text,), size=4), limit)
 
 
-def told_records(kind: Any, room: int, call: Any, *words: Any) -> Told:
-    """A call that writes numbers or records into a buffer that has room for so many at first."""
-    answer = Answer(size=ctypes.sizeof(Answer))
-    while True:
-        out = (kind * max(room, 1))()
-        status = call(*words, out, room, answer)
-        if status not in (DONE, CONFLICT, UNFINISHED):
-            refuse(status, answer)
-        if status != DONE or answer.length <= room:
-            return Told(status, out[: answer.length if status == DONE else 0])
-        room = answer.length
+def plan(text: bytes, workers: int) -> List[Tuple[int, ...]]:
+    """The rows of a plan for so many workers: for each a worker, an act, and ticks."""
+    output = _told(Asked("ks_plan", (text,), number=workers, size=12)).output
+    return list(struct.iter_unpack("=3I", output))
+
+
+def made(function: Callable[[], int], limit: Limit = NONE) -> int:
+    """The status of a call that is made in this process, which an interrupt or a limit ends."""
+    return callers.made(function, limit)
+
+
+def _told(asked: Asked, limit: Limit = NONE) -> Told:
+    """What a call tells. One that may have to end soon is made by a process that can be killed."""
+    asked = asked._replace(room=_rooms.get(asked.name, LEAST_ROOM) // asked.size)
+    given = processes.made(PATH, asked, limit) if limit is not NONE else None
+    if given is None:
+        given = callers.made(lambda: calling.call(library, asked), limit)
+    if len(given.output) > asked.room * asked.size:
+        _rooms[asked.name] = min(len(given.output), MOST_ROOM)
+    if given.status not in calling.WITH_OUTPUT:
+        refuse(given.status, Answer.from_buffer_copy(given.answer))
+    return Told(given.status, given.output)

@@ -18,11 +18,15 @@ from typing import Any, List, NamedTuple, NoReturn, Optional, Union
 from . import _library, calls, texts
 from ._library import library
 from .answers import Answer, values_of
+from .calling import Answer as ToldAnswer
 from .errors import Conflict, Unfinished
+from .limits import NONE, Limit, limit_of
 from .texts import Settings, Source, bytes_of
 
-# How many atomic steps are made in one call of the library, so that a thread can be stopped soon.
-STRIDE = 200_000
+# How many atomic steps or whole turns are made in one call of the library, so that a thread can be
+# stopped soon: they take some milliseconds.
+STRIDE, TURNS = 50_000, 500
+HAS_TURNS = hasattr(library, "ks_turns")
 # The greatest limit.
 MOST_STEPS = 2**64 - 1
 
@@ -53,7 +57,7 @@ class _Member:
         with self._lock:
             status = int(call(self.handle, *words))
         if status not in (_library.DONE, _library.CONFLICT, _library.UNFINISHED):
-            _library.refuse(status, _library.Answer())
+            _library.refuse(status, ToldAnswer())
         return status
 
     def __del__(self) -> None:
@@ -93,19 +97,34 @@ class Board(_Staying):
         grain: int = 0,
         *,
         settings: Optional[Settings] = None,
+        timeout: Optional[float] = None,
+        cancel: Optional[threading.Event] = None,
     ) -> None:
-        self.text = bytes_of(text, settings)
-        facts = calls.check(self.text)
-        self.cells, self.procs, self.steps = facts["cells"], facts["procs"], facts["steps"]
+        limit, self.text = limit_of(timeout, cancel), bytes_of(text, settings)
         self.workers = _library.number_of(workers, "workers")
         self._shared: Optional[List[texts.Shared]] = None
-        self._member = _Member(library.ks_close)
-        asked = self.workers, _library.number_of(grain, "grain")
-        text, handle = self.text, self._member.handle
-        status = library.ks_open(text, len(text), *asked, handle)
+        self._member = self._opened(self.workers, _library.number_of(grain, "grain"), limit)
+        found = _library.Progress()
+        Seat(self)._member.ask(library.ks_progress, found)
+        self.cells, self.steps = found.cells, found.steps
+
+    def _opened(self, workers: int, grain: int, limit: Limit) -> _Member:
+        text, member = self.text, _Member(library.ks_close)
+        words = text, len(text), workers, grain, member.handle
+        # Who leaves this call leaves the board to it, which closes it then.
+        status = _library.made(lambda: int(library.ks_open(*words)), limit)
+        if status == _library.REFUSED:
+            calls.check(text, timeout=limit.rest(), cancel=limit.cancel)
         if status != _library.DONE:
             said = b"there are from 1 to 64 workers, and a grain is a power of two up to 64"
-            _library.refuse(status, _library.Answer(sentence=said))
+            _library.refuse(status, ToldAnswer(sentence=said))
+        return member
+
+    @property
+    def procs(self) -> int:
+        """How many processors the job has."""
+        facts = calls.check(texts.without_code(self.text))
+        return int(facts["procs"])
 
     def __repr__(self) -> str:
         return f"<board of {self.procs} processors, {self.steps} steps and {self.workers} workers>"
@@ -142,13 +161,25 @@ class Worker(_Staying):
         """Makes atomic steps until the job is over, or so many: "done", "conflict", "unfinished".
 
         Without a limit it ends within 300 L T + 8 atomic steps, where T is the number of steps of
-        the job and L the least power of two that is at least that of its processors.
+        the job and L the least power of two that is at least that of its processors. With one the
+        steps are made one by one, which takes some twenty times as long: see `turns`.
         """
+        if limit is None and HAS_TURNS:
+            return self.turns()
         left = MOST_STEPS if limit is None else _library.number_of(limit, "the limit", MOST_STEPS)
+        return self._work_on(library.ks_work, left, STRIDE)
+
+    def turns(self, count: Optional[int] = None) -> str:
+        """Works at full speed until the job is over, or for so many turns: "done", "conflict",
+        "unfinished". A turn is a visit of a node of the tree, and takes well under 0.1 ms."""
+        left = MOST_STEPS if count is None else _library.number_of(count, "the turns", MOST_STEPS)
+        return self._work_on(library.ks_turns, left, TURNS)
+
+    def _work_on(self, call: Any, left: int, stride: int) -> str:
         status = _library.UNFINISHED
         while status == _library.UNFINISHED and left:
-            most = min(left, STRIDE)
-            status = self._member.ask(library.ks_work, most)
+            most = min(left, stride)
+            status = self._member.ask(call, most)
             left -= most
         return _library.WORDS[status]
 
@@ -175,7 +206,8 @@ class Seat(_Staying):
 
     def __repr__(self) -> str:
         step, steps, conflict = self.progress()
-        return f"<seat: {f'a conflict in step {conflict}' if conflict else f'step {step}'} of {steps}>"
+        at = f"a conflict in step {conflict}" if conflict else f"step {step}"
+        return f"<seat: {at} of {steps}>"
 
     def read(self, cell: Union[int, str]) -> Reading:
         """What a cell of the job held after a finished step, while workers may be at work. Of a
@@ -203,18 +235,24 @@ class Seat(_Staying):
     def answer(self) -> Answer:
         """The answer by the names of the text. Of a program, the line of a conflict is found on the
         plain machine, as `pramx run` does."""
+        return self.answer_within(NONE)
+
+    def answer_within(self, limit: Limit) -> Answer:
+        """The answer, or `TimedOut` or `Cancelled`."""
         text, (step, steps, conflict) = self.board.text, self.progress()
         if conflict:
-            return Answer("conflict", conflict, failure=self._named_fault(), program=text)
+            return Answer("conflict", conflict, failure=self._named_fault(limit), program=text)
         if step < steps:
             said = f"unfinished step={step}\n".encode()
             return Answer("unfinished", step, failure=Unfinished(step), said=said)
         return Answer("done", step, values_of(text, self.memory()), program=text)
 
-    def _named_fault(self) -> Conflict:
+    def _named_fault(self, limit: Limit) -> Conflict:
         text, fault = self.board.text, self.fault()
         assert fault
-        told = calls.plain(text).conflict if texts.is_program(text) else None
-        if told:
-            return Conflict(fault.processors, fault.step, fault.cell, told.line, told.place)
-        return fault
+        if not texts.is_program(text):
+            return fault
+        told = calls.plain(text, timeout=limit.rest(), cancel=limit.cancel).conflict
+        if not told:
+            return fault
+        return Conflict(fault.processors, fault.step, fault.cell, told.line, told.place)

@@ -2,40 +2,64 @@
 
 With `settings`, constants, shared scalars and shared arrays of a program are what these say:
 `plain(text, settings={"n": 4, "A": [3, 1, 4, 1]})`.
+
+An interrupt ends each call at once; after `timeout` seconds it raises `TimedOut`, and `Cancelled`
+where another thread sets the event `cancel`.
 """
 from __future__ import annotations
 
 import csv
-import ctypes
 import io
+from array import array
+from threading import Event
 from typing import Any, Dict, List, Optional
 
 from . import _library, plans
 from .answers import Answer, answer_of, meeting_of
+from .limits import limit_of
 from .rows import Rows, rows_of
 from .tables import table
 from .texts import Settings, Source, bytes_of
 
 
-def check(text: Source, *, settings: Optional[Settings] = None) -> Dict[str, Any]:
+def check(
+    text: Source,
+    *,
+    settings: Optional[Settings] = None,
+    timeout: Optional[float] = None,
+    cancel: Optional[Event] = None,
+) -> Dict[str, Any]:
     """Judges a text, and says how large its job is.
 
     >>> check("pram 1\\ncells 2\\nprocs 1\\nsteps 1\\ncode\\nset r0 7\\n")
     {'cells': 2, 'procs': 1, 'steps': 1, 'code': 1, 'rule': 'common'}
     """
-    said = _library.told("ks_check", bytes_of(text, settings)).output.decode("ascii")
-    facts = dict(word.partition("=")[::2] for word in said.split()[1:])
+    limit = limit_of(timeout, cancel)
+    told = _library.told("ks_check", bytes_of(text, settings), limit=limit)
+    facts = dict(word.partition("=")[::2] for word in told.output.decode("ascii").split()[1:])
     rule = facts.pop("rule", "common")
     return {**{name: int(number) for name, number in facts.items()}, "rule": rule}
 
 
-def compile(text: Source, *, settings: Optional[Settings] = None) -> str:
+def compile(
+    text: Source,
+    *,
+    settings: Optional[Settings] = None,
+    timeout: Optional[float] = None,
+    cancel: Optional[Event] = None,
+) -> str:
     """The job of a program, as a text of the machine."""
-    return str(_library.told("ks_compile", bytes_of(text, settings)).output, "ascii")
+    limit = limit_of(timeout, cancel)
+    return str(_library.told("ks_compile", bytes_of(text, settings), limit=limit).output, "ascii")
 
 
 def plain(
-    text: Source, why: bool = False, *, settings: Optional[Settings] = None
+    text: Source,
+    why: bool = False,
+    *,
+    settings: Optional[Settings] = None,
+    timeout: Optional[float] = None,
+    cancel: Optional[Event] = None,
 ) -> Answer:
     """Runs a text on the plain machine, step by step. `answer.why` then says what became of the
     processors.
@@ -43,18 +67,23 @@ def plain(
     >>> plain("pardo 1\\nrule crew\\nprocs i < 4\\nshared A[4]\\ncode\\nA[i] := i * i\\n")["A"]
     [0, 1, 4, 9]
     """
-    given = bytes_of(text, settings)
-    return answer_of(given, _library.told("ks_plain", given, why=why))
+    limit, given = limit_of(timeout, cancel), bytes_of(text, settings)
+    return answer_of(given, _library.told("ks_plain", given, limit=limit, why=why))
 
 
-def cells(text: Source, *, settings: Optional[Settings] = None) -> List[int]:
+def cells(
+    text: Source,
+    *,
+    settings: Optional[Settings] = None,
+    timeout: Optional[float] = None,
+    cancel: Optional[Event] = None,
+) -> List[int]:
     """The cells of the job of a text after its last step, those of private variables among them."""
-    given = bytes_of(text, settings)
-    words = (_library.library.ks_cells, given, len(given))
-    told = _library.told_records(ctypes.c_uint32, 1024, *words)
+    limit, given = limit_of(timeout, cancel), bytes_of(text, settings)
+    told = _library.cells(given, limit)
     if told.status == _library.CONFLICT:
-        plain(given).values
-    return list(told.output)
+        answer_of(given, _library.told("ks_plain", given, limit=limit)).values
+    return array("I", told.output).tolist()
 
 
 class Cost(Dict[str, Any]):
@@ -84,7 +113,13 @@ def _field(name: str, said: str) -> Any:
     return int(said) if said.isdigit() else said
 
 
-def cost_by_lines(text: Source, *, settings: Optional[Settings] = None) -> Rows:
+def cost_by_lines(
+    text: Source,
+    *,
+    settings: Optional[Settings] = None,
+    timeout: Optional[float] = None,
+    cancel: Optional[Event] = None,
+) -> Rows:
     """What each counted line of a program costs: how often it comes up, its time, its operations,
     the most processors at a time, and its text. A text of the machine has none.
 
@@ -92,19 +127,26 @@ def cost_by_lines(text: Source, *, settings: Optional[Settings] = None) -> Rows:
     >>> cost_by_lines(text)[0]
     {'line': 7, 'times': 1, 'time': 1, 'operations': 3, 'most': 3, 'text': 'A[i] := i'}
     """
-    told = _library.told("ks_cost", bytes_of(text, settings), lines=1)
+    limit = limit_of(timeout, cancel)
+    told = _library.told("ks_cost", bytes_of(text, settings), limit=limit, lines=1)
     names, *records = csv.reader(io.StringIO(told.output.decode("ascii"), newline=""))
     return Rows(names, ([*map(int, numbers), line] for *numbers, line in records))
 
 
-def cost(text: Source, *, settings: Optional[Settings] = None) -> Cost:
+def cost(
+    text: Source,
+    *,
+    settings: Optional[Settings] = None,
+    timeout: Optional[float] = None,
+    cancel: Optional[Event] = None,
+) -> Cost:
     """What the run of a text costs, and the weakest PRAM that it needs.
 
     >>> cost("pardo 1\\nrule crew\\nprocs i < 4\\nshared A[4]\\ncode\\nA[i] := i\\n")["needs"]
     'EREW'
     """
-    given = bytes_of(text, settings)
-    told = _library.told("ks_cost", given)
+    limit = limit_of(timeout, cancel)
+    told = _library.told("ks_cost", bytes_of(text, settings), limit=limit)
     lines = told.output.decode("ascii").splitlines()
     names = ("same read", "same write", "other value")
     found = Cost()
@@ -124,6 +166,8 @@ def steps(
     last: Optional[int] = None,
     *,
     settings: Optional[Settings] = None,
+    timeout: Optional[float] = None,
+    cancel: Optional[Event] = None,
 ) -> Rows:
     """What each processor asks for in each step, from the first to the last; `rows.answer` is the
     answer.
@@ -132,10 +176,11 @@ def steps(
     >>> rows[0]["instruction"], rows[0]["writes"], rows[0]["value"]
     ('set r0 7', 'r0', 7)
     """
-    given, most = bytes_of(text, settings), _library.MOST
+    limit, given = limit_of(timeout, cancel), bytes_of(text, settings)
     begins = _library.number_of(first, "the first step", least=1)
-    ends = _library.number_of(most if last is None else last, "the last step", least=1)
-    return rows_of(given, _library.told("ks_steps", given, first=begins, last=ends))
+    last = _library.MOST if last is None else last
+    ends = _library.number_of(last, "the last step", least=1)
+    return rows_of(given, _library.told("ks_steps", given, limit=limit, first=begins, last=ends))
 
 
 def replay(
@@ -144,6 +189,8 @@ def replay(
     plan: Optional[plans.Plan] = None,
     *,
     settings: Optional[Settings] = None,
+    timeout: Optional[float] = None,
+    cancel: Optional[Event] = None,
 ) -> Rows:
     """Runs a text by workers, one atomic step at a time in the order of a plan; a row for each.
 
@@ -151,6 +198,7 @@ def replay(
     >>> len(rows), rows.answer.status
     (33, 'done')
     """
-    given, asked = bytes_of(text, settings), _library.number_of(workers, "workers")
-    told = _library.told("ks_replay", given, plans.bytes_of(plan), workers=asked)
+    limit, given = limit_of(timeout, cancel), bytes_of(text, settings)
+    asked = _library.number_of(workers, "workers")
+    told = _library.told("ks_replay", given, plans.bytes_of(plan), limit=limit, workers=asked)
     return rows_of(given, told)

@@ -69,6 +69,14 @@ class OutOfMemory(KaolinsilkError, MemoryError):
     """There is no memory for the call, or for its answer."""
 
 
+class TimedOut(KaolinsilkError, TimeoutError):
+    """A call took longer than it was given, and has ended."""
+
+
+class Cancelled(KaolinsilkError):
+    """A call was cancelled, and has ended."""
+
+
 class Conflict(KaolinsilkError):
     """A step of the job is against its rule of writing.
 

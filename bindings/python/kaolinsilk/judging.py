@@ -2,9 +2,11 @@
 from __future__ import annotations
 
 import csv
+from threading import Event
 from typing import NamedTuple, Optional
 
 from . import _library
+from .limits import limit_of
 from .texts import Source, bytes_of
 
 
@@ -24,7 +26,13 @@ class Verdict(NamedTuple):
         return self.passed
 
 
-def judge(exercise: Source, submission: Source) -> Verdict:
+def judge(
+    exercise: Source,
+    submission: Source,
+    *,
+    timeout: Optional[float] = None,
+    cancel: Optional[Event] = None,
+) -> Verdict:
     """Judges a submission by an exercise, as `pramx judge` does; docs/TEACHING.md says how
     exercises are written. One by which nothing can be judged is `Refused`, with its line.
 
@@ -48,6 +56,7 @@ def judge(exercise: Source, submission: Source) -> Verdict:
     >>> bool(judge(exercise, header + "A[i] := i * i\\n"))
     True
     """
-    [record] = csv.reader([_library.verdict(bytes_of(exercise), bytes_of(submission))])
+    limit = limit_of(timeout, cancel)
+    [record] = csv.reader([_library.verdict(bytes_of(exercise), bytes_of(submission), limit)])
     passed, number, what = record
     return Verdict(passed == "yes", int(number) if number else None, what)

@@ -1,7 +1,6 @@
 """Plans: what the workers of a run do."""
 from __future__ import annotations
 
-import ctypes
 from typing import Iterable, List, NamedTuple, Optional, Tuple, Union
 
 from . import _library
@@ -39,8 +38,5 @@ def bytes_of(plan: Optional[Plan]) -> bytes:
 
 def rows_of(plan: Optional[Plan], workers: int) -> List[Row]:
     """The rows of a plan for so many workers, as the library reads them."""
-    text, kind = bytes_of(plan), _library.Row
-    count = _library.number_of(workers, "workers")
-    words = (_library.library.ks_plan, text, len(text), count)
-    told = _library.told_records(kind, text.count(b"\n"), *words)
-    return [Row(row.worker, ACTS[row.act], row.ticks) for row in told.output]
+    rows = _library.plan(bytes_of(plan), _library.number_of(workers, "workers"))
+    return [Row(worker, ACTS[act], ticks) for worker, act, ticks in rows]

@@ -126,6 +126,11 @@ def header_of(text: bytes) -> List[bytes]:
     return lines[: next(ends, len(lines)) + 1]
 
 
+def without_code(text: bytes) -> bytes:
+    """A program with a code that does nothing, and the same header. A text of the machine stays."""
+    return b"\n".join([*header_of(text), b"while 0", b"end", b""]) if is_program(text) else text
+
+
 class Shared(NamedTuple):
     """A shared array or scalar of a program, and which cells of its job it has."""
 
@@ -160,8 +165,7 @@ def shared_of(text: bytes) -> List[Shared]:
 
     The library tells them: it answers a program of this header whose code does nothing.
     """
-    code = b"\n".join([*header_of(text), b"while 0", b"end", b""])
-    rows = _library.told("ks_plain", code).output.decode("ascii").splitlines()[1:]
+    rows = _library.told("ks_plain", without_code(text)).output.decode("ascii").splitlines()[1:]
     arrays, found, first = arrays_of(text), {}, 0
     for told, _, values in (row.partition(" = ") for row in rows):
         name, is_row, _ = told.partition("[")

@@ -65,7 +65,7 @@ class Boards(unittest.TestCase):
             self.assertEqual((caught.exception.step, str(caught.exception)), (0, said))
         self.assertEqual(repr(board), "<board of 8 processors, 72 steps and 2 workers>")
         self.assertEqual(repr(board.worker(1)), "<worker 1 of 2>")
-        self.assertEqual((repr(seat), repr(answer)), ("<seat: step 0 of 72>", "<unfinished step=0>"))
+        self.assertEqual([repr(seat), repr(answer)], ["<seat: step 0 of 72>", "<unfinished step=0>"])
         board.worker(1).work()
         self.assertEqual(repr(seat), "<seat: step 72 of 72>")
 

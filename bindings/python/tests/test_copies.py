@@ -101,7 +101,10 @@ class Copies(unittest.TestCase):
         self.assertEqual(board.worker(0).work(), "done")
 
     def test_pools_of_processes(self):
-        files = {"good": str(EXAMPLES / "prefix.pardo"), "conflict": str(EXAMPLES / "conflict.pardo")}
+        files = {
+            "good": str(EXAMPLES / "prefix.pardo"),
+            "conflict": str(EXAMPLES / "conflict.pardo"),
+        }
         answers = f"['done', 'conflict', 'done'] {SUMS} sum"
         wanted = f"text 12 12 BadLine\n{answers}\n{answers}\n576 {SUMS}\n"
         for way in ("fork", "spawn", "forkserver"):
