@@ -1,14 +1,17 @@
 /* pramx-processes: runs a job by processes that share one board, each of which anyone may kill.
  * `pramx-processes --help` says how it is called. SPDX-License-Identifier: MIT OR Apache-2.0
  *
- *   cc -no-pie processes.c shared.c words.c -lkaolinsilk -o pramx-processes
+ *   cc -no-pie processes.c shared.c words.c -l:libkaolinsilk.a -o pramx-processes
+ *
+ * It has an allocator of its own, which libkaolinsilk.so does not take, so it asks for the name of
+ * kaolinsilk_host.h that the static library alone has.
  *
  * The first process opens the board in shared memory (shared.h says what becomes of that where
  * processes or the machine go down) and forks a process for each worker. It has no threads, since
- * a forked child of a process with threads may not call the library. A process has a worker and a
- * seat that no other one uses; the words of the board are all that they share. So one that is
- * killed leaves nothing half done: another one of its number takes another worker, and comes back
- * from the position that stands on the board. Two of one number may be at work together.
+ * a forked child of a process with threads may not call the library. A process makes a worker and a
+ * seat of its own; the words of the board are all that they share. So one that is killed leaves
+ * nothing half done: another one of its number makes another worker, and comes back from the
+ * position that stands on the board. Two of one number may be at work together.
  */
 #define _GNU_SOURCE
 #include "shared.h"
@@ -91,6 +94,10 @@ static _Noreturn void no_board(const struct run *run, enum shared_fault fault) {
       [SHARED_THERE] = "is there already: --join N goes on with its board, or remove it",
       [SHARED_FILE] = "can't be made or mapped as a board",
       [SHARED_OTHER] = "holds no board of this very build of pramx-processes",
+      [SHARED_COPY] = "is a copy of a board's file: what its words hold is of no one moment",
+      [SHARED_CUT] = "was cut, or has grown, since its board was opened",
+      [SHARED_CHANGED] = "has bytes that were changed, and that no worker changes",
+      [SHARED_WORDS] = "has words that no run leaves",
       [SHARED_CRASHED] = "is of an earlier start of this machine: what its words hold now is of no "
                          "one moment",
       [SHARED_PART] = "holds a board that is not open yet; if its maker is gone, remove it"};
@@ -163,26 +170,17 @@ static void open_board(struct run *run) {
   enum shared_fault fault = shared_make(words->board, &run->shared, &run->file);
   if (fault) no_board(run, fault);
   uint32_t status = ks_open(text, length, words->workers, words->block, &board);
-  if (!status) status = shared_fill(run->shared, &board, words->workers);
   if (status && words->board) unlink(words->board);
   if (status == KS_REFUSED) ks_check(text, length, &request, text, 0, &answer);
   if (status) refused(run, status, &answer);
-  fault = shared_is_full(run->shared, run->file);
+  fault = shared_is_full(run->shared, run->file, &board, words->workers);
   if (fault && words->board) unlink(words->board);
   if (fault) no_board(run, fault);
   free(text);
 }
 
-/* The spares are used up where processes were killed that often. */
-static _Noreturn void no_spare(const struct run *run) {
-  const char *name = run->words.board ? run->words.board : run->words.job;
-  fprintf(stderr, "file %s\n", name);
-  fprintf(stderr, "pramx-processes: so many were killed on %s that no spare is left\n", name);
-  exit(KS_FAILED);
-}
-
 static void take_seat(struct run *run) {
-  if (!shared_take_seat(run->shared, &run->seat)) no_spare(run);
+  if (shared_seat(run->shared, &run->seat)) out_of_memory();
 }
 
 static void look(struct run *run) {
@@ -211,9 +209,16 @@ static void tell_conflict(struct run *run) {
          fault.second);
 }
 
+/* Nothing is told of a board that something else than workers has changed, as far as that shows. */
+static void judge_board(const struct run *run) {
+  enum shared_fault fault = shared_look(run->shared, run->file);
+  if (fault) no_board(run, fault);
+}
+
 /* Tells the answer, or how far the board is, and returns the status. */
 static int tell_answer(struct run *run) {
   bool is_done = run->seen.step == run->seen.steps;
+  judge_board(run);
   if (!is_known(run) && run->lacks_memory) out_of_memory();
   if (run->seen.conflict) {
     tell_conflict(run);
@@ -285,11 +290,11 @@ static uint32_t work(struct run *run, uint32_t number, bool is_anew) {
   struct me me = {.run = run, .number = number};
   name_process(run, number);
   shared_hold(run->file, number);
-  if (!shared_take_worker(run->shared, number, &me.worker)) return KS_FAILED;
+  uint32_t status = shared_worker(run->shared, number, &me.worker);
+  if (status) return status;
   if (is_anew) ks_back(&me.worker);
-  uint32_t status = is_anew ? go(&me, UINT64_MAX) : obey(&me);
+  status = is_anew ? go(&me, UINT64_MAX) : obey(&me);
   if (status != KS_UNFINISHED) run->shared->is_over = 1;
-  shared_give_worker(run->shared, number, &me.worker);
   return status;
 }
 
@@ -444,12 +449,15 @@ static int join(struct run *run) {
     fprintf(stderr, "error: the board has the workers 0 to %u\n", run->shared->workers - 1);
     return KS_FAILED;
   }
-  if (run->words.joins && work(run, run->words.join, true) == KS_FAILED) no_spare(run);
   take_seat(run);
   look(run);
-  int status = tell_answer(run);
-  shared_give_seat(run->shared, &run->seat);
-  return status;
+  if (run->words.checks) {
+    printf("lawful step=%u\n", run->seen.step);
+    return fflush(stdout) || ferror(stdout) ? KS_FAILED : KS_DONE;
+  }
+  if (run->words.joins && work(run, run->words.join, true) == KS_MEMORY) out_of_memory();
+  look(run);
+  return tell_answer(run);
 }
 
 int main(int count, char **line) {

@@ -14,6 +14,10 @@
  * order. What is found after a crash is of no one moment, and the theorems say nothing of it. So
  * the mapping names the start of the machine in which it was made, and is refused after another
  * one. Nothing is written to the disk at any moment by msync, since that would not help.
+ *
+ * When the file is copied, cut or changed: a copy that is made while workers are at work is of no
+ * one moment, either, so the mapping names its file, and is refused in another one. A sum tells of
+ * all bytes that no worker changes, the job's above all.
  */
 #ifndef SHARED_H
 #define SHARED_H
@@ -21,27 +25,25 @@
 #include <stdatomic.h>
 #include <stdbool.h>
 
-/* Workers and seats that were made when the board was opened, and that nobody uses. A process takes
- * what it needs by one atomic exchange, so no two use one, and gives it back when it ends by
- * itself. So it needs no call with the board's own handle, which only one process may use at a
- * time: one that is killed or stopped keeps nobody from anything. */
-enum { SPARES = 1024 };
-struct spare {
-  _Atomic(void *) worker; /* NULL: it is taken. Spare i is of the worker i % workers */
-  _Atomic(void *) seat;
-};
-
-/* What stands at the front of the mapping. */
+/* What stands at the front of the mapping. A process makes its worker and its seat when it needs
+ * them, in memory of its own, by a handle that it copies: as a forked child has a copy of all that
+ * its parent had. So no two processes use one handle, and any number of them may come. */
 struct shared {
   char mark[16];
-  uint64_t program;  /* a sum of the program that made it, and of where its code lies */
-  char start[40];    /* which start of the machine it was made in */
-  struct shared *at; /* where it stands in each process */
-  size_t length;     /* of the mapping, in bytes */
+  uint64_t program;   /* a sum of the program that made it, and of where its code lies */
+  char start[40];     /* which start of the machine it was made in */
+  uint64_t which[4];  /* which file it is: the device, the inode and when it was made */
+  uint64_t sum;       /* of all bytes of the mapping that nobody changes */
+  struct shared *at;  /* where it stands in each process */
+  size_t length;      /* of the mapping, in bytes */
+  const char *handle; /* what the board's handle points to, */
+  size_t handle_length;
+  const _Atomic uint64_t *words; /* the words of the board, which its workers change, */
+  size_t word_count;
+  const _Atomic uint64_t *members; /* and the number of those that keep it alive */
   uint32_t workers;
   _Atomic uint32_t is_whole; /* the board is open */
   _Atomic uint32_t is_over;  /* a worker knows the answer */
-  struct spare spares[SPARES];
 };
 
 /* Why there is no mapping. */
@@ -51,6 +53,10 @@ enum shared_fault {
   SHARED_FILE,    /* it can't be made, read or mapped */
   SHARED_OTHER,   /* it holds no board, or one of another build of this program */
   SHARED_CRASHED, /* it holds one of an earlier start of the machine */
+  SHARED_COPY,    /* it is a copy of the file that was made */
+  SHARED_CUT,     /* it was cut, or it grew */
+  SHARED_CHANGED, /* bytes are changed that no worker changes */
+  SHARED_WORDS,   /* the board has words that no run leaves */
   SHARED_PART,    /* its maker has not opened the board, or never did */
   SHARED_MEMORY   /* out of memory */
 };
@@ -58,20 +64,22 @@ enum shared_fault {
 /* Makes a mapping, in this new file or in none (NULL). Until shared_is_full the library's blocks
  * are taken from it; *file is the open file, or -1. */
 enum shared_fault shared_make(const char *name, struct shared **made, int *file);
-/* Makes the spares of this board, which was opened for so many workers, and returns a status. */
-uint32_t shared_fill(struct shared *shared, ks_board *board, uint32_t workers);
-/* The library's blocks are taken from malloc again. The mapping and the file are cut to what was
- * taken, and all of the file is on the disk's account, so that no later store is refused. */
-enum shared_fault shared_is_full(struct shared *shared, int file);
-/* Maps the board of a file. */
+/* Keeps this board, which was opened for so many workers. The library's blocks are taken from
+ * malloc again. The mapping and the file are cut to what was taken, and all of the file is on the
+ * disk's account, so that no later store is refused. */
+enum shared_fault shared_is_full(struct shared *shared, int file, ks_board *board,
+                                 uint32_t workers);
+/* Maps the board of a file, if it is as it was made, as far as a look tells. From then on a part of
+ * the file that is missing ends the process with KS_FAILED. */
 enum shared_fault shared_join(const char *name, struct shared **found, int *file);
+/* Whether the board of this file is as it was made, but for its words, and these have no stamp of a
+ * step that is still to come. No look can tell of another value in a word of a place, of a node
+ * that is marked, or of the words of an earlier moment that were put back. */
+enum shared_fault shared_look(const struct shared *shared, int file);
 
-/* Takes a worker of this number, or a seat, and says whether one was left. */
-bool shared_take_worker(struct shared *shared, uint32_t number, ks_worker *worker);
-bool shared_take_seat(struct shared *shared, ks_seat *seat);
-/* Gives one back, which this process does not use any more. */
-void shared_give_worker(struct shared *shared, uint32_t number, ks_worker *worker);
-void shared_give_seat(struct shared *shared, ks_seat *seat);
+/* Makes a worker of this number, or a seat, in memory of this process, and returns a status. */
+uint32_t shared_worker(const struct shared *shared, uint32_t number, ks_worker *worker);
+uint32_t shared_seat(const struct shared *shared, ks_seat *seat);
 
 /* This process is at work as this worker until it ends, however it does. */
 void shared_hold(int file, uint32_t worker);

@@ -13,7 +13,7 @@ static const char help[] =
     "\n"
     "Usage: pramx-processes FILE --workers W [OPTIONS]\n"
     "       pramx-processes --board FILE --join N [--pace M]\n"
-    "       pramx-processes --board FILE\n"
+    "       pramx-processes --board FILE [--check]\n"
     "\n"
     "Each worker is a process, pramx-worker N in ps and top. Anyone may kill it (kill -9),\n"
     "stop it (kill -STOP) or let it go on (kill -CONT), at any moment: one that is left ends\n"
@@ -22,12 +22,15 @@ static const char help[] =
     "With --board the board is in a file. Any process of this program joins it by the file's\n"
     "name and a worker's number, also after all others were killed; the workers go on when the\n"
     "first process is gone; and the file stays. The third line tells how far the board is.\n"
+    "A copy of the file is refused, and one that was cut or changed where a look can see it: at\n"
+    "each start, before an answer, and by --check, which tells the last finished step.\n"
     "\n"
     "Options:\n"
     "      --workers W   How many workers there are, from 1 to 64\n"
     "      --plan P      The plan that they follow, as CSV: rows of go, sleep, back and stop\n"
     "      --board FILE  The file of the board; with --workers a new one\n"
     "      --join N      Be worker N of the board, from 0, and tell the answer\n"
+    "      --check       Look at each byte and word of the board\n"
     "      --pace M      A pause of M microseconds before each atomic step, from 0 to 1000000\n"
     "      --block G     How many processors a leaf stands for, a power of two from 1 to 64\n"
     "      --kill-at T:N,..   Kill worker N (SIGKILL) once step T is seen to be finished\n"
@@ -105,14 +108,21 @@ static char *copy_of(const char *text) {
   exit(5);
 }
 
-static const struct option options[] = {
-    {"workers", required_argument, NULL, 'w'},  {"plan", required_argument, NULL, 'p'},
-    {"board", required_argument, NULL, 'b'},    {"join", required_argument, NULL, 'j'},
-    {"pace", required_argument, NULL, 'm'},     {"block", required_argument, NULL, 'g'},
-    {"kill-at", required_argument, NULL, 'k'},  {"stop-at", required_argument, NULL, 's'},
-    {"start-at", required_argument, NULL, 'a'}, {"progress", no_argument, NULL, 'r'},
-    {"events", no_argument, NULL, 'e'},         {"explain", no_argument, NULL, 'x'},
-    {"help", no_argument, NULL, 'h'},           {NULL, 0, NULL, 0}};
+static const struct option options[] = {{"workers", required_argument, NULL, 'w'},
+                                        {"plan", required_argument, NULL, 'p'},
+                                        {"board", required_argument, NULL, 'b'},
+                                        {"join", required_argument, NULL, 'j'},
+                                        {"pace", required_argument, NULL, 'm'},
+                                        {"block", required_argument, NULL, 'g'},
+                                        {"kill-at", required_argument, NULL, 'k'},
+                                        {"stop-at", required_argument, NULL, 's'},
+                                        {"start-at", required_argument, NULL, 'a'},
+                                        {"progress", no_argument, NULL, 'r'},
+                                        {"events", no_argument, NULL, 'e'},
+                                        {"explain", no_argument, NULL, 'x'},
+                                        {"check", no_argument, NULL, 'c'},
+                                        {"help", no_argument, NULL, 'h'},
+                                        {NULL, 0, NULL, 0}};
 
 static void read_option(struct words *words, int option) {
   switch (option) {
@@ -128,6 +138,7 @@ static void read_option(struct words *words, int option) {
     case 'r': words->tells_progress = true; break;
     case 'e': words->tells_events = true; break;
     case 'x': words->explains = true; break;
+    case 'c': words->checks = true; break;
     case 'h': exit(fputs(help, stdout) < 0 || fflush(stdout) ? 4 : 0);
     default: exit((fputs("\nFor more information, try '--help'.\n", stderr), 4));
   }
@@ -136,6 +147,8 @@ static void read_option(struct words *words, int option) {
 /* What is asked for has to be one of the three lines of the help. */
 static void judge(const struct words *words) {
   if (words->job && words->joins) refuse("a FILE and '--join' are not of one line");
+  if (words->checks && (words->job || words->joins))
+    refuse("'--check' stands beside '--board' alone");
   if (words->job && !words->workers) refuse("'--workers W' is wanted beside FILE");
   if (!words->job && !words->board) refuse("a FILE, or '--board FILE', is wanted");
   if (words->job) {

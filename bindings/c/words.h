@@ -18,7 +18,7 @@ struct words {
   char *job, *plan, *board; /* names of files, or NULL */
   uint32_t workers;         /* 0: this process is not the first one */
   uint32_t block;           /* 0: the library chooses */
-  bool joins;
+  bool joins, checks;
   uint32_t join; /* the worker that it is then */
   uint32_t pace; /* microseconds; 0: no pause */
   bool tells_progress, tells_events, explains;

@@ -468,6 +468,31 @@ static void try_boards(const struct text *text) {
   ks_close(&board);
   ks_close_seat(&seat);
   expect("closed handles", !board.at && !seat.at);
+  ks_close_seat(&seat);
+  expect("a closed seat", ks_progress(&seat, &progress) == KS_FAILED);
+}
+
+/* With a handle that stands for nothing. */
+static void try_blank(void) {
+  ks_board board = {NULL};
+  ks_seat seat = {NULL};
+  ks_worker worker = {NULL};
+  uint32_t cell = NOTHING;
+  struct ks_progress progress = {NOTHING, 0, 0, 0};
+  struct ks_reading reading = {NOTHING, 0};
+  struct ks_fault fault = {NOTHING, 0, 0, 0};
+  expect("a seat of nothing", ks_seat_of(&board, &seat) == KS_FAILED && !seat.at);
+  expect("a worker of nothing", ks_worker_of(&board, 0, &worker) == KS_FAILED && !worker.at);
+  expect("work of nobody", ks_work(&worker, 1) == KS_FAILED && ks_back(&worker) == KS_FAILED);
+  expect("progress of nothing", ks_progress(&seat, &progress) == KS_FAILED);
+  expect("a read of nothing", ks_read(&seat, 0, &reading) == KS_FAILED);
+  expect("memory of nothing", ks_memory(&seat, &cell, 1) == KS_FAILED);
+  expect("a conflict of nothing", ks_fault(&seat, &fault) == KS_FAILED);
+  expect("nothing is told of nothing", cell == NOTHING && progress.step == NOTHING &&
+                                           reading.step == NOTHING && fault.step == NOTHING);
+  ks_close(&board);
+  ks_close_seat(&seat);
+  ks_close_worker(&worker);
 }
 
 /* A worker has a memory, and one that came back has one: without, these would take more atomic
@@ -501,6 +526,7 @@ static int try_wrong(const struct text *texts, int count) {
     try_boards(&texts[i]);
   }
   try_sizes();
+  try_blank();
   try_memories();
   printf("%d of %d wrong calls as promised, %ld blocks left\n", made_wrong - faults, made_wrong,
          living);
