@@ -51,7 +51,7 @@ impl Drop for BoardHandle {
 }
 
 impl Board {
-    /// A board for a job and so many workers, 1 to 64. The job's text is read anew.
+    /// A board for a job and so many workers, 1 to 64. Nothing of the job is run.
     ///
     /// # Errors
     ///
@@ -76,7 +76,7 @@ impl Board {
     }
 
     fn opened(job: &Job, workers: u32, grain: u32) -> Result<Board> {
-        let (text, mut handle) = (job.text(), sys::ks_board::none());
+        let (text, mut handle) = (job.machine_text(), sys::ks_board::none());
         // SAFETY: the text and the place for the handle are borrowed for the call.
         let status =
             unsafe { sys::ks_open(text.as_ptr(), text.len(), workers, grain, &mut handle) };

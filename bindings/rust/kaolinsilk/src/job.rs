@@ -106,12 +106,28 @@ impl fmt::Display for Check {
 #[derive(Debug)]
 pub struct Job {
     text: String,
+    // Of a program, the same as a text of the machine, which is not run to be read.
+    machine: Option<String>,
     check: Check,
 }
 
+// Whether the first word of a text, behind comments and blanks, is that of programs. Any other
+// answer would cost time alone.
+fn may_be_program(text: &[u8]) -> bool {
+    let lines = text.split(|&byte| byte == b'\n').map(<[u8]>::trim_ascii);
+    let mut said = lines.filter(|line| !line.is_empty() && line[0] != b';');
+    said.next().is_some_and(|line| line.starts_with(b"pardo"))
+}
+
+// The buffer mostly has room for all, as each call runs the program.
+fn compiled(text: &[u8]) -> Result<String> {
+    let room = ROOM + 4 * text.len();
+    Ok(serve(Command::Compile, text, &sys::ks_request::new(), room)?.1)
+}
+
 impl Job {
-    /// Judges a text, and keeps a copy of it. Its first word decides whether it is a program. (The
-    /// steps of a program are counted by making them.)
+    /// Judges a text, and keeps a copy of it. Its first word decides whether it is a program. The
+    /// steps of a program are counted by making them, once: no board makes them again.
     ///
     /// # Errors
     ///
@@ -120,10 +136,19 @@ impl Job {
     /// 67,108,864 bytes; [`Subject::Memory`](crate::Subject::Memory).
     pub fn parse(text: impl AsRef<[u8]>) -> Result<Job> {
         let text = text.as_ref();
-        let (_, line) = serve(Command::Check, text, &sys::ks_request::new(), 128)?;
+        let machine = match may_be_program(text) {
+            true => Some(compiled(text)?),
+            false => None,
+        };
+        let judged = machine.as_ref().map_or(text, String::as_bytes);
+        let (_, line) = serve(Command::Check, judged, &sys::ks_request::new(), 128)?;
         let check = Check::of_line(line.trim_end()).expect(FORM);
         let text = String::from_utf8(copy(text)?).expect("a text that is not refused is ASCII");
-        Ok(Job { text, check })
+        Ok(Job {
+            text,
+            machine,
+            check,
+        })
     }
 
     /// The same of a program with these settings: its text is then the text as it is set.
@@ -146,12 +171,22 @@ impl Job {
         self.check
     }
 
+    /// The text of the machine, where there is one, or that which was parsed: a board of it is open
+    /// without a run.
+    pub(crate) fn machine_text(&self) -> &str {
+        self.machine.as_ref().unwrap_or(&self.text)
+    }
+
     /// The job as a text of the machine, as `pramx compile` prints it.
     ///
     /// # Errors
     ///
     /// [`Subject::Memory`](crate::Subject::Memory).
     pub fn compile(&self) -> Result<String> {
+        if let Some(machine) = &self.machine {
+            let copied = copy(machine.as_bytes())?;
+            return Ok(String::from_utf8(copied).expect("the library prints ASCII alone"));
+        }
         let Check {
             cells,
             instructions,

@@ -1,8 +1,9 @@
 //! The gallery of the repository, beside what the program prints of it.
 mod shared;
 
-use kaolinsilk::{Ended, Job, Outcome, Plan, RunAnswer, run};
+use kaolinsilk::{Board, Ended, Job, Outcome, Plan, RunAnswer, run};
 use shared::{beside, example, gallery};
+use std::time::Instant;
 
 #[test]
 fn answers_are_the_programs() {
@@ -154,4 +155,19 @@ fn where_all_stop_it_is_unfinished() {
         panic!("{answer:?}")
     };
     assert!(step > 0 && step < job.check().steps);
+}
+
+#[test]
+fn a_board_runs_nothing() {
+    let text = "pardo 1\nrule crew\nprocs i < 64\nshared A[64]\ncode\n\
+                for h = 1 to 5000\n  A[i] := A[i] + h\nend\n";
+    let began = Instant::now();
+    let job = Job::parse(text).unwrap();
+    let parsed = began.elapsed();
+    let least = (0..5).map(|_| {
+        let began = Instant::now();
+        Board::open(&job, 2).unwrap();
+        began.elapsed()
+    });
+    assert!(least.min().unwrap() * 4 < parsed);
 }

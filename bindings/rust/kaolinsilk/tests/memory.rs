@@ -186,7 +186,7 @@ fn of_a_command() {
     for text in JOBS.map(example) {
         let job = Job::parse(&text).unwrap();
         refuse(true, || Ok(Job::parse(&text)?.check()));
-        refuse(true, || job.compile());
+        refuse_each(true, false, || job.compile());
         refuse(true, || job.plain());
         refuse(true, || job.plain_text());
         refuse(true, || job.plain_text_with_why());
