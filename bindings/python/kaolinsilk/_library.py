@@ -26,8 +26,10 @@ WORDS = ("done", "conflict", "refused", "unfinished", "failed", "memory")
 SUBJECTS = ("", "text", "text", "plan", "step", "size", "request", "memory", "set", "exercise")
 # The greatest number of a request.
 MOST = 2**32 - 1
-# A buffer that most answers fit into, and the longest one that is taken at the first try.
-LEAST_ROOM, MOST_ROOM = 4096, 1 << 22
+# The longest buffer that is taken at the first try.
+MOST_ROOM = 1 << 28
+# Calls that run nothing, and how long their texts are at most where they are over at once.
+SHORT, MOST_SHORT = ("ks_set", "ks_plan"), 1 << 20
 
 
 class Request(ctypes.Structure):
@@ -174,13 +176,23 @@ def made(function: Callable[[], int], limit: Limit = NONE) -> int:
     return callers.made(function, limit)
 
 
-def _told(asked: Asked, limit: Limit = NONE) -> Told:
-    """What a call tells. One that may have to end soon is made by a process that can be killed."""
-    asked = asked._replace(room=_rooms.get(asked.name, LEAST_ROOM) // asked.size)
+def _given(asked: Asked, limit: Limit) -> calling.Given:
+    """What a call gives. One that may have to end soon is made by a process that can be killed; one
+    that runs nothing is over before anybody could leave it."""
     given = processes.made(PATH, asked, limit) if limit is not NONE else None
-    if given is None:
-        given = callers.made(lambda: calling.call(library, asked), limit)
-    if len(given.output) > asked.room * asked.size:
+    if given is not None:
+        return given
+    if asked.name in SHORT and sum(map(len, asked.texts)) < MOST_SHORT:
+        return calling.call(library, asked)
+    return callers.made(lambda: calling.call(library, asked), limit)
+
+
+def _told(asked: Asked, limit: Limit = NONE) -> Told:
+    """What a call tells."""
+    if asked.name in _rooms:
+        asked = asked._replace(room=_rooms[asked.name])
+    given = _given(asked, limit)
+    if len(given.output) > max(asked.room, calling.ROOM):
         _rooms[asked.name] = min(len(given.output), MOST_ROOM)
     if given.status not in calling.WITH_OUTPUT:
         refuse(given.status, Answer.from_buffer_copy(given.answer))

@@ -223,7 +223,7 @@ class Seat(_Staying):
         cells = (c_uint32 * self.board.cells)()
         if self._member.ask(library.ks_memory, cells, len(cells)) != _library.DONE:
             raise self.fault() or Unfinished(self.progress().step)
-        return list(cells)
+        return memoryview(cells).cast("B").cast("I").tolist()
 
     def fault(self) -> Optional[Conflict]:
         """The conflict, if one is known."""

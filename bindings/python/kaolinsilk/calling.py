@@ -32,14 +32,15 @@ class Answer(ctypes.Structure):
 
 class Asked(NamedTuple):
     """A call of the library: its name, texts, request or number, if it takes one, how many bytes
-    each item of its output has, and how many items there is room for at first."""
+    each item of its output has, and how many items there is room for at first. The texts say more of
+    that: what a text holds is rarely told by more than twice its bytes."""
 
     name: str
     texts: Tuple[bytes, ...]
     request: Optional[bytes] = None
     number: Optional[int] = None
     size: int = 1
-    room: int = 4096
+    room: int = 0
 
 
 class Given(NamedTuple):
@@ -50,23 +51,39 @@ class Given(NamedTuple):
     answer: bytes
 
 
+# Buffers that wait for a next call. Memory is taken as far as it is written to.
+ROOM = 1 << 20
+_buffers: List[bytearray] = []
+
+
+def _buffer(room: int) -> bytearray:
+    try:
+        return _buffers.pop() if room <= ROOM else bytearray(room)
+    except IndexError:
+        return bytearray(ROOM)
+
+
 def call(library: Any, asked: Asked) -> Given:
     """Makes a call, and makes it again where its output is longer than there is room."""
-    function, room = getattr(library, asked.name), asked.room
-    answer = Answer(size=ctypes.sizeof(Answer))
+    function, answer = getattr(library, asked.name), Answer(size=ctypes.sizeof(Answer))
+    room = max(ROOM, asked.room, 2 * sum(map(len, asked.texts))) // asked.size
     words: List[Any] = [word for text in asked.texts for word in (text, ctypes.c_size_t(len(text)))]
     if asked.request is not None:
         words.append(asked.request)
     if asked.number is not None:
         words.append(ctypes.c_uint32(asked.number))
     while True:
-        out = ctypes.create_string_buffer(max(room, 1) * asked.size)
-        status = function(*words, out, ctypes.c_size_t(room), ctypes.byref(answer))
+        buffer = _buffer(room * asked.size)
+        out = ctypes.c_char.from_buffer(buffer)
+        status = function(*words, ctypes.byref(out), ctypes.c_size_t(room), ctypes.byref(answer))
         # Records are written where the call is done, and text also where it tells why it is not.
         has_output = status in WITH_OUTPUT if asked.size == 1 else status == DONE
         length = answer.length if has_output else 0
+        output = bytes(memoryview(buffer)[: length * asked.size])
+        if len(buffer) == ROOM and not _buffers:
+            _buffers.append(buffer)
         if length <= room:
-            return Given(status, ctypes.string_at(out, length * asked.size), bytes(answer))
+            return Given(status, output, bytes(answer))
         room = length
 
 

@@ -4,8 +4,9 @@ from __future__ import annotations
 import operator
 import os
 import re
+from array import array
 from pathlib import Path
-from typing import Any, Iterable, List, Mapping, NamedTuple, Optional, Set, Tuple, Union
+from typing import Any, Iterable, List, Mapping, NamedTuple, Optional, Sequence, Set, Tuple, Union
 
 from . import _library
 from .errors import BadRequest, Refused
@@ -63,7 +64,7 @@ def _set(text: bytes, settings: Settings) -> bytes:
 class _Given(NamedTuple):
     """The values of a setting, and how many rows and columns they were given by, if by rows."""
 
-    numbers: Union[str, List[int]]
+    numbers: Union[str, Sequence[int]]
     shape: Optional[Tuple[int, int]] = None
 
 
@@ -80,14 +81,22 @@ def _given(name: str, values: Any) -> _Given:
 
         values = numpy.asarray(values).tolist()
     if not isinstance(values, Iterable):
-        return _Given([operator.index(values)])
+        return _Given(_numbers([values]))
     listed = list(values)
     if not listed or not isinstance(listed[0], Iterable):
-        return _Given([operator.index(it) for it in listed])
-    rows = [[operator.index(it) for it in row] for row in listed]
+        return _Given(_numbers(listed))
+    rows = [list(row) for row in listed]
     if any(len(row) != len(rows[0]) for row in rows):
         raise Refused("set", "WrongLength", "the rows have not all one length", name=name)
-    return _Given([it for row in rows for it in row], (len(rows), len(rows[0])))
+    return _Given(_numbers([it for row in rows for it in row]), (len(rows), len(rows[0])))
+
+
+def _numbers(listed: List[Any]) -> Sequence[int]:
+    """These numbers, or a `TypeError` where one is none."""
+    try:
+        return array("I", listed).tolist()
+    except OverflowError:  # the library says which one is too great
+        return list(map(operator.index, listed))
 
 
 def _check_rows(declared: Optional["Shared"], given: _Given) -> None:
@@ -105,7 +114,7 @@ def _check_rows(declared: Optional["Shared"], given: _Given) -> None:
 def _line(name: str, given: _Given) -> bytes:
     """A setting as the library reads it."""
     numbers = given.numbers
-    values = numbers if isinstance(numbers, str) else ",".join(map(str, numbers))
+    values = numbers if isinstance(numbers, str) else str(numbers)[1:-1].replace(" ", "")
     return f"{name}={values}\n".encode()
 
 
@@ -127,8 +136,13 @@ def header_of(text: bytes) -> List[bytes]:
 
 
 def without_code(text: bytes) -> bytes:
-    """A program with a code that does nothing, and the same header. A text of the machine stays."""
-    return b"\n".join([*header_of(text), b"while 0", b"end", b""]) if is_program(text) else text
+    """A program with a code that does nothing, and the same header, but for what its variables
+    start with. A text of the machine stays."""
+    if not is_program(text):
+        return text
+    lines = header_of(text)
+    names = (line.partition(b"=")[0] if line.lstrip()[:6] == b"shared" else line for line in lines)
+    return b"\n".join([*names, b"while 0", b"end", b""])
 
 
 class Shared(NamedTuple):

@@ -4,6 +4,7 @@ from pathlib import Path
 
 import kaolinsilk
 from common import CONFLICT, EXAMPLES, GALLERY, MISTAKEN, PREFIX, SUMS, TINY, answer_beside
+from kaolinsilk import _library, calling
 
 
 class Calls(unittest.TestCase):
@@ -64,6 +65,29 @@ class Calls(unittest.TestCase):
         for wrong in ([[1.5, 2, 3]] * 2, [rows, rows], 1.5, [None]):
             with self.assertRaises(TypeError):
                 kaolinsilk.plain(text, settings={"G": wrong})
+
+    def test_long_arrays(self):
+        text = "pardo 1\nrule crew\nconst n = 4\nprocs i < 4\nshared A[n]\nshared s\ncode\n"
+        text += "A[i] := A[i] + 1\n"
+        given = [0, 7, 10**9, 2**32 - 2, *range(300_000)]
+        settings, wanted = {"n": len(given), "A": given}, [1, 8, 10**9 + 1, 2**32 - 1, *given[4:]]
+        answer = kaolinsilk.plain(text, settings=settings)
+        self.assertEqual((answer["A"], answer["s"]), (wanted, 0))
+        self.assertEqual(kaolinsilk.run(text, 1, settings=settings), answer)
+        self.assertEqual(kaolinsilk.cells(text, settings=settings)[: len(given)], wanted)
+
+    def test_a_text_is_run_once_where_its_answer_is_long(self):
+        counted, library = [], _library.library
+
+        class Counted:
+            def __getattr__(self, name):
+                counted.append(name)
+                return getattr(library, name)
+
+        text = b"pram 1\ncells 65536\nprocs 1\nsteps 1\ncode\nst r0 r0\n"
+        request = bytes(_library.Request(size=88))
+        given = calling.call(Counted(), calling.Asked("ks_plain", (text,), request))
+        self.assertEqual((counted, given.output.count(b"\n")), (["ks_plain"], 65537))
 
     def test_numpy_arrays_as_settings(self):
         try:
