@@ -24,8 +24,10 @@ fn main() {
     println!("cargo::rustc-link-lib=static=kaolinsilk");
 }
 
-// Where the repository that this crate stands in has it.
+// Where the repository or the archive that this crate stands in has it.
 fn built_here() -> PathBuf {
-    let repository = Path::new(env!("CARGO_MANIFEST_DIR")).ancestors().nth(3);
-    repository.unwrap_or(Path::new("/")).join("out/library/lib")
+    let top = Path::new(env!("CARGO_MANIFEST_DIR")).ancestors().nth(3);
+    let folders = ["out/library/lib", "lib"].map(|it| top.unwrap_or(Path::new("/")).join(it));
+    let has = |it: &&PathBuf| it.join("libkaolinsilk.a").is_file();
+    folders.iter().find(has).unwrap_or(&folders[0]).clone()
 }
