@@ -71,6 +71,8 @@ CALLS = {
     "ks_worker_of": [HANDLE, c_uint32, HANDLE],
     "ks_work": [HANDLE, c_uint64],
     "ks_turns": [HANDLE, c_uint64],
+    "ks_open_uncounted": [c_char_p, c_size_t, c_uint32, c_uint32, HANDLE],
+    "ks_stop": [HANDLE, POINTER(c_uint32)],
     "ks_back": [HANDLE],
     "ks_progress": [HANDLE, POINTER(Progress)],
     "ks_read": [HANDLE, c_uint32, POINTER(Reading)],
@@ -78,7 +80,7 @@ CALLS = {
     "ks_fault": [HANDLE, POINTER(Fault)],
 }
 # Those that libraries before 0.9 do not have.
-LATER = ("ks_turns",)
+LATER = ("ks_turns", "ks_open_uncounted", "ks_stop")
 CLOSES = ("ks_close", "ks_close_seat", "ks_close_worker")
 
 

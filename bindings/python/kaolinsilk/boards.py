@@ -27,6 +27,7 @@ from .texts import Settings, Source, bytes_of
 # stopped soon: they take some milliseconds.
 STRIDE, TURNS = 50_000, 500
 HAS_TURNS = hasattr(library, "ks_turns")
+HAS_UNCOUNTED = HAS_TURNS and hasattr(library, "ks_open_uncounted") and hasattr(library, "ks_stop")
 # The greatest limit.
 MOST_STEPS = 2**64 - 1
 
@@ -80,6 +81,10 @@ class Board(_Staying):
     library chooses. With `settings` constants and shared arrays are what these say. `board.cells`,
     `board.procs` and `board.steps` are those of the job.
 
+    A program is run once here, so that its steps are counted. With `counted=False` it is not: then
+    `steps` are as many as a program may have, the answer tells how many it took, and workers go by
+    turns. One that never ends is refused by its answer alone.
+
     Of a board on which nobody has worked yet a seat tells what is so: no step is finished and there
     is no fault, each cell is read after step 0 as it starts, and the answer is unfinished.
 
@@ -96,11 +101,13 @@ class Board(_Staying):
         workers: int = 4,
         grain: int = 0,
         *,
+        counted: bool = True,
         settings: Optional[Settings] = None,
         timeout: Optional[float] = None,
         cancel: Optional[threading.Event] = None,
     ) -> None:
         limit, self.text = limit_of(timeout, cancel), bytes_of(text, settings)
+        self.is_counted = counted or not HAS_UNCOUNTED or not texts.is_program(self.text)
         self.workers = _library.number_of(workers, "workers")
         self._shared: Optional[List[texts.Shared]] = None
         self._member = self._opened(self.workers, _library.number_of(grain, "grain"), limit)
@@ -110,9 +117,10 @@ class Board(_Staying):
 
     def _opened(self, workers: int, grain: int, limit: Limit) -> _Member:
         text, member = self.text, _Member(library.ks_close)
+        call = library.ks_open if self.is_counted else library.ks_open_uncounted
         words = text, len(text), workers, grain, member.handle
         # Who leaves this call leaves the board to it, which closes it then.
-        status = _library.made(lambda: int(library.ks_open(*words)), limit)
+        status = _library.made(lambda: int(call(*words)), limit)
         if status == _library.REFUSED:
             calls.check(text, timeout=limit.rest(), cancel=limit.cancel)
         if status != _library.DONE:
@@ -245,7 +253,19 @@ class Seat(_Staying):
         if step < steps:
             said = f"unfinished step={step}\n".encode()
             return Answer("unfinished", step, failure=Unfinished(step), said=said)
-        return Answer("done", step, values_of(text, self.memory()), program=text)
+        values = values_of(text, self.memory())
+        return Answer("done", self._last_step(steps, limit), values, program=text)
+
+    def _last_step(self, steps: int, limit: Limit) -> int:
+        """The last step of a job that is done. Where nobody counted them the board tells it, but
+        for a program whose processors are not all at their end: then they are counted now."""
+        found = c_uint32()
+        if self.board.is_counted:
+            return steps
+        if self._member.ask(library.ks_stop, found) == _library.DONE:
+            return found.value
+        facts = calls.check(self.board.text, timeout=limit.rest(), cancel=limit.cancel)
+        return int(facts["steps"])
 
     def _named_fault(self, limit: Limit) -> Conflict:
         text, fault = self.board.text, self.fault()

@@ -123,7 +123,16 @@ def run(
     [0, 1, 4, 9]
     """
     limit = limit_of(timeout, cancel)
-    board = Board(text, workers, grain, settings=settings, timeout=timeout, cancel=cancel)
+    board = Board(
+        text,
+        workers,
+        grain,
+        # Where a plan or a pace counts atomic steps, they are made one by one, to the last one.
+        counted=bool(plan or pace),
+        settings=settings,
+        timeout=timeout,
+        cancel=cancel,
+    )
     crew = _Crew(board, plans.rows_of(plan, workers), pace)
     try:
         crew.start()

@@ -10,6 +10,7 @@ from subprocess import PIPE
 
 import kaolinsilk
 from common import CONFLICT, EXAMPLES, GALLERY, PREFIX, STARTS, SUMS, TINY
+from kaolinsilk.boards import HAS_UNCOUNTED
 from kaolinsilk.plans import Row, rows_of
 
 # A job that is never at its end.
@@ -156,7 +157,37 @@ class Boards(unittest.TestCase):
         self.assertEqual(seen, sorted(seen))
 
 
+@unittest.skipUnless(HAS_UNCOUNTED, "this library counts the steps of each program")
+class Uncounted(unittest.TestCase):
+    def test_the_gallery(self):
+        for file in GALLERY:
+            board = kaolinsilk.Board(file, 2, counted=False)
+            while board.worker(1).turns(100) == "unfinished":
+                pass
+            with self.subTest(file=file.name):
+                answer = kaolinsilk.plain(file)
+                # It tells the step of a conflict, too.
+                self.assertEqual(board.seat().answer(), answer)
+                self.assertIn(answer.step, (None, board.seat().answer().step))
+
+    def test_a_board_is_opened_at_once(self):
+        text = "pardo 1\nrule crew\nconst n = 50000\nprocs i < 64\nshared A[64]\ncode\n"
+        text += "for k = 1 to n\nA[i] := A[i] + k\nend\n"
+        times = {}
+        for counted in (True, False):
+            began = time.process_time()
+            kaolinsilk.Board(text, 1, counted=counted)
+            times[counted] = time.process_time() - began
+        self.assertLess(times[False], times[True] / 5)
+
+
 class Runs(unittest.TestCase):
+    def test_a_program_that_never_ends(self):
+        text = "pardo 1\nrule crew\nprocs i < 2\nshared A[2]\ncode\nwhile 1\nA[i] := 1\nend\n"
+        with self.assertRaises(kaolinsilk.Refused) as caught:
+            kaolinsilk.run(text, 2)
+        self.assertEqual(caught.exception.kind, "Endless")
+
     def test_without_a_plan(self):
         for workers in (1, 2, 5, 64):
             self.assertEqual(kaolinsilk.run(PREFIX, workers)["A"], SUMS)

@@ -213,10 +213,10 @@ class Turns(unittest.TestCase):
             best = 60.0
             for _ in range(5):
                 worker = kaolinsilk.Board(text, 1).worker(0)
-                began = time.perf_counter()
+                began = time.process_time()
                 while worker._work_on(kaolinsilk._library.library.ks_turns, most, most) != "done":
                     pass
-                best = min(best, time.perf_counter() - began)
+                best = min(best, time.process_time() - began)
             times[name] = best
         self.assertLess(times["turns"], 1.5 * times["whole"])
 
