@@ -25,6 +25,8 @@ class _Caller:
         self._asked: "queue.SimpleQueue[Optional[Callable[[], Any]]]" = queue.SimpleQueue()
         self._told: "queue.SimpleQueue[Tuple[Any, Optional[BaseException]]]" = queue.SimpleQueue()
         self._number: Optional[int] = None
+        self._lives = _thread.allocate_lock()
+        self._lives.acquire()
         # None of those that a program lists and waits for.
         _thread.start_new_thread(self._live, ())
 
@@ -33,6 +35,7 @@ class _Caller:
         while True:
             function = self._asked.get()
             if function is None:
+                self._lives.release()
                 return
             try:
                 self._told.put((function(), None))
@@ -59,9 +62,23 @@ class _Caller:
                 os.sched_setscheduler(self._number, os.SCHED_IDLE, os.sched_param(0))
 
 
+    def end(self) -> None:
+        """The thread, which makes no call, ends."""
+        self._asked.put(None)
+        self._lives.acquire(timeout=1)
+
+
 # Those that wait for a call.
 _idle: List[_Caller] = []
-os.register_at_fork(after_in_child=_idle.clear)
+
+
+def _end_idle() -> None:
+    """Leaves no thread to a fork, as no process should that has one."""
+    while _idle:
+        _idle.pop().end()
+
+
+os.register_at_fork(before=_end_idle)
 
 
 def _taken() -> _Caller:

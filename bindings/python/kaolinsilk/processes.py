@@ -88,8 +88,10 @@ class _Process:
         self._process.kill()
         self._asks.close()
         self._tells.close()
-        with contextlib.suppress(subprocess.TimeoutExpired):
+        try:
             self._process.wait(timeout=0.02)
+        except subprocess.TimeoutExpired:
+            _ending.append(self._process)
 
     def forget(self) -> None:
         """What the forked child of a process does, whose process this is not."""
@@ -100,17 +102,24 @@ class _Process:
 
 _all: "weakref.WeakSet[_Process]" = weakref.WeakSet()
 _idle: List[_Process] = []
+# Those that were killed, but had not ended yet.
+_ending: List["subprocess.Popen[bytes]"] = []
 
 
 def _forget_all() -> None:
     for process in list(_all):
         process.forget()
+    for killed in _ending:
+        killed.returncode = 0
     _idle.clear()
+    _ending.clear()
 
 
 def _kill_idle() -> None:
     while _idle:
         _idle.pop().kill()
+    while _ending:
+        _ending.pop().wait()
 
 
 os.register_at_fork(after_in_child=_forget_all)
@@ -118,6 +127,7 @@ atexit.register(_kill_idle)
 
 
 def _taken(library: str) -> Optional[_Process]:
+    _ending[:] = [it for it in _ending if it.poll() is None]
     with contextlib.suppress(IndexError):
         return _idle.pop()
     if not sys.executable or getattr(sys, "frozen", False):

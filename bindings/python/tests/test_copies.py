@@ -14,7 +14,11 @@ from common import CONFLICT, EXAMPLES, MISTAKEN, PREFIX, SUMS, TINY
 POOL = """
 import multiprocessing
 import pathlib
+import warnings
 import kaolinsilk
+
+# A process that forks has no thread left of a call.
+warnings.simplefilter("error")
 
 def runs(text):
     return kaolinsilk.run(text, 2)
@@ -22,6 +26,7 @@ def runs(text):
 if __name__ == "__main__":
     good = pathlib.Path({good!r}).read_text()
     bad = pathlib.Path({conflict!r}).read_text()
+    kaolinsilk.plain(good)
     context = multiprocessing.get_context({way!r})
     with context.Pool(2) as pool:
         try:
