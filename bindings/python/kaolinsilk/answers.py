@@ -11,6 +11,10 @@ from .tables import table
 from .texts import Value
 
 
+# The first words of the lines of `--why`.
+WHYS = "running|stopped|lost|outside|divided|wrote"
+
+
 class Gone(NamedTuple):
     """A processor that left in a line of the program, by an index that its array does not have."""
 
@@ -78,7 +82,7 @@ class Answer:
     @property
     def why(self) -> List[str]:
         """The lines that say what became of the processors, where they were asked for."""
-        return re.findall(r"(?m)^(?:running|stopped|lost) .*$", self.text)
+        return re.findall(rf"(?m)^(?:{WHYS}) \w+=.*$", self.text)
 
     def __getitem__(self, name: Union[str, int]) -> Value:
         if not isinstance(name, int):
@@ -170,11 +174,12 @@ def meeting_of(said: str) -> Optional[Dict[str, Any]]:
     return {**found, "processors": (first, second)}
 
 
-def _conflict_of(line: str) -> Conflict:
-    """The conflict of the line that tells it."""
+def _conflict_of(line: str, said: bytes) -> Conflict:
+    """The conflict of the line that tells it, and of what is said of it where that was asked for."""
     facts = meeting_of(line.partition(" ")[2])
+    wrote = re.search(rb"(?m)^wrote values=(\d+),(\d+)$", said)
     assert facts
-    return Conflict(**facts)
+    return Conflict(**facts, values=(int(wrote[1]), int(wrote[2])) if wrote else None)
 
 
 def values_of(text: bytes, cells: List[int]) -> Dict[str, Value]:
@@ -209,7 +214,7 @@ def answer_of(text: bytes, told: _library.Told) -> Answer:
     head, *lines = said.decode("ascii").splitlines()
     status = _library.WORDS[told.status]
     if told.status == _library.CONFLICT:
-        conflict = _conflict_of(head)
+        conflict = _conflict_of(head, said)
         return Answer(status, conflict.step, failure=conflict, said=said)
     step = int(head.partition("=")[2])
     if told.status == _library.UNFINISHED:

@@ -81,7 +81,8 @@ class Conflict(KaolinsilkError):
     """A step of the job is against its rule of writing.
 
     `step` counts from 1, where it is known; `cell` is the cell of the job, `line` the line of the
-    program and `place` what it writes there, as "A[3]"; `processors` are the two that disagree.
+    program and `place` what it writes there, as "A[3]"; `processors` are the two that disagree,
+    and `values` what they write, where `plain(text, why=True)` tells it.
     """
 
     def __init__(
@@ -91,15 +92,18 @@ class Conflict(KaolinsilkError):
         cell: Optional[int] = None,
         line: Optional[int] = None,
         place: Optional[str] = None,
+        values: Optional[Tuple[int, int]] = None,
     ) -> None:
         self.processors, self.step, self.cell = processors, step, cell
-        self.line, self.place = line, place
+        self.line, self.place, self.values = line, place, values
         super().__init__(self._told())
 
     def _told(self) -> str:
         what = self.place or f"cell {self.cell}"
         where = f"line {self.line}" if self.line else f"step {self.step}"
         first, second = self.processors
+        if self.values:
+            what = f"{self.values[0]} and {self.values[1]} to {what}"
         return f"processors {first} and {second} write {what} in {where}, against the rule"
 
 

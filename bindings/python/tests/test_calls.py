@@ -4,7 +4,7 @@ from pathlib import Path
 
 import kaolinsilk
 from common import CONFLICT, EXAMPLES, GALLERY, MISTAKEN, PREFIX, SUMS, TINY, answer_beside
-from kaolinsilk import _library, calling
+from kaolinsilk import _library, answers, calling
 
 
 class Calls(unittest.TestCase):
@@ -143,6 +143,18 @@ class Calls(unittest.TestCase):
     def test_why(self):
         self.assertEqual(kaolinsilk.plain(PREFIX, why=True).why, ["stopped step=72"])
         self.assertEqual(kaolinsilk.plain(PREFIX).why, [])
+
+    def test_lines_of_why(self):
+        text = "pardo 1\nrule crew\nprocs i < 1\nshared lost = 5\ncode\nlost := 6\n"
+        self.assertEqual(kaolinsilk.plain(text, why=True).why, ["stopped step=3"])
+        said = b"conflict line=12 place=sum processors=0,1\nwrote values=4,10\n"
+        told = answers.answer_of(CONFLICT.encode(), _library.Told(_library.CONFLICT, said))
+        self.assertEqual((told.conflict.values, told.why), ((4, 10), ["wrote values=4,10"]))
+        self.assertIn("write 4 and 10 to sum in line 12", str(told.conflict))
+        said = b"done steps=2\nlost = 6\nlost processor=2 step=1 line=6\n"
+        said += b"outside array=A index=2 length=2\n"
+        told = answers.answer_of(text.encode(), _library.Told(_library.DONE, said))
+        self.assertEqual((told["lost"], len(told.why)), (6, 2))
 
     def test_gone(self):
         text = "pardo 1\nrule crew\nprocs i < 3\nshared A[2]\ncode\nA[i] := 1\n"
