@@ -3,3 +3,5 @@ pub mod Losing
 pub mod Ending
 pub mod LawOne
 pub mod AllRun
+pub mod Causing
+pub mod LawCauses

@@ -1,8 +1,11 @@
 //! What became of the processors, as text.
 ghost use Rattle.std.specs.Prelude.{◌≡◌, ◌++◌, string_bytes, IfOk};
-ghost use Rattle.pram_fates.specs.Told.{end_line, fates_text, line_in, lost_line};
+ghost use Rattle.pram_fates.specs.Told.{cause_line, end_line, fates_text, line_in, lost_line};
+ghost use Rattle.pram_fates.specs.Told.{values_line, why_text};
 
+use crate::causes::{Cause, Values, Why};
 use crate::fates::{End, Fates, Lost};
+use pram_rows::RowNames;
 use pram_text::instruction_line;
 use std::alloc::{AllocError, Global};
 
@@ -37,6 +40,58 @@ pub fn fates_text(alloc: Global, origin: Origin<'_>, fates: &Fates) -> Result<St
     let lost = lost_line(alloc, origin, fates.lost)?;
     told.push_str(lost.as_str())?;
     Ok(told)
+}
+
+/// The lines that say what became of the processors, and why, arrays by these names. The time is
+/// linear in the text.
+pub fn why_text<N: RowNames>(
+    alloc: Global,
+    origin: Origin<'_>,
+    names: &N,
+    why: &Why,
+) -> Result<String, AllocError>
+    ensures { IfOk result (λ told. string_bytes told
+        ≡ why_text (line_in origin.entry) (N.words names.now).array why.now) }
+{
+    let mut told = values_line(alloc, why.values)?;
+    let fates = fates_text(alloc, origin, &why.fates)?;
+    let cause = cause_line(alloc, names, why.cause)?;
+    told.push_str(fates.as_str())?;
+    told.push_str(cause.as_str())?;
+    Ok(told)
+}
+
+fn values_line(alloc: Global, values: Option<Values>) -> Result<String, AllocError>
+    ensures { IfOk result (λ told. string_bytes told ≡ values_line values) }
+{
+    let Some(Values { first, second }) = values else {
+        return Ok(String::new(alloc));
+    };
+    format!(in alloc; "wrote values={first},{second}\n")
+}
+
+fn cause_line<N: RowNames>(
+    alloc: Global,
+    names: &N,
+    cause: Option<Cause>,
+) -> Result<String, AllocError>
+    ensures { IfOk result (λ told. string_bytes told
+        ≡ cause_line (N.words names.now).array cause) }
+{
+    let Some(cause) = cause else {
+        return Ok(String::new(alloc));
+    };
+    match cause {
+        Cause::Outside(array, index) => {
+            let word = names.array_text(alloc, array)?;
+            let length = array.len;
+            format!(in alloc; "outside array={word} index={index} length={length}\n")
+        }
+        Cause::AboveBound(index, bound) => {
+            format!(in alloc; "outside index={index} length={bound}\n")
+        }
+        Cause::Divided(value) => format!(in alloc; "divided value={value} by=0\n"),
+    }
 }
 
 fn end_line(alloc: Global, origin: Origin<'_>, end: Option<End>) -> Result<String, AllocError>
