@@ -1,7 +1,8 @@
 //! Why a processor is lost, and what two that clash write.
 ghost use Rattle.std.specs.Prelude.{◌≡◌, ◌<◌, ◌≤◌, ◌-◌, Some, IfOk, MatchOption, length, slice_get};
 ghost use Rattle.pram_fates.specs.Causes.{AreValuesOf, AreReasons, bound_in, bound_of, cause_by};
-ghost use Rattle.pram_fates.specs.Causes.{cause_in, cause_of, division, indexed_cells, operand_value};
+ghost use Rattle.pram_fates.specs.Causes.{cause_in, cause_of, division, indexed_cells};
+ghost use Rattle.pram_fates.specs.Causes.{operand_value};
 ghost use Rattle.pram_fates.specs.Causes.{clash_values};
 ghost use Rattle.pram_fates.specs.Fates.{AreFates};
 ghost use Rattle.pram_job.specs.Instructions.{AreOperands, IsOperand, IsPlace};
@@ -131,8 +132,8 @@ fn values_told(alloc: Global, job: &Job, answer: &RunAnswer) -> Result<Option<Va
     }
 }
 
-/// What the two processors of a conflict write, if it is one of the job's. The steps before are made
-/// once more.
+/// What the two processors of a conflict write, if it is one of the job's. The steps before are
+/// made once more.
 pub fn clash_values(alloc: Global, job: &Job, fault: Fault) -> Result<Option<Values>, AllocError>
     ensures { IfOk result (λ values. IsFault job.now fault →
         values ≡ Some (clash_values job.now fault)) }
