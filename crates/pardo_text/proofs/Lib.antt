@@ -10,6 +10,8 @@ pub mod Finished
 pub mod Judged
 pub mod Columns
 pub mod Starts
+pub mod Throwing
+pub mod Refilling
 pub mod Fields
 pub mod Joined
 pub mod Setting

@@ -1,21 +1,19 @@
 -- Lines as they are set stay in their places.
-use Rattle.std.proofs.Common.{◌≡◌, ℕ, zero, suc, ◌-◌, ◌<◌, ◌^◌, ◌==◌, Bool, false}
+use Rattle.std.proofs.Common.{◌≡◌, ℕ, zero, suc, ◌+◌, ◌-◌, ◌/◌, ◌%◌, ◌<◌, ◌==◌, Bool, true, false}
 use Rattle.std.proofs.Common.{List, [], ◌∷◌, ◌++◌, length, map, Option, Some, None, IfSome}
-use Rattle.std.proofs.Common.{codes, decimal, refl, sym, ap, subst, ◌∙◌, arith}
-use Rattle.std.specs.Char.{digit_value}
+use Rattle.std.proofs.Common.{codes, decimal, refl, sym, ap, subst, ◌∙◌, arith, if◌then◌else◌}
+use Rattle.std.specs.Fmt.{digit_glyph, digits, digits_onto}
 use Rattle.std.specs.List.{All, join_with_byte, onto_first}
 use Rattle.std.specs.Option.{option_and_then, option_map}
-use Rattle.std.specs.Str.Parse.{AllDigits}
-use Rattle.std.specs.Prelude.{slice_get}
-use Rattle.std.proofs.lemmas.Fmt.{decimal_is_IsNumeral}
+use Rattle.std.proofs.lemmas.Bool.Decides.{nat_tests}
+use Rattle.std.proofs.Math.Nat.{mod-lt}
 use Rattle.std.proofs.lemmas.List.Elements.{All-append, All-take}
 use Rattle.std.proofs.lemmas.List.Splits.{slice_split-cons_yes, slice_split-cons_no}
 use Rattle.std.proofs.lemmas.List.Splits.{slice_split_at, slice_split_none, length-slice_split}
-use Rattle.text_lines.specs.Lines.{Word, lines_of, said_in}
-use Rattle.pardo_program.specs.Lawful.{AreNumbers}
-use Rattle.pardo_text.specs.Laws.{AreSettings, SetLinesStay}
-use Rattle.pardo_text.specs.Settings.{SettingData, declared_at, line_as_set, parted, set_in, set_to}
-use Rattle.pardo_text.specs.Settings.{setting_of, text_as_set, value_in}
+use Rattle.text_lines.specs.Lines.{lines_of, said_in}
+use Rattle.pardo_text.specs.Laws.{SetLinesStay}
+use Rattle.pardo_text.specs.Settings.{SettingData, declared_at, line_as_set, parted, put_by, set_in}
+use Rattle.pardo_text.specs.Settings.{settled, text_as_set, value_in}
 use Rattle.pardo_text.proofs.Fields.{by_test}
 
 abbrev pub is_feed : ℕ → Bool
@@ -72,60 +70,61 @@ map_split f (line ∷ lines) some clean keeps =
 
 -- ---- what stands in a line that is set
 
+by_choice : (b : Bool) (one other : List ℕ) → NoFeed one → NoFeed other →
+    NoFeed (if b then one else other)
+by_choice true one other first second = first
+by_choice false one other first second = second
+
 some_comes : {A B : Type 0} (P : B → Type 0) (f : A → Option B) (o : Option A) →
     ((a : A) → IfSome (f a) P) → IfSome (option_and_then f o) P
 some_comes P f None all = tt
 some_comes P f (Some a) all = all a
 
-some_maps : {A B : Type 0} (P : B → Type 0) (Q : A → Type 0) (g : A → B) (o : Option A) →
-    IfSome o Q → ((a : A) → Q a → P (g a)) → IfSome (option_map g o) P
-some_maps P Q g None has all = tt
-some_maps P Q g (Some a) has all = all a has
-
-there : {X : Type 0} (P : X → Type 0) (xs : List X) (at : ℕ) → All P xs → IfSome (slice_get xs at) P
-there P [] at all = tt
-there P (x ∷ xs) zero all = all 0 x (omega arith)
-there P (x ∷ xs) (suc at) all = there P xs at (λ k d less. all (suc k) d (omega (arith, less)))
-
-set_numbers : (settings : List SettingData) (word : Word) → AreSettings settings →
-    IfSome (set_to settings word) AreNumbers
-set_numbers settings word are =
-    some_comes AreNumbers (λ at. option_map (λ (s : SettingData). s.values) (slice_get settings at))
-    (setting_of settings word)
-    (λ at. some_maps AreNumbers (λ (s : SettingData). AreNumbers s.values)
-    (λ (s : SettingData). s.values) (slice_get settings at)
-    (there (λ (s : SettingData). AreNumbers s.values) settings at are) (λ s few. few))
+some_maps : {A B : Type 0} (P : B → Type 0) (g : A → B) (o : Option A) →
+    ((a : A) → P (g a)) → IfSome (option_map g o) P
+some_maps P g None all = tt
+some_maps P g (Some a) all = all a
 
 abbrev pub IsClean : List ℕ × List ℕ → Type 0
-IsClean found = NoFeed found.0 × AreNumbers found.1
+IsClean found = NoFeed found.0
 
-set_clean : (settings : List SettingData) (line : List ℕ) → AreSettings settings → NoFeed line →
-    IfSome (set_in settings line) IsClean
-set_clean settings line are clean =
+set_clean : (settings : List SettingData) (line : List ℕ) → NoFeed line →
+    IfSome (set_in false settings line) IsClean
+set_clean settings line clean =
     some_comes IsClean _ (declared_at line) (λ declared.
     some_comes IsClean _ (value_in declared.0 declared.2) (λ rest.
-    some_maps IsClean AreNumbers _ (set_to settings declared.1)
-    (set_numbers settings declared.1 are) (λ values few.
-    (All-take (λ byte. is_feed byte ≡ false) (length line - length rest) line clean, few))))
+    some_maps IsClean _ (put_by false settings declared.0 declared.1) (λ values.
+    All-take (λ byte. is_feed byte ≡ false) (length line - length rest) line clean)))
 
-no_digit : (c : ℕ) → digit_value c < 10 → is_feed c ≡ false
-no_digit c h = grind arith
+no_digit : (d : ℕ) → d < 10 → is_feed (48 + d) ≡ false
+no_digit d h = grind arith
 
-digits_clean : (word : List ℕ) → AllDigits 10 word → NoFeed word
-digits_clean [] h = no_byte
-digits_clean (c ∷ cs) h = one_more c cs (no_digit c h.0) (digits_clean cs h.1)
+glyph_clean : (n : ℕ) → is_feed (digit_glyph false (n % 10)) ≡ false
+glyph_clean n =
+    let low : n % 10 < 10 = mod-lt n (omega arith) in
+    let digit : digit_glyph false (n % 10) ≡ 48 + n % 10 = grind (arith, nat_tests) in
+    rw digit (no_digit (n % 10) low)
 
-parted_clean : (before values : List ℕ) → NoFeed before → AreNumbers values →
-    NoFeed (parted before values)
-parted_clean before [] clean few = no_byte
-parted_clean before (value ∷ values) clean few =
-    let low : value < 2 ^ 32 = few 0 value (omega arith) in
-    let is = (decimal_is_IsNumeral value (omega (arith, low))).0 in
+digits_clean : (k n : ℕ) (after : List ℕ) → NoFeed after → NoFeed (digits_onto k 10 false n after)
+digits_clean zero n after clean = clean
+digits_clean (suc k) n after clean =
+    let more = one_more (digit_glyph false (n % 10)) after (glyph_clean n) clean in
+    by_choice (n / 10 == 0) (digit_glyph false (n % 10) ∷ after)
+    (digits_onto k 10 false (n / 10) (digit_glyph false (n % 10) ∷ after)) more
+    (digits_clean k (n / 10) (digit_glyph false (n % 10) ∷ after) more)
+
+decimal_clean : (n : ℕ) → NoFeed (decimal n)
+unfolding digits
+decimal_clean n = digits_clean 64 n [] no_byte
+
+parted_clean : (before values : List ℕ) → NoFeed before → NoFeed (parted before values)
+parted_clean before [] clean = no_byte
+parted_clean before (value ∷ values) clean =
     let comma : NoFeed (codes ", ") = one_more 44 (32 ∷ []) refl (one_more 32 [] refl no_byte)
     in
     All-append (λ byte. is_feed byte ≡ false) (before ++ decimal value) _
-    (All-append (λ byte. is_feed byte ≡ false) before (decimal value) clean (digits_clean _ is.1))
-    (parted_clean (codes ", ") values comma (λ k d less. few (suc k) d (omega (arith, less))))
+    (All-append (λ byte. is_feed byte ≡ false) before (decimal value) clean (decimal_clean value))
+    (parted_clean (codes ", ") values comma)
 
 elim_clean : (line : List ℕ) (found : Option (List ℕ × List ℕ)) → NoFeed line →
     IfSome found IsClean → NoFeed (elim found [
@@ -137,18 +136,18 @@ elim_clean line (Some found) clean has =
     let equals : NoFeed (codes " = ") =
     one_more 32 (61 ∷ 32 ∷ []) refl
     (one_more 61 (32 ∷ []) refl (one_more 32 [] refl no_byte)) in
-    All-append (λ byte. is_feed byte ≡ false) found.0 _ has.0
-    (parted_clean (codes " = ") found.1 equals has.1)
+    All-append (λ byte. is_feed byte ≡ false) found.0 _ has
+    (parted_clean (codes " = ") found.1 equals)
 
-line_clean : (settings : List SettingData) (line : List ℕ) → AreSettings settings → NoFeed line →
+line_clean : (settings : List SettingData) (line : List ℕ) → NoFeed line →
     NoFeed (line_as_set settings line)
-line_clean settings line are clean =
-    elim_clean line (set_in settings (said_in line)) clean
-    (set_clean settings (said_in line) are (All-take (λ byte. is_feed byte ≡ false) _ line clean))
+line_clean settings line clean =
+    elim_clean line (set_in false settings (said_in line)) clean
+    (set_clean settings (said_in line) (All-take (λ byte. is_feed byte ≡ false) _ line clean))
 
 pub set_lines_stay : SetLinesStay
 unfolding text_as_set
-set_lines_stay settings text are =
-    map_split (line_as_set settings) (lines_of text)
+set_lines_stay settings text =
+    map_split (line_as_set (settled settings text)) (lines_of text)
     (let some = length-slice_split is_feed text in omega (arith, some))
-    (split_clean text) (λ line clean. line_clean settings line are clean)
+    (split_clean text) (λ line clean. line_clean (settled settings text) line clean)

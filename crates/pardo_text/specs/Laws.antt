@@ -16,7 +16,7 @@ use Rattle.pardo_text.specs.Names.{Names}
 use Rattle.pardo_program.specs.Nested.{IsNested}
 use Rattle.pardo_program.specs.Program.{ProgramData}
 use Rattle.pardo_text.specs.Reading.{with_text_line, program_in, program_of}
-use Rattle.pardo_text.specs.Settings.{SettingData, line_as_set, text_as_set}
+use Rattle.pardo_text.specs.Settings.{SettingData, line_as_set, settled, text_as_set}
 use Rattle.text_lines.specs.Reads.{◌>>=◌}
 use Rattle.pardo_text.specs.Tokens.{Token, token_at, tokens_of}
 use Rattle.pardo_program.specs.Variables.{AreDistinct, variable_names}
@@ -127,11 +127,8 @@ NamesAreDistinct = (text : List ℕ) →
 abbrev pub NothingSetChangesNothing : Type 0
 NothingSetChangesNothing = (text : List ℕ) → text_as_set [] text ≡ text
 
--- settings to values of 32 bits
-abbrev pub AreSettings : List SettingData → Type 0
-AreSettings settings = All (λ setting. AreNumbers setting.values) settings
-
 -- The lines of the text as it is set are its lines as they are set, in their places.
 abbrev pub SetLinesStay : Type 0
-SetLinesStay = (settings : List SettingData) (text : List ℕ) → AreSettings settings →
-    lines_of (text_as_set settings text) ≡ map (line_as_set settings) (lines_of text)
+SetLinesStay = (settings : List SettingData) (text : List ℕ) →
+    lines_of (text_as_set settings text)
+    ≡ map (line_as_set (settled settings text)) (lines_of text)

@@ -6,6 +6,7 @@ pub mod Drafts
 pub mod Header
 pub mod Code
 pub mod Reading
+pub mod Thrown
 pub mod Settings
 pub mod Laws
 pub mod Inner

@@ -1,13 +1,16 @@
 -- Settings: values that constants and arrays are given from outside.
-use Rattle.std.specs.Prelude.{◌≡◌, ◌≢◌, ℕ, ◌+◌, ◌-◌, ◌^◌, ◌==◌, Bool, true, false, not, nat_lt}
+use Rattle.std.specs.Prelude.{◌≡◌, ◌≢◌, ℕ, ◌+◌, ◌-◌, ◌%◌, ◌^◌, ◌==◌, Bool, true, false, not, nat_lt}
 use Rattle.std.specs.Prelude.{if◌then◌else◌, List, [], ◌∷◌, ◌++◌, length, take, drop, map, codes}
 use Rattle.std.specs.Prelude.{decimal, is_some, slice_get, Option, Some, None, Result, Ok, Err}
-use Rattle.std.specs.List.{join_with_byte, position, slice_split}
+use Rattle.std.specs.Prelude.{◌&&◌, ◌||◌, find, replicate, slice_index, unwrap_or}
+use Rattle.std.specs.List.{flat_map, join_with_byte, list_any, position, range_with_len, slice_split}
 use Rattle.std.specs.Option.{option_and_then, option_map}
 use Rattle.std.specs.Str.{bytes_eq}
 use Rattle.pardo_text.specs.declared.fault.PardoFault.{PardoFault}
 use Rattle.pardo_text.specs.declared.fault.PardoKind.{PardoKind}
 use Rattle.pardo_text.specs.declared.fault.PardoKind.TheVariants as pardo
+use Rattle.pardo_text.specs.declared.settings.Rest.{Rest}
+use Rattle.pardo_text.specs.declared.settings.Rest.TheVariants.{Last, Nothing, Throws}
 use Rattle.pardo_text.specs.declared.settings.SetFault.{SetFault}
 use Rattle.pardo_text.specs.declared.settings.SetKind.{SetKind}
 use Rattle.pardo_text.specs.declared.settings.SetKind.TheVariants.{BadNumber, BadSetting}
@@ -19,16 +22,23 @@ use Rattle.pardo_text.specs.declared.settings.SetRefusal.TheVariants as refusal
 use Rattle.pardo_text.specs.declared.symbol.Symbol.{Symbol}
 use Rattle.pardo_text.specs.declared.symbol.Symbol.TheVariants as the
 use Rattle.pardo_text.specs.Inner.Tokens.{after_blanks}
-use Rattle.pardo_program.specs.Program.{ProgramData}
+use Rattle.pardo_program.specs.Program.{ArrayData, ProgramData}
 use Rattle.pardo_text.specs.Reading.{program_of}
 use Rattle.pardo_text.specs.Tokens.{Token, name, number, symbol, token_at}
+use Rattle.pardo_text.specs.Thrown.{thrown_in, thrown_values}
+use Rattle.pardo_text.specs.declared.thrown.Thrown.{Thrown}
 use Rattle.text_lines.specs.Lines.{Word, lines_of, said_in}
 use Rattle.text_lines.specs.Reads.{◌>>=◌}
 
--- a name, and the values that it is set to
+-- a name, the values that it is set to, and what follows them
 pub record SettingData : Type 0 where
   pub name : Word
   pub values : List ℕ
+  pub rest : Rest
+
+-- numbers alone
+abbrev pub plain : Word → List ℕ → SettingData
+plain word values = record { name = word; values = values; rest = Nothing }
 
 -- the number of the first setting of this name, counted from 0
 abbrev pub setting_of : List SettingData → Word → Option ℕ
@@ -48,8 +58,7 @@ first_in (first ∷ others) = Some (first.name, first.values)
 -- the settings, the first name being set to this value alone
 abbrev pub with_first : List SettingData → ℕ → List SettingData
 with_first [] value = []
-with_first (first ∷ others) value =
-    record { name = first.name; values = value ∷ [] } ∷ others
+with_first (first ∷ others) value = plain first.name (value ∷ []) ∷ others
 
 -- ---- the lines that are set
 
@@ -88,12 +97,18 @@ value_in the.Const rest = Some rest
 value_in the.Shared rest = after_index rest
 value_in _ rest = None
 
--- the beginning of a line that stays, and the values that follow it, where its name is set
-abbrev pub set_in : List SettingData → List ℕ → Option (List ℕ × List ℕ)
-set_in settings line = option_and_then (λ declared.
+-- What a line is set to: what its name is; but the array of a line whose values do not count has
+-- none.
+abbrev pub put_by : Bool → List SettingData → Symbol → Word → Option (List ℕ)
+put_by true settings the.Shared word = Some []
+put_by bare settings keyword word = set_to settings word
+
+-- the beginning of a line that stays, and the values that follow it, where it is set
+abbrev pub set_in : Bool → List SettingData → List ℕ → Option (List ℕ × List ℕ)
+set_in bare settings line = option_and_then (λ declared.
     option_and_then (λ rest.
     option_map (λ values. (take (length line - length rest) line, values))
-    (set_to settings declared.1))
+    (put_by bare settings declared.0 declared.1))
     (value_in declared.0 declared.2))
     (declared_at line)
 
@@ -104,15 +119,122 @@ parted before (value ∷ values) = before ++ decimal value ++ parted (codes ", "
 
 -- A line as it is set: `const NAME = V`, `shared NAME[..] = V, V, ..`. What is exchanged is not
 -- read. All other lines stay.
-abbrev pub line_as_set : List SettingData → List ℕ → List ℕ
-line_as_set settings line = elim (set_in settings (said_in line)) [
+abbrev pub line_by : Bool → List SettingData → List ℕ → List ℕ
+line_by bare settings line = elim (set_in bare settings (said_in line)) [
   | None ↦ line
   | Some found ↦ found.0 ++ parted (codes " = ") found.1
 ]
 
+abbrev pub line_as_set : List SettingData → List ℕ → List ℕ
+line_as_set = line_by false
+
+-- ---- how many places an array has
+
+abbrev pub is_code : Token → Bool
+is_code (symbol the.Code) = true
+is_code _ = false
+
+abbrev pub begins_code : List ℕ → Bool
+begins_code line = elim (next_at (said_in line)) [
+  | None ↦ false
+  | Some found ↦ is_code found.0
+]
+
+abbrev pub before_code : List (List ℕ) → List (List ℕ)
+before_code [] = []
+before_code (line ∷ lines) = if begins_code line then [] else line ∷ before_code lines
+
+-- the header with constants set, and with or without the values of arrays, as a program
+abbrev pub header_text : Bool → List SettingData → List ℕ → List ℕ
+header_text bare settings text =
+    flat_map (λ line. line_by bare settings line ++ 10 ∷ []) (before_code (lines_of text))
+    ++ codes "code\nif 0\nend"
+
+abbrev pub arrays_of : Result ProgramData PardoFault → List ArrayData
+arrays_of (Ok program) = program.arrays
+arrays_of (Err fault) = []
+
+-- the arrays of the text as it stands, and those that it has with constants set
+abbrev pub own_arrays : List ℕ → List ArrayData
+own_arrays text = arrays_of (program_of (header_text false [] text))
+
+abbrev pub sized_arrays : List SettingData → List ℕ → List ArrayData
+sized_arrays settings text = arrays_of (program_of (header_text true settings text))
+
+abbrev pub places_of : ArrayData → ℕ
+places_of array = length array.start
+
+-- how many places the array of this name has, if there is one
+abbrev pub places_named : List ArrayData → Word → Option ℕ
+places_named arrays word =
+    option_map places_of (find (λ array. bytes_eq array.name word) arrays)
+
+-- ---- settings as numbers alone
+
+-- so many values; the last one fills the rest, or all are thrown
+abbrev pub values_with : Rest → List ℕ → ℕ → List ℕ
+values_with Nothing values places = values
+values_with Last values places =
+    values ++ replicate (places - length values) (slice_index values (length values - 1))
+values_with (Throws thrown) values places = thrown_values thrown places
+
+-- what is no array, or of none that is known, has one place
+abbrev pub numbers_set : List ArrayData → SettingData → SettingData
+numbers_set sized setting = plain setting.name
+    (values_with setting.rest setting.values (unwrap_or (places_named sized setting.name) 1))
+
+-- these values over and over, for so many places
+abbrev pub repeated : List ℕ → ℕ → List ℕ
+repeated values places =
+    map (λ place. slice_index values (place % length values)) (range_with_len 0 places)
+
+abbrev pub is_shared : Symbol → Bool
+is_shared the.Shared = true
+is_shared _ = false
+
+-- The line declares this array, and lists a value for each of its places.
+abbrev pub lists_by : Option (Symbol × Word × List ℕ) → Word → Bool
+lists_by None word = false
+lists_by (Some declared) word = is_shared declared.0 && bytes_eq declared.1 word
+    && list_any (λ byte. byte == 61) declared.2 && not (list_any (λ byte. byte == 46) declared.2)
+
+abbrev pub lists_values : Word → List ℕ → Bool
+lists_values word line = lists_by (declared_at (said_in line)) word
+
+-- An array that is not set, whose line lists its values, and which has not as many places as in the
+-- text as it stands, gets these values over and over.
+abbrev pub fits_as_is : List SettingData → List ℕ → Word → Bool
+fits_as_is settings text word = is_some (setting_of settings word)
+    || not (list_any (lists_values word) (lines_of text))
+
+abbrev pub refilled : Option ℕ → Bool → ArrayData → List SettingData
+refilled None fits array = []
+refilled (Some places) fits array =
+    if (places == places_of array) || (places_of array == 0) || fits then []
+    else plain array.name (repeated array.start places) ∷ []
+
+abbrev pub refilled_by : List ArrayData → List SettingData → List ℕ → ArrayData → List SettingData
+refilled_by sized settings text array =
+    refilled (places_named sized array.name) (fits_as_is settings text array.name) array
+
+-- All that is set of a text, as numbers alone: the settings, and then the arrays whose lengths
+-- follow from them.
+abbrev pub settled_with : List ArrayData → List ArrayData → List SettingData → List ℕ →
+    List SettingData
+settled_with sized own settings text =
+    map (numbers_set sized) settings ++ flat_map (refilled_by sized settings text) own
+
+unfoldable pub settled : List SettingData → List ℕ → List SettingData
+settled settings text = if length settings == 0 then []
+    else settled_with (sized_arrays settings text) (own_arrays text) settings text
+
+-- the text with names set to numbers, line for line
+abbrev pub exchanged : List SettingData → List ℕ → List ℕ
+exchanged settings text = join_with_byte 10 (map (line_as_set settings) (lines_of text))
+
 -- the text as it is set, line for line
 unfoldable pub text_as_set : List SettingData → List ℕ → List ℕ
-text_as_set settings text = join_with_byte 10 (map (line_as_set settings) (lines_of text))
+text_as_set settings text = exchanged (settled settings text) text
 
 -- ---- values that a text spells
 
@@ -151,11 +273,34 @@ abbrev pub some_of : List ℕ → Result (List ℕ) SetKind
 some_of [] = Err WrongLength
 some_of (value ∷ values) = Ok (value ∷ values)
 
--- the values that a text spells: all its fields
-unfoldable pub values_spelled : List ℕ → Result (List ℕ) SetKind
-values_spelled text = do
+-- the values that a text lists: all its fields
+unfoldable pub values_listed : List ℕ → Result (List ℕ) SetKind
+values_listed text = do
   values ← with_rows [] (lines_of text)
   some_of values
+
+-- what stands before an end
+abbrev pub before_end : List ℕ → List ℕ → Option (List ℕ)
+before_end end text =
+    if bytes_eq (drop (length text - length end) text) end
+    then Some (take (length text - length end) text) else None
+
+-- values, and what follows them
+abbrev pub followed_by : Rest → Result (List ℕ) SetKind → Result (List ℕ × Rest) SetKind
+followed_by rest (Ok values) = Ok (values, rest)
+followed_by rest (Err kind) = Err kind
+
+abbrev pub listed : List ℕ → Option (List ℕ) → Result (List ℕ × Rest) SetKind
+listed text None = followed_by Nothing (values_listed text)
+listed text (Some before) = followed_by Last (values_listed before)
+
+-- A text throws values, or lists them, and `,...` after them lets the last one fill the rest.
+abbrev pub spelled_by : Option Thrown → List ℕ → Result (List ℕ × Rest) SetKind
+spelled_by (Some thrown) text = Ok ([], Throws thrown)
+spelled_by None text = listed text (before_end (codes ",...") text)
+
+unfoldable pub values_spelled : List ℕ → Result (List ℕ × Rest) SetKind
+values_spelled text = spelled_by (thrown_in text) text
 
 -- a name alone
 abbrev pub is_lone_name : Token → List ℕ → Bool
@@ -174,8 +319,8 @@ with_setting settings word text =
     if not (names_one word) then Err BadSetting
     else (if is_some (setting_of settings word) then Err DuplicateName
     else (do
-      values ← values_spelled text
-      Ok (settings ++ record { name = word; values = values } ∷ [])))
+      found ← values_spelled text
+      Ok (settings ++ record { name = word; values = found.0; rest = found.1 } ∷ [])))
 
 -- ---- settings that do not fit
 

@@ -3,9 +3,10 @@ ghost use Rattle.std.specs.Prelude.{◌≡◌, ◌++◌, ◌==◌, ◌<◌, code
 ghost use Rattle.std.specs.List.{position};
 ghost use Rattle.std.specs.Option.{option_map};
 ghost use Rattle.pardo_text.specs.Settings.{after_index, blamed, blamed_by, declared_at};
-ghost use Rattle.pardo_text.specs.Settings.{has_index, is_of_length, line_numbered};
-ghost use Rattle.pardo_text.specs.Settings.{line_as_set, may_set};
-ghost use Rattle.pardo_text.specs.Settings.{misfit, parted, set_in, settable_by, settable_in};
+ghost use Rattle.pardo_text.specs.Settings.{exchanged, has_index, is_of_length, line_by};
+ghost use Rattle.pardo_text.specs.Settings.{line_numbered, may_set};
+ghost use Rattle.pardo_text.specs.Settings.{misfit, parted, put_by, set_in, settable_by};
+ghost use Rattle.pardo_text.specs.Settings.{settable_in};
 ghost use Rattle.pardo_text.specs.Settings.{text_as_set, unmet, value_in};
 ghost use Rattle.text_lines.specs.Lines.{lines_of, said_in};
 
@@ -20,28 +21,42 @@ use text_lines::TextLines;
 impl Settings {
     /// The text as it is set.
     ///
-    /// The time is linear in the text and in the values. Each line that declares a name is looked
-    /// for among the settings.
+    /// The time is linear in the text and in the values, of which those of the text are read twice.
+    /// Each line that declares a name is looked for among the settings, and each array that gets
+    /// other places among the lines.
     #[tactic(auto, unfolding(crate::specs::Settings::text_as_set))]
     pub fn text_as_set(&self, alloc: Global, text: &[u8]) -> Result<Vec<u8>, AllocError>
         ensures { IfOk result (λ set. set.items ≡ text_as_set self.now text.now) }
+    {
+        let settled = self.settled(alloc, text)?;
+        settled.exchanged(alloc, text)
+    }
+
+    // The text with names set to numbers.
+    fn exchanged(&self, alloc: Global, text: &[u8]) -> Result<Vec<u8>, AllocError>
+        ensures { IfOk result (λ set. set.items ≡ exchanged self.now text.now) }
     {
         let mut set = Vec::new(alloc);
         let mut lines = TextLines::new(text);
         let mut parting: &[u8] = b"";
         while let Some(line) = lines.take_line() {
             set.extend_from_slice(parting)?;
-            self.push_line(line, &mut set)?;
+            self.push_line(false, line, &mut set)?;
             parting = b"\n";
         }
         Ok(set)
     }
 
-    // Adds a line as it is set.
-    fn push_line(&self, line: &[u8], set: &mut Vec<u8>) -> Result<(), AllocError>
-        ensures { OnOk result (set.new.items ≡ set.old.items ++ line_as_set self.now line.now) }
+    /// Adds a line as it is set; an array gets no value where it is bare.
+    pub(crate) fn push_line(
+        &self,
+        bare: bool,
+        line: &[u8],
+        set: &mut Vec<u8>,
+    ) -> Result<(), AllocError>
+        ensures { OnOk result (set.new.items ≡ set.old.items ++ line_by bare self.now line.now) }
     {
-        match self.set_in(said(line)) {
+        match self.set_in(bare, said(line)) {
             None => set.extend_from_slice(line),
             Some((front, values)) => {
                 set.extend_from_slice(front)?;
@@ -50,16 +65,27 @@ impl Settings {
         }
     }
 
-    // The beginning of a line that stays, and the values that follow it, where its name is set.
-    fn set_in<'a>(&'a self, line: &'a [u8]) -> Option<(&'a [u8], &'a [u32])>
+    // The beginning of a line that stays, and the values that follow it, where it is set.
+    fn set_in<'a>(&'a self, bare: bool, line: &'a [u8]) -> Option<(&'a [u8], &'a [u32])>
         ensures { option_map (λ found. (found.0.now, found.1.now)) result
-            ≡ set_in self.now line.now }
+            ≡ set_in bare self.now line.now }
     {
         let (keyword, name, rest) = declared(line)?;
         let rest = value_place(keyword, rest)?;
-        let values = self.get(name)?;
+        let values = self.put_by(bare, keyword, name)?;
         let kept = line.len().saturating_sub(rest.len());
         Some((line.split_at(kept).0, values))
+    }
+
+    // What a line is set to.
+    fn put_by(&self, bare: bool, keyword: Symbol, name: &[u8]) -> Option<&[u32]>
+        ensures { option_map (λ values. values.now) result
+            ≡ put_by bare self.now keyword name.now }
+    {
+        match (bare, keyword) {
+            (true, Symbol::Shared) => Some(&[]),
+            _ => self.get(name),
+        }
     }
 
     /// The setting in which a fault of the text as it is set lies, if it lies in one.
@@ -112,8 +138,8 @@ fn push_values(values: &[u32], set: &mut Vec<u8>) -> Result<(), AllocError>
     Ok(())
 }
 
-// The keyword and the name with which a line begins, and what stands after them.
-fn declared(line: &[u8]) -> Option<(Symbol, &[u8], &[u8])>
+/// The keyword and the name with which a line begins, and what stands after them.
+pub(crate) fn declared(line: &[u8]) -> Option<(Symbol, &[u8], &[u8])>
     ensures { option_map (λ x. (x.0, x.1.now, x.2.now)) result ≡ declared_at line.now }
 {
     let (Token::Symbol(keyword), rest) = first_token(line)? else {

@@ -15,7 +15,9 @@ mod parse;
 mod part;
 mod reader;
 mod settings;
+mod settled;
 mod symbol;
+mod thrown;
 mod token;
 mod value;
 
@@ -24,4 +26,5 @@ pub use pardo_program::{Array, Expr, Line, Node, Op, Private, Program, Statement
 pub use pram_job::Rule;
 pub use reader::{Stop, read_or_stop, read_program, read_program_with};
 pub use settings::{SetFault, SetKind, SetRefusal, Settings};
+pub use thrown::{Thrown, next_seed, number_below, seed_and_bound};
 pub use token::{first_spelled, said};

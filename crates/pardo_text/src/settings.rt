@@ -5,13 +5,15 @@ ghost use Rattle.std.specs.Option.{option_map};
 ghost use Rattle.text_lines.specs.Lines.{lines_of};
 ghost use Rattle.pardo_text.specs.Settings.{alone, field_value, fields_in, first_in, names_one};
 ghost use Rattle.pardo_text.specs.Settings.{set_to, setting_of};
-ghost use Rattle.pardo_text.specs.Settings.{some_of, values_spelled, with_fields, with_first};
+ghost use Rattle.pardo_text.specs.Settings.{before_end, some_of, values_listed, values_spelled};
+ghost use Rattle.pardo_text.specs.Settings.{with_fields, with_first};
 ghost use Rattle.pardo_text.specs.Settings.{with_rows, with_setting};
 ghost use Rattle.pardo_text.specs.Inner.Tokens.{after_blanks};
 ghost use Rattle.pardo_text.specs.Inner.Settings.{GivesAsSet, fields_left};
 ghost use Rattle.pardo_text.specs.declared.settings.SetKind.TheVariants.{Memory};
 
 use crate::fault::PardoFault;
+use crate::thrown::Thrown;
 use crate::token::{Token, after_blanks, first_token};
 use std::alloc::{AllocError, AllocFailed, Global};
 use std::marker::Model;
@@ -70,11 +72,23 @@ pub enum SetRefusal {
     Setting(SetFault),
 }
 
-/// A name, and the values that it is set to.
+/// What follows the values that are listed.
+#[derive(Clone, Copy, Debug, PartialEq, Eq)]
+pub(crate) enum Rest {
+    /// Nothing.
+    Nothing,
+    /// The last value, for each place that is left.
+    Last,
+    /// No value is listed: all are thrown.
+    Throws(Thrown),
+}
+
+/// A name, the values that it is set to, and what follows them.
 #[derive(Drop)]
 pub(crate) struct Setting {
     pub(crate) name: Vec<u8>,
     pub(crate) values: Vec<u32>,
+    pub(crate) rest: Rest,
 }
 
 impl Model for Setting {
@@ -82,7 +96,7 @@ impl Model for Setting {
 
     ghost Value = { SettingData };
 
-    ghost view = { λ s. record { name = s.name.items; values = s.values.items } };
+    ghost view = { λ s. record { name = s.name.items; values = s.values.items; rest = s.rest } };
 }
 
 /// Names with the values that they are set to, in their order.
@@ -117,7 +131,7 @@ impl Settings {
         self.settings.is_empty()
     }
 
-    /// The name that is set first, and its values.
+    /// The name that is set first, and the values that are listed for it.
     pub fn first(&self) -> Option<(&[u8], &[u32])>
         ensures { option_map (λ first. (first.0.now, first.1.now)) result ≡ first_in self.now }
     {
@@ -133,12 +147,14 @@ impl Settings {
         let values = Vec::from_slice(alloc, &[value])?;
         if let Some(first) = self.settings.first_mut() {
             first.values = values;
+            first.rest = Rest::Nothing;
         }
         Ok(())
     }
 
     /// Sets one name more, to the values that a text spells: numbers, parted by commas or by line
-    /// feeds.
+    /// feeds, of which with `,...` the last one fills the rest; or `any:SEED:BELOW`, `perm:SEED` or
+    /// `sorted:SEED:BELOW`.
     #[tactic(auto, unfolding(crate::specs::Settings::with_setting))]
     pub fn add(&mut self, name: &[u8], text: &[u8]) -> Result<(), SetKind>
         ensures { GivesAsSet (λ _. self.new) result (with_setting self.old name.now text.now) }
@@ -150,9 +166,9 @@ impl Settings {
         if self.find(name).is_some() {
             return Err(SetKind::DuplicateName);
         }
-        let values = values_spelled(alloc, text)?;
+        let (values, rest) = values_spelled(alloc, text)?;
         let name = Vec::from_slice(alloc, name)?;
-        self.settings.push(Setting { name, values })?;
+        self.settings.push(Setting { name, values, rest })?;
         Ok(())
     }
 
@@ -182,10 +198,31 @@ fn names_one(word: &[u8]) -> bool
     matches!(first_token(word), Some((Token::Name(_), [])))
 }
 
-// The values that a text spells, of which there are some.
+// The values that a text spells, and what follows them.
 #[tactic(auto, unfolding(crate::specs::Settings::values_spelled))]
-fn values_spelled(alloc: Global, text: &[u8]) -> Result<Vec<u32>, SetKind>
-    ensures { GivesAsSet (λ values. values.items) result (values_spelled text.now) }
+fn values_spelled(alloc: Global, text: &[u8]) -> Result<(Vec<u32>, Rest), SetKind>
+    ensures { GivesAsSet (λ found. (found.0.items, found.1)) result (values_spelled text.now) }
+{
+    if let Some(thrown) = Thrown::spelled(text) {
+        return Ok((Vec::new(alloc), Rest::Throws(thrown)));
+    }
+    match before_end(text, ",...") {
+        None => Ok((values_listed(alloc, text)?, Rest::Nothing)),
+        Some(before) => Ok((values_listed(alloc, before)?, Rest::Last)),
+    }
+}
+
+// What stands before an end.
+fn before_end<'t>(text: &'t [u8], end: &str) -> Option<&'t [u8]>
+    ensures { option_map (λ before. before.now) result ≡ before_end end.now text.now }
+{
+    text.strip_suffix(end.as_bytes())
+}
+
+// The values that a text lists, of which there are some.
+#[tactic(auto, unfolding(crate::specs::Settings::values_listed))]
+fn values_listed(alloc: Global, text: &[u8]) -> Result<Vec<u32>, SetKind>
+    ensures { GivesAsSet (λ values. values.items) result (values_listed text.now) }
 {
     let mut values = Vec::new(alloc);
     push_rows(text, &mut values)?;

@@ -3,6 +3,7 @@ use Rattle.std.specs.Prelude.{◌≡◌, ◌≢◌, ℕ, ◌==◌, List, [], ◌
 use Rattle.std.specs.Prelude.{Result, Ok, Err}
 use Rattle.std.specs.Borrow.{Bor}
 use Rattle.std.specs.List.{slice_split}
+use Rattle.pardo_program.specs.Program.{ArrayData, ProgramData}
 use Rattle.pardo_text.specs.declared.settings.SetKind.{SetKind}
 use Rattle.pardo_text.specs.declared.settings.SetKind.TheVariants.{Memory}
 
@@ -20,3 +21,7 @@ fields_left (Some rest) = slice_split (λ b. b == 44) rest.now
 abbrev pub parted_lines : List ℕ → List (List ℕ) → List ℕ
 parted_lines before [] = []
 parted_lines before (line ∷ lines) = before ++ line ++ parted_lines (10 ∷ []) lines
+
+abbrev pub arrays_in : Option ProgramData → List ArrayData
+arrays_in None = []
+arrays_in (Some program) = program.arrays

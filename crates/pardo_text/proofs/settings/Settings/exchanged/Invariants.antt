@@ -3,7 +3,7 @@ use Rattle.text_lines.specs.Lines.{lines_of}
 use Rattle.text_lines.specs.TextLines.{left_of}
 use Rattle.pardo_text.specs.Inner.Settings.{parted_lines}
 use Rattle.pardo_text.specs.Settings.{line_as_set}
-use Rattle.pardo_text.proofs.settings.Settings.text_as_set.Given as goal
+use Rattle.pardo_text.proofs.settings.Settings.exchanged.Given as goal
 
 -- the lines so far and those to come are all lines
 abbrev pub invariant-loop-line : goal.invariant-loop-line

@@ -1,12 +1,11 @@
 use Rattle.std.proofs.Common.{◌∙◌, ◌++◌, ℕ, List, sym, ap, append-nil, map}
 use Rattle.text_lines.specs.Lines.{lines_of}
 use Rattle.pardo_text.specs.Inner.Settings.{parted_lines}
-use Rattle.pardo_text.specs.Settings.{line_as_set, text_as_set}
+use Rattle.pardo_text.specs.Settings.{line_as_set}
 use Rattle.pardo_text.proofs.Joined.{parted_lines-joined}
-use Rattle.pardo_text.proofs.settings.Settings.text_as_set.Goals as goal
+use Rattle.pardo_text.proofs.settings.Settings.exchanged.Goals as goal
 
 pub returns : goal.returns
-unfolding text_as_set
 returns c =
     let set = c.loop-line.set.items in
     sym (append-nil set)
