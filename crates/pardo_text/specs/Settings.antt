@@ -3,7 +3,8 @@ use Rattle.std.specs.Prelude.{◌≡◌, ◌≢◌, ℕ, ◌+◌, ◌-◌, ◌%�
 use Rattle.std.specs.Prelude.{if◌then◌else◌, List, [], ◌∷◌, ◌++◌, length, take, drop, map, codes}
 use Rattle.std.specs.Prelude.{decimal, is_some, slice_get, Option, Some, None, Result, Ok, Err}
 use Rattle.std.specs.Prelude.{◌&&◌, ◌||◌, find, replicate, slice_index, unwrap_or}
-use Rattle.std.specs.List.{flat_map, join_with_byte, list_any, position, range_with_len, slice_split}
+use Rattle.std.specs.List.{flat_map, join_with_byte, list_any, position, range_with_len}
+use Rattle.std.specs.List.{slice_split}
 use Rattle.std.specs.Option.{option_and_then, option_map}
 use Rattle.std.specs.Str.{bytes_eq}
 use Rattle.pardo_text.specs.declared.fault.PardoFault.{PardoFault}
@@ -37,8 +38,8 @@ pub record SettingData : Type 0 where
   pub rest : Rest
 
 -- numbers alone
-abbrev pub plain : Word → List ℕ → SettingData
-plain word values = record { name = word; values = values; rest = Nothing }
+abbrev pub as_numbers : Word → List ℕ → SettingData
+as_numbers word values = record { name = word; values = values; rest = Nothing }
 
 -- the number of the first setting of this name, counted from 0
 abbrev pub setting_of : List SettingData → Word → Option ℕ
@@ -58,7 +59,7 @@ first_in (first ∷ others) = Some (first.name, first.values)
 -- the settings, the first name being set to this value alone
 abbrev pub with_first : List SettingData → ℕ → List SettingData
 with_first [] value = []
-with_first (first ∷ others) value = plain first.name (value ∷ []) ∷ others
+with_first (first ∷ others) value = as_numbers first.name (value ∷ []) ∷ others
 
 -- ---- the lines that are set
 
@@ -119,14 +120,14 @@ parted before (value ∷ values) = before ++ decimal value ++ parted (codes ", "
 
 -- A line as it is set: `const NAME = V`, `shared NAME[..] = V, V, ..`. What is exchanged is not
 -- read. All other lines stay.
-abbrev pub line_by : Bool → List SettingData → List ℕ → List ℕ
-line_by bare settings line = elim (set_in bare settings (said_in line)) [
+abbrev pub settled_line : Bool → List SettingData → List ℕ → List ℕ
+settled_line bare settings line = elim (set_in bare settings (said_in line)) [
   | None ↦ line
   | Some found ↦ found.0 ++ parted (codes " = ") found.1
 ]
 
 abbrev pub line_as_set : List SettingData → List ℕ → List ℕ
-line_as_set = line_by false
+line_as_set = settled_line false
 
 -- ---- how many places an array has
 
@@ -145,9 +146,9 @@ before_code [] = []
 before_code (line ∷ lines) = if begins_code line then [] else line ∷ before_code lines
 
 -- the header with constants set, and with or without the values of arrays, as a program
-abbrev pub header_text : Bool → List SettingData → List ℕ → List ℕ
-header_text bare settings text =
-    flat_map (λ line. line_by bare settings line ++ 10 ∷ []) (before_code (lines_of text))
+abbrev pub settled_header : Bool → List SettingData → List ℕ → List ℕ
+settled_header bare settings text =
+    flat_map (λ line. settled_line bare settings line ++ 10 ∷ []) (before_code (lines_of text))
     ++ codes "code\nif 0\nend"
 
 abbrev pub arrays_of : Result ProgramData PardoFault → List ArrayData
@@ -156,10 +157,10 @@ arrays_of (Err fault) = []
 
 -- the arrays of the text as it stands, and those that it has with constants set
 abbrev pub own_arrays : List ℕ → List ArrayData
-own_arrays text = arrays_of (program_of (header_text false [] text))
+own_arrays text = arrays_of (program_of (settled_header false [] text))
 
 abbrev pub sized_arrays : List SettingData → List ℕ → List ArrayData
-sized_arrays settings text = arrays_of (program_of (header_text true settings text))
+sized_arrays settings text = arrays_of (program_of (settled_header true settings text))
 
 abbrev pub places_of : ArrayData → ℕ
 places_of array = length array.start
@@ -180,7 +181,7 @@ values_with (Throws thrown) values places = thrown_values thrown places
 
 -- what is no array, or of none that is known, has one place
 abbrev pub numbers_set : List ArrayData → SettingData → SettingData
-numbers_set sized setting = plain setting.name
+numbers_set sized setting = as_numbers setting.name
     (values_with setting.rest setting.values (unwrap_or (places_named sized setting.name) 1))
 
 -- these values over and over, for so many places
@@ -211,7 +212,7 @@ abbrev pub refilled : Option ℕ → Bool → ArrayData → List SettingData
 refilled None fits array = []
 refilled (Some places) fits array =
     if (places == places_of array) || (places_of array == 0) || fits then []
-    else plain array.name (repeated array.start places) ∷ []
+    else as_numbers array.name (repeated array.start places) ∷ []
 
 abbrev pub refilled_by : List ArrayData → List SettingData → List ℕ → ArrayData → List SettingData
 refilled_by sized settings text array =
@@ -290,17 +291,17 @@ abbrev pub followed_by : Rest → Result (List ℕ) SetKind → Result (List ℕ
 followed_by rest (Ok values) = Ok (values, rest)
 followed_by rest (Err kind) = Err kind
 
-abbrev pub listed : List ℕ → Option (List ℕ) → Result (List ℕ × Rest) SetKind
-listed text None = followed_by Nothing (values_listed text)
-listed text (Some before) = followed_by Last (values_listed before)
+abbrev pub listed_values : List ℕ → Option (List ℕ) → Result (List ℕ × Rest) SetKind
+listed_values text None = followed_by Nothing (values_listed text)
+listed_values text (Some before) = followed_by Last (values_listed before)
 
 -- A text throws values, or lists them, and `,...` after them lets the last one fill the rest.
-abbrev pub spelled_by : Option Thrown → List ℕ → Result (List ℕ × Rest) SetKind
-spelled_by (Some thrown) text = Ok ([], Throws thrown)
-spelled_by None text = listed text (before_end (codes ",...") text)
+abbrev pub numbers_by : Option Thrown → List ℕ → Result (List ℕ × Rest) SetKind
+numbers_by (Some thrown) text = Ok ([], Throws thrown)
+numbers_by None text = listed_values text (before_end (codes ",...") text)
 
 unfoldable pub values_spelled : List ℕ → Result (List ℕ × Rest) SetKind
-values_spelled text = spelled_by (thrown_in text) text
+values_spelled text = numbers_by (thrown_in text) text
 
 -- a name alone
 abbrev pub is_lone_name : Token → List ℕ → Bool

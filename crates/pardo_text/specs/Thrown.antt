@@ -12,30 +12,30 @@ use Rattle.text_lines.specs.Lines.{is_filled}
 use Rattle.pardo_text.specs.declared.thrown.Thrown.{Thrown}
 use Rattle.pardo_text.specs.declared.thrown.Thrown.TheVariants.{Any, Permuted, Sorted}
 
-abbrev pub next_seed : ℕ → ℕ
-next_seed seed = (1664525 * seed + 1013904223) % 2 ^ 32
+abbrev pub seed_after : ℕ → ℕ
+seed_after seed = (1664525 * seed + 1013904223) % 2 ^ 32
 
 -- the number below this one that a seed gives
-abbrev pub number_below : ℕ → ℕ → ℕ
-number_below below seed = seed * below / 2 ^ 32
+abbrev pub thrown_below : ℕ → ℕ → ℕ
+thrown_below below seed = seed * below / 2 ^ 32
 
 -- what this gives for so many places, from place k on, and for one seed after the other
 abbrev pub thrown_by : (ℕ → ℕ → ℕ) → ℕ → ℕ → ℕ → List ℕ
 thrown_by value k zero seed = []
 thrown_by value k (suc more) seed =
-    value k (next_seed seed) ∷ thrown_by value (k + 1) more (next_seed seed)
+    value k (seed_after seed) ∷ thrown_by value (k + 1) more (seed_after seed)
 
 -- each item up to place k is swapped with one that does not stand after it, the last one first
 abbrev pub shuffled : ℕ → ℕ → List ℕ → List ℕ
 shuffled zero seed items = items
 shuffled (suc k) seed items =
-    shuffled k (next_seed seed) (swap items (suc k) (number_below (k + 2) (next_seed seed)))
+    shuffled k (seed_after seed) (swap items (suc k) (thrown_below (k + 2) (seed_after seed)))
 
 -- the value of place k of so many: of any numbers, or of such that do not fall, one from each of as
 -- many parts of what is below the bound
 abbrev pub spread_value : Bool → ℕ → ℕ → ℕ → ℕ → ℕ
-spread_value false places below k seed = number_below below seed
-spread_value true places below k seed = (k * below + number_below below seed) / places
+spread_value false places below k seed = thrown_below below seed
+spread_value true places below k seed = (k * below + thrown_below below seed) / places
 
 -- The values of so many places: numbers below a bound, or the numbers of the places, shuffled.
 abbrev pub thrown_values : Thrown → ℕ → List ℕ
@@ -52,16 +52,16 @@ number_of text =
     if is_filled text && list_all is_ascii_digit text && nat_lt (digits_value 10 text) (2 ^ 32)
     then Some (digits_value 10 text) else None
 
-abbrev pub both : Option ℕ → Option ℕ → Option (ℕ × ℕ)
-both None other = None
-both (Some seed) None = None
-both (Some seed) (Some below) = Some (seed, below)
+abbrev pub both_numbers : Option ℕ → Option ℕ → Option (ℕ × ℕ)
+both_numbers None other = None
+both_numbers (Some seed) None = None
+both_numbers (Some seed) (Some below) = Some (seed, below)
 
 -- the seed and the bound of a text SEED:BELOW
-abbrev pub seed_and_bound : List ℕ → Option (ℕ × ℕ)
-seed_and_bound text =
+abbrev pub seed_with_bound : List ℕ → Option (ℕ × ℕ)
+seed_with_bound text =
     let colon = unwrap_or (position (λ byte. byte == 58) text) (length text) in
-    both (number_of (take colon text)) (number_of (drop 1 (drop colon text)))
+    both_numbers (number_of (take colon text)) (number_of (drop 1 (drop colon text)))
 
 -- what follows a beginning
 abbrev pub after_start : List ℕ → List ℕ → Option (List ℕ)
@@ -69,15 +69,15 @@ after_start start text =
     if bytes_eq (take (length start) text) start then Some (drop (length start) text) else None
 
 -- the first of two that there is
-abbrev pub or_else : Option Thrown → Option Thrown → Option Thrown
-or_else None other = other
-or_else (Some thrown) other = Some thrown
+abbrev pub or_other : Option Thrown → Option Thrown → Option Thrown
+or_other None other = other
+or_other (Some thrown) other = Some thrown
 
 -- those of a text any:SEED:BELOW, sorted:SEED:BELOW or perm:SEED
 abbrev pub thrown_in : List ℕ → Option Thrown
-thrown_in text = or_else
-    (option_map (λ both. Any both.0 both.1)
-    (option_and_then seed_and_bound (after_start (codes "any:") text)))
-    (or_else (option_map (λ both. Sorted both.0 both.1)
-    (option_and_then seed_and_bound (after_start (codes "sorted:") text)))
+thrown_in text = or_other
+    (option_map (λ both_numbers. Any both_numbers.0 both_numbers.1)
+    (option_and_then seed_with_bound (after_start (codes "any:") text)))
+    (or_other (option_map (λ both_numbers. Sorted both_numbers.0 both_numbers.1)
+    (option_and_then seed_with_bound (after_start (codes "sorted:") text)))
     (option_map Permuted (option_and_then number_of (after_start (codes "perm:") text))))

@@ -3,7 +3,7 @@ ghost use Rattle.std.specs.Prelude.{◌≡◌, ◌++◌, ◌==◌, ◌<◌, code
 ghost use Rattle.std.specs.List.{position};
 ghost use Rattle.std.specs.Option.{option_map};
 ghost use Rattle.pardo_text.specs.Settings.{after_index, blamed, blamed_by, declared_at};
-ghost use Rattle.pardo_text.specs.Settings.{exchanged, has_index, is_of_length, line_by};
+ghost use Rattle.pardo_text.specs.Settings.{exchanged, has_index, is_of_length, settled_line};
 ghost use Rattle.pardo_text.specs.Settings.{line_numbered, may_set};
 ghost use Rattle.pardo_text.specs.Settings.{misfit, parted, put_by, set_in, settable_by};
 ghost use Rattle.pardo_text.specs.Settings.{settable_in};
@@ -54,7 +54,8 @@ impl Settings {
         line: &[u8],
         set: &mut Vec<u8>,
     ) -> Result<(), AllocError>
-        ensures { OnOk result (set.new.items ≡ set.old.items ++ line_by bare self.now line.now) }
+        ensures { OnOk result (set.new.items
+            ≡ set.old.items ++ settled_line bare self.now line.now) }
     {
         match self.set_in(bare, said(line)) {
             None => set.extend_from_slice(line),

@@ -6,10 +6,11 @@ ghost use Rattle.text_lines.specs.Lines.{lines_of};
 ghost use Rattle.pardo_program.specs.Program.{ArrayData};
 ghost use Rattle.pardo_text.specs.Reading.{program_of};
 ghost use Rattle.pardo_text.specs.Settings.{arrays_of, before_code, begins_code, fits_as_is};
-ghost use Rattle.pardo_text.specs.Settings.{header_text, line_by, lists_values, numbers_set, plain};
+ghost use Rattle.pardo_text.specs.Settings.{as_numbers, lists_values, numbers_set};
+ghost use Rattle.pardo_text.specs.Settings.{settled_header, settled_line};
 ghost use Rattle.pardo_text.specs.Settings.{places_named, refilled_by, repeated, settled};
 ghost use Rattle.pardo_text.specs.Settings.{settled_with, values_with};
-ghost use Rattle.pardo_text.specs.Inner.Settings.{arrays_in};
+ghost use Rattle.pardo_text.specs.Inner.Settings.{set_arrays};
 ghost use Rattle.pardo_text.specs.declared.settings.Rest.TheVariants.{Last};
 
 use crate::exchange::declared;
@@ -96,7 +97,7 @@ impl Settings {
 
     // Sets one name more, to numbers.
     fn push_plain(&mut self, name: &[u8], values: Vec<u32>) -> Result<(), AllocError>
-        ensures { OnOk result (self.new ≡ self.old ++ plain name.now values.items ∷ []) }
+        ensures { OnOk result (self.new ≡ self.old ++ as_numbers name.now values.items ∷ []) }
     {
         let name = Vec::from_slice(*self.settings.allocator(), name)?;
         let rest = Rest::Nothing;
@@ -111,8 +112,8 @@ impl Settings {
         bare: bool,
         text: &[u8],
     ) -> Result<Option<Program>, AllocError>
-        ensures { IfOk result (λ program. arrays_in program
-            ≡ arrays_of (program_of (header_text bare self.now text.now))) }
+        ensures { IfOk result (λ program. set_arrays program
+            ≡ arrays_of (program_of (settled_header bare self.now text.now))) }
     {
         let header = self.header_text(alloc, bare, text)?;
         match read_program(alloc, header.as_slice()) {
@@ -123,7 +124,7 @@ impl Settings {
     }
 
     fn header_text(&self, alloc: Global, bare: bool, text: &[u8]) -> Result<Vec<u8>, AllocError>
-        ensures { IfOk result (λ header. header.items ≡ header_text bare self.now text.now) }
+        ensures { IfOk result (λ header. header.items ≡ settled_header bare self.now text.now) }
     {
         let mut header = Vec::new(alloc);
         self.push_header(bare, text, &mut header)?;
@@ -134,7 +135,7 @@ impl Settings {
     // Adds the lines before the code, as they are set.
     fn push_header(&self, bare: bool, text: &[u8], header: &mut Vec<u8>) -> Result<(), AllocError>
         ensures { OnOk result (header.new.items ≡ header.old.items
-            ++ flat_map (λ line. line_by bare self.now line ++ 10 ∷ [])
+            ++ flat_map (λ line. settled_line bare self.now line ++ 10 ∷ [])
             (before_code (lines_of text.now))) }
     {
         let mut lines = TextLines::new(text);
@@ -190,7 +191,7 @@ fn filled(alloc: Global, values: &[u32], places: usize) -> Result<Vec<u32>, Allo
 
 // The arrays of a program, if there is one.
 fn arrays_in(program: &Option<Program>) -> &[Array]
-    ensures { result.now ≡ arrays_in program.now }
+    ensures { result.now ≡ set_arrays program.now }
 {
     match program {
         None => &[],

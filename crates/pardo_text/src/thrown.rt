@@ -4,9 +4,9 @@ ghost use Rattle.std.specs.Prelude.{◌-◌, length};
 ghost use Rattle.std.specs.Char.{is_ascii_digit};
 ghost use Rattle.std.specs.List.{list_all, position, range_with_len};
 ghost use Rattle.std.specs.Option.{option_and_then, option_map};
-ghost use Rattle.pardo_text.specs.Thrown.{after_start, next_seed, number_below, number_of, shuffled};
-ghost use Rattle.pardo_text.specs.Thrown.{seed_and_bound, spread_value, thrown_by, thrown_in};
-ghost use Rattle.pardo_text.specs.Thrown.{thrown_values};
+ghost use Rattle.pardo_text.specs.Thrown.{after_start, number_of, seed_after, seed_with_bound};
+ghost use Rattle.pardo_text.specs.Thrown.{shuffled, spread_value, thrown_below, thrown_by};
+ghost use Rattle.pardo_text.specs.Thrown.{thrown_in, thrown_values};
 
 use std::alloc::{AllocError, Global};
 use text_lines::value_of;
@@ -54,7 +54,7 @@ impl Thrown {
 
 /// The seed after this one.
 pub fn next_seed(seed: u32) -> u32
-    ensures { result ≡ next_seed seed }
+    ensures { result ≡ seed_after seed }
 {
     ((1_664_525 * u64::from(seed) + 1_013_904_223) % (1 << 32)) as u32
 }
@@ -62,7 +62,7 @@ pub fn next_seed(seed: u32) -> u32
 /// The number below this one that a seed gives; 0 where there is none.
 #[tactic(auto, using(crate::proofs::Throwing::below_fits))]
 pub fn number_below(below: u32, seed: u32) -> u32
-    ensures value { result ≡ number_below below seed }
+    ensures value { result ≡ thrown_below below seed }
     ensures less { 0 < below → result < below }
 {
     ((u64::from(seed) * u64::from(below)) >> 32) as u32
@@ -186,14 +186,14 @@ fn after_start<'t>(text: &'t [u8], start: &str) -> Option<&'t [u8]>
 
 // The seed and the bound after a beginning.
 fn bounded(text: &[u8], start: &str) -> Option<(u32, u32)>
-    ensures { result ≡ option_and_then seed_and_bound (after_start start.now text.now) }
+    ensures { result ≡ option_and_then seed_with_bound (after_start start.now text.now) }
 {
     seed_and_bound(after_start(text, start)?)
 }
 
 /// The seed and the bound of a text `SEED:BELOW`.
 pub fn seed_and_bound(text: &[u8]) -> Option<(u32, u32)>
-    ensures { result ≡ seed_and_bound text.now }
+    ensures { result ≡ seed_with_bound text.now }
 {
     let (seed, rest) = text.split_at(colon(text).unwrap_or(text.len()));
     let seed = number_of(seed)?;

@@ -22,6 +22,6 @@ abbrev pub parted_lines : List ℕ → List (List ℕ) → List ℕ
 parted_lines before [] = []
 parted_lines before (line ∷ lines) = before ++ line ++ parted_lines (10 ∷ []) lines
 
-abbrev pub arrays_in : Option ProgramData → List ArrayData
-arrays_in None = []
-arrays_in (Some program) = program.arrays
+abbrev pub set_arrays : Option ProgramData → List ArrayData
+set_arrays None = []
+set_arrays (Some program) = program.arrays
