@@ -6,20 +6,20 @@ use Rattle.std.proofs.lemmas.Bool.{cases_lt}
 use Rattle.std.proofs.lemmas.List.{length-set}
 use Rattle.std.proofs.lemmas.Option.{slice_get_within}
 use Rattle.pram_words.specs.declared.layout.Form.TheVariants.{Compact}
-use Rattle.pram_job.specs.Job.{JobData}
+use Rattle.pram_job.specs.Job.{JobData, IsJob}
 use Rattle.pram_text.specs.Text.{Spells}
 use Rattle.pram_text.proofs.Lawful.{spells_lawful}
-use Rattle.pram_words.specs.Words.{LayoutData}
+use Rattle.pram_words.specs.Words.{LayoutData, layout_of}
 use Rattle.lawful_walk.specs.Board.{Stands}
 use Rattle.lawful_walk.specs.Moments.{Backed}
 use Rattle.pram_world.specs.Laws.{IsLawfulRun}
-use Rattle.pram_world.specs.Runs.{Act, event, twin, load, Run, run_begun, acted, TwinFits, TwinsFit}
-use Rattle.pram_world.proofs.Counting.{same_board}
-use Rattle.pram_world.proofs.Interleaving.{every_interleaving}
-use Rattle.pram_world.proofs.Keeping.{one_processor}
+use Rattle.pram_world.specs.Runs.{Run, acted, all_acted, StartFits, StartsFit}
+use Rattle.pram_world.proofs.Counting.{board_after}
+use Rattle.pram_world.proofs.Interleaving.{RunHolds, all_hold, lawful_run}
+use Rattle.pram_world.proofs.Keeping.{holds_start}
 use Rattle.page_core.specs.declared.text.Refusal.TheVariants.{Memory}
 use Rattle.page_core.specs.Texts.{IsRefused}
-use Rattle.pram_world.specs.Worlds.{WorldData, start_compact}
+use Rattle.pram_world.specs.Worlds.{WorldData, start_compact, world_after}
 use Rattle.pram_world.specs.declared.event.Effect.{Effect}
 use Rattle.page_core.specs.declared.board.Event.{Event}
 use Rattle.page_core.specs.declared.board.Hindrance.{Hindrance}
@@ -33,7 +33,7 @@ use Rattle.page_core.specs.declared.reads.ReadRow.{ReadRow}
 use Rattle.page_core.specs.Answers.{AreLawful, AreRead, AreReadsFound}
 use Rattle.page_core.specs.Events.{AreKnown, BoardAfter, IsBoardAfter, IsHindered}
 use Rattle.page_core.specs.Events.{IsHinderedFrom, IsKnown, IsEventMade, IsRunFrom}
-use Rattle.page_core.specs.Events.{act_of_event, effect_by, moved, run_from, run_of}
+use Rattle.page_core.specs.Events.{act_of_event, effect_by, run_from, run_of, run_opened}
 use Rattle.page_core.specs.Scenes.{AreShown, IsBoardTold, IsNoted, IsScene, IsWatched}
 use Rattle.page_core.specs.Scenes.{count_shown, event_row, row_after_event}
 use Rattle.page_core.proofs.Buffers.{nat_cases, set_other, set_same}
@@ -64,12 +64,6 @@ item_at [] n x h e = absurd (omega arith)
 item_at (z ∷ zs) zero x h e = ap Some (sym e)
 item_at (z ∷ zs) (suc n) x h e = item_at zs n x (omega arith) e
 
--- the world of a run that goes on
-acted_world : (r : Run) (a : Act) → (acted r a).world ≡ moved r.world a
-acted_world r (event e) = refl
-acted_world r (twin w) = refl
-acted_world r (load k) = refl
-
 run_next : (r : Run) (es : List Event) (e : Event) →
     run_from r (es ++ e ∷ []) ≡ acted (run_from r es) (act_of_event e)
 run_next r [] e = refl
@@ -87,9 +81,8 @@ run_more r events n e s now effect at before made =
     let front = take n events in
     subst (λ es. IsRunFrom r es now) (sym (take_next events n e at)) (record {
       known = known_next r front e before.known (subst (λ w. IsKnown w e) before.world made.known);
-      world = made.world ∙ ap (λ w. moved w (act_of_event e)) before.world ∙ sym (ap
-          (λ (x : Run). x.world) (run_next r front e)
-          ∙ acted_world (run_from r front) (act_of_event e));
+      world = made.world ∙ ap (λ w. world_after w (act_of_event e)) before.world
+          ∙ sym (ap (λ (x : Run). x.world) (run_next r front e));
     })
 
 -- a row that is written
@@ -98,8 +91,8 @@ row_made : (s now : WorldData) (e : Event) (effect : Effect) (row : EventRow) (b
     row ≡ row_after_event now e bodies effect → row ≡ event_row s e
 row_made s now e effect row bodies count made is =
     is ∙ ap (λ w. row_after_event w e bodies effect) made.world
-    ∙ ap (λ f. row_after_event (moved s (act_of_event e)) e bodies f) made.effect_is
-    ∙ ap (λ b. row_after_event (moved s (act_of_event e)) e b (effect_by s (act_of_event e))) count
+    ∙ ap (λ f. row_after_event (world_after s (act_of_event e)) e bodies f) made.effect_is
+    ∙ ap (λ b. row_after_event (world_after s (act_of_event e)) e b (effect_by s (act_of_event e))) count
 
 pub shown_more : (r : Run) (events : List Event) (from n : ℕ) (rows : List EventRow)
     (e : Event) (s now : WorldData) (effect : Effect) (row : EventRow) (bodies : ℕ) →
@@ -169,7 +162,7 @@ shown_all r events from n rows over shown i e within item =
 -- an event that is known is a twin of one of the workers, if it is a twin
 act_fits : (workers kind body bodies : ℕ) →
     ((kind < 3) × (body < bodies)) ⊎ ((kind ≡ 3) × (body < workers)) →
-    TwinFits workers (act_of_event (record { kind = kind; body = body }))
+    StartFits workers (act_of_event (record { kind = kind; body = body }))
 act_fits workers zero body bodies known = tt
 act_fits workers (suc zero) body bodies known = tt
 act_fits workers (suc (suc zero)) body bodies known = tt
@@ -178,34 +171,42 @@ act_fits workers (suc (suc (suc zero))) body bodies (inr known) = known.1
 act_fits workers (suc (suc (suc (suc more)))) body bodies (inl known) = absurd (omega arith)
 act_fits workers (suc (suc (suc (suc more)))) body bodies (inr known) = absurd (omega arith)
 
-board_stays : (r : Run) (a : Act) → (acted r a).world.layout ≡ r.world.layout
-board_stays r (event e) = (same_board r.world e).1
-board_stays r (twin w) = refl
-board_stays r (load k) = refl
+-- what holds of a run holds of the one that a page opens
+opened_holds : (job : JobData) (workers : ℕ) → IsJob job → 1 ≤ workers → workers ≤ 64 →
+    RunHolds job (layout_of job Compact workers) (run_opened job workers)
+opened_holds job workers limits some most = record {
+  job_stays = refl;
+  board_stays = refl;
+  holds = holds_start job workers limits some most;
+  observed = tt;
+}
 
-twins_fit : (workers : ℕ) (r : Run) (events : List Event) → r.world.layout.workers ≡ workers →
-    AreKnown r events → TwinsFit workers (map act_of_event events)
-twins_fit workers r [] is known = tt
-twins_fit workers r (e ∷ es) is known =
+starts_fit : (workers : ℕ) (r : Run) (events : List Event) → r.world.layout.workers ≡ workers →
+    AreKnown r events → StartsFit workers (map act_of_event events)
+starts_fit workers r [] is known = tt
+starts_fit workers r (e ∷ es) is known =
     let stays : (acted r (act_of_event e)).world.layout.workers ≡ workers =
-    ap (λ (y : LayoutData). y.workers) (board_stays r (act_of_event e)) ∙ is in (
-      subst (λ n. TwinFits n (act_of_event e)) is
+    ap (λ (y : LayoutData). y.workers) (board_after r.world (act_of_event e)).1 ∙ is in (
+      subst (λ n. StartFits n (act_of_event e)) is
           (act_fits r.world.layout.workers e.kind e.body (length r.world.bodies) known.0),
-      twins_fit workers (acted r (act_of_event e)) es stays known.1,
+      starts_fit workers (acted r (act_of_event e)) es stays known.1,
     )
 
 played_lawfully : (text : List ℕ) (job : JobData) (workers : ℕ) (events : List Event) →
-    Spells text job → 1 ≤ workers → workers ≤ 64 → AreKnown (run_begun job Compact workers) events →
+    Spells text job → 1 ≤ workers → workers ≤ 64 → AreKnown (run_opened job workers) events →
     IsLawfulRun job Compact workers (run_of job workers events)
 played_lawfully text job workers events spells some most known =
-    every_interleaving job Compact workers (map act_of_event events) (spells_lawful text job spells)
-    one_processor some most (twins_fit workers (run_begun job Compact workers) events refl known)
+    let r = run_opened job workers in
+    let acts = map act_of_event events in
+    lawful_run job Compact workers (all_acted r acts)
+    (all_hold job (layout_of job Compact workers) r acts (starts_fit workers r events refl known)
+    (opened_holds job workers (spells_lawful text job spells) some most))
 
 -- ---- the board of a text
 
 board_run : (text : List ℕ) (workers : ℕ) (events : List Event) (job : JobData) (now : WorldData) →
     Spells text job → 1 ≤ workers → workers ≤ 64 →
-    IsRunFrom (run_begun job Compact workers) events now → BoardAfter workers events now job
+    IsRunFrom (run_opened job workers) events now → BoardAfter workers events now job
 board_run text workers events job now spells some most run =
     let law = played_lawfully text job workers events spells some most run.known in
     record {
@@ -228,12 +229,12 @@ pub hindered_text : (text : List ℕ) (workers : ℕ) (events : List Event)
     (s : WorldData) (h : Hindrance) → IsBoardAfter text workers [] s →
     ((r : Run) → r.world ≡ s → IsHinderedFrom r events h) → IsHindered text workers events h
 hindered_text text workers events s (Refused refusal) board found =
-    subst (IsRefused text) (sym (found (run_begun board.0 Compact workers) (sym board.2.run.world)))
+    subst (IsRefused text) (sym (found (run_opened board.0 workers) (sym board.2.run.world)))
     tt
 hindered_text text workers events s BadWorkers board found =
-    absurd (found (run_begun board.0 Compact workers) (sym board.2.run.world))
+    absurd (found (run_opened board.0 workers) (sym board.2.run.world))
 hindered_text text workers events s (BadEvent n) board found =
-    (board.0, board.1, found (run_begun board.0 Compact workers) (sym board.2.run.world))
+    (board.0, board.1, found (run_opened board.0 workers) (sym board.2.run.world))
 
 pub memory_out : (text : List ℕ) (workers : ℕ) (events : List Event) (h : Hindrance) →
     h ≡ Refused Memory → IsHindered text workers events h
@@ -245,7 +246,7 @@ pub watched_text : (text : List ℕ) (workers : ℕ) (events : List Event) (from
     ((r : Run) → r.world ≡ s → AreShown r events from rows) →
     IsWatched text workers events from rows now
 watched_text text workers events from rows s now board run shown =
-    let r = run_begun board.0 Compact workers in
+    let r = run_opened board.0 workers in
     let at : r.world ≡ s = sym board.2.run.world in (
       board.0,
       board.1,

@@ -4,11 +4,12 @@ use Rattle.std.specs.Prelude.{length, map, take, slice_get, Some}
 use Rattle.pram_job.specs.Job.{JobData}
 use Rattle.pram_words.specs.declared.layout.Form.TheVariants.{Compact}
 use Rattle.pram_world.specs.declared.event.Effect.{Effect}
-use Rattle.pram_world.specs.declared.event.Event.TheVariants.{Go, Stop, Back}
+use Rattle.pram_world.specs.declared.event.Event.TheVariants.{Go}
 use Rattle.pram_world.specs.Laws.{IsLawfulRun}
-use Rattle.pram_world.specs.Runs.{Act, Run, run_begun, acted, all_acted}
-use Rattle.pram_world.specs.Runs as runs
-use Rattle.pram_world.specs.Worlds.{WorldData, happens, twinned, nothing, shown}
+use Rattle.pram_world.specs.Runs.{Run, acted, all_acted}
+use Rattle.pram_world.specs.Worlds.{Act, go, stop, back, start, WorldData, start_compact}
+use Rattle.pram_world.specs.Worlds.{world_after, nothing, shown}
+use Rattle.walkx.specs.Records.{empty}
 use Rattle.page_core.specs.declared.board.Event.{Event}
 use Rattle.page_core.specs.declared.board.Hindrance.{Hindrance}
 use Rattle.page_core.specs.declared.board.Hindrance.TheVariants.{Refused, BadWorkers, BadEvent}
@@ -20,10 +21,10 @@ use Rattle.page_core.specs.Texts.{OfJob, IsRefused}
 -- body more, a twin of this worker
 abbrev pub act_of_event : Event → Act
 act_of_event event =
-    if event.kind == 0 then runs.event (Go event.body)
-    else (if event.kind == 1 then runs.event (Stop event.body)
-    else (if event.kind == 2 then runs.event (Back event.body)
-    else runs.twin event.body))
+    if event.kind == 0 then go event.body
+    else (if event.kind == 1 then stop event.body
+    else (if event.kind == 2 then back event.body 0
+    else start event.body 0))
 
 -- there is such a body, or such a worker
 abbrev pub IsKnown : WorldData → Event → Type 0
@@ -33,23 +34,17 @@ IsKnown world event =
 
 -- ---- what an event does
 
--- what becomes of a world by an act, and what it shows
-abbrev pub moved : WorldData → Act → WorldData
-moved world (runs.event event) = happens world event
-moved world (runs.twin worker) = twinned world worker
-moved world (runs.load word) = world
-
+-- what an act shows
 abbrev pub effect_by : WorldData → Act → Effect
-effect_by world (runs.event event) = shown world event
-effect_by world (runs.twin worker) = nothing
-effect_by world (runs.load word) = nothing
+effect_by world (go body) = shown world (Go body)
+effect_by world _ = nothing
 
 -- the event is known, and made
 pub record IsEventMade (before : WorldData) (event : Event) (now : WorldData) (effect : Effect)
     : Type 0
   where
     pub known : IsKnown before event
-    pub world : now ≡ moved before (act_of_event event)
+    pub world : now ≡ world_after before (act_of_event event)
     pub effect_is : effect ≡ effect_by before (act_of_event event)
 
 -- it is not known, or the call is out of memory
@@ -88,9 +83,14 @@ IsHinderedFrom run events (BadEvent number) = IsUnknown run events number
 
 -- ---- the board of a text
 
--- the run of these events on the board of a job, for so many workers
+-- on the board of a job, for so many workers, of which each is newly started
+abbrev pub run_opened : JobData → ℕ → Run
+run_opened job workers =
+    record { world = start_compact job workers; made = empty; loads = empty }
+
+-- the run of these events
 abbrev pub run_of : JobData → ℕ → List Event → Run
-run_of job workers events = run_from (run_begun job Compact workers) events
+run_of job workers events = run_from (run_opened job workers) events
 
 -- Of the job that the text spells, for so many workers, after these events. It is a world of the
 -- law of runs: the words are lawful and show the machine, and bear out the record of all steps.
@@ -98,7 +98,7 @@ pub record BoardAfter (workers : ℕ) (events : List Event) (world : WorldData) 
     : Type 0 where
   pub some : 1 ≤ workers
   pub most : workers ≤ WORKERS_MOST
-  pub run : IsRunFrom (run_begun job Compact workers) events world
+  pub run : IsRunFrom (run_opened job workers) events world
   pub job_stays : world.job ≡ job
   pub lawful : IsLawfulRun job Compact workers (run_of job workers events)
 
@@ -110,4 +110,4 @@ abbrev pub IsHindered : List ℕ → ℕ → List Event → Hindrance → Type 0
 IsHindered text workers events (Refused refusal) = IsRefused text refusal
 IsHindered text workers events BadWorkers = (workers < 1) ⊎ (WORKERS_MOST < workers)
 IsHindered text workers events (BadEvent number) =
-    OfJob text (λ job. IsUnknown (run_begun job Compact workers) events number)
+    OfJob text (λ job. IsUnknown (run_opened job workers) events number)

@@ -21,9 +21,9 @@ use Rattle.pram_words.specs.Stamps as stamps
 use Rattle.lawful_walk.specs.Board.{held, root, conflict, finished}
 use Rattle.pram_world.specs.declared.event.Effect.{Effect}
 use Rattle.pram_words.specs.declared.layout.Form.TheVariants.{Compact}
-use Rattle.pram_world.specs.Runs.{Run, run_begun}
+use Rattle.pram_world.specs.Runs.{Run}
 use Rattle.pram_world.specs.Standings.{standing_of}
-use Rattle.pram_world.specs.Worlds.{Body, WorldData}
+use Rattle.pram_world.specs.Worlds.{Body, WorldData, world_after}
 use Rattle.pram_world.specs.declared.event.Standing.{Standing}
 use Rattle.pram_world.specs.declared.event.Standing.TheVariants as standing
 use Rattle.page_core.specs.declared.board.Event.{Event}
@@ -37,7 +37,7 @@ use Rattle.page_core.specs.declared.board.Hindrance.{Hindrance}
 use Rattle.page_core.specs.declared.board.Hindrance.TheVariants.{Refused, BadWorkers, BadEvent}
 use Rattle.page_core.specs.declared.codes.TheConstants.{DONE, NO_ROOM, BAD_WORKERS, BAD_EVENT}
 use Rattle.page_core.specs.Texts.{OfJob, coded, refused_as}
-use Rattle.page_core.specs.Events.{BoardAfter, IsHindered, act_of_event, moved, effect_by}
+use Rattle.page_core.specs.Events.{BoardAfter, IsHindered, act_of_event, run_opened, effect_by}
 use Rattle.page_core.specs.Events.{run_from}
 
 -- ---- words
@@ -212,7 +212,7 @@ row_after_event world event bodies effect =
     }
 
 abbrev pub event_row : WorldData → Event → EventRow
-event_row world event = row_after_event (moved world (act_of_event event)) event
+event_row world event = row_after_event (world_after world (act_of_event event)) event
     (length world.bodies)
     (effect_by world (act_of_event event))
 
@@ -269,7 +269,7 @@ abbrev pub IsWatched
     : List ℕ → ℕ → List Event → ℕ → List EventRow → WorldData → Type 0
 IsWatched text workers events from rows world =
     OfJob text (λ job. BoardAfter workers events world job
-    × AreShown (run_begun job Compact workers) events from rows)
+    × AreShown (run_opened job workers) events from rows)
 
 -- the front of the buffers holds the words and the bodies
 abbrev pub AreWords : WorldData → List WordRow → Type 0
@@ -298,7 +298,7 @@ abbrev pub IsScene
     : List ℕ → ℕ → List Event → ℕ → List EventRow → List WordRow → List BodyRow → Scene → Type 0
 IsScene text workers events from rows words bodies told =
     OfJob text (λ job. (world : WorldData) × BoardAfter workers events world job
-    × AreShown (run_begun job Compact workers) events from rows
+    × AreShown (run_opened job workers) events from rows
     × IsBoardTold world (count_shown (length events) from (length rows)) words bodies told)
     ⊎ ((hindrance : Hindrance) × IsHindered text workers events hindrance
     × (told ≡ hindered_as hindrance))

@@ -1,7 +1,8 @@
 //! A board after events.
 ghost use Rattle.std.specs.Prelude.{◌≡◌, ◌↔◌, [], IfErr, IfOk, IsTrue, OnOk};
 ghost use Rattle.page_core.specs.Events.{IsBoardAfter, IsHindered, IsKnown, IsEventMade, IsNotMade};
-ghost use Rattle.page_core.specs.Events.{act_of_event, effect_by, moved};
+ghost use Rattle.page_core.specs.Events.{act_of_event, effect_by};
+ghost use Rattle.pram_world.specs.Worlds.{world_after};
 
 use crate::codes::WORKERS_MOST;
 use crate::text::{Refusal, take_job};
@@ -70,7 +71,7 @@ pub(crate) fn make(world: &mut World, number: usize, event: Event) -> Result<Eff
 // What an event that is known does.
 fn happen(world: &mut World, event: Event) -> Result<Effect, AllocError>
     requires { IsKnown world.old event }
-    ensures world { OnOk result (world.new ≡ moved world.old (act_of_event event)) }
+    ensures world { OnOk result (world.new ≡ world_after world.old (act_of_event event)) }
     ensures effect { IfOk result (λ effect. effect ≡ effect_by world.old (act_of_event event)) }
 {
     let body = event.body as usize;

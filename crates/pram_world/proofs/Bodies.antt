@@ -22,11 +22,12 @@ use Rattle.pram_world.specs.declared.event.Event.TheVariants.{Go, Stop, Back}
 use Rattle.pram_world.specs.declared.world.Runner.{Runner}
 use Rattle.pram_world.specs.declared.world.Runner.TheVariants as runner
 use Rattle.pram_world.specs.Inner.Holding.{WorldHolds, IsWorld, AllServe, body_of_runner, world_of}
-use Rattle.pram_world.specs.Worlds.{Body, walks, stopped, number, WorldData, start_compact, twinned}
-use Rattle.pram_world.specs.Worlds.{went, replaced, happens, shown, shown_by, effect_of, nothing}
+use Rattle.pram_world.specs.Worlds.{start, Body, walks, stopped, number, WorldData, start_compact}
+use Rattle.pram_world.specs.Worlds.{went, replaced, world_after, happens, shown, shown_by, effect_of}
+use Rattle.pram_world.specs.Worlds.{nothing}
 use Rattle.pram_world.proofs.Cited.{hears_admitted}
-use Rattle.pram_world.proofs.Keeping.{holds_start, holds_step, holds_replaced, holds_twinned}
-use Rattle.pram_world.proofs.Keeping.{stopped_known, back_known, get_set, get_push}
+use Rattle.pram_world.proofs.Keeping.{holds_start, holds_step, holds_replaced, holds_joined}
+use Rattle.pram_world.proofs.Keeping.{stopped_known, started_known, back_known, get_set, get_push}
 
 -- a body as contracts see it
 pub body_at : (runners : List Runner) (b : ℕ) (r : Runner) → slice_get runners b ≡ Some r →
@@ -166,14 +167,14 @@ back_keeps job y words runners b n k h below is serves = record {
         bodies = slice_set (map body_of_runner runners) b (walks w);
       }) is))
       (holds_replaced (world_of job y words runners) h.made b
-      (walks (come_back n)) h.holds (back_known (world_of job y words runners) n below));
+      (walks (come_back n)) h.holds (back_known (world_of job y words runners) n 0 below));
   serve = set_serve job y runners b
       (runner.Walks k) h.serve (λ j e. subst (Serves job y) (sym (same_kept j k e)) serves);
 }
 
 pub twin_world : (job : JobData) (y : LayoutData)
     (words : List ℕ) (runners : List Runner) (n : ℕ) (k : WorkerData) → k.walking ≡ started n →
-    world_of job y words (runners ++ runner.Walks k ∷ []) ≡ twinned (world_of job y words runners) n
+    world_of job y words (runners ++ runner.Walks k ∷ []) ≡ world_after (world_of job y words runners) (start n 0)
 twin_world job y words runners n k is =
     ap (λ (bodies : List Body). record { job = job; layout = y; words = words; bodies = bodies })
     (map-append body_of_runner runners (runner.Walks k ∷ [])
@@ -186,7 +187,8 @@ twin_keeps job y words runners n k h below is serves = record {
   made = h.made;
   holds = subst (λ (x : WorldData). WorldHolds x h.made)
       (sym (twin_world job y words runners n k is))
-      (holds_twinned (world_of job y words runners) h.made n h.holds below);
+      (holds_joined (world_of job y words runners) h.made (walks (started n)) h.holds
+      (started_known (world_of job y words runners) n 0 below));
   serve = push_serve job y runners
       (runner.Walks k) h.serve (λ j e. subst (Serves job y) (sym (same_kept j k e)) serves);
 }

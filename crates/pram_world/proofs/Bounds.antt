@@ -9,17 +9,17 @@ use Rattle.pram_words.specs.Words.{LayoutData, layout_of}
 use Rattle.walkx.specs.Bound.{most_steps}
 use Rattle.walkx.specs.Operations.{answer}
 use Rattle.walkx.specs.Records.{Record}
-use Rattle.walkx.specs.Walk.{Walking, ask_of, told, end_of, started, come_back}
-use Rattle.pram_world.specs.declared.event.Event.TheVariants.{Go, Stop, Back}
+use Rattle.walkx.specs.Walk.{Walking, ask_of, told, end_of, started, come_back, remembering}
 use Rattle.pram_world.specs.Inner.Holding.{WorldHolds}
 use Rattle.pram_world.specs.Laws.{EveryBodyIsBounded}
-use Rattle.pram_world.specs.Runs.{Act, event, twin, load, Run, run_begun, noted_by, acted}
-use Rattle.pram_world.specs.Runs.{all_acted, TwinsFit, steps_at, steps_in, LeavesAlone, AllLeave}
-use Rattle.pram_world.specs.Worlds.{Body, walks, stopped, number, WorldData}
-use Rattle.pram_world.specs.Worlds.{Walks, going, body_goes, went, replaced, twinned}
+use Rattle.pram_world.specs.Runs.{Run, run_begun, noted_by, acted, all_acted, StartsFit}
+use Rattle.pram_world.specs.Runs.{steps_at, steps_in, LeavesAlone, AllLeave}
+use Rattle.pram_world.specs.Worlds.{Act, go, stop, back, start, load, Body, walks, stopped, number}
+use Rattle.pram_world.specs.Worlds.{WorldData, Walks, going, body_goes, went, replaced}
 use Rattle.pram_world.proofs.Counting.{Counted, counted_none, counted_own, counted_other}
 use Rattle.pram_world.proofs.Counting.{lengthened, get_set_other, get_set_same, goer, fewer}
 use Rattle.pram_world.proofs.Interleaving.{RunHolds, acted_holds, all_hold, begun_holds}
+use Rattle.pram_world.proofs.Keeping.{joined}
 use Rattle.pram_world.proofs.Overs.{idle_went}
 
 -- a body that there is
@@ -156,24 +156,25 @@ went_bounded s made b n c (Some (walks w)) is holds h =
 acted_bounded : (r : Run) (b n : ℕ) (a : Act) →
     LeavesAlone b a → WorldHolds r.world r.made → Bounded r.world r.made b n →
     Bounded (acted r a).world (acted r a).made b (steps_at r.world b a + n)
-acted_bounded r b n (event (Go c)) leaves holds h =
+acted_bounded r b n (go c) leaves holds h =
     went_bounded r.world r.made b n c (slice_get r.world.bodies c) refl holds h
-acted_bounded r b n (event (Stop c)) leaves holds h = subst
+acted_bounded r b n (stop c) leaves holds h = subst
     (Bounded (replaced r.world c stopped (slice_get r.world.bodies c)) r.made b) (no_more 0 n refl)
     (replaced_bounded r.world r.made b n c stopped (slice_get r.world.bodies c) leaves h)
-acted_bounded r b n (event (Back c)) leaves holds h = subst
-    (Bounded (replaced r.world c (λ m. walks (come_back m)) (slice_get r.world.bodies c)) r.made b)
-    (no_more 0 n refl) (replaced_bounded r.world r.made b n c (λ m. walks (come_back m))
-    (slice_get r.world.bodies c) leaves h)
-acted_bounded r b n (twin w) leaves holds h =
-    let old = get_push_old r.world.bodies b (walks (started w)) h.there.0 h.there.1 in
-    subst (Bounded (twinned r.world w) r.made b) (no_more 0 n refl)
-    (bounded_in r.world r.made b n
-    (r.world.bodies ++ walks (started w) ∷ []) (old ∙ sym h.there.1) h)
+acted_bounded r b n (back c size) leaves holds h =
+    let new : ℕ → Body = λ m. walks (remembering size (come_back m)) in
+    let old = slice_get r.world.bodies c in
+    subst (Bounded (replaced r.world c new old) r.made b) (no_more 0 n refl)
+    (replaced_bounded r.world r.made b n c new old leaves h)
+acted_bounded r b n (start w size) leaves holds h =
+    let new = walks (remembering size (started w)) in
+    let old = get_push_old r.world.bodies b new h.there.0 h.there.1 in
+    subst (Bounded (joined r.world new) r.made b) (no_more 0 n refl)
+    (bounded_in r.world r.made b n (r.world.bodies ++ new ∷ []) (old ∙ sym h.there.1) h)
 acted_bounded r b n (load k) leaves holds h = subst (Bounded r.world r.made b) (no_more 0 n refl) h
 
 all_bounded : (job : JobData) (y : LayoutData) (r : Run) (b n : ℕ) (acts : List Act) →
-    TwinsFit y.workers acts → AllLeave b acts → RunHolds job y r → Bounded r.world r.made b n →
+    StartsFit y.workers acts → AllLeave b acts → RunHolds job y r → Bounded r.world r.made b n →
     Bounded (all_acted r acts).world (all_acted r acts).made b (steps_in r b acts + n)
 all_bounded job y r b n [] fits leaves holds h =
     subst (Bounded r.world r.made b) (no_more 0 n refl) h

@@ -4,9 +4,10 @@ use Rattle.std.proofs.Common.{◌∷◌, length, None, sym, ◌∙◌, arith}
 use Rattle.pram_job.specs.Job.{JobData}
 use Rattle.pram_words.specs.Words.{LayoutData}
 use Rattle.walkx.proofs.Asking.{all_ask}
-use Rattle.walkx.proofs.Fitting.{fits_told, new_workers_fit}
+use Rattle.walkx.proofs.Fitting.{fits_told}
 use Rattle.walkx.proofs.Going.{told_over}
 use Rattle.walkx.proofs.Knowing.{knows_more, has_earlier, has_more}
+use Rattle.walkx.proofs.Workers.{known_new, starts, comes_anew}
 use Rattle.walkx.specs.declared.operation.Ended.{Ended}
 use Rattle.walkx.specs.declared.operation.Ended.TheVariants as ended
 use Rattle.walkx.specs.declared.operation.Op.{Op}
@@ -17,7 +18,7 @@ use Rattle.walkx.specs.Bound.{told_all, history_of, most_steps}
 use Rattle.walkx.specs.Operations.{answer}
 use Rattle.walkx.specs.Records.{Record, after, Has, Knows}
 use Rattle.walkx.specs.Walk.{Walking, IsGoing, HearsAdmitted, ask_of, told, rest_of, end_of}
-use Rattle.walkx.specs.Walk.{started, come_back}
+use Rattle.walkx.specs.Walk.{started, come_back, remembering}
 use Rattle.walk_memory.specs.Blocks.{IsBoard}
 use Rattle.lawful_walk.specs.Board.{Stands, root, conflict}
 use Rattle.lawful_walk.specs.Moments.{Backed}
@@ -71,13 +72,17 @@ pub fits_on : (job : JobData) (y : LayoutData) (words : List ℕ) (w : Walking) 
 fits_on job y words w stands fits = fits_told job y w (answer words (ask_of job y w))
     (board_of job y words stands) fits (hears_admitted job y words w stands fits)
 
-pub start_fits : (job : JobData) (y : LayoutData) (n : ℕ) →
-    n < y.workers → Fitting job y (started n)
-start_fits job y n below = (new_workers_fit job y n below).0
+-- a worker that starts or comes back, with a memory of any size
+pub starts_well : (job : JobData) (y : LayoutData) (made : Record) (n size : ℕ) → n < y.workers →
+    Knows job y made (remembering size (started n)) × Fitting job y (remembering size (started n))
+starts_well job y made n size below =
+    ((known_new job y made n size).0, (starts job y n size below).fits)
 
-pub back_fits : (job : JobData) (y : LayoutData) (n : ℕ) →
-    n < y.workers → Fitting job y (come_back n)
-back_fits job y n below = (new_workers_fit job y n below).1
+pub returns_well : (job : JobData) (y : LayoutData) (made : Record) (n size : ℕ) → n < y.workers →
+    Knows job y made (remembering size (come_back n))
+    × Fitting job y (remembering size (come_back n))
+returns_well job y made n size below =
+    ((known_new job y made n size).1, (comes_anew job y n size below).fits)
 
 pub in_workers : (job : JobData) (y : LayoutData) (w : Walking) →
     Fitting job y w → w.number < y.workers

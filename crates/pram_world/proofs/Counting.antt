@@ -11,14 +11,15 @@ use Rattle.pram_words.proofs.Halvings.{leaves_most}
 use Rattle.walkx.specs.Bound.{told_all, history_of, most_steps}
 use Rattle.walkx.specs.Operations.{answer}
 use Rattle.walkx.specs.Records.{Record, after, Has}
-use Rattle.walkx.specs.Walk.{Walking, ask_of, told, end_of, come_back}
+use Rattle.walkx.specs.Walk.{Walking, ask_of, told, end_of, come_back, remembering}
 use Rattle.lawful_walk.specs.Board.{Stands}
 use Rattle.pram_world.specs.declared.event.Event.{Event}
-use Rattle.pram_world.specs.declared.event.Event.TheVariants.{Go, Stop, Back}
+use Rattle.pram_world.specs.declared.event.Event.TheVariants.{Go}
 use Rattle.pram_world.specs.Ends.{after_own_steps}
 use Rattle.pram_world.specs.Inner.Holding.{Fitting, WorldHolds}
-use Rattle.pram_world.specs.Worlds.{Body, walks, stopped, WorldData, Walks, KeepsBoard}
-use Rattle.pram_world.specs.Worlds.{going, body_goes, went, replaced, happens, run}
+use Rattle.pram_world.specs.Worlds.{Act, go, stop, back, start, load, Body, walks, stopped}
+use Rattle.pram_world.specs.Worlds.{WorldData, Walks, KeepsBoard, going, body_goes, went, replaced, as_act}
+use Rattle.pram_world.specs.Worlds.{world_after, happens, run}
 use Rattle.pram_world.proofs.Cited.{has_on, own_steps}
 use Rattle.pram_world.specs.Inner.Holding.{Held}
 use Rattle.pram_world.proofs.Keeping.{holds_step}
@@ -147,11 +148,18 @@ replaced_board : (s : WorldData) (b : ℕ) (new : ℕ → Body) (o : Option Body
 replaced_board s b new None = (refl, refl)
 replaced_board s b new (Some body) = (refl, refl)
 
+pub board_after : (s : WorldData) (a : Act) →
+    ((world_after s a).job ≡ s.job) × ((world_after s a).layout ≡ s.layout)
+board_after s (go b) = went_board s b (slice_get s.bodies b)
+board_after s (stop b) = replaced_board s b stopped (slice_get s.bodies b)
+board_after s (back b size) =
+    replaced_board s b (λ n. walks (remembering size (come_back n))) (slice_get s.bodies b)
+board_after s (start w size) = (refl, refl)
+board_after s (load k) = (refl, refl)
+
 pub same_board : (s : WorldData) (e : Event) →
     ((happens s e).job ≡ s.job) × ((happens s e).layout ≡ s.layout)
-same_board s (Go b) = went_board s b (slice_get s.bodies b)
-same_board s (Stop b) = replaced_board s b stopped (slice_get s.bodies b)
-same_board s (Back b) = replaced_board s b (λ n. walks (come_back n)) (slice_get s.bodies b)
+same_board s e = board_after s (as_act e)
 
 pub run_board : (s : WorldData) (es : List Event) → KeepsBoard s (run s es)
 run_board s [] = (refl, refl)

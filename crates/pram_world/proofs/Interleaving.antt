@@ -11,27 +11,26 @@ use Rattle.walkx.specs.declared.operation.Ended.TheVariants as ended
 use Rattle.walkx.specs.Doing as doing
 use Rattle.walkx.specs.Operations.{answer}
 use Rattle.walkx.specs.Records.{Record, after}
-use Rattle.walkx.specs.Walk.{Walking, ask_of, end_of, come_back}
+use Rattle.walkx.specs.Walk.{Walking, ask_of, end_of, started, come_back, remembering}
 use Rattle.lawful_walk.specs.Board.{Grows}
 use Rattle.lawful_walk.specs.Moments.{Backed}
 use Rattle.lawful_walk.proofs.Knowing.{conflict_now}
 use Rattle.lawful_walk.proofs.Moments.{same}
 use Rattle.lawful_walk.proofs.Sounding.{sound_of, sound_ends}
 use Rattle.lawful_walk.proofs.Staying.{loads_keep, records_outlive}
-use Rattle.pram_world.specs.declared.event.Event.{Event}
-use Rattle.pram_world.specs.declared.event.Event.TheVariants.{Go, Stop, Back}
 use Rattle.pram_world.specs.Inner.Holding.{WorldHolds}
 use Rattle.pram_world.specs.Interleavings.{Interleaves, IsTrueEnd}
-use Rattle.pram_world.specs.Laws.{EveryInterleaving}
-use Rattle.pram_world.specs.Runs.{Act, event, twin, load, Run, run_begun, noted_by}
-use Rattle.pram_world.specs.Runs.{noted, acted, all_acted, TwinFits, TwinsFit}
-use Rattle.pram_world.specs.Worlds.{Body, walks, stopped, number, WorldData}
-use Rattle.pram_world.specs.Worlds.{went, replaced, happens, Walks}
+use Rattle.pram_world.specs.Laws.{EveryInterleaving, IsLawfulRun}
+use Rattle.pram_world.specs.Runs.{Run, run_begun, noted_by, noted, observed, acted, all_acted}
+use Rattle.pram_world.specs.Runs.{StartFits, StartsFit}
+use Rattle.pram_world.specs.Worlds.{Act, go, stop, back, start, load, Body, walks, stopped, number}
+use Rattle.pram_world.specs.Worlds.{WorldData, went, replaced, world_after, Walks}
 use Rattle.pram_world.proofs.Answering.{root_most}
 use Rattle.pram_world.proofs.Cited.{moves, ended_root}
-use Rattle.pram_world.proofs.Counting.{same_board}
-use Rattle.pram_world.proofs.Keeping.{holds_start_on, holds_step, holds_replaced, holds_twinned}
-use Rattle.pram_world.proofs.Keeping.{stopped_known, back_known, stale_changes_nothing}
+use Rattle.pram_world.proofs.Counting.{board_after}
+use Rattle.pram_world.proofs.Keeping.{holds_begun, holds_step, holds_replaced, holds_joined}
+use Rattle.pram_world.proofs.Keeping.{stopped_known, started_known, back_known}
+use Rattle.pram_world.proofs.Keeping.{stale_changes_nothing}
 use Rattle.pram_world.proofs.Overs.{idle_went}
 use Rattle.pram_world.proofs.Showing.{shows_machine}
 
@@ -61,17 +60,22 @@ stop_noted s made b None is h = h
 stop_noted s made b (Some body) is h = holds_replaced s made b (stopped (number body)) h
     (stopped_known s (number body) (h.numbers b body is))
 
-back_noted : (s : WorldData) (made : Record) (b : ℕ) (o : Option Body) → slice_get s.bodies b ≡ o →
-    WorldHolds s made → WorldHolds (replaced s b (λ n. walks (come_back n)) o) made
-back_noted s made b None is h = h
-back_noted s made b (Some body) is h = holds_replaced s made b (walks (come_back (number body))) h
-    (back_known s (number body) (h.numbers b body is))
+back_noted : (s : WorldData) (made : Record) (b size : ℕ) (o : Option Body) →
+    slice_get s.bodies b ≡ o → WorldHolds s made →
+    WorldHolds (replaced s b (λ n. walks (remembering size (come_back n))) o) made
+back_noted s made b size None is h = h
+back_noted s made b size (Some body) is h =
+    holds_replaced s made b (walks (remembering size (come_back (number body)))) h
+    (back_known s (number body) size (h.numbers b body is))
 
-pub noted_holds : (s : WorldData) (made : Record) (e : Event) → WorldHolds s made →
-    WorldHolds (happens s e) (noted s e made)
-noted_holds s made (Go b) h = went_noted s made b (slice_get s.bodies b) refl h
-noted_holds s made (Stop b) h = stop_noted s made b (slice_get s.bodies b) refl h
-noted_holds s made (Back b) h = back_noted s made b (slice_get s.bodies b) refl h
+pub noted_holds : (s : WorldData) (made : Record) (a : Act) → StartFits s.layout.workers a →
+    WorldHolds s made → WorldHolds (world_after s a) (noted s a made)
+noted_holds s made (go b) fits h = went_noted s made b (slice_get s.bodies b) refl h
+noted_holds s made (stop b) fits h = stop_noted s made b (slice_get s.bodies b) refl h
+noted_holds s made (back b size) fits h = back_noted s made b size (slice_get s.bodies b) refl h
+noted_holds s made (start w size) fits h =
+    holds_joined s made (walks (remembering size (started w))) h (started_known s w size fits)
+noted_holds s made (load k) fits h = h
 
 -- ---- the words grow
 
@@ -88,11 +92,14 @@ replaced_grows : (s : WorldData) (b : ℕ) (new : ℕ → Body) (o : Option Body
 replaced_grows s b new None = same s.layout s.words
 replaced_grows s b new (Some body) = same s.layout s.words
 
-pub event_grows : (s : WorldData) (made : Record) (e : Event) → WorldHolds s made →
-    Grows s.layout s.words (happens s e).words
-event_grows s made (Go b) h = went_grows s made b (slice_get s.bodies b) refl h
-event_grows s made (Stop b) h = replaced_grows s b stopped (slice_get s.bodies b)
-event_grows s made (Back b) h = replaced_grows s b (λ n. walks (come_back n)) (slice_get s.bodies b)
+pub act_grows : (s : WorldData) (made : Record) (a : Act) → WorldHolds s made →
+    Grows s.layout s.words (world_after s a).words
+act_grows s made (go b) h = went_grows s made b (slice_get s.bodies b) refl h
+act_grows s made (stop b) h = replaced_grows s b stopped (slice_get s.bodies b)
+act_grows s made (back b size) h =
+    replaced_grows s b (λ n. walks (remembering size (come_back n))) (slice_get s.bodies b)
+act_grows s made (start w size) h = same s.layout s.words
+act_grows s made (load k) h = same s.layout s.words
 
 -- ---- ends
 
@@ -123,8 +130,8 @@ interleaves s made h = record {
   backed = h.backed;
   known = h.known;
   shows = shows_machine s.job s.layout s.words h.stands;
-  grows = λ e. event_grows s made e h;
-  stale = λ e. stale_changes_nothing s e (record { made = made; holds = h });
+  grows = λ a. act_grows s made a h;
+  stale = λ a. stale_changes_nothing s a (record { made = made; holds = h });
   ends = λ b w e at is. true_end s made w e b h at is;
 }
 
@@ -136,42 +143,40 @@ pub record RunHolds (job : JobData) (y : LayoutData) (r : Run) : Type 0 where
   pub holds : WorldHolds r.world r.made
   pub observed : Backed r.world.job r.world.layout r.loads r.world.words
 
--- records of any seat outlive an event
-outlives : (s : WorldData) (made loads : Record) (e : Event) →
+-- a record of loads outlives an act, and keeps what is loaded
+outlives : (s : WorldData) (made loads : Record) (a : Act) →
     WorldHolds s made → Backed s.job s.layout loads s.words →
-    Backed (happens s e).job (happens s e).layout loads (happens s e).words
-outlives s made loads e h backed =
-    let board = same_board s e in
-    subst (λ (y : LayoutData). Backed (happens s e).job y loads (happens s e).words) (sym board.1)
-    (subst (λ (job : JobData). Backed job s.layout loads (happens s e).words) (sym board.0)
-    (records_outlive s.job s.layout loads s.words
-    (happens s e).words backed (event_grows s made e h)).0)
+    Backed (world_after s a).job (world_after s a).layout loads (world_after s a).words
+outlives s made loads a h backed =
+    let now = world_after s a in
+    let board = board_after s a in
+    subst (λ (y : LayoutData). Backed now.job y loads now.words) (sym board.1)
+    (subst (λ (job : JobData). Backed job s.layout loads now.words) (sym board.0)
+    (records_outlive s.job s.layout loads s.words now.words backed (act_grows s made a h)).0)
 
-pub acted_holds : (job : JobData) (y : LayoutData) (r : Run) (a : Act) → TwinFits y.workers a →
+observed_on : (s : WorldData) (made loads : Record) (a : Act) →
+    WorldHolds s made → Backed s.job s.layout loads s.words →
+    Backed (world_after s a).job (world_after s a).layout (observed s a loads)
+    (world_after s a).words
+observed_on s made loads (go b) h backed = outlives s made loads (go b) h backed
+observed_on s made loads (stop b) h backed = outlives s made loads (stop b) h backed
+observed_on s made loads (back b size) h backed = outlives s made loads (back b size) h backed
+observed_on s made loads (start w size) h backed = backed
+observed_on s made loads (load k) h backed =
+    loads_keep s.job s.layout loads k s.words h.stands backed
+
+pub acted_holds : (job : JobData) (y : LayoutData) (r : Run) (a : Act) → StartFits y.workers a →
     RunHolds job y r → RunHolds job y (acted r a)
-acted_holds job y r (event e) fits h = record {
-  job_stays = (same_board r.world e).0 ∙ h.job_stays;
-  board_stays = (same_board r.world e).1 ∙ h.board_stays;
-  holds = noted_holds r.world r.made e h.holds;
-  observed = outlives r.world r.made r.loads e h.holds h.observed;
-}
-acted_holds job y r (twin w) fits h = record {
-  job_stays = h.job_stays;
-  board_stays = h.board_stays;
-  holds = holds_twinned r.world r.made w h.holds
-      (subst (λ (z : LayoutData). w < z.workers) (sym h.board_stays) fits);
-  observed = h.observed;
-}
-acted_holds job y r (load k) fits h = record {
-  job_stays = h.job_stays;
-  board_stays = h.board_stays;
-  holds = h.holds;
-  observed =
-      loads_keep r.world.job r.world.layout r.loads k r.world.words h.holds.stands h.observed;
+acted_holds job y r a fits h = record {
+  job_stays = (board_after r.world a).0 ∙ h.job_stays;
+  board_stays = (board_after r.world a).1 ∙ h.board_stays;
+  holds = noted_holds r.world r.made a
+      (subst (λ (z : LayoutData). StartFits z.workers a) (sym h.board_stays) fits) h.holds;
+  observed = observed_on r.world r.made r.loads a h.holds h.observed;
 }
 
 pub all_hold : (job : JobData) (y : LayoutData) (r : Run) (acts : List Act) →
-    TwinsFit y.workers acts → RunHolds job y r → RunHolds job y (all_acted r acts)
+    StartsFit y.workers acts → RunHolds job y r → RunHolds job y (all_acted r acts)
 all_hold job y r [] fits h = h
 all_hold job y r (a ∷ acts) fits h =
     all_hold job y (acted r a) acts fits.1 (acted_holds job y r a fits.0 h)
@@ -182,17 +187,21 @@ pub begun_holds : (job : JobData) (form : Form) (workers : ℕ) → IsJob job �
 begun_holds job form workers limits block some most = record {
   job_stays = refl;
   board_stays = refl;
-  holds = holds_start_on job form workers limits block some most;
+  holds = holds_begun job form workers limits block some most;
   observed = tt;
+}
+
+pub lawful_run : (job : JobData) (form : Form) (workers : ℕ) (r : Run) →
+    RunHolds job (layout_of job form workers) r → IsLawfulRun job form workers r
+lawful_run job form workers r h = record {
+  job_stays = h.job_stays;
+  board_stays = h.board_stays;
+  interleaves = interleaves _ _ h.holds;
+  observed = h.observed;
 }
 
 pub every_interleaving : EveryInterleaving
 every_interleaving job form workers acts limits block some most fits =
-    let h = all_hold job (layout_of job form workers)
-    (run_begun job form workers) acts fits (begun_holds job form workers limits block some most) in
-    record {
-      job_stays = h.job_stays;
-      board_stays = h.board_stays;
-      interleaves = interleaves _ _ h.holds;
-      observed = h.observed;
-    }
+    let begun = begun_holds job form workers limits block some most in
+    lawful_run job form workers (all_acted (run_begun job form workers) acts)
+    (all_hold job (layout_of job form workers) (run_begun job form workers) acts fits begun)

@@ -9,10 +9,9 @@ use Rattle.pram_words.specs.declared.layout.Form.TheVariants.{Compact}
 use Rattle.pram_words.specs.declared.words.Word.{Word}
 use Rattle.pram_words.specs.declared.words.Word.TheVariants.{Position}
 use Rattle.pram_words.specs.Words.{IsGrain, grain_of, IsWord, layout_of}
-use Rattle.walk_memory.proofs.Beginnings.{start_true}
 use Rattle.walkx.specs.Operations.{answer}
 use Rattle.walkx.specs.Records.{Record, empty, after, Knows}
-use Rattle.walkx.specs.Walk.{Walking, ask_of, told, started, come_back}
+use Rattle.walkx.specs.Walk.{Walking, ask_of, told, started, come_back, remembering}
 use Rattle.lawful_walk.specs.Board.{held, root}
 use Rattle.lawful_walk.specs.Moments.{IsFixed}
 use Rattle.lawful_walk.specs.Walks.{phase_now}
@@ -20,11 +19,11 @@ use Rattle.lawful_walk.proofs.Starting.{starts_stand}
 use Rattle.pram_world.specs.declared.event.Event.{Event}
 use Rattle.pram_world.specs.declared.event.Event.TheVariants.{Go, Stop, Back}
 use Rattle.pram_world.specs.Inner.Holding.{Fitting, Held, WorldHolds}
-use Rattle.pram_world.specs.Worlds.{Body, walks, stopped, number, WorldData}
-use Rattle.pram_world.specs.Worlds.{start_compact, start_on, twinned, went, replaced}
-use Rattle.pram_world.specs.Worlds.{happens, run, Walks, StaleChangesNothing}
+use Rattle.pram_world.specs.Worlds.{Act, go, stop, back, start, load, Body, walks, stopped, number}
+use Rattle.pram_world.specs.Worlds.{WorldData, world_begun, start_compact, went, replaced}
+use Rattle.pram_world.specs.Worlds.{world_after, happens, run, Walks, StaleChangesNothing}
 use Rattle.pram_world.proofs.Cited.{moves, known_on, more, fits_on}
-use Rattle.pram_world.proofs.Cited.{start_fits, back_fits, in_workers}
+use Rattle.pram_world.proofs.Cited.{starts_well, returns_well, in_workers}
 
 -- ---- lists of bodies
 
@@ -66,23 +65,14 @@ starts_at low (suc n) (suc at) body e =
 
 -- ---- the start
 
-pub holds_start_on : (job : JobData) (form : Form) (workers : ℕ) → IsJob job →
+pub holds_begun : (job : JobData) (form : Form) (workers : ℕ) → IsJob job →
     IsGrain (grain_of form) → 1 ≤ workers → workers ≤ 64 →
-    WorldHolds (start_on job form workers) empty
-holds_start_on job form workers limits block some most = record {
+    WorldHolds (world_begun job form workers) empty
+holds_begun job form workers limits block some most = record {
   stands = starts_stand job form workers limits block some most;
   backed = tt;
-  known = λ b w is.
-      let s = starts_at 0 workers b (walks w) is in
-      let e : w ≡ started s.worker = same_walking w (started s.worker) s.is in
-      let below = s.below in (
-        subst (λ (v : Walking). Knows job (layout_of job form workers) empty v) (sym e)
-            (record { script = tt; block = tt; memory = start_true job }),
-        subst (Fitting job (layout_of job form workers))
-            (sym e) (start_fits job (layout_of job form workers) s.worker (omega arith)),
-      );
-  numbers = λ b body is. let s = starts_at 0 workers b body is in
-      let below = s.below in subst (λ (x : Body). number x < workers) (sym s.is) (omega arith);
+  known = λ b w is. absurd (cc);
+  numbers = λ b body is. absurd (cc);
 }
 
 -- a leaf of the compact form stands for one processor
@@ -91,8 +81,21 @@ one_processor = ((0, refl), omega arith)
 
 pub holds_start : (job : JobData) (workers : ℕ) → IsJob job → 1 ≤ workers → workers ≤ 64 →
     WorldHolds (start_compact job workers) empty
-holds_start job workers limits some most =
-    holds_start_on job Compact workers limits one_processor some most
+holds_start job workers limits some most = record {
+  stands = starts_stand job Compact workers limits one_processor some most;
+  backed = tt;
+  known = λ b w is.
+      let s = starts_at 0 workers b (walks w) is in
+      let e : w ≡ started s.worker = same_walking w (started s.worker) s.is in
+      let below = s.below in
+      let y = layout_of job Compact workers in
+      let well = starts_well job y empty s.worker 0 (omega arith) in (
+        subst (λ (v : Walking). Knows job y empty v) (sym e) well.0,
+        subst (Fitting job y) (sym e) well.1,
+      );
+  numbers = λ b body is. let s = starts_at 0 workers b body is in
+      let below = s.below in subst (λ (x : Body). number x < workers) (sym s.is) (omega arith);
+}
 
 -- ---- a step
 
@@ -136,27 +139,29 @@ IsKnown s body = (number body < s.layout.workers) × ((w : Walking) → body ≡
 pub stopped_known : (s : WorldData) (n : ℕ) → n < s.layout.workers → IsKnown s (stopped n)
 stopped_known s n below = (below, λ w is made. absurd (not_stopped w n (sym is)))
 
-pub started_known : (s : WorldData) (n : ℕ) → n < s.layout.workers →
-    IsKnown s (walks (started n))
-started_known s n below = (
+pub started_known : (s : WorldData) (n size : ℕ) → n < s.layout.workers →
+    IsKnown s (walks (remembering size (started n)))
+started_known s n size below = (
   below,
   λ w is made.
-      let e : started n ≡ w = same_walking (started n) w is in (
-        subst (λ (x : Walking). Knows s.job s.layout made x) e
-            (record { script = tt; block = tt; memory = start_true s.job }),
-        subst (Fitting s.job s.layout) e (start_fits s.job s.layout n below),
+      let new = remembering size (started n) in
+      let e : new ≡ w = same_walking new w is in
+      let well = starts_well s.job s.layout made n size below in (
+        subst (λ (x : Walking). Knows s.job s.layout made x) e well.0,
+        subst (Fitting s.job s.layout) e well.1,
       ),
 )
 
-pub back_known : (s : WorldData) (n : ℕ) → n < s.layout.workers →
-    IsKnown s (walks (come_back n))
-back_known s n below = (
+pub back_known : (s : WorldData) (n size : ℕ) → n < s.layout.workers →
+    IsKnown s (walks (remembering size (come_back n)))
+back_known s n size below = (
   below,
   λ w is made.
-      let e : come_back n ≡ w = same_walking (come_back n) w is in (
-        subst (λ (x : Walking). Knows s.job s.layout made x) e
-            (record { script = tt; block = tt; memory = start_true s.job }),
-        subst (Fitting s.job s.layout) e (back_fits s.job s.layout n below),
+      let new = remembering size (come_back n) in
+      let e : new ≡ w = same_walking new w is in
+      let well = returns_well s.job s.layout made n size below in (
+        subst (λ (x : Walking). Knows s.job s.layout made x) e well.0,
+        subst (Fitting s.job s.layout) e well.1,
       ),
 )
 
@@ -184,11 +189,13 @@ pub holds_replaced : (s : WorldData) (made : Record) (b : ℕ) (new : Body) → 
 holds_replaced s made b new h known = others_hold s made (slice_set s.bodies b new) new h known
     (λ at body e. get_set s.bodies b at new body e)
 
-pub holds_twinned : (s : WorldData) (made : Record) (w : ℕ) → WorldHolds s made →
-    w < s.layout.workers → WorldHolds (twinned s w) made
-holds_twinned s made w h below =
-    others_hold s made (s.bodies ++ walks (started w) ∷ []) (walks (started w)) h
-    (started_known s w below) (λ at body e. get_push s.bodies at (walks (started w)) body e)
+abbrev pub joined : WorldData → Body → WorldData
+joined s new = record s { bodies = s.bodies ++ new ∷ [] }
+
+pub holds_joined : (s : WorldData) (made : Record) (new : Body) → WorldHolds s made →
+    IsKnown s new → WorldHolds (joined s new) made
+holds_joined s made new h known = others_hold s made (s.bodies ++ new ∷ []) new h known
+    (λ at body e. get_push s.bodies at new body e)
 
 -- ---- events
 
@@ -208,19 +215,20 @@ stop_holds s b (Some body) is h = record {
       (stopped (number body)) h.holds (stopped_known s (number body) ((h.holds).numbers b body is));
 }
 
-back_holds : (s : WorldData) (b : ℕ) (o : Option Body) → slice_get s.bodies b ≡ o → Held s →
-    Held (replaced s b (λ n. walks (come_back n)) o)
-back_holds s b None is h = h
-back_holds s b (Some body) is h = record {
+back_holds : (s : WorldData) (b size : ℕ) (o : Option Body) → slice_get s.bodies b ≡ o → Held s →
+    Held (replaced s b (λ n. walks (remembering size (come_back n))) o)
+back_holds s b size None is h = h
+back_holds s b size (Some body) is h = record {
   made = h.made;
-  holds = holds_replaced s h.made b (walks (come_back (number body))) h.holds
-      (back_known s (number body) ((h.holds).numbers b body is));
+  holds = holds_replaced s h.made b
+      (walks (remembering size (come_back (number body)))) h.holds
+      (back_known s (number body) size ((h.holds).numbers b body is));
 }
 
 pub happens_holds : (s : WorldData) (e : Event) → Held s → Held (happens s e)
 happens_holds s (Go b) h = went_holds s b (slice_get s.bodies b) refl h
 happens_holds s (Stop b) h = stop_holds s b (slice_get s.bodies b) refl h
-happens_holds s (Back b) h = back_holds s b (slice_get s.bodies b) refl h
+happens_holds s (Back b) h = back_holds s b 0 (slice_get s.bodies b) refl h
 
 pub run_holds : (s : WorldData) (es : List Event) → Held s → Held (run s es)
 run_holds s [] h = h
@@ -251,10 +259,12 @@ replaced_words : (s : WorldData) (b : ℕ) (new : ℕ → Body) (o : Option Body
 replaced_words s b new None = refl
 replaced_words s b new (Some body) = refl
 
-pub stale_changes_nothing : (s : WorldData) (e : Event) → Held s →
-    StaleChangesNothing s e (happens s e)
-stale_changes_nothing s (Go b) h = λ w is behind a word apart fixed.
+pub stale_changes_nothing : (s : WorldData) (a : Act) → Held s →
+    StaleChangesNothing s a (world_after s a)
+stale_changes_nothing s (go b) h = λ w is behind a word apart fixed.
     stale_step s b (slice_get s.bodies b) refl h w is behind a word apart fixed
-stale_changes_nothing s (Stop b) h = replaced_words s b stopped (slice_get s.bodies b)
-stale_changes_nothing s (Back b) h =
-    replaced_words s b (λ n. walks (come_back n)) (slice_get s.bodies b)
+stale_changes_nothing s (stop b) h = replaced_words s b stopped (slice_get s.bodies b)
+stale_changes_nothing s (back b size) h =
+    replaced_words s b (λ n. walks (remembering size (come_back n))) (slice_get s.bodies b)
+stale_changes_nothing s (start w size) h = refl
+stale_changes_nothing s (load k) h = refl

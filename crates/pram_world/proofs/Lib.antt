@@ -8,3 +8,4 @@ pub mod Showing
 pub mod Interleaving
 pub mod Observing
 pub mod Bounds
+pub mod Ahead

@@ -16,8 +16,8 @@ use Rattle.lawful_walk.specs.Board.{Grows, held, root, conflict, stamp_at, finis
 use Rattle.lawful_walk.specs.Moments.{Backed}
 use Rattle.lawful_walk.specs.Walks.{IsConflict}
 use Rattle.lawful_walk.specs.Lands.{IsLanded, phase_written, told_at}
-use Rattle.pram_world.specs.declared.event.Event.{Event}
-use Rattle.pram_world.specs.Worlds.{WorldData, Walks, IsLawful, StaleChangesNothing, happens}
+use Rattle.pram_world.specs.Worlds.{Act, WorldData, Walks, IsLawful, StaleChangesNothing}
+use Rattle.pram_world.specs.Worlds.{world_after}
 
 -- ---- what the words show of the machine
 
@@ -57,7 +57,7 @@ pub record ShowsMachine (job : JobData) (layout : LayoutData) (words : List ℕ)
       (stamp_at layout words place which ≡ suc t) × IsLanded layout.form job t place
       × (phase_written layout.form job place t ≤ next_phase layout.form (root layout words))
 
--- ---- a world between two events
+-- ---- a world between two acts
 
 -- how a worker ended is true: the last step is finished, or word 0 names the first conflict
 abbrev pub IsTrueEnd : JobData → LayoutData → List ℕ → Ended → Type 0
@@ -65,16 +65,17 @@ IsTrueEnd job layout words Done = (root layout words ≡ 3 * job.steps) × IsRea
 IsTrueEnd job layout words (Conflict step) = (conflict layout words ≡ step) × IsConflict job step
 
 -- The words are admitted and lawful. They bear out the record of all atomic steps, which knows each
--- body that is a worker. They show the machine. Whatever happens next, they grow, and a late worker
--- changes none but its own position, and in the wide form marks. Who is over tells the truth.
+-- body that is a worker, and what that one remembers is true. They show the machine. Whatever
+-- happens next, they grow, and a late worker changes none but its own position, and in the wide
+-- form marks. Who is over tells the truth.
 pub record Interleaves (world : WorldData) (made : Record) : Type 0 where
   pub lawful : IsLawful world
   pub backed : Backed world.job world.layout made world.words
   pub known : (body : ℕ) (walking : Walking) → Walks world body walking →
       Knows world.job world.layout made walking × Fits world.job world.layout walking
   pub shows : ShowsMachine world.job world.layout world.words (finished world.layout world.words)
-  pub grows : (event : Event) → Grows world.layout world.words (happens world event).words
-  pub stale : (event : Event) → StaleChangesNothing world event (happens world event)
+  pub grows : (act : Act) → Grows world.layout world.words (world_after world act).words
+  pub stale : (act : Act) → StaleChangesNothing world act (world_after world act)
   pub ends : (body : ℕ) (walking : Walking) (ended : Ended) → Walks world body walking →
       walking.now ≡ doing.Over ended → IsTrueEnd world.job world.layout world.words ended
 

@@ -14,7 +14,7 @@ use Rattle.pram_words.specs.Words.{LayoutData, IsWord, layout_of}
 use Rattle.walkx.specs.declared.operation.Op.{Op}
 use Rattle.walkx.specs.declared.operation.Op.TheVariants.{Load, Store, Max, Swap, Over}
 use Rattle.walkx.specs.Operations.{words_after, answer}
-use Rattle.walkx.specs.Walk.{Walking, ask_of, told, end_of, started, come_back}
+use Rattle.walkx.specs.Walk.{Walking, ask_of, told, end_of, started, come_back, remembering}
 use Rattle.lawful_walk.specs.Moments.{IsFixed}
 use Rattle.lawful_walk.specs.Board.{Stands, held, root}
 use Rattle.lawful_walk.specs.Walks.{phase_now}
@@ -37,28 +37,32 @@ pub record WorldData : Type 0 where
   pub words : List ℕ
   pub bodies : List Body
 
--- the words of the start, and each worker newly started, on a board of this form
-abbrev pub start_on : JobData → Form → ℕ → WorldData
-start_on job form workers = record {
+-- the words of the start on a board of this form, and no body
+abbrev pub world_begun : JobData → Form → ℕ → WorldData
+world_begun job form workers = record {
   job = job;
   layout = layout_of job form workers;
   words = start_words (layout_of job form workers) job;
+  bodies = [];
+}
+
+-- the world of the code has the compact form, and each worker newly started
+abbrev pub start_compact : JobData → ℕ → WorldData
+start_compact job workers = record (world_begun job Compact workers) {
   bodies = map (λ worker. walks (started worker)) (range_with_len 0 workers);
 }
 
--- the world of the code has the compact form
-abbrev pub start_compact : JobData → ℕ → WorldData
-start_compact job workers = start_on job Compact workers
-
--- with one body more, this worker newly started
-abbrev pub twinned : WorldData → ℕ → WorldData
-twinned world worker = record world { bodies = world.bodies ++ walks (started worker) ∷ [] }
-
--- the body is the one that was added
-abbrev pub IsTwinned : WorldData → ℕ → ℕ → WorldData → Type 0
-IsTwinned world worker body now = (body ≡ length world.bodies) × (now ≡ twinned world worker)
-
 -- ---- what happens
+
+-- A body makes its next atomic step, or is stopped, or comes back as the worker of its number;
+-- there is one body more, this worker newly started; an observer loads this word. Who comes back or
+-- starts has a memory of so many processors, of which nothing is known yet.
+pub data Act : Type 0 where
+  go : ℕ → Act
+  stop : ℕ → Act
+  back : ℕ → ℕ → Act
+  start : ℕ → ℕ → Act
+  load : ℕ → Act
 
 -- The body's next operation is made, and it hears the answer. One that is over asks for nothing,
 -- and hears nothing.
@@ -77,16 +81,35 @@ replaced world body new None = world
 replaced world body new (Some old) =
     record world { bodies = slice_set world.bodies body (new (number old)) }
 
+abbrev pub world_after : WorldData → Act → WorldData
+world_after world (go body) = went world body (slice_get world.bodies body)
+world_after world (stop body) = replaced world body stopped (slice_get world.bodies body)
+world_after world (back body size) =
+    replaced world body (λ worker. walks (remembering size (come_back worker)))
+    (slice_get world.bodies body)
+world_after world (start worker size) =
+    record world { bodies = world.bodies ++ walks (remembering size (started worker)) ∷ [] }
+world_after world (load word) = world
+
+-- ---- events, which are acts of bodies without a memory
+
+abbrev pub as_act : Event → Act
+as_act (Go body) = go body
+as_act (Stop body) = stop body
+as_act (Back body) = back body 0
+
 abbrev pub happens : WorldData → Event → WorldData
-happens world (Go body) = went world body (slice_get world.bodies body)
-happens world (Stop body) = replaced world body stopped (slice_get world.bodies body)
-happens world (Back body) =
-    replaced world body (λ worker. walks (come_back worker)) (slice_get world.bodies body)
+happens world event = world_after world (as_act event)
 
 -- one event after the other
 abbrev pub run : WorldData → List Event → WorldData
 run world [] = world
 run world (event ∷ events) = run (happens world event) events
+
+-- the body of this number was added, a twin of this worker
+abbrev pub IsTwinned : WorldData → ℕ → ℕ → WorldData → Type 0
+IsTwinned world worker body now =
+    (body ≡ length world.bodies) × (now ≡ world_after world (start worker 0))
 
 -- the words stand: they are admitted and lawful
 abbrev pub IsLawful : WorldData → Type 0
@@ -149,11 +172,10 @@ going world body = body_goes (slice_get world.bodies body)
 
 -- *A stale write changes no word*: where the phase of a body is at most the root, its step changes
 -- no word but its own position, and in the wide form marks, which rise.
-abbrev pub StaleChangesNothing : WorldData → Event → WorldData → Type 0
-StaleChangesNothing world (Go body) now = (walking : Walking) → Walks world body walking →
+abbrev pub StaleChangesNothing : WorldData → Act → WorldData → Type 0
+StaleChangesNothing world (go body) now = (walking : Walking) → Walks world body walking →
     phase_now walking.now ≤ root world.layout world.words → (word : Word) →
     IsWord world.layout word →
     word ≢ Position walking.number → IsFixed world.layout.form word →
     held world.layout now.words word ≡ held world.layout world.words word
-StaleChangesNothing world (Stop body) now = now.words ≡ world.words
-StaleChangesNothing world (Back body) now = now.words ≡ world.words
+StaleChangesNothing world _ now = now.words ≡ world.words

@@ -1,9 +1,10 @@
 //! Laws of worlds: each function here does nothing, and its contract is the law.
 ghost use Rattle.pram_world.specs.Laws.{EveryBodyIsBounded, EveryInterleaving, EveryReadIsLawful};
+ghost use Rattle.pram_world.specs.Laws.{SomeGoAhead};
 
-/// *Every interleaving*: whatever happens, in any order and with any twins, at every moment the
-/// words are lawful and show the machine, and there is one record of all atomic steps that they
-/// bear out and that knows every body.
+/// *Every interleaving*: whatever happens, in any order, with any twins and with memories of any
+/// size, at every moment the words are lawful and show the machine, and there is one record of all
+/// atomic steps that they bear out and that knows every body.
 pub fn every_interleaving()
     ensures { EveryInterleaving }
 {}
@@ -18,4 +19,10 @@ pub fn every_read_is_lawful()
 /// number of its processors.
 pub fn every_body_is_bounded()
     ensures { EveryBodyIsBounded }
+{}
+
+/// In some runs a body lets a processor go on alone, ahead of the finished steps, and marks its
+/// leaf beyond the root: the laws above speak of such bodies, too.
+pub fn some_go_ahead()
+    ensures { SomeGoAhead }
 {}

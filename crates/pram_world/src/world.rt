@@ -17,7 +17,7 @@ ghost use Rattle.pram_world.specs.Interleavings.{IsInterleaved};
 ghost use Rattle.pram_world.specs.Outcomes.{IsWorldOutcome};
 ghost use Rattle.pram_world.specs.Standings.{standing_of};
 ghost use Rattle.pram_world.specs.Worlds.{IsLawful, IsLawfulThroughout, IsTwinned, KeepsBoard};
-ghost use Rattle.pram_world.specs.Worlds.{StaleChangesNothing, effect_of, going, happens};
+ghost use Rattle.pram_world.specs.Worlds.{StaleChangesNothing, as_act, effect_of, going, happens};
 ghost use Rattle.pram_world.specs.Worlds.{number as number_of, run, shown, start_compact};
 
 use crate::event::{Effect, Event, Standing};
@@ -37,7 +37,7 @@ pub enum Runner {
 }
 
 /// Words, and bodies that walk on them: any number of workers in any order, one atomic step at a
-/// time.
+/// time. None has a memory.
 #[derive(Drop)]
 pub struct World {
     alloc: Global,
@@ -103,7 +103,7 @@ impl World {
         ensures board { KeepsBoard self.old self.new }
         ensures lawful { IsLawful self.new }
         ensures grows { Grows self.old.layout self.old.words self.new.words }
-        ensures stale { StaleChangesNothing self.old event self.new }
+        ensures stale { StaleChangesNothing self.old (as_act event) self.new }
     {
         self.invariant_holds();
         match event {
