@@ -1,4 +1,4 @@
-// What the core's sources declare, and what the page and docs/FORMATS.md have from there: codes,
+// What the core's sources declare, and what the page and docs/page-core.txt have from there: codes,
 // structs, the numbers and the words of enums, instructions, and the sentences on texts.
 import { readFileSync, readdirSync } from 'node:fs';
 import { dirname, join } from 'node:path';

@@ -1,12 +1,9 @@
-// formats.js FORMATS.md [--check]: writes between two comments of this document what the core's
-// sources declare; with --check it tells whether that stands there.
+// formats.js FILE [--check]: writes into this file what the core's sources declare; with --check it
+// tells whether that stands there.
 import { readFileSync, writeFileSync } from 'node:fs';
 import {
   JOB_FAULT, LIMIT, MODELS, PROGRAM_FAULT, RULES, TEXT_FAULT, calls, cells, codes, layouts, limits,
 } from './declared.js';
-
-const BEGIN = '<!-- What the sources declare: tools/page writes it. -->\n';
-const END = '<!-- End of what the sources declare. -->\n';
 
 // NOT_ASCII becomes NotAscii, as the sources have it.
 const camelCase = (name) => name.toLowerCase().replaceAll(/(?:^|_)(\w)/g,
@@ -57,33 +54,32 @@ const signatureOf = ({ name, parameters }) => `\`${name}(${parameters.join(', ')
 
 const items = (lines) => lines.map((line) => `- ${line}\n`).join('');
 
-const declared = `### Codes
+const declared = `# What the sources of the page's core declare
+
+tools/page writes it.
+
+## Codes
 
 | code | name | means |
 |---|---|---|
 ${rowsOfCodes.join('\n')}
 
-### Numbers
+## Numbers
 
 ${items(numbers)}
-### Structs
+## Structs
 
 What a field means stands at its struct, in \`crates/page_core/src\` and \`exercise_page/src\`. Before each field stand so many bytes; one without a type is a u32.
 
 ${items(structsInOrder().map(structInWords))}
-### Calls
+## Calls
 
 ${items(calls.map(signatureOf))}`;
 
 const [path, how] = process.argv.slice(2);
-const text = readFileSync(path, 'utf8');
-const [before, rest] = text.split(BEGIN);
-const [, after] = (rest ?? '').split(END);
-if (after === undefined) throw new Error(`${path} has no place for what the sources declare`);
-const wanted = `${before}${BEGIN}\n${declared}\n${END}${after}`;
 if (how !== '--check') {
-  writeFileSync(path, wanted);
-} else if (text !== wanted) {
+  writeFileSync(path, declared);
+} else if (readFileSync(path, 'utf8') !== declared) {
   console.error(`${path} does not say what the sources declare: tools/page --formats writes it`);
   process.exitCode = 1;
 }

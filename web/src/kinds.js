@@ -1,4 +1,4 @@
-// Numbers of the core that its source has in functions, without a name. docs/FORMATS.md has what
+// Numbers of the core that its source has in functions, without a name. docs/page-core.txt has what
 // the source says of them, at the struct that each is a field of.
 import { ACTIVITY } from './declared.js';
 
