@@ -10,6 +10,7 @@ uint32_t proved_ks_back(ks_worker *worker);
 uint32_t proved_ks_progress(ks_seat *seat, struct ks_progress *progress);
 uint32_t proved_ks_read(ks_seat *seat, uint32_t cell, struct ks_reading *reading);
 uint32_t proved_ks_memory(ks_seat *seat, uint32_t *cells, size_t cells_length);
+uint32_t proved_ks_stop(ks_seat *seat, struct ks_stop *stop);
 uint32_t proved_ks_fault(ks_seat *seat, struct ks_fault *fault);
 void proved_ks_close(ks_board *board);
 void proved_ks_close_seat(ks_seat *seat);
@@ -41,6 +42,10 @@ uint32_t ks_read(ks_seat *seat, uint32_t cell, struct ks_reading *reading) {
 
 uint32_t ks_memory(ks_seat *seat, uint32_t *cells, size_t cells_length) {
   return seat->at ? proved_ks_memory(seat, cells, cells_length) : KS_FAILED;
+}
+
+uint32_t ks_stop(ks_seat *seat, struct ks_stop *stop) {
+  return seat->at ? proved_ks_stop(seat, stop) : KS_FAILED;
 }
 
 uint32_t ks_fault(ks_seat *seat, struct ks_fault *fault) {

@@ -84,7 +84,7 @@ static _Noreturn void refused(const struct run *run, uint32_t status,
     explain(run, run->words.plan, "row", answer);
   } else {
     fprintf(stderr, "text line=%llu kind=%s\n", line, answer->kind);
-    explain(run, run->words.job, "line", answer);
+    explain(run, run->words.job ? run->words.job : run->words.board, "line", answer);
   }
   exit((int)status);
 }
@@ -159,6 +159,37 @@ static void read_plan(struct run *run) {
 
 /* What the first process opens, and others join. */
 
+/* Whether a text is a program: its first word is `pardo`. A text of the machine says its steps. */
+static bool is_program(const uint8_t *text, size_t length) {
+  static const char word[] = "pardo", ends[] = " \t\r\n;";
+  size_t at = 0, word_length = sizeof word - 1;
+  while (at < length && text[at] && strchr(ends, text[at])) {
+    bool is_comment = text[at++] == ';';
+    while (is_comment && at < length && text[at] != '\n') at++;
+  }
+  if (length - at < word_length || memcmp(text + at, word, word_length)) return false;
+  at += word_length;
+  return at == length || (text[at] && strchr(ends, text[at]));
+}
+
+/* A program's steps are counted before where somebody waits for them, and else once the job is
+ * over: meanwhile nothing is lost with this process. */
+static bool counts_first(const struct words *words) {
+  return words->plan || words->pace || words->event_count || words->tells_progress ||
+         words->tells_events;
+}
+
+static uint32_t open_text(struct run *run, const uint8_t *text, size_t length, ks_board *board) {
+  const struct words *words = &run->words;
+  struct shared *shared = run->shared;
+  shared->is_counted = counts_first(words) || !is_program(text, length);
+  shared->text = shared_text(text, length);
+  shared->text_length = length;
+  if (!shared->text) return KS_MEMORY;
+  if (shared->is_counted) return ks_open(text, length, words->workers, words->block, board);
+  return ks_open_uncounted(text, length, words->workers, words->block, board);
+}
+
 static void open_board(struct run *run) {
   struct ks_request request = {.size = sizeof request};
   ks_board board;
@@ -169,7 +200,7 @@ static void open_board(struct run *run) {
   read_plan(run);
   enum shared_fault fault = shared_make(words->board, &run->shared, &run->file);
   if (fault) no_board(run, fault);
-  uint32_t status = ks_open(text, length, words->workers, words->block, &board);
+  uint32_t status = open_text(run, text, length, &board);
   if (status && words->board) unlink(words->board);
   if (status == KS_REFUSED) ks_check(text, length, &request, text, 0, &answer);
   if (status) refused(run, status, &answer);
@@ -193,11 +224,30 @@ static bool is_known(const struct run *run) {
 
 /* The answer. */
 
+/* The steps of a job that is over: the board tells them where each processor came to its end, and
+ * else they are counted now, as by `pramx check`. Of a program that never ends that is told. */
+static uint32_t count_steps(struct run *run) {
+  struct ks_request request = {.size = sizeof request};
+  struct ks_answer answer = {.size = sizeof answer};
+  struct ks_stop stop;
+  char line[256];
+  const char *steps;
+  const struct shared *shared = run->shared;
+  if (shared->is_counted) return run->seen.steps;
+  if (!ks_stop(&run->seat, &stop)) return stop.step;
+  uint32_t status = ks_check(shared->text, shared->text_length, &request, (uint8_t *)line,
+                             sizeof line - 1, &answer);
+  if (status) refused(run, status, &answer);
+  line[answer.length < sizeof line ? answer.length : sizeof line - 1] = 0;
+  steps = strstr(line, " steps=");
+  return steps ? (uint32_t)strtoul(steps + 7, NULL, 10) : run->seen.steps;
+}
+
 static void tell_memory(struct run *run) {
   size_t count = run->seen.cells;
   uint32_t *cells = malloc((count + 1) * sizeof *cells);
   if (!cells || ks_memory(&run->seat, cells, count)) out_of_memory();
-  printf("done steps=%u\n", run->seen.steps);
+  printf("done steps=%u\n", count_steps(run));
   for (size_t i = 0; i < count; i++) printf("%zu: %u\n", i, cells[i]);
   free(cells);
 }
@@ -452,7 +502,9 @@ static int join(struct run *run) {
   take_seat(run);
   look(run);
   if (run->words.checks) {
-    printf("lawful step=%u\n", run->seen.step);
+    struct ks_stop stop = {run->seen.step};
+    if (!run->shared->is_counted) ks_stop(&run->seat, &stop);
+    printf("lawful step=%u\n", stop.step);
     return fflush(stdout) || ferror(stdout) ? KS_FAILED : KS_DONE;
   }
   if (run->words.joins && work(run, run->words.join, true) == KS_MEMORY) out_of_memory();

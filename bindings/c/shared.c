@@ -291,6 +291,11 @@ enum shared_fault shared_make(const char *name, struct shared **made, int *file)
   return SHARED_WELL;
 }
 
+const uint8_t *shared_text(const uint8_t *text, size_t length) {
+  void *at = rattle_alloc(length + 1, 1).at;
+  return at ? memcpy(at, text, length) : NULL;
+}
+
 /* Whether the last blocks are those that they are taken for. */
 static bool are_known(ks_board *board) {
   ks_seat seat;

@@ -41,6 +41,9 @@ struct shared {
   const _Atomic uint64_t *words; /* the words of the board, which its workers change, */
   size_t word_count;
   const _Atomic uint64_t *members; /* and the number of those that keep it alive */
+  const uint8_t *text;             /* that was opened, and whether its steps were counted before */
+  size_t text_length;
+  bool is_counted;
   uint32_t workers;
   _Atomic uint32_t is_whole; /* the board is open */
   _Atomic uint32_t is_over;  /* a worker knows the answer */
@@ -64,6 +67,8 @@ enum shared_fault {
 /* Makes a mapping, in this new file or in none (NULL). Until shared_is_full the library's blocks
  * are taken from it; *file is the open file, or -1. */
 enum shared_fault shared_make(const char *name, struct shared **made, int *file);
+/* A copy of a text in the mapping, or NULL. */
+const uint8_t *shared_text(const uint8_t *text, size_t length);
 /* Keeps this board, which was opened for so many workers. The library's blocks are taken from
  * malloc again. The mapping and the file are cut to what was taken, and all of the file is on the
  * disk's account, so that no later store is refused. */

@@ -193,7 +193,8 @@ struct seen {
   struct ks_progress before, after;
   struct ks_reading reading;
   struct ks_fault fault;
-  uint32_t piece, ended;
+  struct ks_stop stop;
+  uint32_t piece, ended, stopped;
 };
 
 static uint32_t work(ks_worker *worker, ks_seat *seat, struct told *told) {
@@ -206,6 +207,7 @@ static uint32_t work(ks_worker *worker, ks_seat *seat, struct told *told) {
   ks_progress(seat, &seen.after);
   ks_read(seat, 0, &seen.reading);
   uint32_t conflict = ks_fault(seat, &seen.fault);
+  seen.stopped = ks_stop(seat, &seen.stop);
   uint32_t *held = (uint32_t *)(void *)(told->out + sizeof seen);
   uint32_t status = ks_memory(seat, held, (ROOM - sizeof seen) / 4);
   if (status == KS_MEMORY || conflict == KS_MEMORY) return KS_MEMORY;
@@ -213,11 +215,13 @@ static uint32_t work(ks_worker *worker, ks_seat *seat, struct told *told) {
   return status;
 }
 
-static void board(const struct text *text, struct told *told) {
+typedef uint32_t opening(const uint8_t *, size_t, uint32_t, uint32_t, ks_board *);
+
+static void board_by(opening *open, const struct text *text, struct told *told) {
   ks_board board = {NULL};
   ks_seat seat = {NULL};
   ks_worker worker = {NULL};
-  told->status = ks_open(text->bytes, text->length, 2, 0, &board);
+  told->status = open(text->bytes, text->length, 2, 0, &board);
   if (told->status) return;
   told->status = ks_seat_of(&board, &seat);
   if (!told->status) told->status = ks_worker_of(&board, 1, &worker);
@@ -225,6 +229,13 @@ static void board(const struct text *text, struct told *told) {
   ks_close(&board);
   if (worker.at) ks_close_worker(&worker);
   if (seat.at) ks_close_seat(&seat);
+}
+
+static void board(const struct text *text, struct told *told) {
+  board_by(ks_open, text, told);
+}
+static void board_uncounted(const struct text *text, struct told *told) {
+  board_by(ks_open_uncounted, text, told);
 }
 
 typedef void call(const struct text *, struct told *);
@@ -246,7 +257,8 @@ static const struct {
              {"judge", judge},
              {"judge text", judge_text},
              {"judge by", judge_by_text},
-             {"board", board}};
+             {"board", board},
+             {"board uncounted", board_uncounted}};
 enum { CALLS = sizeof calls / sizeof *calls };
 
 static void make(int which, const struct text *text, struct told *told) {
@@ -455,6 +467,7 @@ static void try_boards(const struct text *text) {
   struct ks_progress progress;
   struct ks_reading reading;
   struct ks_fault fault;
+  struct ks_stop stop = {NOTHING};
   for (int i = 0; i < 4; i++)
     expect("a board that can't be",
            ks_open(text->bytes, text->length, wrong[i][0], wrong[i][1], &board) == KS_FAILED);
@@ -465,6 +478,7 @@ static void try_boards(const struct text *text) {
   expect("a cell that is not there", ks_read(&seat, progress.cells, &reading) == KS_FAILED);
   expect("no memory yet", ks_memory(&seat, &cell, 1) == KS_UNFINISHED);
   expect("no conflict yet", ks_fault(&seat, &fault) == KS_UNFINISHED);
+  expect("no stop yet", ks_stop(&seat, &stop) == KS_UNFINISHED && stop.step == NOTHING);
   ks_close(&board);
   ks_close_seat(&seat);
   expect("closed handles", !board.at && !seat.at);
@@ -481,6 +495,7 @@ static void try_blank(void) {
   struct ks_progress progress = {NOTHING, 0, 0, 0};
   struct ks_reading reading = {NOTHING, 0};
   struct ks_fault fault = {NOTHING, 0, 0, 0};
+  struct ks_stop stop = {NOTHING};
   expect("a seat of nothing", ks_seat_of(&board, &seat) == KS_FAILED && !seat.at);
   expect("a worker of nothing", ks_worker_of(&board, 0, &worker) == KS_FAILED && !worker.at);
   expect("work of nobody", ks_work(&worker, 1) == KS_FAILED && ks_back(&worker) == KS_FAILED);
@@ -488,6 +503,7 @@ static void try_blank(void) {
   expect("a read of nothing", ks_read(&seat, 0, &reading) == KS_FAILED);
   expect("memory of nothing", ks_memory(&seat, &cell, 1) == KS_FAILED);
   expect("a conflict of nothing", ks_fault(&seat, &fault) == KS_FAILED);
+  expect("a stop of nothing", ks_stop(&seat, &stop) == KS_FAILED && stop.step == NOTHING);
   expect("nothing is told of nothing", cell == NOTHING && progress.step == NOTHING &&
                                            reading.step == NOTHING && fault.step == NOTHING);
   ks_close(&board);
@@ -513,6 +529,42 @@ static void try_memory(int is_back, const char *what) {
   ks_close_worker(&worker);
 }
 
+/* A program whose steps nobody counts stops where it does if they are counted, and has as many
+ * steps as one may take; a text of the machine has its own. */
+static void try_uncounted(const char *job, uint32_t steps, uint32_t stopped) {
+  ks_board board = {NULL};
+  ks_seat seat = {NULL};
+  ks_worker worker = {NULL};
+  struct ks_progress progress;
+  struct ks_stop stop;
+  if (ks_open_uncounted((const void *)job, strlen(job), 1, 0, &board)) exit(5);
+  if (ks_seat_of(&board, &seat) || ks_worker_of(&board, 0, &worker)) exit(5);
+  expect("work on a board whose steps nobody counts", ks_work(&worker, UINT64_MAX) == KS_DONE);
+  expect("its steps", !ks_progress(&seat, &progress) && progress.steps == steps);
+  expect("its stop", !ks_stop(&seat, &stop) && stop.step == stopped);
+  ks_close(&board);
+  ks_close_seat(&seat);
+  ks_close_worker(&worker);
+}
+
+/* The steps of a program, when they are counted. */
+static uint32_t steps_of(const char *program) {
+  ks_board board = {NULL};
+  ks_seat seat = {NULL};
+  struct ks_progress progress;
+  if (ks_open((const void *)program, strlen(program), 1, 0, &board)) exit(5);
+  if (ks_seat_of(&board, &seat) || ks_progress(&seat, &progress)) exit(5);
+  ks_close(&board);
+  ks_close_seat(&seat);
+  return progress.steps;
+}
+
+static void try_stops(void) {
+  static const char job[] = "pram 1\ncells 1\nprocs 1\nsteps 9\ncode\nset r1 1\nst r0 r1\nhalt\n";
+  try_uncounted(submission, 1 << 20, steps_of(submission));
+  try_uncounted(job, 9, 3);
+}
+
 static void try_memories(void) {
   try_memory(0, "a worker's memory");
   try_memory(1, "the memory of one that came back");
@@ -528,6 +580,7 @@ static int try_wrong(const struct text *texts, int count) {
   try_sizes();
   try_blank();
   try_memories();
+  try_stops();
   printf("%d of %d wrong calls as promised, %ld blocks left\n", made_wrong - faults, made_wrong,
          living);
   return faults + (living != 0);

@@ -2,6 +2,8 @@
 use Rattle.std.proofs.Common.{◌≡◌, ◌≢◌, ◌⊎◌, ℕ, ◌<◌, ◌≤◌, List, Bool, true, false, sym, subst}
 use Rattle.std.specs.Prelude.{Option, Some, None}
 use Rattle.pram_board.specs.declared.work.Stay.{Stay}
+use Rattle.pram_board.specs.Stops.{StopsThere}
+use Rattle.pram_job.specs.Job.{JobData}
 use Rattle.library_boards.specs.declared.member.Member.{Member}
 use Rattle.library_boards.specs.declared.shared.Shared.{Shared}
 use Rattle.library_boards.specs.declared.status.TheConstants.{DONE, CONFLICT, FAILED}
@@ -12,14 +14,15 @@ use Rattle.library_boards.specs.declared.told.FaultTold.{FaultTold}
 use Rattle.library_boards.specs.Calls.{Between, HasComeBack, HasMade, HasOpened, HasWorked}
 use Rattle.library_boards.specs.Calls.{IsFaultTold, IsHeld, IsNoWorkerFor, IsNoWorkerStatus}
 use Rattle.library_boards.specs.Calls.{IsPut, TellsFault, TellsMemory, TellsMemberProgress}
-use Rattle.library_boards.specs.Calls.{TellsReading, WasReadTold}
+use Rattle.library_boards.specs.Calls.{TellsReading, TellsStop, WasReadTold}
+use Rattle.library_boards.specs.declared.told.StopTold.{StopTold}
 use Rattle.library_boards.specs.Members.{MemberGoesOn, IsBack, IsMember, IsOpenedFor, IsMembersWork}
-use Rattle.library_boards.specs.Members.{NoneIsKnown, StepsAreLeft, shared_at}
+use Rattle.library_boards.specs.Members.{NoStopIsKnown, NoneIsKnown, StepsAreLeft, job_at, shared_at}
 
-pub opened : (text : List ℕ) (workers grain : ℕ) (handle : Option Member) (member : Member) →
-    handle ≡ Some member → IsOpenedFor text workers grain member →
-    HasOpened text workers grain handle
-opened text workers grain handle member is o = record { member = member; is = is; opened = o }
+pub opened : (Holds : JobData → Type 0) (workers grain : ℕ) (handle : Option Member)
+    (member : Member) → handle ≡ Some member → IsOpenedFor Holds workers grain member →
+    HasOpened Holds workers grain handle
+opened Holds workers grain handle member is o = record { member = member; is = is; opened = o }
 
 pub made : (board handle : Option Member) (IsMade : Shared → Member → Type 0)
     (at member : Member) → board ≡ Some at → handle ≡ Some member → IsMade (shared_at at) member →
@@ -121,5 +124,21 @@ told_fault old new before later was_told told status was is fault none ends kept
   now = later;
   is = is;
   passed = record { fault = fault; none = none; ends = ends; kept = kept; goes_on = on };
+  is_member = on.is_member;
+}
+
+pub told_stop : (old new : Option Member) (before later : Member) (was_told told : StopTold)
+    (status : ℕ) → old ≡ Some before → new ≡ Some later →
+    (status ≡ DONE → StopsThere (job_at before) told.step) →
+    (status ≡ UNFINISHED → NoStopIsKnown before later) →
+    (status ≡ DONE) ⊎ (status ≡ UNFINISHED) →
+    (status ≢ DONE → told ≡ was_told) →
+    MemberGoesOn before later → Between old new (TellsStop was_told told status)
+told_stop old new before later was_told told status was is stops none ends kept on = record {
+  before = before;
+  was = was;
+  now = later;
+  is = is;
+  passed = record { stops = stops; none = none; ends = ends; kept = kept; goes_on = on };
   is_member = on.is_member;
 }

@@ -4,11 +4,13 @@ ghost use Rattle.library_boards.specs.Calls.{Between, HasComeBack, HasMade, HasO
 ghost use Rattle.library_boards.specs.Calls.{IsHeld, IsNoWorkerFor, IsOpenStatus};
 ghost use Rattle.library_boards.specs.Calls.{TellsFault, TellsMemory, TellsMemberProgress};
 ghost use Rattle.library_boards.specs.Calls.{TellsReading};
+ghost use Rattle.library_boards.specs.Calls.{TellsStop};
+ghost use Rattle.library_boards.specs.Jobs.{IsJobOf, IsUncountedJobOf};
 ghost use Rattle.library_boards.specs.Members.{IsReaderAt, IsWorkerAt};
 ghost use Rattle.library_boards.specs.declared.status.TheConstants.{DONE, MEMORY};
 
 use library_boards::status::DONE;
-use library_boards::{FaultTold, Handle, ProgressTold, ReadingTold, calls};
+use library_boards::{FaultTold, Handle, ProgressTold, ReadingTold, StopTold, calls};
 use std::alloc::Global;
 
 /// Opens a board for the job of a text, and gives the handle of it.
@@ -21,11 +23,39 @@ pub extern "C" fn ks_open(
     grain: u32,
     board: &mut Handle,
 ) -> u32
-    ensures opened { result ≡ DONE → HasOpened text.now workers grain board.new.member }
+    ensures opened { result ≡ DONE →
+        HasOpened (IsJobOf text.now) workers grain board.new.member }
     ensures undone { result ≢ DONE → IsOpenStatus text.now workers grain result }
     ensures kept { result ≢ DONE → board.new ≡ board.old }
 {
     match calls::open(alloc, text, workers, grain) {
+        Ok(member) => {
+            *board = Handle::of(member);
+            DONE
+        }
+        Err(status) => status,
+    }
+}
+
+/// Opens a board for the job of a text, and runs nothing before: where the text is a program, the
+/// job has as many steps as one may take, and its workers are done once all processors have
+/// stopped. `ks_stop` then tells after which step that was. A program that never ends is not
+/// refused here.
+#[unsafe(no_mangle)]
+#[tactic(auto, using(crate::proofs::Passing::opened))]
+pub extern "C" fn ks_open_uncounted(
+    alloc: Global,
+    text: &[u8],
+    workers: u32,
+    grain: u32,
+    board: &mut Handle,
+) -> u32
+    ensures opened { result ≡ DONE →
+        HasOpened (IsUncountedJobOf text.now) workers grain board.new.member }
+    ensures undone { result ≢ DONE → IsOpenStatus text.now workers grain result }
+    ensures kept { result ≢ DONE → board.new ≡ board.old }
+{
+    match calls::open_uncounted(alloc, text, workers, grain) {
         Ok(member) => {
             *board = Handle::of(member);
             DONE
@@ -146,6 +176,18 @@ pub extern "C" fn ks_memory(alloc: Global, seat: &mut Handle, cells: &mut [u32])
 {
     let mut member = seat.take(alloc);
     let status = calls::memory(&mut member, alloc, cells);
+    *seat = Handle::of(member);
+    status
+}
+
+/// Tells after which step all processors had stopped, each at its end.
+#[unsafe(no_mangle)]
+pub extern "C" fn ks_stop(alloc: Global, seat: &mut Handle, stop: &mut StopTold) -> u32
+    requires { IsHeld seat.old.member }
+    ensures { Between seat.old.member seat.new.member (TellsStop stop.old stop.new result) }
+{
+    let mut member = seat.take(alloc);
+    let status = calls::stop(&mut member, stop);
     *seat = Handle::of(member);
     status
 }

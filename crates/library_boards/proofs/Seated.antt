@@ -1,6 +1,6 @@
 -- A member's seat sees more, and knows the worker still.
-use Rattle.std.proofs.Common.{◌≡◌, ◌∙◌, ℕ, List, [], ◌∷◌, refl, ap, subst, rules}
-use Rattle.std.specs.Prelude.{Some, None}
+use Rattle.std.proofs.Common.{◌≡◌, ◌∙◌, ℕ, List, [], ◌∷◌, refl, ap, subst, inr, rules}
+use Rattle.std.specs.Prelude.{Option, Some, None, IfNone, IfSome}
 use Rattle.std.specs.Arc.{arc_value}
 use Rattle.pram_job.specs.Job.{JobData}
 use Rattle.pram_words.specs.declared.layout.Form.TheVariants.{Wide}
@@ -13,13 +13,15 @@ use Rattle.pram_board.specs.Seats.{Desk, SeatData, HasLoaded, HasSeen, IsLater, 
 use Rattle.pram_board.specs.Seats.{KnowsConflict, Remembers}
 use Rattle.pram_board.proofs.Memory.{still_known}
 use Rattle.pram_board.proofs.Remembering.{still_knows}
+use Rattle.pram_board.specs.Stops.{EndsApart, StopsThere}
 use Rattle.pram_board.specs.Worked.{Works}
+use Rattle.walk_memory.specs.Blocks.{IsWide}
 use Rattle.library_boards.specs.declared.member.Member.{Member}
 use Rattle.library_boards.specs.declared.shared.Shared.{Shared}
 use Rattle.library_boards.specs.Grains.{grain_or_default}
-use Rattle.library_boards.specs.Jobs.{IsJobOf}
 use Rattle.library_boards.specs.Members.{MemberGoesOn, IsKnownFault, IsLastMemory, IsMember}
-use Rattle.library_boards.specs.Members.{IsOpenedFor, board_at, member_task}
+use Rattle.library_boards.specs.Members.{IsOpenedAt, IsOpenedFor, NoStopIsKnown, board_at, job_at}
+use Rattle.library_boards.specs.Members.{member_task}
 
 later_works : (board : Desk) (p q : SeatData) (worker : WorkerData) →
     IsLater board p q → Works board p worker → Works board q worker
@@ -80,6 +82,17 @@ module _ (m n : Member) (s : Shared) (q : SeatData) (same : s ≡ arc_value n.sh
         answers = subst (λ (t : Task). IsAnswer t.job (Final cells)) task_is answers;
       }
 
+  pub stops_as : (found : Option ℕ) → IfSome found (StopsThere s.board.task.job) →
+      IfSome found (StopsThere (job_at m))
+  stops_as found = subst (λ (t : Task). IfSome found (StopsThere t.job)) task_is
+
+  pub apart_as : (found : Option ℕ) →
+      IfNone found (IsWide s.board.task.layout.form → EndsApart s.board.task.job) →
+      IfNone found (NoStopIsKnown m (record { shared = n.shared; seat = q; worker = n.worker }))
+  apart_as None apart = inr (subst
+      (λ (t : Task). IsWide t.layout.form → EndsApart t.job) task_is apart)
+  apart_as (Some step) is = is
+
   pub known_fault : (fault : Fault) → KnowsConflict s.board.task.layout n.seat.record_of →
       Remembers n.seat.record_of q.record_of → IsFault s.board.task.job fault →
       IsKnownFault m (record { shared = n.shared; seat = q; worker = n.worker }) fault
@@ -101,13 +114,10 @@ module _ (m n : Member) (s : Shared) (q : SeatData) (same : s ≡ arc_value n.sh
 nobody : (worker : WorkerData) → None ≡ Some worker → ⊥
 nobody worker e = search rules
 
-pub opened_for : (text : List ℕ) (workers grain : ℕ) (job : JobData) (m : Member) →
-    IsJobOf text job →
+pub opened_at : (workers grain : ℕ) (job : JobData) (m : Member) →
     IsOpened job (Wide (grain_or_default grain job.procs)) workers (board_at m, m.seat) →
-    m.worker ≡ None → IsOpenedFor text workers grain m
-opened_for text workers grain job m is opened none = record {
-  job = job;
-  job_is = is;
+    m.worker ≡ None → IsOpenedAt job workers grain m
+opened_at workers grain job m opened none = record {
   opened = opened;
   reader = none;
   is_member = record {
@@ -115,3 +125,7 @@ opened_for text workers grain job m is opened none = record {
     works = λ worker e. absurd (nobody worker (subst (λ o. o ≡ Some worker) none e));
   };
 }
+
+pub opened_for : (Holds : JobData → Type 0) (workers grain : ℕ) (job : JobData) (m : Member) →
+    Holds job → IsOpenedAt job workers grain m → IsOpenedFor Holds workers grain m
+opened_for Holds workers grain job m holds at = record { job = job; holds = holds; at = at }

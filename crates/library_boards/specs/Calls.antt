@@ -23,12 +23,15 @@ use Rattle.library_boards.specs.declared.status.TheConstants.{UNFINISHED, FAILED
 use Rattle.library_boards.specs.declared.told.ProgressTold.{ProgressTold}
 use Rattle.library_boards.specs.declared.told.ReadingTold.{ReadingTold}
 use Rattle.library_boards.specs.declared.told.FaultTold.{FaultTold}
+use Rattle.library_boards.specs.declared.told.StopTold.{StopTold}
+use Rattle.pram_board.specs.Stops.{StopsThere}
 use Rattle.library_boards.specs.Grains.{IsGrainAsked}
 use Rattle.library_boards.specs.Jobs.{IsNoJob}
 use Rattle.library_boards.specs.declared.shared.Shared.{Shared}
 use Rattle.library_boards.specs.Members.{MemberGoesOn, IsBack, IsKnownFault, IsLastMemory, IsMember}
 use Rattle.library_boards.specs.Members.{IsOpenedFor, IsMembersWork}
-use Rattle.library_boards.specs.Members.{NoneIsKnown, StepsAreLeft, job_at, shared_at, member_task}
+use Rattle.library_boards.specs.Members.{NoStopIsKnown, NoneIsKnown, StepsAreLeft, job_at}
+use Rattle.library_boards.specs.Members.{shared_at, member_task}
 
 -- ---- handles
 
@@ -48,10 +51,12 @@ pub record Between (old new : Option Member) (Passed : Member → Member → Typ
 
 -- ---- openings
 
-pub record HasOpened (text : List ℕ) (workers grain : ℕ) (handle : Option Member) : Type 0 where
+-- a handle of a new board for a job of which this holds
+pub record HasOpened (Holds : JobData → Type 0) (workers grain : ℕ) (handle : Option Member)
+    : Type 0 where
   pub member : Member
   pub is : handle ≡ Some member
-  pub opened : IsOpenedFor text workers grain member
+  pub opened : IsOpenedFor Holds workers grain member
 
 -- a handle of a new member at the board of this one
 pub record HasMade (board : Option Member) (IsMade : Shared → Member → Type 0)
@@ -171,6 +176,13 @@ pub record TellsFault (old new : FaultTold) (status : ℕ) (before later : Membe
   pub none : status ≡ UNFINISHED → NoneIsKnown before later
   pub ends : (status ≡ CONFLICT) ⊎ ((status ≡ UNFINISHED) ⊎ (status ≡ MEMORY))
   pub kept : status ≢ CONFLICT → new ≡ old
+  pub goes_on : MemberGoesOn before later
+
+pub record TellsStop (old new : StopTold) (status : ℕ) (before later : Member) : Type 0 where
+  pub stops : status ≡ DONE → StopsThere (job_at before) new.step
+  pub none : status ≡ UNFINISHED → NoStopIsKnown before later
+  pub ends : (status ≡ DONE) ⊎ (status ≡ UNFINISHED)
+  pub kept : status ≢ DONE → new ≡ old
   pub goes_on : MemberGoesOn before later
 
 pub record IsNoWorkerFor (board : Option Member) (number status : ℕ) : Type 0 where

@@ -5,7 +5,8 @@ use Rattle.pram_text.specs.Text.{Spells, IsRefusal as IsTextRefusal}
 use Rattle.pardo_program.specs.Program.{ProgramData}
 use Rattle.pardo_text.specs.Reading.{program_of}
 use Rattle.pardo_job.specs.Compiled.{IsCompiled}
-use Rattle.pardo_job.specs.Refusals.{IsProgramRefusal}
+use Rattle.pardo_job.specs.Drafts.{IsDraft}
+use Rattle.pardo_job.specs.Refusals.{IsProgramRefusal, most_steps}
 use Rattle.pardo_answers.specs.Language.{is_program}
 use Rattle.library_boards.specs.declared.job.OpenFault.{OpenFault}
 use Rattle.library_boards.specs.declared.job.OpenFault.TheVariants.{Text, Program, Memory}
@@ -26,6 +27,21 @@ pub record IsProgramJob (text : List ℕ) (job : JobData) : Type 0 where
 pub data IsJobOf (text : List ℕ) (job : JobData) : Type 0 where
   of_machine : IsMachineJob text job → IsJobOf text job
   of_program : IsProgramJob text job → IsJobOf text job
+
+-- the text is a program, and the job is the program's with as many steps as one may take
+pub record IsDraftedJob (text : List ℕ) (job : JobData) : Type 0 where
+  pub is_one : is_program text ≡ true
+  pub program : ProgramData
+  pub reads : program_of text ≡ Ok program
+  pub draft : JobData
+  pub numbers : List ℕ
+  pub made : IsDraft program draft numbers
+  pub is : job ≡ record draft { steps = most_steps draft }
+
+-- that of a text whose steps nobody counts
+pub data IsUncountedJobOf (text : List ℕ) (job : JobData) : Type 0 where
+  of_machine : IsMachineJob text job → IsUncountedJobOf text job
+  of_program : IsDraftedJob text job → IsUncountedJobOf text job
 
 -- why it has none
 abbrev pub IsNoJob : List ℕ → OpenFault → Type 0

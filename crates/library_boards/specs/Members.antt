@@ -1,5 +1,5 @@
 -- What the calls of a member come to.
-use Rattle.std.specs.Prelude.{◌≡◌, ◌≢◌, ◌==◌, ℕ, List, Bool, true, false}
+use Rattle.std.specs.Prelude.{◌≡◌, ◌≢◌, ◌⊎◌, ◌==◌, ℕ, List, Bool, true, false}
 use Rattle.std.specs.Prelude.{Option, Some, None, if◌then◌else◌}
 use Rattle.std.specs.Arc.{arc_value}
 use Rattle.pram_job.specs.Job.{JobData}
@@ -16,11 +16,12 @@ use Rattle.pram_board.specs.declared.look.Progress.{Progress}
 use Rattle.pram_board.specs.declared.work.Stay.{Stay}
 use Rattle.pram_board.specs.Seats.{Desk, HasLoaded, HasSeen, IsLater, IsOpened, KnowsConflict}
 use Rattle.pram_board.specs.Seats.{Progressed}
+use Rattle.pram_board.specs.Stops.{EndsApart}
+use Rattle.walk_memory.specs.Blocks.{IsWide}
 use Rattle.pram_board.specs.Worked.{Worked, Works}
 use Rattle.library_boards.specs.declared.member.Member.{Member}
 use Rattle.library_boards.specs.declared.shared.Shared.{Shared}
 use Rattle.library_boards.specs.Grains.{grain_or_default}
-use Rattle.library_boards.specs.Jobs.{IsJobOf}
 
 abbrev pub shared_at : Member → Shared
 shared_at member = arc_value member.shared
@@ -42,14 +43,19 @@ pub record IsMember (member : Member) : Type 0 where
 
 -- ---- openings
 
--- a reader at a new board for the job of the text
-pub record IsOpenedFor (text : List ℕ) (workers grain : ℕ) (member : Member) : Type 0 where
-  pub job : JobData
-  pub job_is : IsJobOf text job
+-- a reader at a new board for this job
+pub record IsOpenedAt (job : JobData) (workers grain : ℕ) (member : Member) : Type 0 where
   pub opened : IsOpened job (Wide (grain_or_default grain job.procs)) workers
       (board_at member, member.seat)
   pub reader : member.worker ≡ None
   pub is_member : IsMember member
+
+-- a reader at a new board for a job of which this holds
+pub record IsOpenedFor (Holds : JobData → Type 0) (workers grain : ℕ) (member : Member)
+    : Type 0 where
+  pub job : JobData
+  pub holds : Holds job
+  pub at : IsOpenedAt job workers grain member
 
 -- a member of this board, whose seat has seen one load
 pub record IsNewAt (shared : Shared) (member : Member) : Type 0 where
@@ -127,6 +133,12 @@ pub record NoneIsKnown (before later : Member) : Type 0 where
   pub progress : Progress
   pub progressed : Progressed (member_task before) before.seat later.seat progress
   pub none : progress.conflict ≡ None
+
+-- no step is known after which all have stopped, each at its end: steps are left, or some processor
+-- is not at its end, as far as the words of the board tell
+abbrev pub NoStopIsKnown : Member → Member → Type 0
+NoStopIsKnown before later = StepsAreLeft before later
+    ⊎ (IsWide (member_task before).layout.form → EndsApart (job_at before))
 
 -- the last step was seen to be finished, and this is what the cells hold after it
 pub record IsLastMemory (before later : Member) (cells : List ℕ) : Type 0 where

@@ -6,16 +6,18 @@ ghost use Rattle.library_boards.specs.Calls.{TellsMemberProgress};
 ghost use Rattle.library_boards.specs.Calls.{WasReadTold, front_of, status_of_fault};
 ghost use Rattle.library_boards.specs.Calls.{status_of_stay};
 ghost use Rattle.library_boards.specs.Grains.{IsGrainAsked};
+ghost use Rattle.library_boards.specs.Jobs.{IsJobOf, IsUncountedJobOf};
 ghost use Rattle.library_boards.specs.Members.{MemberGoesOn, IsMember, IsOpenedFor, IsReaderAt};
-ghost use Rattle.library_boards.specs.Members.{IsWorkerAt, NoneIsKnown, StepsAreLeft};
-ghost use Rattle.library_boards.specs.Members.{shared_at};
+ghost use Rattle.library_boards.specs.Members.{IsWorkerAt, NoStopIsKnown, NoneIsKnown};
+ghost use Rattle.library_boards.specs.Members.{StepsAreLeft, job_at, shared_at};
+ghost use Rattle.pram_board.specs.Stops.{StopsThere};
 ghost use Rattle.library_boards.specs.declared.status.TheConstants.{CONFLICT, DONE, FAILED};
 ghost use Rattle.library_boards.specs.declared.status.TheConstants.{MEMORY, UNFINISHED};
 
 use crate::job::OpenFault;
 use crate::member::Member;
 use crate::status::{CONFLICT, DONE, FAILED, MEMORY, REFUSED, UNFINISHED};
-use crate::told::{FaultTold, ProgressTold, ReadingTold};
+use crate::told::{FaultTold, ProgressTold, ReadingTold, StopTold};
 use command_data::Block;
 use pardo_job::{JobFault, JobKind, Refusal};
 use pardo_text::{PardoFault, PardoKind};
@@ -31,7 +33,8 @@ pub fn open(
     workers: u32,
     grain: u32,
 ) -> Result<Box<Member, Global>, u32>
-    ensures opened { IfOk result (λ boxed. IsOpenedFor text.now workers grain boxed.value) }
+    ensures opened { IfOk result (λ boxed.
+        IsOpenedFor (IsJobOf text.now) workers grain boxed.value) }
     ensures status { IfErr result (IsOpenStatus text.now workers grain) }
     ensures undone { IfErr result (λ status. status ≢ DONE) }
 {
@@ -39,6 +42,27 @@ pub fn open(
         return Err(FAILED);
     }
     match Member::open(alloc, text, workers, grain) {
+        Ok(member) => put_on_heap(alloc, member),
+        Err(fault) => Err(fault_status(fault)),
+    }
+}
+
+/// The same, where a program's steps are not counted.
+pub fn open_uncounted(
+    alloc: Global,
+    text: &[u8],
+    workers: u32,
+    grain: u32,
+) -> Result<Box<Member, Global>, u32>
+    ensures opened { IfOk result (λ boxed.
+        IsOpenedFor (IsUncountedJobOf text.now) workers grain boxed.value) }
+    ensures status { IfErr result (IsOpenStatus text.now workers grain) }
+    ensures undone { IfErr result (λ status. status ≢ DONE) }
+{
+    if workers < 1 || workers > 64 || !is_grain(grain) {
+        return Err(FAILED);
+    }
+    match Member::open_uncounted(alloc, text, workers, grain) {
         Ok(member) => put_on_heap(alloc, member),
         Err(fault) => Err(fault_status(fault)),
     }
@@ -236,5 +260,23 @@ pub fn fault(member: &mut Member, alloc: Global, told: &mut FaultTold) -> u32
         }
         Ok(None) => UNFINISHED,
         Err(_) => MEMORY,
+    }
+}
+
+/// After which step all processors had stopped, if the board tells that.
+pub fn stop(member: &mut Member, told: &mut StopTold) -> u32
+    requires { IsMember member.old }
+    ensures stops { result ≡ DONE → StopsThere (job_at member.old) told.new.step }
+    ensures none { result ≡ UNFINISHED → NoStopIsKnown member.old member.new }
+    ensures ends { (result ≡ DONE) ⊎ (result ≡ UNFINISHED) }
+    ensures kept { result ≢ DONE → told.new ≡ told.old }
+    ensures goes_on { MemberGoesOn member.old member.new }
+{
+    match member.stop() {
+        Some(step) => {
+            *told = StopTold { step };
+            DONE
+        }
+        None => UNFINISHED,
     }
 }

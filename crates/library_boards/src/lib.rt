@@ -12,7 +12,7 @@ pub mod status;
 mod told;
 
 pub use handle::Handle;
-pub use job::{OpenFault, job_of};
+pub use job::{OpenFault, job_of, uncounted_job_of};
 pub use member::Member;
 pub use shared::Shared;
-pub use told::{FaultTold, ProgressTold, ReadingTold};
+pub use told::{FaultTold, ProgressTold, ReadingTold, StopTold};

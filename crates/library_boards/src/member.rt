@@ -2,9 +2,10 @@
 ghost use Rattle.std.specs.Prelude.{◌≡◌};
 ghost use Rattle.library_boards.specs.Members.{limit_of};
 
-use crate::job::{OpenFault, job_of};
+use crate::job::{OpenFault, job_of, uncounted_job_of};
 use crate::shared::{Shared, new_board};
 use pram_board::{Progress, Seat, Stay};
+use pram_job::Job;
 use pram_step::Fault;
 use std::alloc::{AllocError, Global};
 use std::sync::Arc;
@@ -23,25 +24,56 @@ impl Member {
     ghost use Rattle.std.specs.Prelude.{◌<◌, ◌≤◌, IfErr, IfNone, IfOk, IfSome};
     ghost use Rattle.pram_board.specs.Seats.{HasSeen, KnowsConflict, Progressed, WasRead};
     ghost use Rattle.library_boards.specs.Grains.{IsGrainAsked};
-    ghost use Rattle.library_boards.specs.Jobs.{IsNoJob};
+    ghost use Rattle.library_boards.specs.Jobs.{IsJobOf, IsNoJob, IsUncountedJobOf};
+    ghost use Rattle.pram_board.specs.Stops.{StopsThere};
     ghost use Rattle.library_boards.specs.Members.{MemberGoesOn, IsBack, IsKnownFault};
     ghost use Rattle.library_boards.specs.Members.{IsLastMemory};
-    ghost use Rattle.library_boards.specs.Members.{IsMember, IsOpenedFor, IsReaderAt};
+    ghost use Rattle.library_boards.specs.Members.{IsMember, IsOpenedAt, IsOpenedFor, IsReaderAt};
     ghost use Rattle.library_boards.specs.Members.{IsMembersWork};
-    ghost use Rattle.library_boards.specs.Members.{IsWorkerAt, NoneIsKnown, StepsAreLeft};
-    ghost use Rattle.library_boards.specs.Members.{shared_at, member_task};
+    ghost use Rattle.library_boards.specs.Members.{IsWorkerAt, NoStopIsKnown, NoneIsKnown};
+    ghost use Rattle.library_boards.specs.Members.{StepsAreLeft, job_at, shared_at, member_task};
 
     /// A reader at a new board for the job of a text, and so many workers. A leaf stands for so
     /// many processors; at 0 the board chooses.
+    #[tactic(auto, using(crate::proofs::Seated::opened_for))]
     pub fn open(alloc: Global, text: &[u8], workers: u32, grain: u32) -> Result<Member, OpenFault>
         requires some { 1 ≤ workers }
         requires most { workers ≤ 64 }
         requires grain { IsGrainAsked grain }
-        ensures opened { IfOk result (IsOpenedFor text.now workers grain) }
+        ensures opened { IfOk result (IsOpenedFor (IsJobOf text.now) workers grain) }
         ensures none { IfErr result (IsNoJob text.now) }
     {
         let job = job_of(alloc, text)?;
-        let (board, seat) = new_board(alloc, &job, workers, grain)?;
+        Ok(Member::of_job(alloc, &job, workers, grain)?)
+    }
+
+    /// The same, where a program has as many steps as one may take: it is not run. Its workers are
+    /// done once all its processors have stopped, and `stop` tells after which step that was.
+    #[tactic(auto, using(crate::proofs::Seated::opened_for))]
+    pub fn open_uncounted(
+        alloc: Global,
+        text: &[u8],
+        workers: u32,
+        grain: u32,
+    ) -> Result<Member, OpenFault>
+        requires some { 1 ≤ workers }
+        requires most { workers ≤ 64 }
+        requires grain { IsGrainAsked grain }
+        ensures opened { IfOk result (IsOpenedFor (IsUncountedJobOf text.now) workers grain) }
+        ensures none { IfErr result (IsNoJob text.now) }
+    {
+        let job = uncounted_job_of(alloc, text)?;
+        Ok(Member::of_job(alloc, &job, workers, grain)?)
+    }
+
+    // A reader at a new board for a job.
+    fn of_job(alloc: Global, job: &Job, workers: u32, grain: u32) -> Result<Member, AllocError>
+        requires some { 1 ≤ workers }
+        requires most { workers ≤ 64 }
+        requires grain { IsGrainAsked grain }
+        ensures { IfOk result (IsOpenedAt job.now workers grain) }
+    {
+        let (board, seat) = new_board(alloc, job, workers, grain)?;
         let shared = Shared {
             board,
             workers,
@@ -54,7 +86,7 @@ impl Member {
                 seat,
                 worker: None,
             }),
-            Err(_) => Err(OpenFault::Memory),
+            Err(_) => Err(AllocError),
         }
     }
 
@@ -152,6 +184,20 @@ impl Member {
             return Ok(None);
         }
         Ok(Some(self.shared.board.memory(alloc, &mut self.seat)?))
+    }
+
+    /// After which step all processors had stopped, each at its end, if the board tells that: it
+    /// does once the last step is known to be finished, unless one left by an index out of range.
+    pub fn stop(&mut self) -> Option<u32>
+        requires { IsMember self.old }
+        ensures stops { IfSome result (StopsThere (job_at self.old)) }
+        ensures none { IfNone result (NoStopIsKnown self.old self.new) }
+        ensures goes_on { MemberGoesOn self.old self.new }
+    {
+        if self.progress().step != self.shared.steps {
+            return None;
+        }
+        self.shared.board.stop(&mut self.seat)
     }
 
     /// The first step that is against the rule, and who disputes what in it, if one is known.

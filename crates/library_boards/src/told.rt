@@ -29,3 +29,10 @@ pub struct FaultTold {
     pub first: u32,
     pub second: u32,
 }
+
+/// After which step all processors had stopped.
+#[repr(C)]
+#[derive(Clone, Copy)]
+pub struct StopTold {
+    pub step: u32,
+}

@@ -186,6 +186,14 @@ pub struct ks_reading {
     pub value: u32,
 }
 
+/// After which step all processors had stopped.
+#[repr(C)]
+#[derive(Clone, Copy, Debug, Default, PartialEq, Eq)]
+pub struct ks_stop {
+    /// The step.
+    pub step: u32,
+}
+
 /// A conflict.
 #[repr(C)]
 #[derive(Clone, Copy, Debug, Default, PartialEq, Eq)]
@@ -353,6 +361,14 @@ unsafe extern "C" {
         grain: u32,
         board: *mut ks_board,
     ) -> u32;
+    /// The same, and a program's steps are not counted before.
+    pub fn ks_open_uncounted(
+        text: *const u8,
+        text_length: usize,
+        workers: u32,
+        grain: u32,
+        board: *mut ks_board,
+    ) -> u32;
     /// A new seat of a board.
     pub fn ks_seat_of(board: *mut ks_board, seat: *mut ks_seat) -> u32;
     /// A new worker of a board.
@@ -367,6 +383,8 @@ unsafe extern "C" {
     pub fn ks_read(seat: *mut ks_seat, cell: u32, reading: *mut ks_reading) -> u32;
     /// The final memory, as much as there is room for.
     pub fn ks_memory(seat: *mut ks_seat, cells: *mut u32, room: usize) -> u32;
+    /// After which step all processors had stopped, each at its end.
+    pub fn ks_stop(seat: *mut ks_seat, stop: *mut ks_stop) -> u32;
     /// The first conflict.
     pub fn ks_fault(seat: *mut ks_seat, fault: *mut ks_fault) -> u32;
     /// Closes a member; the handle then has none.
@@ -383,5 +401,6 @@ const _: () = {
     assert!(size_of::<ks_answer>() == 224 && align_of::<ks_answer>() == 8);
     assert!(size_of::<ks_plan_row>() == 12 && size_of::<ks_progress>() == 16);
     assert!(size_of::<ks_reading>() == 8 && size_of::<ks_fault>() == 16);
+    assert!(size_of::<ks_stop>() == 4);
     assert!(size_of::<ks_board>() == 8 && size_of::<ks_seat>() == 8);
 };
