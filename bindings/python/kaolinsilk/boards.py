@@ -168,7 +168,7 @@ class Worker(_Staying):
     def work(self, limit: Optional[int] = None) -> str:
         """Makes atomic steps until the job is over, or so many: "done", "conflict", "unfinished".
 
-        Without a limit it ends within 300 L T + 8 atomic steps, where T is the number of steps of
+        Without a limit it ends within 600 L T + 16 atomic steps, where T is the number of steps of
         the job and L the least power of two that is at least that of its processors. With one the
         steps are made one by one, which takes some twenty times as long: see `turns`.
         """

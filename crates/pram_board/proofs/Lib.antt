@@ -15,6 +15,7 @@ pub mod Blocks
 pub mod Storing
 pub mod Working
 pub mod Remembering
+pub mod Roaming
 pub mod Tasks
 pub mod Doing
 pub mod Stopping

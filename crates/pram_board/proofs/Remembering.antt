@@ -13,13 +13,11 @@ use Rattle.walkx.specs.Records.{Record, HasBlock, HasPart}
 use Rattle.walkx.specs.Scripts.{heard_in}
 use Rattle.walkx.specs.Walk.{Walking}
 use Rattle.walkx.proofs.Knowing.{has_left, has_right}
-use Rattle.lawful_walk.specs.Walks.{steps_heard}
 use Rattle.lawful_walk.specs.Seen.{Heard}
 use Rattle.pram_board.specs.declared.look.Progress.{Progress}
 use Rattle.pram_board.specs.declared.task.Task.{Task}
 use Rattle.pram_board.specs.Seats.{Desk, SeatData, hears_all, unites, HasLoaded}
 use Rattle.pram_board.specs.Seats.{IsLater, KnowsConflict, Progressed, Remembers, StillKnows}
-use Rattle.pram_board.specs.Inner.Plays.{Ran}
 use Rattle.pram_board.proofs.Begins.{has_afters}
 use Rattle.pram_board.proofs.Looking.{Looks}
 
@@ -66,16 +64,6 @@ later_loads d n p q desk loads = record {
   desk = ap (λ (z : SeatData). z.desk) loads.is ∙ desk;
   keeps = remembers_loads n p q loads;
 }
-
-pub remembers_ran : (t : Task) (p : SeatData) (w : Walking) (n : ℕ) (q : SeatData) (now : Walking) →
-    Ran t p w n q now → Remembers p.record_of q.record_of
-remembers_ran t p w n q now ran =
-    remembers_more p q (steps_heard t.job t.layout w ran.answers) ran.seat
-
-pub later_ran : (d : Desk) (p : SeatData) (w : Walking) (n : ℕ) (q : SeatData) (now : Walking) →
-    q.desk ≡ d → Ran d.task p w n q now → IsLater d p q
-later_ran d p w n q now desk ran =
-    record { desk = desk; keeps = remembers_ran d.task p w n q now ran }
 
 pub remembers_first : (p q joined : SeatData) → joined ≡ unites p q →
     Remembers p.record_of joined.record_of

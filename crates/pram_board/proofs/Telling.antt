@@ -190,14 +190,14 @@ led_turn at memory p z next walks sound drives = by next drives.plays
 
 -- ---- ticks after ticks
 
-told_more : (t : Task) (w : Walking) (more before : List ℕ) →
+pub told_more : (t : Task) (w : Walking) (more before : List ℕ) →
     told_all t.job t.layout w (more ++ before) ≡ told_all t.job t.layout
     (told_all t.job t.layout w before) more
 told_more t w [] before = refl
 told_more t w (found ∷ more) before = ap (λ (v : Walking). told t.job t.layout v found)
     (told_more t w more before)
 
-steps_more : (t : Task) (w : Walking) (more before : List ℕ) →
+pub steps_more : (t : Task) (w : Walking) (more before : List ℕ) →
     steps_heard t.job t.layout w (more ++ before) ≡ steps_heard t.job t.layout
     (told_all t.job t.layout w before) more ++ steps_heard t.job t.layout w before
 steps_more t w [] before = refl

@@ -1,24 +1,32 @@
--- The ticks of `work`, which goes on by one or by many.
-use Rattle.std.proofs.Common.{◌≡◌, ℕ, ◌+◌, ◌-◌, ◌%◌, ◌^◌, ◌<◌, ◌≤◌, Bool, Option, Some, None}
-use Rattle.std.proofs.Common.{IfSome, eqb, eqb-true, true, false, true≢false, refl, sym, ap, subst}
-use Rattle.std.proofs.Common.{◌∙◌, inl, inr, arith}
+-- The ticks of `work`, which goes on by one or by many, and the looks between them.
+use Rattle.std.proofs.Common.{◌≡◌, ◌≢◌, ◌⊎◌, ℕ, ◌+◌, ◌-◌, ◌*◌, ◌%◌, ◌^◌, ◌<◌, ◌≤◌, Bool}
+use Rattle.std.proofs.Common.{List, [], ◌++◌, length, Option, Some, None, IfSome, eqb, eqb-true}
+use Rattle.std.proofs.Common.{true, false, true≢false, refl, sym, ap, subst, ◌∙◌, inl, inr, arith}
+use Rattle.std.proofs.lemmas.Bool.{eqb-false}
+use Rattle.std.proofs.lemmas.List.{length-append}
 use Rattle.std.specs.Option.{is_some, option_eq}
 use Rattle.walkx.specs.Bound.{most_steps}
+use Rattle.walkx.specs.declared.operation.Op.{Op}
 use Rattle.walkx.specs.Inner.Workers.{WorkerData}
 use Rattle.walkx.specs.Records.{Knows}
 use Rattle.walkx.specs.Serving.{Serves}
 use Rattle.walkx.specs.Walk.{Walking, Fits, end_of}
 use Rattle.walk_memory.specs.Blocks.{IsBoard}
 use Rattle.lawful_walk.specs.Moments.{Sound}
+use Rattle.pram_board.specs.declared.rest.Patience.{Patience}
 use Rattle.pram_board.specs.declared.task.Task.{Task}
-use Rattle.pram_board.specs.Seats.{Desk, SeatData, IsLater}
 use Rattle.pram_board.specs.declared.work.Stay.{Stay}
-use Rattle.pram_board.specs.Worked.{StaysAs, Ticked, Worked, Works}
-use Rattle.pram_board.proofs.Remembering.{later_ran}
+use Rattle.pram_board.specs.declared.work.Stay.TheVariants as stay
+use Rattle.pram_board.specs.Seats.{Desk, SeatData, IsLater}
+use Rattle.pram_board.specs.Worked.{Advanced, StaysAs, Ticked, Worked, Works}
+use Rattle.pram_board.specs.Inner.Plays.{Driving, OnlyLooked, IsAt, IsWalking, Led, Roamed, Went}
+use Rattle.pram_board.specs.Inner.Plays.{RoamedThrough, WorkerGoesOn}
+use Rattle.pram_board.proofs.Roaming.{advanced_few, advanced_more, advanced_ran, later_advanced}
+use Rattle.pram_board.proofs.Roaming.{merges_length, roamed_looks, roamed_more, roamed_none}
+use Rattle.pram_board.proofs.Roaming.{roamed_went, steps_length}
 use Rattle.pram_board.proofs.Told.{shows_end}
-use Rattle.pram_board.specs.Inner.Plays.{Driving, WorkerGoesOn, IsAt, Led, Ran, IsWalking, Went}
-use Rattle.pram_board.proofs.Telling.{ran_more, went_more}
-use Rattle.pram_board.proofs.Works.{bound_small, fewer, ran_none, ran_on, room}
+use Rattle.pram_board.proofs.Telling.{went_more}
+use Rattle.pram_board.proofs.Works.{bound_small, ran_none, ran_on}
 
 count_once : (m n : ℕ) → n ≡ (m + 1) % 2 ^ 64 → n % 2 ^ 64 ≡ (m + 1) % 2 ^ 64
 count_once m n is = omega arith
@@ -26,87 +34,86 @@ count_once m n is = omega arith
 below_once : (m n : ℕ) → n ≡ (m + 1) % 2 ^ 64 → n < 2 ^ 64
 below_once m n is = omega arith
 
-exactly : (m n k : ℕ) → n % 2 ^ 64 ≡ (m + k) % 2 ^ 64 → n < 2 ^ 64 → m + k < 2 ^ 64 → n ≡ m + k
-exactly m n k count small few = omega arith
-
 -- a worker that goes with a board, at the start of its ticks
 pub record Begun (b : Desk) (p : SeatData) (w : Walking) : Type 0 where
   pub board : IsBoard b.task.job b.task.layout
   pub fits : Fits b.task.job b.task.layout w
   pub knows : Knows b.task.job b.task.layout p.record_of w
 
-module _ (p : SeatData) (w : Walking) (d : Driving) (mid : WorkerData) (e : Driving)
-    (now : WorkerData) (begun : Begun d.desk p w)
-    (ran : Ran d.desk.task p w d.made d.seat mid.walking)
-    (sound : Sound d.desk.task.job d.desk.task.layout d.seat.record_of)
-    (going : end_of mid.walking.now ≡ None) where
-  before : d.made < most_steps d.desk.task.job
-  before =
-      fewer d.desk.task p w d.made d.seat mid.walking begun.board begun.fits begun.knows ran sound
-      going
+-- ---- whole turns
 
-  module _ (limited : Bool) (goes : WorkerGoesOn limited d mid e now)
-      (sound_too : Sound e.desk.task.job e.desk.task.layout e.seat.record_of) where
-    all : Ran d.desk.task p w (d.made + goes.went.ticks) e.seat now.walking
-    all = ran_more d.desk.task p w d.made d.seat mid.walking goes.went.ticks e.seat now.walking ran
-        goes.went.ran
+-- what was done in a phase so far, and how much patience is left
+pub record Ranged (t : Task) (p : Driving × ℕ) (w : Walking) (d : Driving × Patience)
+    (now : Walking) : Type 0 where
+  pub roamed : Roamed t p w (d.0, d.1.looks) now
+  pub most : length roamed.by.answers ≤ most_steps t.job
+  pub few : 2 * d.1.looks + d.1.left ≤ d.0.made
+  pub left : d.1.left ≤ 512
 
-    few : d.made + goes.went.ticks ≤ most_steps d.desk.task.job
-    few = elim goes.single [
-      | inl one ↦ (let h = before in omega arith)
-      | inr far ↦
-          (let h = fewer d.desk.task p w (d.made + goes.went.ticks) e.seat now.walking begun.board
-          begun.fits begun.knows all
-          (subst (λ (b : Desk). Sound b.task.job b.task.layout e.seat.record_of)
-          goes.went.desk sound_too) far.1 in omega arith)
-    ]
+pub ranged_none : (t : Task) (p : Driving) (patience : Patience) (w : Walking) →
+    2 * patience.looks + patience.left ≤ p.made → patience.left ≤ 512 →
+    Ranged t (p, patience.looks) w (p, patience) w
+ranged_none t p patience w few left = record {
+  roamed = roamed_none t (p, patience.looks) w (omega arith);
+  most = omega arith;
+  few = few;
+  left = left;
+}
 
-    -- all ticks so far are counted exactly, since they are few
-    pub counted : e.made ≡ d.made + goes.went.ticks
-    counted =
-        let h = few in
-        let k = before in
-        let bound : most_steps d.desk.task.job < 2 ^ 63 =
-        bound_small d.desk.task begun.board in
-        exactly d.made e.made goes.went.ticks goes.went.count
-        (goes.went.small (omega arith)) (omega arith)
+-- and with looks and a visit more
+pub record Visited (t : Task) (p : Driving × ℕ) (w : Walking) (had : Driving × Patience)
+    (z : Driving × Patience) (now : Walking) : Type 0 where
+  pub ranged : Ranged t p w z now
+  pub some : 1 ≤ length ranged.roamed.by.answers
+  pub nearer : p.0.made + most_steps t.job + z.1.looks - (p.1 + z.0.made)
+      < p.0.made + most_steps t.job + had.1.looks - (p.1 + had.0.made)
 
-    pub ran_so_far : Ran e.desk.task p w e.made e.seat now.walking
-    ran_so_far =
-        subst (λ (x : Desk × ℕ). Ran x.0.task p w x.1 e.seat now.walking)
-        (λ i. (sym goes.went.desk i, sym counted i)) all
+module _ (t : Task) (p : Driving × ℕ) (w : Walking) (q : Driving) (had : Patience) (v : Walking)
+    (board : IsBoard t.job t.layout) (start : p.0.made < 2 ^ 60)
+    (ranged : Ranged t p w (q, had) v) where
+  -- there is room for more
+  pub room_left : q.made < 2 ^ 62
+  room_left =
+      let small = bound_small t board in let most = ranged.most in
+      let made = ranged.roamed.made in let looks = ranged.roamed.looks in
+      let few = ranged.roamed.few in omega arith
 
-    pub most_so_far : e.made ≤ most_steps e.desk.task.job
-    most_so_far =
-        subst (λ (x : Desk × ℕ). x.1 ≤ most_steps x.0.task.job)
-        (λ i. (sym goes.went.desk i, sym counted i)) few
-
-    pub nearer : most_steps e.desk.task.job - e.made <
-        most_steps d.desk.task.job - d.made
-    nearer =
-        subst (λ (b : Desk). most_steps b.task.job - e.made <
-        most_steps d.desk.task.job - d.made) (sym goes.went.desk)
-        (let some = goes.some in let h = before in let k = counted in omega arith)
-
--- whole turns bring the count nearer to its bound
-pub turns_on : (t : Task) (p : Driving) (w : Walking) (q : Driving) (mid : Walking) (z : Driving)
-    (now : Walking) → IsBoard t.job t.layout → Fits t.job t.layout w →
-    Knows t.job t.layout p.seat.record_of w → (first : Went t p w q mid) →
-    (second : Went t q mid z now) → 1 ≤ second.ticks → end_of now.now ≡ None →
-    Sound t.job t.layout z.seat.record_of → p.made < 2 ^ 63 →
-    p.made + most_steps t.job - z.made < p.made + most_steps t.job - q.made
-turns_on t p w q mid z now board fits knows first second some none sound small_start =
-    let both : Went t p w z now = went_more t p w q mid z now first second in
-    let small : q.made < 2 ^ 64 = first.small (omega arith) in
-    let small_too : z.made < 2 ^ 64 = second.small small in
-    let few : both.ticks < most_steps t.job =
-    fewer t p.seat w both.ticks z.seat now board fits knows both.ran sound none in
-    let bound : most_steps t.job < 2 ^ 63 = bound_small t board in
-    let is : q.made ≡ p.made + first.ticks =
-    exactly p.made q.made first.ticks first.count small (omega arith) in
-    let is_too : z.made ≡ p.made + both.ticks =
-    exactly p.made z.made both.ticks both.count small_too (omega arith) in
-    omega arith
+  pub visited : Fits t.job t.layout w → Knows t.job t.layout p.0.seat.record_of w →
+      (r : Driving) (has : Patience) → OnlyLooked t q had r has → (z : Driving) (now : Walking) →
+      (went : Went t r v z now) → 1 ≤ went.ticks → end_of now.now ≡ None →
+      Sound t.job t.layout z.seat.record_of → Visited t p w (q, had) (z, has) now
+  visited fits knows r has looked z now went some none sound =
+      let roamed = ranged.roamed in
+      let enough = ranged.few in
+      let before : Roamed t p w (r, has.looks) v =
+      roamed_more t p w (q, had.looks) v (r, has.looks) v roamed
+      (roamed_looks t q had r has v looked enough) in
+      let all : Advanced t p.0.seat w z.seat now = advanced_more t p.0.seat w r.seat v z.seat now
+      before.by (advanced_ran t r.seat v went.ticks z.seat now went.ran) in
+      let bound = advanced_few t p.0.seat w z.seat now board fits knows all sound none in
+      let count = went.ran.count in
+      let answers = length-append went.ran.answers roamed.by.answers in
+      let small = bound_small t board in
+      let room = room_left in
+      let made = looked.made in let counted = looked.count in let spent = looked.left in
+      let most = ranged.left in
+      let ticks : went.ticks < 2 ^ 58 = omega arith in
+      let on : Roamed t (r, has.looks) v (z, has.looks) now =
+      roamed_went t r has.looks v z now (omega arith) went (omega arith) in
+      let both : Roamed t p w (z, has.looks) now =
+      roamed_more t p w (r, has.looks) v (z, has.looks) now before on in
+      let made_all = both.made in let made_on = on.made in
+      let made_before = roamed.made in let looks_before = roamed.looks in
+      record {
+        ranged = record {
+          roamed = both;
+          most = omega arith;
+          few = omega arith;
+          left = omega arith;
+        };
+        some = omega arith;
+        nearer = omega arith;
+      }
 
 -- what a seat at a board has heard is sound
 pub sound_at : (t : Task) (d : Driving) → IsAt t d →
@@ -116,56 +123,46 @@ sound_at t d here sound =
     subst (λ (u : Task). Sound u.job u.layout d.seat.record_of)
     (ap (λ (b : Desk). b.task) here.desk ∙ here.task) sound
 
--- the limit is not passed
-pub within_limit : (limit : Option ℕ) (limited : Bool) (p q : Driving) (w now : WorkerData) →
-    limited ≡ is_some limit → option_eq eqb limit (Some p.made) ≡ false →
-    IfSome limit (λ k. p.made ≤ k) → (goes : WorkerGoesOn limited p w q now) →
-    q.made ≡ p.made + goes.went.ticks → IfSome limit (λ k. q.made ≤ k)
-within_limit None limited p q w now some apart within goes is = tt
-within_limit (Some k) limited p q w now some apart within goes is = elim goes.single [
-  | inl one ↦ (let h : p.made + 1 ≤ k = room (Some k) p.made apart within in omega arith)
-  | inr far ↦ absurd (true≢false (sym some ∙ far.0))
-]
-
 -- one tick goes on in any case, and whole turns where there is no limit
-pub goes_once : (p q : Driving) (w now : WorkerData) →
+pub goes_once : (p q : Driving) (looks : ℕ) (w now : WorkerData) →
     Ticked p.desk.task p.seat w.walking q.seat now.walking → Works q.desk q.seat now →
-    q.desk ≡ p.desk → q.made ≡ (p.made + 1) % 2 ^ 64 → WorkerGoesOn true p w q now
-goes_once p q w now ticked works desk count = record {
-  went = record {
+    q.desk ≡ p.desk → q.made ≡ (p.made + 1) % 2 ^ 64 → p.made < 2 ^ 60 → 2 * looks ≤ p.made →
+    WorkerGoesOn true (p, looks) w (q, looks) now
+goes_once p q looks w now ticked works desk count room few = record {
+  roamed = roamed_went p.desk.task p looks w.walking q now.walking few (record {
     ticks = 1;
     ran = ran_on p.desk.task p.seat w.walking 0 p.seat w.walking q.seat now.walking ticked
         (ran_none p.desk.task p.seat w.walking);
     desk = desk;
     count = count_once p.made q.made count;
     small = λ h. below_once p.made q.made count;
-  };
+  }) (omega arith);
   some = omega arith;
-  single = inl refl;
+  single = inl (refl, refl);
   works = works;
 }
 
-pub goes_any : (limited : Bool) (p q : Driving) (w now : WorkerData) → WorkerGoesOn true p w q now →
-    WorkerGoesOn limited p w q now
+pub goes_any : (limited : Bool) (p q : Driving × ℕ) (w now : WorkerData) →
+    WorkerGoesOn true p w q now → WorkerGoesOn limited p w q now
 goes_any limited p q w now goes =
     record {
-      went = goes.went;
+      roamed = goes.roamed;
       some = goes.some;
       single = elim goes.single [ inl one ↦ inl one | inr far ↦ absurd (true≢false far.0) ];
       works = goes.works;
     }
 
-pub goes_free : (limited : Bool) (p q : Driving) (w now : WorkerData) → limited ≡ false →
+pub goes_free : (limited : Bool) (p q : Driving × ℕ) (w now : WorkerData) → limited ≡ false →
     WorkerGoesOn false p w q now → WorkerGoesOn limited p w q now
 goes_free limited p q w now is goes =
     subst (λ (b : Bool). WorkerGoesOn b p w q now) (sym is) goes
 
 -- whole turns, up to one that has the worker begin
-pub goes_far : (p q : Driving) (w now : WorkerData) →
-    Led p.desk.task p w.walking q now.walking → Works q.desk q.seat now →
+pub goes_far : (p q : Driving × ℕ) (w now : WorkerData) →
+    RoamedThrough p.0.desk.task p w.walking q now.walking → Works q.0.desk q.0.seat now →
     end_of now.walking.now ≡ None → WorkerGoesOn false p w q now
 goes_far p q w now led works none =
-    record { went = led.went; some = led.some; single = inr (refl, none); works = works }
+    record { roamed = led.roamed; some = led.some; single = inr (refl, none); works = works }
 
 pub led_more : (t : Task) (p : Driving) (w : Walking) (q : Driving) (mid : Walking) (z : Driving)
     (now : Walking) → Went t p w q mid → Led t q mid z now → Led t p w z now
@@ -188,23 +185,121 @@ walks_of t d w v same is desk board fits knows =
       knows = knows;
     })
 
-pub led_as : (t u : Task) (p q : Driving) (w w' now now' : Walking) → t ≡ u → w ≡ w' →
-    now ≡ now' → Led t p w q now → Led u p w' q now'
+pub led_as : (t u : Task) (p q : Driving × ℕ) (w w' now now' : Walking) → t ≡ u → w ≡ w' →
+    now ≡ now' → RoamedThrough t p w q now → RoamedThrough u p w' q now'
 led_as t u p q w w' now now' same is is_too led =
-    subst (λ (x : Task × Walking × Walking). Led x.0 p x.1 q x.2)
+    subst (λ (x : Task × Walking × Walking). RoamedThrough x.0 p x.1 q x.2)
     (λ i. (same i, is i, is_too i)) led
 
-pub works_on : (p q : Driving) (w : WorkerData) (first : Walking) →
-    Led p.desk.task p first q w.walking → Serves p.desk.task.job p.desk.task.layout w →
-    Works q.desk q.seat w
+pub works_on : (p q : Driving × ℕ) (w : WorkerData) (first : Walking) →
+    RoamedThrough p.0.desk.task p first q w.walking →
+    Serves p.0.desk.task.job p.0.desk.task.layout w → Works q.0.desk q.0.seat w
 works_on p q w first led serves =
-    subst (λ (b : Desk). Works b q.seat w) (sym led.went.desk) (record {
-      desk = led.walks.here.desk ∙ led.went.desk;
+    subst (λ (b : Desk). Works b q.0.seat w) (sym led.roamed.desk) (record {
+      desk = led.walks.here.desk ∙ led.roamed.desk;
       serves = serves;
       knows = led.walks.knows;
     })
 
--- ---- the end of `work`
+-- ---- all of `work`
+
+-- what was done since its start
+pub record Sofar (b : Desk) (p : Driving) (w : Walking) (limit : Option ℕ) (d : Driving × ℕ)
+    (now : Walking) : Type 0 where
+  pub roamed : Roamed b.task (p, 0) w d now
+  pub most : length roamed.by.answers ≤ most_steps b.task.job
+  pub within : IfSome limit
+      (λ bound. (roamed.by.looks ≡ []) × (length roamed.by.answers ≤ bound))
+
+pub sofar_none : (b : Desk) (p : Driving) (w : Walking) (limit : Option ℕ) → p.made ≡ 0 →
+    Sofar b p w limit (p, 0) w
+sofar_none b p w limit none = record {
+  roamed = roamed_none b.task (p, 0) w (omega (arith, none));
+  most = omega arith;
+  within = by limit;
+}
+  where
+    by : (o : Option ℕ) →
+        IfSome o (λ bound. (◌≡◌ {A = List (Op × ℕ)} [] []) × (0 ≤ bound))
+    by None = tt
+    by (Some k) = (refl, omega arith)
+
+-- a limit that is not reached leaves room for one tick
+within_more : (limit : Option ℕ) (limited : Bool) (n : ℕ) (looks looks_on : List (Op × ℕ))
+    (answers answers_on : List ℕ) (ended : Type 0) → limited ≡ is_some limit →
+    option_eq eqb limit (Some n) ≡ false → n ≡ length answers + length looks →
+    IfSome limit (λ k. (looks ≡ []) × (length answers ≤ k)) →
+    ((length answers_on ≡ 1) × (looks_on ≡ [])) ⊎ ((limited ≡ false) × ended) →
+    IfSome limit (λ k. (looks_on ++ looks ≡ []) × (length (answers_on ++ answers) ≤ k))
+within_more None limited n looks looks_on answers answers_on ended some apart is within single = tt
+within_more (Some k) limited n looks looks_on answers answers_on ended some apart is within single =
+    elim single [
+      | inl one ↦ (
+          let more = length-append answers_on answers in
+          let none : length looks ≡ 0 = ap (λ (l : List (Op × ℕ)). length l) within.0 in
+          let unlike : k ≢ n = eqb-false k n apart in
+          let most = within.1 in
+          (rw (one.1, within.0) refl, omega arith))
+      | inr far ↦ absurd (true≢false (sym some ∙ far.0))
+    ]
+
+module _ (p : Driving) (w : Walking) (limit : Option ℕ) (d : Driving) (looks : ℕ)
+    (mid : WorkerData) (e : Driving) (looks_on : ℕ) (now : WorkerData) (none : p.made ≡ 0)
+    (begun : Begun d.desk p.seat w) (sofar : Sofar d.desk p w limit (d, looks) mid.walking)
+  where
+    -- there is room for more
+    pub room_far : d.made < 2 ^ 60
+    room_far =
+        let small = bound_small d.desk.task begun.board in
+        let made = sofar.roamed.made in let count = sofar.roamed.looks in
+        let few = sofar.roamed.few in let most = sofar.most in omega arith
+
+    module _ (sound : Sound d.desk.task.job d.desk.task.layout d.seat.record_of) (limited : Bool)
+        (goes : WorkerGoesOn limited (d, looks) mid (e, looks_on) now)
+        (sound_too : Sound e.desk.task.job e.desk.task.layout e.seat.record_of)
+        (going : end_of mid.walking.now ≡ None) where
+      abbrev both : Roamed d.desk.task (p, 0) w (e, looks_on) now.walking
+      both = roamed_more d.desk.task (p, 0) w (d, looks) mid.walking (e, looks_on) now.walking
+          sofar.roamed goes.roamed
+
+      before : length sofar.roamed.by.answers < most_steps d.desk.task.job
+      before = advanced_few d.desk.task p.seat w d.seat mid.walking begun.board begun.fits
+          begun.knows sofar.roamed.by sound going
+
+      few : length both.by.answers ≤ most_steps d.desk.task.job
+      few = elim goes.single [
+        | inl one ↦ (
+            let more = length-append goes.roamed.by.answers sofar.roamed.by.answers in
+            let single = one.0 in let h = before in omega arith)
+        | inr far ↦ (
+            let h = advanced_few d.desk.task p.seat w e.seat now.walking begun.board begun.fits
+            begun.knows both.by
+            (subst (λ (b : Desk). Sound b.task.job b.task.layout e.seat.record_of)
+            goes.roamed.desk sound_too) far.1 in omega arith)
+      ]
+
+      pub sofar_on : limited ≡ is_some limit → option_eq eqb limit (Some d.made) ≡ false →
+          Sofar e.desk p w limit (e, looks_on) now.walking
+      sofar_on some apart =
+          subst (λ (b : Desk). Sofar b p w limit (e, looks_on) now.walking) (sym goes.roamed.desk)
+          (record {
+            roamed = both;
+            most = few;
+            within = within_more limit limited d.made sofar.roamed.by.looks goes.roamed.by.looks
+                sofar.roamed.by.answers goes.roamed.by.answers _ some apart
+                (let made = sofar.roamed.made in omega (arith, made, none)) sofar.within
+                goes.single;
+          })
+
+      pub nearer : most_steps e.desk.task.job + looks_on - e.made
+          < most_steps d.desk.task.job + looks - d.made
+      nearer =
+          subst (λ (b : Desk). most_steps b.task.job + looks_on - e.made
+          < most_steps d.desk.task.job + looks - d.made) (sym goes.roamed.desk)
+          (let more = length-append goes.roamed.by.answers sofar.roamed.by.answers in
+          let some = goes.some in let h = before in let bound = few in let k = both.made in
+          let l = both.looks in let m = sofar.roamed.made in let n = sofar.roamed.looks in
+          omega arith)
 
 pub is_limit : (limit : Option ℕ) (n : ℕ) → option_eq eqb limit (Some n) ≡ true → limit ≡ Some n
 is_limit None n is = absurd (true≢false (sym is))
@@ -216,24 +311,42 @@ pub record Finished (b : Desk) (p : SeatData) (w : Walking) (limit : Option ℕ)
   pub later : IsLater b p q
   pub works : Works b q now
 
-pub finished : (b : Desk) (p : SeatData) (w : Walking) (limit : Option ℕ) (d : Driving)
-    (now : WorkerData) (stay : Stay) → d.desk ≡ b → Works d.desk d.seat now →
+pub finished : (b : Desk) (p : Driving) (w : Walking) (limit : Option ℕ) (d : Driving) (looks : ℕ)
+    (now : WorkerData) (stays_as : Stay) → p.made ≡ 0 → d.desk ≡ b → Works d.desk d.seat now →
     Sound d.desk.task.job d.desk.task.layout d.seat.record_of →
-    Ran d.desk.task p w d.made d.seat now.walking →
-    d.made ≤ most_steps d.desk.task.job → IfSome limit (λ k. d.made ≤ k) →
-    StaysAs limit d.made now.walking stay → Finished b p w limit d.seat now stay
-finished b p w limit d now stay same works sound ran most within stays =
-    subst (λ (x : Desk). Finished x p w limit d.seat now stay) same (record {
+    Sofar d.desk p w limit (d, looks) now.walking → StaysAs limit d.made now.walking stays_as →
+    Finished b p.seat w limit d.seat now stays_as
+finished b p w limit d looks now stays_as none same works sound sofar stays =
+    let by = sofar.roamed.by in
+    let made = sofar.roamed.made in let count = sofar.roamed.looks in let few = sofar.roamed.few in
+    let most = sofar.most in
+    let more : length by.looks ≤ length by.answers = omega arith in
+    let all = merges_length _ by.looks by.steps by.all in
+    let own = steps_length d.desk.task w by.answers in
+    subst (λ (x : Desk). Finished x p.seat w limit d.seat now stays_as) same (record {
       worked = record {
-        answers = ran.answers;
-        seat = ran.seat;
-        worker = ran.worker;
-        most = subst (λ (n : ℕ). n ≤ most_steps d.desk.task.job) (sym ran.count) most;
-        within = subst (λ (n : ℕ). IfSome limit (λ k. n ≤ k)) (sym ran.count) within;
-        stays = subst (λ (n : ℕ). StaysAs limit n now.walking stay) (sym ran.count) stays;
+        by = by;
+        all = omega arith;
+        most = most;
+        looks = more;
+        within = sofar.within;
+        stays = stays_own limit by.looks (length by.answers) d.made now.walking stays_as
+            (omega arith) sofar.within stays;
         shows = shows_end d.desk.task d.seat.record_of now.walking (end_of now.walking.now) refl
             sound works.serves.fits works.knows;
       };
-      later = later_ran d.desk p w d.made d.seat now.walking works.desk ran;
+      later = later_advanced d.desk p.seat w d.seat now.walking works.desk by;
       works = works;
     })
+  where
+    -- all that was made were ticks, where there is a limit
+    stays_own : (limit : Option ℕ) (looks : List (Op × ℕ)) (n made : ℕ) (now : Walking)
+        (ended_as : Stay) → made ≡ n + length looks →
+        IfSome limit (λ k. (looks ≡ []) × (n ≤ k)) → StaysAs limit made now ended_as →
+        StaysAs limit n now ended_as
+    stays_own limit looks n made now (stay.Ended ended) is within stays = stays
+    stays_own None looks n made now stay.Stopped is within stays = absurd (cc)
+    stays_own (Some k) looks n made now stay.Stopped is within stays =
+        let none : length looks ≡ 0 = ap (λ (l : List (Op × ℕ)). length l) within.0 in
+        let same : made ≡ n = omega arith in
+        (stays.0 ∙ ap (λ (m : ℕ). Some m) same, stays.1)

@@ -1,21 +1,25 @@
 -- What a worker's ticks come to.
-use Rattle.std.specs.Prelude.{◌≡◌, ℕ, ◌+◌, ◌*◌, ◌≤◌, List, length, Option, Some, None, IfSome}
+use Rattle.std.specs.Prelude.{◌≡◌, ◌⊎◌, ℕ, ◌+◌, ◌*◌, ◌<◌, ◌≤◌, List, [], ◌∷◌, length}
+use Rattle.std.specs.Prelude.{Option, Some, None, IfSome}
+use Rattle.std.specs.List.{AllByRecursion}
 use Rattle.pram_words.specs.declared.words.Word.TheVariants as word
 use Rattle.pram_words.specs.Tree.{leaves_of}
+use Rattle.pram_words.specs.Words.{LayoutData, number_of}
 use Rattle.walkx.specs.declared.operation.Ended.{Ended}
 use Rattle.walkx.specs.declared.operation.Ended.TheVariants.{Done, Conflict}
+use Rattle.walkx.specs.declared.operation.Op.{Op}
+use Rattle.walkx.specs.declared.operation.Op.TheVariants.{Load}
 use Rattle.walkx.specs.Bound.{told_all}
 use Rattle.walkx.specs.Inner.Workers.{WorkerData}
 use Rattle.walkx.specs.Records.{Record, Knows}
 use Rattle.walkx.specs.Serving.{Serves}
 use Rattle.walkx.specs.Walk.{Walking, ask_of, told, end_of}
-use Rattle.lawful_walk.specs.Moments.{afters}
 use Rattle.lawful_walk.specs.Seen.{Heard}
 use Rattle.lawful_walk.specs.Walks.{DoneWell, IsConflict, steps_heard}
 use Rattle.pram_board.specs.declared.task.Task.{Task}
 use Rattle.pram_board.specs.declared.work.Stay.{Stay}
 use Rattle.pram_board.specs.declared.work.Stay.TheVariants as stay
-use Rattle.pram_board.specs.Seats.{Desk, SeatData, hears}
+use Rattle.pram_board.specs.Seats.{Desk, SeatData, hears, hears_all}
 
 -- the seat is of this board, the worker goes with the board, and the seat knows it
 pub record Works (board : Desk) (seat : SeatData) (worker : WorkerData) : Type 0 where
@@ -51,17 +55,41 @@ abbrev pub StaysAs : Option ℕ → ℕ → Walking → Stay → Type 0
 StaysAs limit ticks now (stay.Ended ended) = end_of now.now ≡ Some ended
 StaysAs limit ticks now stay.Stopped = (limit ≡ Some ticks) × (end_of now.now ≡ None)
 
--- some ticks, one after the other, all in the record, at most the limit and at most 300 L T + 8,
--- how they ended, and what the record shows of a worker that is over
+-- ---- the worker's own steps, and looks between them
+
+-- these are the steps of the one list and those of the other, each in its order
+abbrev pub Merges : (first second all : List (Op × ℕ)) → Type 0
+Merges first second [] = (first ≡ []) × (second ≡ [])
+Merges first second (step ∷ all) =
+    ((rest : List (Op × ℕ)) × (first ≡ step ∷ rest) × Merges rest second all)
+    ⊎ ((rest : List (Op × ℕ)) × (second ≡ step ∷ rest) × Merges first rest all)
+
+-- a look: a load of a node, of which the worker is not told
+abbrev pub IsLook : LayoutData → Op → Type 0
+IsLook layout op = (node : ℕ) × (1 ≤ node) × (node < 2 * layout.leaves)
+    × (op ≡ Load (number_of layout (word.Node node)))
+
+-- ticks, one after the other, which heard these answers, and looks between them: all are in the
+-- record, in the order in which they were made
+pub record Advanced (task : Task) (before : SeatData) (walking : Walking) (later : SeatData)
+    (now : Walking) : Type 0 where
+  pub answers : List ℕ
+  pub looks : List (Op × ℕ)
+  pub steps : List (Op × ℕ)
+  pub all : Merges (steps_heard task.job task.layout walking answers) looks steps
+  pub each : AllByRecursion (λ (look : Op × ℕ). IsLook task.layout look.0) looks
+  pub seat : later ≡ hears_all before steps
+  pub worker : now ≡ told_all task.job task.layout walking answers
+
+-- Such ticks and looks, at most 600 L T + 16 in all: at most 300 L T + 8 ticks and no more looks
+-- than ticks. With a limit there are no looks, and at most so many ticks. It says how they ended,
+-- and what the record shows of a worker that is over.
 pub record Worked (task : Task) (before : SeatData) (walking : Walking) (limit : Option ℕ)
     (later : SeatData) (now : Walking) (stay : Stay) : Type 0 where
-  pub answers : List ℕ
-  pub seat : later ≡ record {
-    desk = before.desk;
-    record_of = afters before.record_of (steps_heard task.job task.layout walking answers);
-  }
-  pub worker : now ≡ told_all task.job task.layout walking answers
-  pub most : length answers ≤ 300 * leaves_of task.job.procs * task.job.steps + 8
-  pub within : IfSome limit (λ bound. length answers ≤ bound)
-  pub stays : StaysAs limit (length answers) now stay
+  pub by : Advanced task before walking later now
+  pub all : length by.steps ≤ 2 * (300 * leaves_of task.job.procs * task.job.steps + 8)
+  pub most : length by.answers ≤ 300 * leaves_of task.job.procs * task.job.steps + 8
+  pub looks : length by.looks ≤ length by.answers
+  pub within : IfSome limit (λ bound. (by.looks ≡ []) × (length by.answers ≤ bound))
+  pub stays : StaysAs limit (length by.answers) now stay
   pub shows : EndShows task later.record_of (end_of now.now)

@@ -181,11 +181,14 @@ impl Board {
         shared.compare_exchange::<Swaps>(&mut seat.seat, word as usize, old, new)
     }
 
-    /// What the root holds: the greater, the farther the workers are. It is no atomic step, and a
-    /// hint: no clause tells what comes of it.
-    pub fn hint(&self) -> u64 {
-        self.task.layout.limits_hold();
-        self.peek(1)
+    /// What the root holds: the greater, the farther the workers are. It takes one load.
+    pub fn hint(&self, seat: &mut Seat) -> u64
+        requires { seat.old.desk ≡ self.now }
+        ensures loads { HasLoaded 1 seat.old seat.new }
+        ensures desk { seat.new.desk ≡ self.now }
+    {
+        self.facts();
+        self.load(seat, self.task.layout.node_word(1))
     }
 
     /// How many leaves the tree has, each for a block of processors.
@@ -193,16 +196,6 @@ impl Board {
         ensures { result ≡ self.now.task.layout.leaves }
     {
         self.task().layout.leaves()
-    }
-
-    // What a node holds. It is no atomic step of a worker, and tells nothing.
-    #[inline(always)]
-    pub(crate) fn peek(&self, node: u32) -> u64
-        requires some { 1 ≤ node }
-        requires most { node < 2 * self.now.task.layout.leaves }
-    {
-        let word = self.task().layout.node_word(node);
-        self.table.shared.peek(word as usize)
     }
 
     // One atomic step, and its answer.

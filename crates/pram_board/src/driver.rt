@@ -2,9 +2,8 @@
 ghost use Rattle.std.specs.Prelude.{◌≡◌};
 
 use crate::board::Board;
-use crate::rest::Rest;
+use crate::rest::{Patience, Rest, pause_between};
 use crate::seat::Seat;
-use crate::task::Task;
 use crate::work::Stay;
 use pram_words::Kind;
 use stop_plan::Gate;
@@ -47,7 +46,7 @@ impl<'a, G: Gate> Steps for Driver<'a, G> {
 }
 
 impl<'a, G: Gate> Driver<'a, G> {
-    ghost use Rattle.std.specs.Prelude.{◌≡◌, ◌<◌, ◌+◌, ◌%◌, ◌^◌, None, false, true};
+    ghost use Rattle.std.specs.Prelude.{◌≡◌, ◌≤◌, ◌<◌, ◌+◌, ◌*◌, ◌%◌, ◌^◌, None, false, true};
     ghost use Rattle.walkx.specs.declared.operation.Op.TheVariants.{Load, Swap};
     ghost use Rattle.walk_memory.specs.Memory.{FitsMemory};
     ghost use Rattle.walkx.specs.Turns.{beginning, turning};
@@ -57,7 +56,8 @@ impl<'a, G: Gate> Driver<'a, G> {
     ghost use Rattle.lawful_walk.specs.Moments.{Sound};
     ghost use Rattle.pram_board.specs.Rules.{May};
     ghost use Rattle.pram_board.specs.Seats.{IsLater, hears};
-    ghost use Rattle.pram_board.specs.Inner.Plays.{WorkerGoesOn, Led, Moved, IsWalking, driving};
+    ghost use Rattle.pram_board.specs.Inner.Plays.{IsAt, IsWalking, Led, Moved, OnlyLooked};
+    ghost use Rattle.pram_board.specs.Inner.Plays.{RoamedThrough, WorkerGoesOn, driving};
     ghost use Rattle.pram_board.specs.Inner.Plays.{AtPart, AtTask, DonePart, in_block, led_to};
     ghost use Rattle.pram_board.specs.Inner.Plays.{next_turn, task_at, turning_at};
 
@@ -162,6 +162,7 @@ impl<'a, G: Gate> Driver<'a, G> {
     {
         self.board.facts();
         self.seat.facts();
+        let mut patience = Patience::none();
         loop {
             if let Some(ended) = worker.ended() {
                 return Stay::Ended(ended);
@@ -169,7 +170,7 @@ impl<'a, G: Gate> Driver<'a, G> {
             if limit == Some(self.made) {
                 return Stay::Stopped;
             }
-            self.go_on(worker, limit.is_some());
+            self.go_on(worker, limit.is_some(), &mut patience);
             self.seat.facts();
         }
     }
@@ -177,31 +178,34 @@ impl<'a, G: Gate> Driver<'a, G> {
     // One atomic step of a worker; or whole turns up to the end of the phase, where the worker is
     // at the start of one and there is no limit.
     #[inline(always)]
-    fn go_on(&mut self, worker: &mut Worker, limited: bool)
-        requires room { self.old.made < 2 ^ 63 }
+    fn go_on(&mut self, worker: &mut Worker, limited: bool, patience: &mut Patience)
+        requires room { self.old.made < 2 ^ 60 }
+        requires few { 2 * patience.old.looks ≤ self.old.made }
         requires going { end_of worker.old.walking.now ≡ None }
         requires works { Works self.old.board.now self.old.seat.now worker.old }
         ensures same { self.new.seat.ghost_name ≡ self.old.seat.ghost_name }
-        ensures goes { WorkerGoesOn limited (driving self.old) worker.old (driving self.new)
-            worker.new }
+        ensures goes { WorkerGoesOn limited (driving self.old, patience.old.looks) worker.old
+            (driving self.new, patience.new.looks) worker.new }
     {
         if limited {
-            return self.go_one(worker);
+            return self.go_one(worker, *patience);
         }
         match worker.turn() {
-            Some((node, phase)) => self.go_through(worker, node, phase),
-            None => self.go_one(worker),
+            Some((node, phase)) => self.go_through(worker, node, phase, patience),
+            None => self.go_one(worker, *patience),
         }
     }
 
     // One atomic step of a worker.
     #[inline(always)]
-    fn go_one(&mut self, worker: &mut Worker)
+    fn go_one(&mut self, worker: &mut Worker, patience: Patience)
+        requires room { self.old.made < 2 ^ 60 }
+        requires few { 2 * patience.looks ≤ self.old.made }
         requires going { end_of worker.old.walking.now ≡ None }
         requires works { Works self.old.board.now self.old.seat.now worker.old }
         ensures same { self.new.seat.ghost_name ≡ self.old.seat.ghost_name }
-        ensures goes { WorkerGoesOn true (driving self.old) worker.old (driving self.new)
-            worker.new }
+        ensures goes { WorkerGoesOn true (driving self.old, patience.looks) worker.old
+            (driving self.new, patience.looks) worker.new }
     {
         self.gate.pass(worker.number(), self.made);
         self.made = self.made.wrapping_add(1);
@@ -210,45 +214,102 @@ impl<'a, G: Gate> Driver<'a, G> {
 
     // Whole turns up to the end of the phase.
     #[inline(always)]
-    fn go_through(&mut self, worker: &mut Worker, node: u32, phase: u64)
-        requires room { self.old.made < 2 ^ 63 }
+    fn go_through(&mut self, worker: &mut Worker, node: u32, phase: u64, patience: &mut Patience)
+        requires room { self.old.made < 2 ^ 60 }
+        requires few { 2 * patience.old.looks ≤ self.old.made }
         requires turn { worker.old.walking ≡ turning worker.old.walking.number node phase
             worker.old.walking.memory }
         requires works { Works self.old.board.now self.old.seat.now worker.old }
         ensures same { self.new.seat.ghost_name ≡ self.old.seat.ghost_name }
-        ensures goes { WorkerGoesOn false (driving self.old) worker.old (driving self.new)
-            worker.new }
+        ensures goes { WorkerGoesOn false (driving self.old, patience.old.looks) worker.old
+            (driving self.new, patience.new.looks) worker.new }
     {
-        let board = self.board;
-        board.facts();
-        self.rest.take(phase);
+        self.board.facts();
+        self.rest.take();
+        patience.begin(self.made);
         let number = worker.number();
         let mut memory = worker.lend();
-        self.turns(board.task(), number, &mut memory, node, phase);
+        self.turns(number, &mut memory, node, phase, patience);
         worker.begin_at(1, memory);
     }
 
     // Turns of a phase, from the start of the one at this node until the root is finished, with the
     // blocks between them.
     #[inline(always)]
-    fn turns(&mut self, task: &Task, number: u32, memory: &mut Memory, start: u32, phase: u64)
-        requires room { self.old.made < 2 ^ 63 }
-        requires walks { IsWalking task.now (driving self.old)
+    fn turns(
+        &mut self,
+        number: u32,
+        memory: &mut Memory,
+        start: u32,
+        phase: u64,
+        patience: &mut Patience,
+    )
+        requires room { self.old.made < 2 ^ 60 }
+        requires few { 2 * patience.old.looks + patience.old.left ≤ self.old.made }
+        requires most { patience.old.left ≤ 512 }
+        requires walks { IsWalking self.old.board.now.task (driving self.old)
             (turning number start phase memory.old) }
         ensures same { self.new.seat.ghost_name ≡ self.old.seat.ghost_name }
-        ensures led { Led task.now (driving self.old) (turning number start phase memory.old)
-            (driving self.new) (beginning number 1 memory.new) }
+        ensures led { RoamedThrough self.old.board.now.task (driving self.old, patience.old.looks)
+            (turning number start phase memory.old) (driving self.new, patience.new.looks)
+            (beginning number 1 memory.new) }
     {
+        let board = self.board;
+        let task = board.task();
         let layout = task.layout;
         let mut node = start;
-        loop {
+        'visits: loop {
             let post = Post::new(&task.job, &layout, number, node, phase);
-            self.rest.keep_off(self.board, node, memory);
+            self.keep_off(&post, memory, patience);
             match self.visit(&post, memory) {
-                None => return,
-                Some(next) => node = next,
+                None => {
+                    self.seat.facts();
+                    return;
+                }
+                Some(next) => {
+                    self.seat.facts();
+                    node = next;
+                }
             }
-            self.seat.facts();
+        }
+    }
+
+    // A turn at the post's node comes next. A block of another's share that the worker does not
+    // know is left to that one for a while.
+    #[inline(always)]
+    fn keep_off(&mut self, post: &Post, memory: &Memory, patience: &mut Patience)
+        requires room { self.old.made < 2 ^ 62 }
+        requires few { 2 * patience.old.looks + patience.old.left ≤ self.old.made }
+        requires most { patience.old.left ≤ 512 }
+        requires here { IsAt (task_at post.now) (driving self.old) }
+        ensures same { self.new.seat.ghost_name ≡ self.old.seat.ghost_name }
+        ensures looked { OnlyLooked (task_at post.now) (driving self.old) patience.old
+            (driving self.new) patience.new }
+    {
+        let leaves = self.rest.leaves_to_another(post, memory);
+        if leaves {
+            self.wait(post, patience);
+        }
+    }
+
+    // Looks at the node until it is finished in the phase, or the worker has no patience left.
+    #[inline(never)]
+    fn wait(&mut self, post: &Post, patience: &mut Patience)
+        requires room { self.old.made < 2 ^ 62 }
+        requires few { 2 * patience.old.looks + patience.old.left ≤ self.old.made }
+        requires most { patience.old.left ≤ 512 }
+        requires here { IsAt (task_at post.now) (driving self.old) }
+        ensures same { self.new.seat.ghost_name ≡ self.old.seat.ghost_name }
+        ensures looked { OnlyLooked (task_at post.now) (driving self.old) patience.old
+            (driving self.new) patience.new }
+    {
+        post.limits_hold();
+        let word = self.board.task().layout.node_word(post.node());
+        let mut finished = false;
+        'looks: while 0 < patience.left && !finished {
+            patience.spend();
+            finished = post.phase <= self.look(word);
+            pause_between();
         }
     }
 

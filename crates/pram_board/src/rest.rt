@@ -1,11 +1,10 @@
 //! How a worker keeps out of the way of others.
-ghost use Rattle.std.specs.Prelude.{◌≤◌, ◌<◌, ◌*◌, ◌≡◌};
+ghost use Rattle.std.specs.Prelude.{◌≤◌, ◌<◌, ◌*◌, ◌+◌, ◌^◌, ◌≡◌};
 
-use crate::board::Board;
 use pram_words::{Form, Layout};
 use std::hint::spin_loop;
 use walkx::turns::Turned;
-use walkx::{Memory, Op};
+use walkx::{Memory, Op, Post};
 
 // How long a worker rests after the first phase in vain, and at most, in pauses of the processor.
 const FIRST: u32 = 16;
@@ -14,7 +13,7 @@ const MOST: u32 = 1_024;
 
 // How often in a phase it looks whether another one has finished a block, and how long it rests
 // between two looks: in all about as long as it takes to load a block.
-const LOOKS: u32 = 512;
+const LOOKS: u64 = 512;
 
 const BETWEEN: u32 = 8;
 
@@ -32,9 +31,7 @@ const BETWEEN: u32 = 8;
 pub(crate) struct Rest {
     worker: u32,
     fellows: u32,
-    phase: u64,
     pauses: u32,
-    patience: u32,
     raised: bool,
     is_first: bool,
 }
@@ -46,9 +43,7 @@ impl Rest {
         Rest {
             worker,
             fellows,
-            phase: 0,
             pauses: 0,
-            patience: 0,
             raised: false,
             is_first: true,
         }
@@ -74,12 +69,9 @@ impl Rest {
     }
 
     /// A phase begins: the rest before it, if the last one was in vain.
-    pub(crate) fn take(&mut self, phase: u64)
-        ensures most { self.new.pauses ≤ 1024 }
-        ensures looks { self.new.patience ≡ 512 }
+    pub(crate) fn take(&mut self)
+        ensures { self.new.pauses ≤ 1024 }
     {
-        self.phase = phase;
-        self.patience = LOOKS;
         self.pauses = if self.is_first {
             0
         } else {
@@ -89,21 +81,14 @@ impl Rest {
         pause(self.pauses);
     }
 
-    /// A turn at this node comes next. A block of another's share that the worker does not know is
-    /// left to that one for a while.
+    /// The node of the post is a leaf whose block the worker leaves to another one for a while: it
+    /// lies in another's share, and the worker does not know it.
     #[inline(always)]
-    pub(crate) fn keep_off(&mut self, board: &Board, node: u32, memory: &Memory)
-        requires some { 1 ≤ node }
-        requires most { node < 2 * board.now.task.layout.leaves }
-        ensures { self.new.patience ≤ self.old.patience }
-    {
-        let layout = &board.task().layout;
-        if layout.leaves() <= node
-            && !knows(layout, memory, node, self.phase)
-            && self.is_anothers(layout, node)
-        {
-            self.patience = wait(board, node, self.phase, self.patience);
-        }
+    pub(crate) fn leaves_to_another(&self, post: &Post, memory: &Memory) -> bool {
+        let layout = post.layout;
+        layout.leaves() <= post.node
+            && !knows(layout, memory, post.node, post.phase)
+            && self.is_anothers(layout, post.node)
     }
 
     // The form is wide, and the leaf lies in no share of this worker.
@@ -120,20 +105,52 @@ impl Rest {
     }
 }
 
-// Until the leaf is finished, or the worker has looked so often: how many looks are left.
-#[inline(never)]
-fn wait(board: &Board, node: u32, phase: u64, looks: u32) -> u32
-    requires some { 1 ≤ node }
-    requires most { node < 2 * board.now.task.layout.leaves }
-    ensures { result ≤ looks }
-{
-    for made in 0..looks {
-        if phase <= board.peek(node) {
-            return looks - made;
-        }
-        pause(BETWEEN);
+/// The looks at blocks that a worker leaves to others: how many it has made, and how many more it
+/// may make in this phase. It never looks more often than it has worked.
+#[derive(Clone, Copy, Debug)]
+pub(crate) struct Patience {
+    pub looks: u64,
+    pub left: u64,
+}
+
+impl Patience {
+    /// That of a worker that has not looked.
+    #[inline(always)]
+    pub(crate) fn none() -> Patience
+        ensures looks { result.looks ≡ 0 }
+        ensures left { result.left ≡ 0 }
+    {
+        Patience { looks: 0, left: 0 }
     }
-    0
+
+    /// A phase begins, after so many atomic steps, looks among them.
+    #[inline(always)]
+    pub(crate) fn begin(&mut self, made: u64)
+        requires few { 2 * self.old.looks ≤ made }
+        requires room { made < 2 ^ 63 }
+        ensures looks { self.new.looks ≡ self.old.looks }
+        ensures few { 2 * self.new.looks + self.new.left ≤ made }
+        ensures most { self.new.left ≤ 512 }
+    {
+        self.left = LOOKS.min(made - 2 * self.looks);
+    }
+
+    /// One look more.
+    #[inline(always)]
+    pub(crate) fn spend(&mut self)
+        requires left { 1 ≤ self.old.left }
+        requires room { self.old.looks < 2 ^ 63 }
+        ensures looks { self.new.looks ≡ self.old.looks + 1 }
+        ensures left { self.new.left + 1 ≡ self.old.left }
+    {
+        self.looks += 1;
+        self.left -= 1;
+    }
+}
+
+/// The pause between two looks.
+pub(crate) fn pause_between() {
+    pause(BETWEEN);
 }
 
 // So many pauses of the processor.

@@ -50,8 +50,10 @@ impl Board {
 
     /// Ticks until the worker is over or has made as many atomic steps as the limit. The gate is
     /// passed before each atomic step, with the worker's number and the steps made so far in this
-    /// call. Without a limit it makes at most 300 L T + 8 steps, T being the steps of the job and L
-    /// the least power of two with a place for each processor, whatever other seats do.
+    /// call. Without a limit it makes at most 300 L T + 8 steps of its walk, T being the steps of
+    /// the job and L the least power of two with a place for each processor, whatever other seats
+    /// do; and in the wide form no more looks at blocks that it leaves to others, which are atomic
+    /// steps, too. With a limit it does not look.
     pub fn work<G: Gate>(
         &self,
         seat: &mut Seat,

@@ -21,7 +21,6 @@ use Rattle.walkx.specs.Walk.{Walking}
 use Rattle.lawful_walk.specs.Moments.{Sound, afters}
 use Rattle.lawful_walk.specs.Seen.{Heard, Shows, BeginsWith}
 use Rattle.lawful_walk.proofs.Knowing.{conflict_now}
-use Rattle.lawful_walk.specs.Walks.{steps_heard}
 use Rattle.stop_plan.specs.declared.plan.Act.{Act}
 use Rattle.stop_plan.specs.declared.plan.Act.TheVariants as act
 use Rattle.stop_plan.specs.declared.plan.Row.{Row}
@@ -192,7 +191,7 @@ unended t p q progress h sound none low (inr s) =
 pub worked_goes : (t : Task) (p : SeatData) (w : Walking) (limit : Option ℕ) (q : SeatData)
     (now : Walking) (stay : Stay) → Worked t p w limit q now stay → GoesOn p q
 worked_goes t p w limit q now stay h =
-    goes_all p q (steps_heard t.job t.layout w h.answers) h.seat
+    goes_all p q h.by.steps h.by.seat
 
 pub loads_go : (n : ℕ) (p q : SeatData) → HasLoaded n p q → GoesOn p q
 loads_go n p q h = goes_all p q h.steps h.is

@@ -68,9 +68,10 @@ fn first_ones<R: Threads, G>(rt: &R, shared: &Shared<'_, G>) -> u32
 // Waits until a worker leaves, or none gets on for a while: whether the job is over.
 fn stand_by<R: Wait, G>(rt: &R, shared: &Shared<'_, G>) -> bool {
     for _ in rt.forever() {
-        let before = shared.board.hint();
+        let mut seat = shared.board.new_seat();
+        let before = shared.board.hint(&mut seat);
         shared.bell.wait_for(rt, Duration::from_millis(STILL));
-        if 0 < shared.bell.left() || shared.board.hint() == before {
+        if 0 < shared.bell.left() || shared.board.hint(&mut seat) == before {
             return shared.bell.is_over();
         }
     }

@@ -201,7 +201,7 @@ impl Worker {
         }
     }
 
-    /// Works to the end of the job: at most 300 L T + 8 atomic steps, T being the steps of the job
+    /// Works to the end of the job: at most 600 L T + 16 atomic steps, T being the steps of the job
     /// and L the least power of two that is at least the number of its processors.
     pub fn finish(&mut self) -> Ended {
         loop {

@@ -1,6 +1,8 @@
 -- A script that is played through a seat, and the ticks that come of it.
-use Rattle.std.specs.Prelude.{◌≡◌, ◌≤◌, ◌<◌, ℕ, Bool, true, false, ◌⊎◌, ◌+◌, ◌-◌, ◌%◌, ◌^◌, nat_lt, suc}
+use Rattle.std.specs.Prelude.{◌≡◌, ◌≤◌, ◌<◌, ℕ, Bool, true, false, ◌⊎◌, ◌+◌, ◌-◌, ◌*◌, ◌%◌, ◌^◌}
+use Rattle.std.specs.Prelude.{nat_lt, suc}
 use Rattle.std.specs.Prelude.{List, [], ◌∷◌, length, slice_set, Option, Some, None, IfSome}
+use Rattle.std.specs.List.{AllByRecursion}
 use Rattle.walkx.specs.declared.operation.Op.{Op}
 use Rattle.walk_memory.specs.Inner.Posts.{IsCellOf, IsLeafPost, PostData, at_rank, processor_of}
 use Rattle.walk_memory.specs.Memory.{FitsMemory, memo_of}
@@ -20,11 +22,12 @@ use Rattle.walkx.specs.Walk.{Then, Walking, Fits, IsGoing, AllAdmitted, end_of, 
 use Rattle.walkx.specs.Walk.{script_of}
 use Rattle.walk_memory.specs.Blocks.{IsBoard, has_rank}
 use Rattle.pram_board.specs.declared.driver.Driver.{Driver}
+use Rattle.pram_board.specs.declared.rest.Patience.{Patience}
 use Rattle.pram_board.specs.declared.task.Task.{Task}
 use Rattle.pram_board.specs.Seats.{Desk, SeatData, hears_all}
 use Rattle.lawful_walk.specs.Moments.{Sound}
 use Rattle.lawful_walk.specs.Walks.{steps_heard}
-use Rattle.pram_board.specs.Worked.{Works}
+use Rattle.pram_board.specs.Worked.{Advanced, IsLook, Works}
 
 -- what contracts see of a driver: its board, its seat, and how many atomic steps it made
 pub record Driving : Type 0 where
@@ -101,14 +104,25 @@ pub record Went (task : Task) (before : Driving) (walking : Walking) (later : Dr
   pub count : later.made % 2 ^ 64 ≡ (before.made + ticks) % 2 ^ 64
   pub small : before.made < 2 ^ 64 → later.made < 2 ^ 64
 
--- Ticks led the worker on: at least one; and one only, unless there is no limit and the worker goes
--- on. It still goes with the board, and the seat knows it.
-pub record WorkerGoesOn (limited : Bool) (before : Driving) (worker : WorkerData) (later : Driving)
-    (now : WorkerData) : Type 0 where
-  pub went : Went before.desk.task before worker.walking later now.walking
-  pub some : 1 ≤ went.ticks
-  pub single : (went.ticks ≡ 1) ⊎ ((limited ≡ false) × (end_of now.walking.now ≡ None))
-  pub works : Works later.desk later.seat now
+-- ticks and looks, at most as many looks as half of all that was made; the second number counts the
+-- looks
+pub record Roamed (task : Task) (before : Driving × ℕ) (walking : Walking) (later : Driving × ℕ)
+    (now : Walking) : Type 0 where
+  pub by : Advanced task before.0.seat walking later.0.seat now
+  pub desk : later.0.desk ≡ before.0.desk
+  pub made : later.0.made ≡ before.0.made + (length by.answers + length by.looks)
+  pub looks : later.1 ≡ before.1 + length by.looks
+  pub few : 2 * later.1 ≤ later.0.made
+
+-- They led the worker on: at least one tick; and one only, and no look, unless there is no limit
+-- and the worker goes on. It still goes with the board, and the seat knows it.
+pub record WorkerGoesOn (limited : Bool) (before : Driving × ℕ) (worker : WorkerData)
+    (later : Driving × ℕ) (now : WorkerData) : Type 0 where
+  pub roamed : Roamed before.0.desk.task before worker.walking later now.walking
+  pub some : 1 ≤ length roamed.by.answers
+  pub single : ((length roamed.by.answers ≡ 1) × (roamed.by.looks ≡ []))
+      ⊎ ((limited ≡ false) × (end_of now.walking.now ≡ None))
+  pub works : Works later.0.desk later.0.seat now
 
 -- the worker fits the job, and the seat knows it
 pub record IsWalking (task : Task) (driver : Driving) (walking : Walking) : Type 0 where
@@ -128,6 +142,24 @@ pub record Led (task : Task) (before : Driving) (walking : Walking) (later : Dri
   pub walks : IsWalking task later now
   pub went : Went task before walking later now
   pub some : 1 ≤ went.ticks
+
+-- at least one, and looks between them
+pub record RoamedThrough (task : Task) (before : Driving × ℕ) (walking : Walking)
+    (later : Driving × ℕ) (now : Walking) : Type 0 where
+  pub walks : IsWalking task later.0 now
+  pub roamed : Roamed task before walking later now
+  pub some : 1 ≤ length roamed.by.answers
+
+-- looks alone, which are counted
+pub record OnlyLooked (task : Task) (before : Driving) (had : Patience) (later : Driving)
+    (has : Patience) : Type 0 where
+  pub looks : List (Op × ℕ)
+  pub each : AllByRecursion (λ (look : Op × ℕ). IsLook task.layout look.0) looks
+  pub seat : later.seat ≡ hears_all before.seat looks
+  pub desk : later.desk ≡ before.desk
+  pub made : later.made ≡ before.made + length looks
+  pub count : has.looks ≡ had.looks + length looks
+  pub left : has.left + length looks ≡ had.left
 
 -- the worker of a post, with this memory: at the start of a turn, and at a rank in its block
 abbrev pub turning_at : PostData → List Memo → Walking

@@ -1,38 +1,74 @@
-use Rattle.std.proofs.Common.{[], refl, ◌∙◌, arith}
-use Rattle.pram_board.proofs.Telling.{went_more}
-use Rattle.pram_board.proofs.Working.{led_more, sound_at, turns_on}
+use Rattle.std.proofs.Common.{refl, ◌∙◌}
+use Rattle.pram_board.specs.Inner.Plays.{driving}
+use Rattle.pram_board.proofs.Roaming.{walks_looked}
+use Rattle.pram_board.proofs.Working.{ranged_none, room_left, sound_at, visited}
 use Rattle.pram_board.proofs.driver.Driver.turns.Goals as goal
 
-pub loop-next-init : goal.loop-next-init
-loop-next-init g c = record {
+pub visits-init : goal.visits-init
+visits-init g c = record {
   same = refl;
   walks = c.requires.walks;
-  went = record {
-    ticks = 0;
-    ran = record { answers = []; count = refl; seat = refl; worker = refl };
-    desk = refl;
-    count = omega arith;
-    small = λ h. h;
-  };
+  ranged = ranged_none _ (driving c.args.self.now) c.args.patience.now _ c.requires.few
+      c.requires.most;
 }
+
+pub new-post-requires : goal.new-post-requires
+new-post-requires g c =
+    let walks = c.visits.invariant.walks in
+    rw c.task-task.ensures.value (record {
+      board = walks.here.board;
+      worker = walks.fits.number;
+      some = walks.fits.node.0;
+      most = walks.fits.node.1;
+    })
+
+pub keep_off-requires : goal.keep_off-requires
+keep_off-requires g c =
+    let i = c.visits.invariant in
+    let first = c.requires.walks in
+    record {
+      room = room_left _ _ _ _ _ _ first.here.board c.requires.room i.ranged;
+      few = i.ranged.few;
+      most = i.ranged.left;
+      here = rw (c.new-post.ensures, c.task-task.ensures.value) i.walks.here;
+    }
+
+pub visit-requires-clause-walks : goal.visit-requires-clause-walks
+visit-requires-clause-walks g c =
+    rw (c.new-post.ensures, c.task-task.ensures.value) (walks_looked _ _ _ _ _ _
+    (rw (c.new-post.ensures, c.task-task.ensures.value) at c.keep_off.ensures.looked)
+    c.visits.invariant.walks)
 
 pub returns-in-None-clause-led : goal.returns-in-None-clause-led
 returns-in-None-clause-led g c =
-    led_more _ _ _ _ _ _ _ c.loop-next.invariant.went (rw c.new-post.ensures at c.in-None.ensures.led)
-
-pub loop-next-smaller : goal.loop-next-smaller
-loop-next-smaller g c =
-    let led = rw c.new-post.ensures at c.in-Some.ensures.led in
+    let i = c.visits.invariant in
     let first = c.requires.walks in
-    turns_on _ _ _ _ _ _ _ first.here.board first.fits first.knows c.loop-next.invariant.went
-    led.went led.some refl (sound_at _ _ led.walks.here c.facts.ensures) c.requires.room
+    let led = rw (c.new-post.ensures, c.task-task.ensures.value) at c.in-None.ensures.led in
+    let looked = rw (c.new-post.ensures, c.task-task.ensures.value) at c.keep_off.ensures.looked in
+    let done = visited _ _ _ _ _ _ first.here.board c.requires.room i.ranged first.fits first.knows
+    _ _ looked _ _ led.went led.some refl (sound_at _ _ led.walks.here c.facts.ensures) in
+    record { walks = led.walks; roamed = done.ranged.roamed; some = done.some }
 
-pub loop-next-preserved : goal.loop-next-preserved
-loop-next-preserved g c =
-    let i = c.loop-next.invariant in
-    let led = rw c.new-post.ensures at c.in-Some.ensures.led in
+pub visits-smaller : goal.visits-smaller
+visits-smaller g c =
+    let i = c.visits.invariant in
+    let first = c.requires.walks in
+    let led = rw (c.new-post.ensures, c.task-task.ensures.value) at c.in-Some.ensures.led in
+    let looked = rw (c.new-post.ensures, c.task-task.ensures.value) at c.keep_off.ensures.looked in
+    (visited _ _ _ _ _ _ first.here.board c.requires.room i.ranged first.fits first.knows
+    _ _ looked _ _ led.went led.some refl
+    (sound_at _ _ led.walks.here c.facts-in-Some.ensures)).nearer
+
+pub visits-preserved : goal.visits-preserved
+visits-preserved g c =
+    let i = c.visits.invariant in
+    let first = c.requires.walks in
+    let led = rw (c.new-post.ensures, c.task-task.ensures.value) at c.in-Some.ensures.led in
+    let looked = rw (c.new-post.ensures, c.task-task.ensures.value) at c.keep_off.ensures.looked in
     record {
-      same = c.in-Some.ensures.same ∙ i.same;
+      same = c.in-Some.ensures.same ∙ c.keep_off.ensures.same ∙ i.same;
       walks = led.walks;
-      went = went_more _ _ _ _ _ _ _ i.went led.went;
+      ranged = (visited _ _ _ _ _ _ first.here.board c.requires.room i.ranged first.fits
+          first.knows _ _ looked _ _ led.went led.some refl
+          (sound_at _ _ led.walks.here c.facts-in-Some.ensures)).ranged;
     }

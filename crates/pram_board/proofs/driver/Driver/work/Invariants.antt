@@ -1,8 +1,9 @@
-use Rattle.std.proofs.Common.{◌≡◌, ◌-◌, ◌≤◌, IfSome}
+use Rattle.std.proofs.Common.{◌≡◌, ◌+◌, ◌-◌}
 use Rattle.walkx.specs.Bound.{most_steps}
 use Rattle.lawful_walk.specs.Moments.{Sound}
-use Rattle.pram_board.specs.Inner.Plays.{Ran}
+use Rattle.pram_board.specs.Inner.Plays.{driving}
 use Rattle.pram_board.specs.Worked.{Works}
+use Rattle.pram_board.proofs.Working.{Sofar}
 use Rattle.pram_board.proofs.driver.Driver.work.Given as goal
 
 abbrev pub invariant-loop-ended : goal.invariant-loop-ended
@@ -11,12 +12,10 @@ invariant-loop-ended g l = record {
   board : l.self.board.now ≡ l.fn.self.board.now;
   works : Works l.self.board.now l.self.seat.now l.worker;
   sound : Sound l.self.board.now.task.job l.self.board.now.task.layout l.self.seat.now.record_of;
-  ran : Ran l.self.board.now.task l.fn.self.seat.now l.fn.worker.walking l.self.made
-      l.self.seat.now l.worker.walking;
-  most : l.self.made ≤ most_steps l.self.board.now.task.job;
-  within : IfSome l.limit (λ k. l.self.made ≤ k);
+  sofar : Sofar l.self.board.now (driving l.fn.self) l.fn.worker.walking l.limit
+      (driving l.self, l.patience.looks) l.worker.walking;
 }
 
 abbrev pub decreases-loop-ended : goal.decreases-loop-ended
 decreases-loop-ended g l =
-    most_steps l.self.board.now.task.job - l.self.made
+    most_steps l.self.board.now.task.job + l.patience.looks - l.self.made
