@@ -19,3 +19,4 @@ pub mod Roaming
 pub mod Tasks
 pub mod Doing
 pub mod Stopping
+pub mod Handing
