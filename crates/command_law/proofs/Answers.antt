@@ -101,30 +101,32 @@ plain_records text job bytes answer one comes =
     (told_records text job comes.names comes.ended one comes.are_names comes.ends)
 
 -- the answer of a run is the job's, though the job was run on a longer board
-pub answer_so : (job : JobData) (most : ℕ) (answer : RunAnswer) →
-    (most ≡ job.steps) ⊎ MayBeLonger job most answer →
+pub answer_so : (text : List ℕ) (job : JobData) (most : ℕ) (answer : RunAnswer) →
+    (most ≡ job.steps) ⊎ MayBeLonger text job most answer →
     IsAnswer (record job { steps = most }) answer → IsAnswer job answer
-answer_so job most answer (inl same) is =
+answer_so text job most answer (inl same) is =
     subst (λ (n : ℕ). IsAnswer (record job { steps = n }) answer) same is
-answer_so job most answer (inr may) is = fewer_steps job most answer may.1 may.0 is
+answer_so text job most answer (inr may) is =
+    fewer_steps job most answer may.whole may.within is
 
 -- how a run ended
-pub ended_so : (job : JobData) (plan : PlanData) (later : SeatData) (answer : RunAnswer) →
-    EndsAt job plan later answer → IsAnswer job answer ⊎ IsCutOff plan (Some answer)
-ended_so job plan later (Final cells) at =
-    inl (answer_so job at.most (Final cells) at.enough
+pub ended_so : (text : List ℕ) (job : JobData) (plan : PlanData) (later : SeatData)
+    (answer : RunAnswer) → EndsAt text job plan later answer →
+    IsAnswer job answer ⊎ IsCutOff plan (Some answer)
+ended_so text job plan later (Final cells) at =
+    inl (answer_so text job at.most (Final cells) at.enough
     (subst (λ (j : JobData). IsAnswer j (Final cells)) at.opened.1.0
     at.ran.answered.told.tells.0))
-ended_so job plan later (Conflict fault) at =
-    inl (answer_so job at.most (Conflict fault) at.enough
+ended_so text job plan later (Conflict fault) at =
+    inl (answer_so text job at.most (Conflict fault) at.enough
     (subst (λ (j : JobData). IsAnswer j (Conflict fault)) at.opened.1.0
     at.ran.answered.told.tells.0))
-ended_so job plan later (Unfinished step) at =
+ended_so text job plan later (Unfinished step) at =
     inr (record { stops = at.ran.answered.told.stops tt; step = step; is = refl })
 
 pub runs_print : RunsPrintTheProgramsAnswer
 runs_print text job plan workers bytes answer one comes =
-    elim (ended_so job plan comes.ends.0 comes.ended comes.ends.1) [
+    elim (ended_so text job plan comes.ends.0 comes.ended comes.ends.1) [
       | inl answers ↦ inl
           (alone (IsProgramsAnswer text job) bytes
           (printed_answer comes.names comes.ended job.steps) comes.back comes.prints comes.follows
@@ -135,7 +137,7 @@ runs_print text job plan workers bytes answer one comes =
 
 pub runs_record : RunsRecordTheProgramsEnd
 runs_record text job plan workers bytes answer one comes =
-    elim (ended_so job plan comes.ends.0 comes.ended comes.ends.1) [
+    elim (ended_so text job plan comes.ends.0 comes.ended comes.ends.1) [
       | inl answers ↦ inl
           (alone (IsProgramsRecords text) bytes (recorded comes.names comes.ended job.steps)
           comes.back comes.prints comes.follows

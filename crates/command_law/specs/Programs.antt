@@ -14,9 +14,10 @@ use Rattle.pram_step.specs.Runs.{IsAnswer, IsReached, state_after}
 use Rattle.pram_streams.specs.Printed.{summary}
 use Rattle.pram_fates.specs.declared.fates.End.{End}
 use Rattle.pram_fates.specs.declared.fates.End.TheVariants.{Running, Stopped}
-use Rattle.pram_fates.specs.declared.fates.Fates.{Fates}
+use Rattle.pram_fates.specs.declared.causes.Values.{Values}
+use Rattle.pram_fates.specs.declared.causes.Why.{Why}
 use Rattle.pram_fates.specs.declared.fates.Lost.{Lost}
-use Rattle.pram_fates.specs.Told.{fates_text}
+use Rattle.pram_fates.specs.Told.{why_text}
 use Rattle.pram_rows.specs.Rows.{row_end, rows_text}
 use Rattle.pram_rows.specs.Shown.{last_step, steps_text}
 use Rattle.pram_rows.specs.declared.window.Window.{Window}
@@ -427,7 +428,17 @@ IsEndOf naming time job (Unfinished step) end = (count first index : ℕ)
     (IsProgramOver naming.program (after naming.program n) → ⊥) →
     slice_index naming.numbers index ≡ line_number naming.program (after naming.program n))
 
--- The bytes are the program's answer, and then what became of its processors.
+-- the two of a conflict write these values to the place in the line that is against the rule
+abbrev pub AreClashingValues : NamingData → (ℕ → ℕ) → RunAnswer → Option Values → Type 0
+AreClashingValues naming time (Conflict fault) told = (values : Values) × (told ≡ Some values)
+    × ((before n : ℕ) → fault.step ≡ before + 1 → AreLinesMade naming.program time before n →
+    fault.cell < (program_layout naming.program).shared →
+    Assigns naming.program (after naming.program n) fault.cell fault.first values.first
+    × Assigns naming.program (after naming.program n) fault.cell fault.second values.second)
+AreClashingValues naming time (Final cells) told = told ≡ None
+AreClashingValues naming time (Unfinished step) told = told ≡ None
+
+-- The bytes are the program's answer, and then what became of its processors, and why.
 pub record IsProgramsWhy (text : List ℕ) (job : JobData) (bytes : List ℕ)
     (answer : Option RunAnswer) (Ends : List ℕ → Type 0) : Type 0 where
   pub naming : NamingData
@@ -436,10 +447,12 @@ pub record IsProgramsWhy (text : List ℕ) (job : JobData) (bytes : List ℕ)
   pub gives : answer ≡ Some ended
   pub front : List ℕ
   pub ends : Ends front
-  pub fates : Fates
-  pub end : IsEndOf naming is.goes.carries.time job ended fates.end
-  pub lost : IsLostOf naming is.goes.carries.time ended fates.lost
-  pub prints : bytes ≡ front ++ fates_text (slice_index naming.numbers) fates
+  pub why : Why
+  pub end : IsEndOf naming is.goes.carries.time job ended why.fates.end
+  pub lost : IsLostOf naming is.goes.carries.time ended why.fates.lost
+  pub values : AreClashingValues naming is.goes.carries.time ended why.values
+  pub prints : bytes ≡ front
+      ++ why_text (slice_index naming.numbers) (row_words (Some naming)).array why
 
 abbrev pub PlainTellsWhy : Type 0
 PlainTellsWhy = (text : List ℕ) (job : JobData) (bytes : List ℕ) (answer : Option RunAnswer) →

@@ -97,7 +97,7 @@ pub fn sweeps_tell_the_programs_runs()
 {}
 
 /// With `--why` what `plain` prints of a program is the program's answer, and then who of its
-/// processors was gone first, in which line.
+/// processors was gone first, in which line, and what the two of a conflict write in it.
 pub fn plain_tells_why()
     ensures { PlainTellsWhy }
 {}

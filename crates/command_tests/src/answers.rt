@@ -136,10 +136,25 @@ $ pramx plain job --why & pramx run job --workers 2 --why
 pram 1~cells 1~procs 4~steps 9~code~pid r0~set r1 1~and r2 r0 r1~~; the even ones leave~\
     jz r2 end~round: jmp round~end: halt~ | 0 done steps=9~0: 0~running count=2 first=1 line=12~
 pram 1~cells 2~procs 4~steps 9~init 0 5~code~pid r0~ld r1 r0~st r0 r1~ \
-    | 0 done steps=9~0: 5~1: 0~stopped step=3~lost processor=2 step=2 line=8~
+    | 0 done steps=9~0: 5~1: 0~stopped step=3~lost processor=2 step=2 line=8~\
+    outside array=0..1 index=2 length=2~
 pram 1~cells 2~procs 4~steps 9~code~pid r0~ld r1 r0~set r2 0~st r2 r0~ \
-    | 1 conflict step=4 cell=0 processors=0,1~lost processor=2 step=2 line=7~
-pram 1~cells 1~procs 3~steps 2~code~pid r0~st r1 r0~ | 1 conflict step=2 cell=0 processors=0,1~
+    | 1 conflict step=4 cell=0 processors=0,1~wrote values=0,1~\
+    lost processor=2 step=2 line=7~outside array=0..1 index=2 length=2~
+pram 1~cells 1~procs 3~steps 2~code~pid r0~st r1 r0~ \
+    | 1 conflict step=2 cell=0 processors=0,1~wrote values=0,1~
+-- of a program by its names: an index of an array, one of two, a division, and a conflict
+pardo 1~rule common~procs i < 4~shared A[4]~private x~code~x := A[i + 2]~ \
+    | 0 done steps=5~A = 0 0 0 0~gone processor=2 line=7~gone processor=3 line=7~stopped step=5~\
+    lost processor=2 step=3 line=7~outside array=A index=4 length=4~
+pardo 1~rule crew~procs i < 2~shared M[2, 3]~code~M[i, i + 2] := 7~ \
+    | 0 done steps=8~M[0] = 0 0 7~M[1] = 0 0 0~gone processor=1 line=6~stopped step=8~\
+    lost processor=1 step=5 line=6~outside index=3 length=3~
+pardo 1~rule crew~procs i < 2~private x~code~x := 7 / i~ \
+    | 0 done steps=5~gone processor=0 line=6~stopped step=5~lost processor=0 step=3 line=6~\
+    divided value=7 by=0~
+pardo 1~rule common~procs i < 2~shared s~code~s := i + 4~ \
+    | 1 conflict line=6 place=s processors=0,1~wrote values=4,5~
 -- the cells as records
 $ pramx plain job --csv & pramx run job --workers 2 --csv
 pram 1~cells 3~procs 2~steps 3~init 2 8~code~pid r0~set r1 6~st r0 r1~ \

@@ -26,15 +26,15 @@ no_device is = cc is
 module _ (style : Style) (job_text : List ℕ) (job : JobData) (plan : PlanData) (w : Writing) where
   -- what a run comes to whose end was told
   pub puts_heard : (ended : Ended) (put : Result (Unit {0}) PrintFault)
-      (result : Result RunAnswer PrintFault) → IfOk ended (SomeRunEndsIn job plan) →
+      (result : Result RunAnswer PrintFault) → IfOk ended (SomeRunEndsIn job_text job plan) →
       HasToldEnd style job_text job w ended put →
       (w.Unwritten → IsTrue w.failed → ⊥) → result ≡ outcome put ended →
-      PutsAnswer (Explaining style (SomeRunEndsIn job plan) job_text job) ⊥ w tells result
+      PutsAnswer (Explaining style (SomeRunEndsIn job_text job plan) job_text job) ⊥ w tells result
   puts_heard (Ok answer) put result ends h well is =
-      told_as style (SomeRunEndsIn job plan) job_text job w answer ends put h result is
+      told_as style (SomeRunEndsIn job_text job plan) job_text job w answer ends put h result is
   puts_heard (Err refused) put result ends h well is =
       subst (λ (x : Result RunAnswer PrintFault).
-      PutsAnswer (Explaining style (SomeRunEndsIn job plan) job_text job) ⊥ w tells x)
+      PutsAnswer (Explaining style (SomeRunEndsIn job_text job plan) job_text job) ⊥ w tells x)
       (sym (is ∙ ap (λ (x : Result (Unit {0}) PrintFault). outcome x (Err refused)) h.0)) (record {
         done = tt;
         wrote = inl h.1;
@@ -77,9 +77,9 @@ module _ {P H : Type 0} (Hears : Hearing P H) (first : P) (job : JobData) (plan 
       )
 
 -- such a run is one that ends in its answer
-pub run_ends : (job : JobData) (plan : PlanData) (ended : Ended) → IfOk ended (RunOf job plan) →
-    IfOk ended (SomeRunEndsIn job plan)
-run_ends job plan (Ok answer) run = (
+pub run_ends : (text : List ℕ) (job : JobData) (plan : PlanData) (ended : Ended) →
+    IfOk ended (RunOf job plan) → IfOk ended (SomeRunEndsIn text job plan)
+run_ends text job plan (Ok answer) run = (
   run.later,
   record {
     most = job.steps;
@@ -89,4 +89,4 @@ run_ends job plan (Ok answer) run = (
     ran = run.ran;
   },
 )
-run_ends job plan (Err refused) run = tt
+run_ends text job plan (Err refused) run = tt

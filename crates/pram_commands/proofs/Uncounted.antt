@@ -9,6 +9,7 @@ use Rattle.stop_plan.specs.Plan.{PlanData}
 use Rattle.pram_run.specs.Heard.{Ended}
 use Rattle.command_data.specs.declared.line.Style.{Style}
 use Rattle.pardo_job.specs.declared.compiler.Draft.{Draft}
+use Rattle.pardo_job.specs.Refusals.{most_steps}
 use Rattle.naming.specs.Drafted.{IsCounted}
 use Rattle.naming.specs.Names.{AreNames, NamingData}
 use Rattle.naming.specs.Writing.{Writing}
@@ -23,29 +24,44 @@ use Rattle.pram_commands.specs.declared.sources.Refused.{Refused}
 use Rattle.pram_commands.proofs.Hearing.{RunOf}
 use Rattle.pram_commands.proofs.Told.{told_as}
 
+-- how many steps are made at most is the same of a job with other steps
+same_most : (job : JobData) (steps : ℕ) → most_steps (record job { steps = steps }) ≡ most_steps job
+unfolding most_steps
+same_most job steps = refl
+
 -- a job that was counted, and needs no more steps than a longer one
 pub is_run_of : (longer : JobData) (draft : Draft) (naming : NamingData) (spelled : Spelled) →
-    longer ≡ record draft.job { steps = longer.steps } →
+    longer ≡ record draft.job { steps = most_steps draft.job } →
     IsCounted spelled.text.items draft spelled.job naming → spelled.names ≡ Some naming →
     spelled.job.steps ≤ longer.steps → IsRunOf spelled.text.items longer spelled
-is_run_of longer draft naming spelled long counted named within = record {
-  same_text = refl;
-  names = subst (λ (n : Option NamingData). AreNames spelled.text.items spelled.job n) (sym named)
-      counted.names;
-  same = long ∙ ap (λ (j : JobData). record j { steps = longer.steps }) (sym counted.job_is);
-  within = within;
-  whole = counted.names.makes.whole;
-}
+is_run_of longer draft naming spelled long counted named within =
+    let steps : longer.steps ≡ most_steps draft.job = ap (λ (j : JobData). j.steps) long in record {
+      program = counted.names.is_one;
+      same_text = refl;
+      names = subst (λ (n : Option NamingData). AreNames spelled.text.items spelled.job n)
+          (sym named) counted.names;
+      same = long ∙ ap (λ (n : ℕ). record draft.job { steps = n }) (sym steps)
+          ∙ ap (λ (j : JobData). record j { steps = longer.steps }) (sym counted.job_is);
+      most = steps ∙ sym (ap most_steps counted.job_is ∙ same_most draft.job spelled.job.steps);
+      within = within;
+      whole = counted.names.makes.whole;
+    }
 
 module _ (style : Style) (text : List ℕ) (longer : JobData) (plan : PlanData) (w : Writing)
     (answer : RunAnswer) (spelled : Spelled) (put : Result (Unit {0}) PrintFault)
     (told : IsToldOf style text longer w answer spelled put) (run : RunOf longer plan answer) where
-  ends : SomeRunEndsIn spelled.job plan answer
+  ends : SomeRunEndsIn text spelled.job plan answer
   ends = (
     run.later,
     record {
       most = longer.steps;
-      enough = inr (told.run.within, told.run.whole, told.ends);
+      enough = inr (record {
+        program = told.run.program;
+        most_is = told.run.most;
+        within = told.run.within;
+        whole = told.run.whole;
+        ended = told.ends;
+      });
       made = run.made;
       opened = subst (λ (j : JobData). IsNewBoard j plan run.made) told.run.same run.opened;
       ran = run.ran;
@@ -53,10 +69,10 @@ module _ (style : Style) (text : List ℕ) (longer : JobData) (plan : PlanData) 
   )
 
   pub puts_drafted : (result : Result RunAnswer PrintFault) → result ≡ outcome put (Ok answer) →
-      PutsAnswer (Explaining style (SomeRunEndsIn spelled.job plan) text spelled.job) ⊥ w tells
+      PutsAnswer (Explaining style (SomeRunEndsIn text spelled.job plan) text spelled.job) ⊥ w tells
       result
   puts_drafted result is =
-      told_as style (SomeRunEndsIn spelled.job plan) text spelled.job w answer ends put
+      told_as style (SomeRunEndsIn text spelled.job plan) text spelled.job w answer ends put
       told.answered result is
 
 -- what the run came to, of the text's job

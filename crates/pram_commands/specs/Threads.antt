@@ -1,6 +1,6 @@
 -- What the commands come to that run a job on threads.
 use Rattle.std.specs.Prelude.{◌≡◌, ◌<◌, ◌≤◌, ◌⊎◌, ℕ, List, Option, None, Some, ⊤, map}
-use Rattle.std.specs.Prelude.{slice_index, All}
+use Rattle.std.specs.Prelude.{slice_index, All, true}
 use Rattle.std.specs.List.{repeat}
 use Rattle.std.specs.List.Sorted.{IsNonDecreasingBy}
 use Rattle.pram_job.specs.Job.{JobData}
@@ -16,6 +16,8 @@ use Rattle.pram_run.specs.Running.{IsUnfinished}
 use Rattle.pram_run.specs.Watching.{HasReadBeside, IsWatch}
 use Rattle.pram_run.specs.declared.sight.Sight.{Sight}
 use Rattle.pardo_job.specs.Compiled.{IsWhole}
+use Rattle.pardo_job.specs.Refusals.{most_steps}
+use Rattle.pardo_answers.specs.Language.{is_program}
 use Rattle.command_data.specs.declared.line.Style.{Style}
 use Rattle.naming.specs.CellLists.{AreCellsOf, LacksCell}
 use Rattle.pram_commands.specs.Did.{Answering, Command}
@@ -35,29 +37,34 @@ grain_by None procs = grain_for procs
 abbrev pub IsNewBoard : JobData → PlanData → Desk × SeatData → Type 0
 IsNewBoard job plan made = (grain : ℕ) × IsOpened job (Wide grain) plan.workers made
 
--- A run of the job to this answer may be one of the job with so many more steps: none of these
--- is needed, and the answer is the job's end.
-abbrev pub MayBeLonger : JobData → ℕ → RunAnswer → Type 0
-MayBeLonger job most answer = (job.steps ≤ most) × IsWhole job × (IsUnfinished answer → ⊥)
+-- A run of a program to this answer may be one of its job with so many steps: as many as are made
+-- at most of any program, of which it needs no more than its own; and the answer is the job's end.
+pub record MayBeLonger (text : List ℕ) (job : JobData) (most : ℕ) (answer : RunAnswer)
+    : Type 0 where
+  pub program : is_program text ≡ true
+  pub most_is : most ≡ most_steps job
+  pub within : job.steps ≤ most
+  pub whole : IsWhole job
+  pub ended : IsUnfinished answer → ⊥
 
 -- The seat is the one that a run of workers of the plan came to, from the first seat of a new board
--- of the job, or of a longer one; and what it heard there told the answer.
-pub record EndsAt (job : JobData) (plan : PlanData) (later : SeatData) (answer : RunAnswer)
-    : Type 0 where
+-- of this text's job, or of a longer one; and what it heard there told the answer.
+pub record EndsAt (text : List ℕ) (job : JobData) (plan : PlanData) (later : SeatData)
+    (answer : RunAnswer) : Type 0 where
   pub most : ℕ
-  pub enough : (most ≡ job.steps) ⊎ MayBeLonger job most answer
+  pub enough : (most ≡ job.steps) ⊎ MayBeLonger text job most answer
   pub made : Desk × SeatData
   pub opened : IsNewBoard (record job { steps = most }) plan made
   pub ran : HasRunBeside made.0.task plan made.1 later answer
 
 -- some run came to the answer
-abbrev pub SomeRunEndsIn : JobData → PlanData → RunAnswer → Type 0
-SomeRunEndsIn job plan answer = (later : SeatData) × EndsAt job plan later answer
+abbrev pub SomeRunEndsIn : List ℕ → JobData → PlanData → RunAnswer → Type 0
+SomeRunEndsIn text job plan answer = (later : SeatData) × EndsAt text job plan later answer
 
 -- it prints the answer of a run of the job under the plan in a style
 abbrev pub running : Style → ℕ → Command
 running style workers = following workers LacksNone ⊥
-    (λ job_text job plan. Explaining style (SomeRunEndsIn job plan) job_text job)
+    (λ job_text job plan. Explaining style (SomeRunEndsIn job_text job plan) job_text job)
 
 -- what the cell holds after the step, which is reached
 pub record IsTrueOf (job : JobData) (sight : Sight) : Type 0 where

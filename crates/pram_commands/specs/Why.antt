@@ -1,13 +1,15 @@
 -- What becomes of the processors, where that follows an answer.
 use Rattle.std.specs.Prelude.{◌≡◌, ◌++◌, ℕ, Bool, true, false, List, [], Option, Some}
+use Rattle.pram_job.specs.declared.instr.Array.{Array}
 use Rattle.pram_job.specs.Job.{JobData}
 use Rattle.pram_step.specs.declared.answer.RunAnswer.{RunAnswer}
 use Rattle.pram_step.specs.declared.answer.RunAnswer.TheVariants.{Final, Conflict, Unfinished}
-use Rattle.pram_fates.specs.Fates.{AreFates}
-use Rattle.pram_fates.specs.Told.{fates_text}
-use Rattle.pram_fates.specs.declared.fates.Fates.{Fates}
+use Rattle.pram_fates.specs.Causes.{AreReasons}
+use Rattle.pram_fates.specs.Told.{why_text}
+use Rattle.pram_fates.specs.declared.causes.Why.{Why}
 use Rattle.command_data.specs.declared.line.Style.{Style}
 use Rattle.naming.specs.Names.{AreNames, NamingData, line_at, styled}
+use Rattle.naming.specs.RowNames.{row_words}
 
 -- the steps that an answer speaks of: all of the job's, or those that an unfinished run made
 abbrev pub told_steps : JobData → RunAnswer → ℕ
@@ -16,11 +18,11 @@ told_steps job (Conflict fault) = job.steps
 told_steps job (Unfinished step) = step
 
 -- what follows an answer: nothing, or if it is asked for, what became of the processors in these
--- steps, by the lines that instructions came from
-abbrev pub Follows : Bool → (ℕ → ℕ) → JobData → RunAnswer → List ℕ → Type 0
-Follows false line_of job ended back = back ≡ []
-Follows true line_of job ended back = (fates : Fates)
-    × AreFates job (told_steps job ended) fates × (back ≡ fates_text line_of fates)
+-- steps, and why, by the lines that instructions came from and by words for arrays
+abbrev pub Follows : Bool → (ℕ → ℕ) → (Array → List ℕ) → JobData → RunAnswer → List ℕ → Type 0
+Follows false line_of word job ended back = back ≡ []
+Follows true line_of word job ended back = (why : Why)
+    × AreReasons job (told_steps job ended) ended why × (back ≡ why_text line_of word why)
 
 -- a style without records
 abbrev pub in_lines : Bool → Style
@@ -38,6 +40,6 @@ pub record Explaining (style : Style) (Ends : RunAnswer → Type 0) (job_text : 
   pub names : Option NamingData
   pub ends : Ends ended
   pub are_names : AreNames job_text job names
-  pub follows : Follows style.why (line_at job_text names) job ended back
+  pub follows : Follows style.why (line_at job_text names) (row_words names).array job ended back
   pub prints : text ≡ styled style.csv names ended job.steps ++ back
   pub gives : answer ≡ Some ended

@@ -113,7 +113,7 @@ impl<'a, O: Sink> Listener for PrintingDrafted<'a, O> {
 
     ghost can_hear = { λ p. (O.has_failed p.out.now ≡ false) × IsDrafted p.text.items p.draft
         × (p.board.now.task.job ≡ p.longer.now)
-        × (p.longer.now ≡ record p.draft.job { steps = p.longer.now.steps }) };
+        × (p.longer.now ≡ record p.draft.job { steps = most_steps p.draft.job }) };
 
     ghost hears = { λ p ended heard. (heard.0.ghost_name ≡ p.out.ghost_name)
         × HasToldDrafted p.style p.text.items p.longer.now (writing O.Sink p.out.now heard.0.now)
@@ -155,7 +155,7 @@ fn spelled_by(
 ) -> Result<Spelled, Refused>
     requires drafted { IsDrafted text.items draft }
     requires board { board.now.task.job ≡ longer.now }
-    requires longer { longer.now ≡ record draft.job { steps = longer.now.steps } }
+    requires longer { longer.now ≡ record draft.job { steps = most_steps draft.job } }
     ensures ok { IfOk result (IsRunOf text.items longer.now) }
     ensures refused { IfErr result (λ refused. IsBadOrMemory text.items refused.fault) }
 {

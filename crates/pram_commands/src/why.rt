@@ -4,12 +4,13 @@ ghost use Rattle.pram_commands.specs.Did.{tells};
 ghost use Rattle.naming.specs.Writing.{writing};
 ghost use Rattle.pram_commands.specs.Inner.Puts.{HasAnswered, PutsAnswer};
 ghost use Rattle.naming.specs.Names.{AreNames, line_at};
+ghost use Rattle.naming.specs.RowNames.{row_words};
 ghost use Rattle.pram_commands.specs.Why.{Explaining, Follows, told_steps};
 ghost use Rattle.pram_step.specs.Runs.{IsAnswer};
 
 use command_data::Style;
 use naming::{Spelled, origin_of, print_styled};
-use pram_fates::{answer_with_fates, fates_after, fates_text};
+use pram_fates::{answer_with_why, why_after, why_text};
 use pram_job::Job;
 use pram_step::RunAnswer;
 use pram_streams::{PrintFault, Sink, put};
@@ -58,9 +59,9 @@ pub(crate) fn put_explained<O: Sink>(
         PutsAnswer (Explaining style (IsAnswer read.job) read.text.items read.job) ⊥
         (writing O.Sink out.old out.new) tells result }
 {
-    let (answer, fates) = answer_with_fates(alloc, &spelled.job)?;
+    let (answer, why) = answer_with_why(alloc, &spelled.job)?;
     let origin = origin_of(spelled.text.as_slice(), &spelled.names);
-    let back = fates_text(alloc, origin, &fates)?;
+    let back = why_text(alloc, origin, spelled, &why)?;
     put_both(
         alloc,
         out,
@@ -88,8 +89,8 @@ fn put_both<O: Sink>(alloc: Global, out: &mut O, told: &Told<'_>) -> Result<(), 
     requires names { let read = told.now.spelled.now in
         AreNames read.text.items read.job read.names }
     requires follows { let read = told.now.spelled.now in
-        Follows told.now.style.why (line_at read.text.items read.names) read.job told.now.answer.now
-        told.now.back.now }
+        Follows told.now.style.why (line_at read.text.items read.names) (row_words read.names).array
+        read.job told.now.answer.now told.now.back.now }
     ensures { let read = told.now.spelled.now in
         HasAnswered told.now.style read.text.items read.job (writing O.Sink out.old out.new)
         told.now.answer.now result }
@@ -107,15 +108,15 @@ fn following(
     answer: &RunAnswer,
 ) -> Result<String, AllocError>
     ensures { IfOk result (λ back. Follows why (line_at spelled.now.text.items spelled.now.names)
-        spelled.now.job answer.now (string_bytes back)) }
+        (row_words spelled.now.names).array spelled.now.job answer.now (string_bytes back)) }
 {
     if !why {
         return Ok(String::new(alloc));
     }
     let steps = told_steps(&spelled.job, answer);
-    let fates = fates_after(alloc, &spelled.job, steps)?;
+    let told = why_after(alloc, &spelled.job, steps, answer)?;
     let origin = origin_of(spelled.text.as_slice(), &spelled.names);
-    fates_text(alloc, origin, &fates)
+    why_text(alloc, origin, spelled, &told)
 }
 
 // The steps that an answer speaks of.

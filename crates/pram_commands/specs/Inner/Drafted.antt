@@ -1,11 +1,13 @@
 -- What comes of a program whose steps are found once it was run.
-use Rattle.std.specs.Prelude.{◌≡◌, ◌≤◌, ℕ, List, Result, Ok, Err}
+use Rattle.std.specs.Prelude.{◌≡◌, ◌≤◌, ℕ, List, Result, Ok, Err, true}
 use Rattle.pram_job.specs.Job.{JobData}
 use Rattle.pram_step.specs.declared.answer.RunAnswer.{RunAnswer}
 use Rattle.pram_streams.specs.declared.print.PrintFault.{PrintFault}
 use Rattle.pram_run.specs.Heard.{Ended}
 use Rattle.pram_run.specs.Running.{IsUnfinished}
 use Rattle.pardo_job.specs.Compiled.{IsWhole}
+use Rattle.pardo_job.specs.Refusals.{most_steps}
+use Rattle.pardo_answers.specs.Language.{is_program}
 use Rattle.command_data.specs.declared.line.Style.{Style}
 use Rattle.naming.specs.BadTexts.{IsBadOrMemory}
 use Rattle.naming.specs.Names.{AreNames}
@@ -20,9 +22,11 @@ use Rattle.pram_commands.specs.declared.sources.Refused.{Refused}
 
 -- The text with its job, which needs no more steps than this longer one.
 pub record IsRunOf (text : List ℕ) (longer : JobData) (spelled : Spelled) : Type 0 where
+  pub program : is_program text ≡ true
   pub same_text : spelled.text.items ≡ text
   pub names : AreNames text spelled.job spelled.names
   pub same : longer ≡ record spelled.job { steps = longer.steps }
+  pub most : longer.steps ≡ most_steps spelled.job
   pub within : spelled.job.steps ≤ longer.steps
   pub whole : IsWhole spelled.job
 
@@ -50,8 +54,9 @@ HasToldDrafted style text longer writes ended (Err refused) = IsRefused text wri
 pub record HasRunTo (style : Style) (drafted : Drafted) (writes : Writing) (spelled : Spelled)
     (result : Result RunAnswer PrintFault) : Type 0 where
   pub names : AreNames drafted.text.items spelled.job spelled.names
-  pub puts : PutsAnswer (Explaining style (SomeRunEndsIn spelled.job drafted.plan)
-      drafted.text.items spelled.job) ⊥ writes tells result
+  pub puts : PutsAnswer (Explaining style
+      (SomeRunEndsIn drafted.text.items spelled.job drafted.plan) drafted.text.items spelled.job)
+      ⊥ writes tells result
 
 -- what the run of a drafted program came to
 abbrev pub RanDrafted : Style → Drafted → Writing →

@@ -103,7 +103,7 @@ fn put_run<R: Threads + Wait + Clock + Eprint + Sync, O: Sink>(
     requires names { let read = inputs.now.spelled in
         AreNames read.text.items read.job read.names }
     ensures { let read = inputs.now.spelled in PutsAnswer (Explaining ask.style
-        (SomeRunEndsIn read.job inputs.now.plan) read.text.items read.job) ⊥
+        (SomeRunEndsIn read.text.items read.job inputs.now.plan) read.text.items read.job) ⊥
         (writing O.Sink out.old out.new) tells result }
 {
     let listener = Printing {

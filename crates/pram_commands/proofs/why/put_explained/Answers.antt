@@ -8,11 +8,11 @@ use Rattle.pram_commands.proofs.why.put_explained.Goals as goal
 
 pub put_both-requires-clause-follows : goal.put_both-requires-clause-follows
 put_both-requires-clause-follows g c =
-    follows_answer _ _ _ c.args.spelled.now.job c.in_ok-answer.answer c.in_ok-answer.fates _
+    follows_answer _ _ _ _ c.args.spelled.now.job c.in_ok-answer.answer c.in_ok-answer.why _
     c.requires.asked
     (c.origin_of-origin.ensures
     ∙ ap (λ (t : List ℕ). line_at t c.args.spelled.now.names) c.as_slice.ensures.value)
-    c.in_ok-answer.ensures.answer c.in_ok-answer.ensures.fates
+    c.in_ok-answer.ensures.answer c.in_ok-answer.ensures.why
     (c.as_str.ensures.value ∙ c.in_ok-back.ensures)
 
 pub returns-in_err-put_both : goal.returns-in_err-put_both

@@ -14,5 +14,5 @@ returns g c =
     let ran = ran_unread_on _ _ spelled.job inputs.plan _ _ _ c.run_job-ended.ensures in
     rw (c.out-1.given.1 (sym ran.1.0) ∙ c.take_back.ensures)
     (puts_heard c.args.ask.style spelled.text.items spelled.job inputs.plan w ended.0 ended.1.1
-    c.outcome.result (run_ends spelled.job inputs.plan ended.0 ran.0) ran.1.1
+    c.outcome.result (run_ends spelled.text.items spelled.job inputs.plan ended.0 ran.0) ran.1.1
     (λ un f. well _ (ap g.O.Sink.has_failed un ∙ c.requires.output) f) c.outcome.ensures)
