@@ -4,9 +4,10 @@ ghost use Rattle.pram_machine.specs.Machine.{place_count};
 ghost use Rattle.pram_step.specs.Runs.{IsStateAfter};
 
 use crate::table::expect;
-use pram_fates::{Origin, fates_after, fates_text};
+use pram_fates::{Origin, why_after, why_text};
 use pram_job::Job;
 use pram_machine::Request;
+use pram_rows::ByNumbers;
 use pram_step::{
     Arrival, Cells, Dispute, Fault, Outcome, RunAnswer, State, counter, dispute, go_to, laws,
     make_step, plain_answer, request, request_after, run_plain, step,
@@ -125,8 +126,10 @@ fn asked_at_start(alloc: Global, job: &Job, processor: u32) -> Result<String, Al
 // What became of the processors in so many steps.
 fn fates(alloc: Global, steps: &str, text: &str) -> Result<String, Fail> {
     let job = read_job(alloc, text.as_bytes())?;
-    let fates = fates_after(alloc, &job, steps.parse()?)?;
-    Ok(fates_text(alloc, Origin::Text(text.as_bytes()), &fates)?)
+    let answer = plain_answer(alloc, &job)?;
+    let why = why_after(alloc, &job, steps.parse()?, &answer)?;
+    let names = ByNumbers { lines: None };
+    Ok(why_text(alloc, Origin::Text(text.as_bytes()), &names, &why)?)
 }
 
 // Jobs that are run on the plain machine.
@@ -209,14 +212,33 @@ $ job fates
 4294967295 : same -> running count=2 first=1 line=12~
 1 : pram 1~cells 2~procs 4~steps 9~init 0 5~ code ; and so on~pid r0~ld r1 r0~st r0 r1~ \
     -> running count=4 first=0 line=8~
-2 : same -> running count=2 first=0 line=9~lost processor=2 step=2 line=8~
-4294967295 : same -> stopped step=3~lost processor=2 step=2 line=8~
+2 : same -> running count=2 first=0 line=9~lost processor=2 step=2 line=8~\
+    outside array=0..1 index=2 length=2~
+4294967295 : same -> stopped step=3~lost processor=2 step=2 line=8~\
+    outside array=0..1 index=2 length=2~
 3 : pram 1~cells 2~procs 4~steps 9~code~pid r0~ld r1 r0~set r2 0~st r2 r0~ \
-    -> running count=2 first=0 line=9~lost processor=2 step=2 line=7~
-4 : same -> lost processor=2 step=2 line=7~
+    -> wrote values=0,1~running count=2 first=0 line=9~lost processor=2 step=2 line=7~\
+    outside array=0..1 index=2 length=2~
+4 : same -> wrote values=0,1~lost processor=2 step=2 line=7~outside array=0..1 index=2 length=2~
 -- one that divides by 0, and one whose remainder is by 0
 4294967295 : pram 3~cells 1~procs 3~steps 9~rule common~code~pid r0~set r1 9~div r2 r1 r0~\
-    eq r0 r0 1~rem r2 r1 r0~halt~ -> stopped step=6~lost processor=0 step=3 line=9~
+    eq r0 r0 1~rem r2 r1 r0~halt~ -> stopped step=6~lost processor=0 step=3 line=9~\
+    divided value=9 by=0~
+4 : pram 3~cells 1~procs 3~steps 9~rule common~code~pid r0~set r1 9~eq r0 r0 1~rem r2 r1 r0~halt~ \
+    -> running count=1 first=1 line=11~lost processor=0 step=4 line=10~divided value=9 by=0~
+-- a place of an array by a register and by a number; and a number above a bound that it is tested \
+    by, but not below it
+9 : pram 3~cells 8~procs 4~steps 9~rule crew~array A 2 3~code~pid r0~add r0 r0 1~st A r0 7~ \
+    -> stopped step=3~lost processor=2 step=3 line=10~outside array=2..4 index=3 length=3~
+9 : pram 3~cells 8~procs 1~steps 9~rule crew~array A 2 3~code~ld r1 A 5~ \
+    -> stopped step=1~lost processor=0 step=1 line=8~outside array=2..4 index=5 length=3~
+9 : pram 3~cells 8~procs 4~steps 9~rule crew~code~pid r0~lt r1 r0 3~div r2 r0 r1~ \
+    -> stopped step=3~lost processor=3 step=3 line=9~outside index=3 length=3~
+9 : pram 3~cells 8~procs 1~steps 9~rule crew~code~jmp l~lt r1 r0 3~l: div r2 r0 r1~ \
+    -> stopped step=2~lost processor=0 step=2 line=9~divided value=0 by=0~
+-- the values of two processors that clash
+9 : pram 3~cells 8~procs 4~steps 9~rule crew~code~pid r0~add r1 r0 7~shr r0 r0 1~st r0 r1~ \
+    -> wrote values=7,8~
 -- the line of an instruction
 $ text line
 2 : pram 1~cells 2~procs 4~steps 9~init 0 5~ code ; and so on~pid r0~ld r1 r0~st r0 r1~ -> 9
