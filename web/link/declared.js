@@ -10,7 +10,6 @@ import {
 const crates = join(dirname(fileURLToPath(import.meta.url)), '..', '..', 'crates');
 const read = (file) => readFileSync(join(crates, file), 'utf8');
 const ofPage = (name) => read(`page_core/src/${name}.rt`);
-const ofExercises = (name) => read(`exercise_page/src/${name}.rt`);
 
 const byName = (constants) =>
   Object.fromEntries(constants.map(({ name, value }) => [name, value]));
@@ -26,7 +25,7 @@ function byNumber(numbers, words) {
 // ---- codes
 
 // Those of exercises come after the others.
-const constants = [...constantsIn(ofPage('codes')), ...constantsIn(ofExercises('codes'))];
+const constants = [...constantsIn(ofPage('codes')), ...constantsIn(ofPage('exercise_codes'))];
 const isLimit = ({ name }) => name.endsWith('_MOST');
 
 // What is at most, how calls end, and what cells are for.
@@ -58,12 +57,12 @@ export const OP = numbersIn(ofPage('rows'), 'step_of_effect');
 export const END = numbersIn(ofPage('fates'), 'tell_end', 'kind');
 export const EVENT = variantsIn(ofPage('board'), 'happen');
 
-export const KEY = numbersIn(ofExercises('entries'), 'number_of_key');
-export const EXERCISE_FAULT = faultsIn(ofExercises('entries'), 'number_of_exercise_kind');
-export const WRONG = numbersIn(ofExercises('verdict'), 'tell_wrong', 'kind');
-export const UNFIT = numbersIn(ofExercises('verdict'), 'tell_unfit', 'kind');
-export const BAR = numbersIn(ofExercises('verdict'), 'number_of_bar');
-export const SHARING = numbersIn(ofExercises('verdict'), 'number_of_sharing');
+export const KEY = numbersIn(ofPage('entries'), 'number_of_key');
+export const EXERCISE_FAULT = faultsIn(ofPage('entries'), 'number_of_exercise_kind');
+export const WRONG = numbersIn(ofPage('verdict'), 'tell_wrong', 'kind');
+export const UNFIT = numbersIn(ofPage('verdict'), 'tell_unfit', 'kind');
+export const BAR = numbersIn(ofPage('verdict'), 'number_of_bar');
+export const SHARING = numbersIn(ofPage('verdict'), 'number_of_sharing');
 
 // ---- words
 
@@ -91,8 +90,7 @@ export const calls = ['programs', 'plain', 'runs', 'boards', 'exercises']
   .flatMap((name) => callsIn(read(`pram_page/src/${name}.rt`)));
 
 export const layouts = layoutsOf(
-  [...filesOf('page_core/src'), ...filesOf('exercise_page/src'), read('pram_step/src/last.rt')]
-    .flatMap(structsIn));
+  [...filesOf('page_core/src'), read('pram_step/src/last.rt')].flatMap(structsIn));
 
 const camelCase = (name) => name.replaceAll(/_([a-z])/g, (_, letter) => letter.toUpperCase());
 

@@ -69,7 +69,7 @@ ${rowsOfCodes.join('\n')}
 ${items(numbers)}
 ## Structs
 
-What a field means stands at its struct, in \`crates/page_core/src\` and \`exercise_page/src\`. Before each field stand so many bytes; one without a type is a u32.
+What a field means stands at its struct, in \`crates/page_core/src\`. Before each field stand so many bytes; one without a type is a u32.
 
 ${items(structsInOrder().map(structInWords))}
 ## Calls

@@ -6,39 +6,39 @@ use Rattle.std.proofs.lemmas.List.{append-nil, map-append, take_all, take_more}
 use Rattle.std.specs.Borrow.{Bor}
 use Rattle.clap.specs.Words.{Text}
 use Rattle.exercise_judge.specs.Trials.{TrialData}
-use Rattle.exercise_records.specs.Records.{AreRecords, IsSaidOf, judged_text, record_of, status_of}
-use Rattle.exercise_records.specs.declared.said.Said.{Said}
+use Rattle.exercise_words.specs.Records.{AreRecords, IsSaidOf, header_and_records, file_record, passed_status}
+use Rattle.exercise_words.specs.declared.said.Said.{Said}
 use Rattle.command_answers.proofs.Texts.{texts_of}
 
 module _ (Gives : List ℕ → List ℕ → Type 0) (trials : List TrialData) where
   -- one record more after others
   records_next : (files : List Text) (file : Text) (said : Said) (bytes : List ℕ) (status : ℕ) →
       AreRecords Gives trials files bytes status → IsSaidOf Gives trials file said →
-      AreRecords Gives trials (files ++ file ∷ []) (bytes ++ record_of file said)
-      (max status (status_of said.passed))
+      AreRecords Gives trials (files ++ file ∷ []) (bytes ++ file_record file said)
+      (max status (passed_status said.passed))
   records_next [] file said bytes status so_far is = (
     said,
     [],
     0,
     is,
     (refl, refl),
-    (let e : bytes ++ record_of file said ≡ record_of file said ++ [] =
-        rw so_far.0 (sym (append-nil (record_of file said))) in e),
-    (let e : max status (status_of said.passed) ≡ max (status_of said.passed) 0 =
+    (let e : bytes ++ file_record file said ≡ file_record file said ++ [] =
+        rw so_far.0 (sym (append-nil (file_record file said))) in e),
+    (let e : max status (passed_status said.passed) ≡ max (passed_status said.passed) 0 =
         rw so_far.1 (omega arith) in e),
   )
   records_next (first ∷ files) file said bytes status
       (head, rest, later, one, others, same, most) is =
       let more = records_next files file said rest later others is in (
         head,
-        rest ++ record_of file said,
-        max later (status_of said.passed),
+        rest ++ file_record file said,
+        max later (passed_status said.passed),
         one,
         more,
-        ap (λ b. b ++ record_of file said) same
-            ∙ append_assoc (record_of first head) rest (record_of file said),
-        (let e : max status (status_of said.passed)
-            ≡ max (status_of head.passed) (max later (status_of said.passed)) =
+        ap (λ b. b ++ file_record file said) same
+            ∙ append_assoc (file_record first head) rest (file_record file said),
+        (let e : max status (passed_status said.passed)
+            ≡ max (passed_status head.passed) (max later (passed_status said.passed)) =
             rw most (omega arith) in e),
       )
 
@@ -48,26 +48,26 @@ module _ (Gives : List ℕ → List ℕ → Type 0) (trials : List TrialData) wh
       AreRecords Gives trials (texts_of (take at files)) bytes status →
       IsSaidOf Gives trials (get_or files at d).now said →
       AreRecords Gives trials (texts_of (take (at + 1) files))
-      (bytes ++ record_of (get_or files at d).now said) (max status (status_of said.passed))
+      (bytes ++ file_record (get_or files at d).now said) (max status (passed_status said.passed))
   records_more files at d said bytes status within so_far is =
       let file = (get_or files at d).now in
       let texts : texts_of (take (at + 1) files) ≡ texts_of (take at files) ++ file ∷ [] =
       ap texts_of (take_more files at d within)
       ∙ map-append (λ (word : Bor Text). word.now) (take at files) (get_or files at d ∷ []) in
-      subst (λ (all : List Text). AreRecords Gives trials all (bytes ++ record_of file said)
-      (max status (status_of said.passed))) (sym texts)
+      subst (λ (all : List Text). AreRecords Gives trials all (bytes ++ file_record file said)
+      (max status (passed_status said.passed))) (sym texts)
       (records_next (texts_of (take at files)) file said bytes status so_far is)
 
   -- and written after a header
   pub records_made : (files : List (Bor Text)) (at : ℕ) (d : Bor Text) (said : Said) (status : ℕ)
       (old new : List ℕ) → at < length files →
       ((records : List ℕ) × AreRecords Gives trials (texts_of (take at files)) records status
-      × (old ≡ judged_text records)) → IsSaidOf Gives trials (get_or files at d).now said →
-      new ≡ old ++ record_of (get_or files at d).now said →
+      × (old ≡ header_and_records records)) → IsSaidOf Gives trials (get_or files at d).now said →
+      new ≡ old ++ file_record (get_or files at d).now said →
       (records : List ℕ) × AreRecords Gives trials (texts_of (take (at + 1) files)) records
-      (max status (status_of said.passed)) × (new ≡ judged_text records)
+      (max status (passed_status said.passed)) × (new ≡ header_and_records records)
   records_made files at d said status old new within (records, so_far, text) is written =
-      let one = record_of (get_or files at d).now said in (
+      let one = file_record (get_or files at d).now said in (
         records ++ one,
         records_more files at d said records status within so_far is,
         written ∙ ap (λ (bytes : List ℕ). bytes ++ one) text

@@ -1,8 +1,8 @@
 -- What is answered where no submission was judged.
 use Rattle.std.proofs.Common.{◌≡◌, ◌⊎◌, ℕ, List, Option, arith, inl, inr, refl, subst, sym}
 use Rattle.clap.specs.Words.{Text}
-use Rattle.exercise_records.specs.declared.trials.NoTrials.{NoTrials}
-use Rattle.exercise_records.specs.declared.trials.NoTrials.TheVariants as why
+use Rattle.exercise_words.specs.declared.trials.NoTrials.{NoTrials}
+use Rattle.exercise_words.specs.declared.trials.NoTrials.TheVariants as why
 use Rattle.naming.specs.Writing.{Writing}
 use Rattle.refusals.specs.Refusals.{refusal_status}
 use Rattle.refusals.specs.declared.refusal.Refusal.{Refusal}

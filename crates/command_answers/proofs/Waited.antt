@@ -22,7 +22,7 @@ use Rattle.command_answers.specs.Answering.{AnswersWords, IsTextIfSet, RefusesSe
 use Rattle.command_answers.specs.Answering.{ServesLineSet, ServesOrRefusesSet, ServesOwn}
 use Rattle.command_answers.specs.Answering.{ServesWaiting, is_sweep}
 use Rattle.exercise_judge.specs.Trials.{TrialData}
-use Rattle.exercise_records.specs.Records.{AreRecords, status_of}
+use Rattle.exercise_words.specs.Records.{AreRecords, passed_status}
 use Rattle.command_answers.specs.Judging.{AnswersJudging}
 use Rattle.command_answers.specs.Random.{AnswersByPlan, random_text}
 use Rattle.command_answers.specs.Setting.{IsRefusedSet}
@@ -171,7 +171,7 @@ records_most Gives trials (file ∷ files) bytes status
     (said, rest, later, is, others, same, most) =
     by said.passed (records_most Gives trials files rest later others) most
   where
-    by : (passed : Bool) → later ≤ 1 → status ≡ max (status_of passed) later → status ≤ 1
+    by : (passed : Bool) → later ≤ 1 → status ≡ max (passed_status passed) later → status ≤ 1
     by true after most = omega (arith, most, after)
     by false after most = omega (arith, most, after)
 

@@ -2,9 +2,9 @@
 use Rattle.std.specs.Prelude.{◌≡◌, ◌≢◌, ◌≤◌, ◌⊎◌, ℕ, List, Option}
 use Rattle.std.specs.Io.KnownBytes.{Appends}
 use Rattle.clap.specs.Words.{Text}
-use Rattle.exercise_records.specs.Records.{HasNoTrials, IsJudged}
-use Rattle.exercise_records.specs.declared.trials.NoTrials.{NoTrials}
-use Rattle.exercise_records.specs.declared.trials.NoTrials.TheVariants as why
+use Rattle.exercise_words.specs.Records.{HasNoTrials, AreRecorded}
+use Rattle.exercise_words.specs.declared.trials.NoTrials.{NoTrials}
+use Rattle.exercise_words.specs.declared.trials.NoTrials.TheVariants as why
 use Rattle.naming.specs.Writing.{Writing}
 use Rattle.pram_streams.specs.Transfer.{AppendsBeginning}
 use Rattle.refusals.specs.Refusals.{refusal_status}
@@ -19,7 +19,7 @@ pub record ServesJudging (Holds : List ℕ → Option (List ℕ) → Type 0) (fi
     (files : List Text) (writes : Writing) (status : ℕ) : Type 0 where
   pub bytes : List ℕ
   pub ends : ℕ
-  pub judged : IsJudged (FileGives Holds) file files bytes ends
+  pub judged : AreRecorded (FileGives Holds) file files bytes ends
   pub wrote : ((status ≡ ends) × Appends writes.out writes.out' bytes)
       ⊎ ((FAILED ≤ status) × (status ≤ MEMORY) × AppendsBeginning writes.out writes.out' bytes)
 

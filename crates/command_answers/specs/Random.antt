@@ -8,8 +8,8 @@ use Rattle.command_data.specs.declared.line.AskAlone.TheVariants.{Replay}
 use Rattle.command_data.specs.declared.line.Line.{Line}
 use Rattle.pardo_text.specs.declared.settings.SetKind.{SetKind}
 use Rattle.naming.specs.Writing.{Writing}
-use Rattle.random_plan.specs.Random.{random_rows}
-use Rattle.random_plan.specs.Texts.{plan_text}
+use Rattle.stop_plan.specs.Random.{random_rows}
+use Rattle.stop_plan.specs.Texts.{plan_text}
 use Rattle.pram_commands.specs.Inputs.{InputsRead}
 use Rattle.pram_commands.specs.Served.{Served}
 use Rattle.refusals.specs.declared.refusal.TheConstants.{REFUSED, UNFINISHED}

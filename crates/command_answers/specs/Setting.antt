@@ -81,15 +81,15 @@ RefuseNames Holds settings (word ∷ words) kind = RefusesName Holds settings wo
     × RefuseNames Holds next words kind)
 
 -- A name may not be set in the text; or the text as it is set has a fault that lies in a setting.
-abbrev pub IsUnfit : List SettingData → List ℕ → List ℕ → SetFault → Type 0
-IsUnfit settings text set fault = (unmet settings text ≡ Some fault)
+abbrev pub IsUnfitSetting : List SettingData → List ℕ → List ℕ → SetFault → Type 0
+IsUnfitSetting settings text set fault = (unmet settings text ≡ Some fault)
     ⊎ ((found : PardoFault) × (program_of set ≡ Err found)
     × (blamed settings text found ≡ Some fault))
 
 -- What is set does not fit the text, and the first fault is of this kind.
 abbrev pub IsUnfitBy : List SettingData → List ℕ → SetKind → Type 0
 IsUnfitBy settings text kind = (fault : SetFault)
-    × IsUnfit settings text (text_as_set settings text) fault × (kind ≡ fault.kind)
+    × IsUnfitSetting settings text (text_as_set settings text) fault × (kind ≡ fault.kind)
 
 -- The file gave a text that what the words set does not fit.
 pub record IsMisfit (Holds : List ℕ → Option (List ℕ) → Type 0) (file : List ℕ)

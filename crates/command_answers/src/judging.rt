@@ -2,8 +2,9 @@
 ghost use Rattle.std.specs.Prelude.{◌≡◌, ◌⊎◌, ℕ, List, [], IfErr, IfOk, OnOk, false, map};
 ghost use Rattle.std.specs.Io.KnownBytes.{Appends};
 ghost use Rattle.csv.specs.Writing.{text_written};
-ghost use Rattle.exercise_records.specs.Records.{AreRecords, IsJudged, IsSaidOf, judged_text};
-ghost use Rattle.exercise_records.specs.Records.{record_of};
+ghost use Rattle.exercise_words.specs.Records.{AreRecords, AreRecorded, IsSaidOf};
+ghost use Rattle.exercise_words.specs.Records.{header_and_records};
+ghost use Rattle.exercise_words.specs.Records.{file_record};
 ghost use Rattle.naming.specs.Writing.{writing};
 ghost use Rattle.pram_streams.specs.Records.{IsBetweenRecords};
 ghost use Rattle.refusals.specs.declared.refusal.TheConstants.{MEMORY};
@@ -16,8 +17,9 @@ use crate::sweep::{Records, greater, print_records};
 use command_line::Judging;
 use csv::Writer;
 use exercise_judge::{ExerciseFault, Trial, Unfit};
-use exercise_records::{NoTrials, Said, said_of, trials_in};
-use exercise_words::{fault_name, push_exercise_fault, push_unfit, unfit_name};
+use exercise_words::{
+    NoTrials, Said, fault_name, push_exercise_fault, push_unfit, said_of, trials_in, unfit_name,
+};
 use pram_commands::{Console, DONE, Folder, REFUSED, Refusal, Unset, tell, tell_unset};
 use pram_streams::{Reason, Sink, put};
 use std::alloc::{AllocError, Global};
@@ -86,7 +88,7 @@ fn judged<'a, F: Folder>(
     file: &'a str,
     files: &[&'a str],
 ) -> Result<Records, Unjudged<'a>>
-    ensures judged { IfOk result (λ records. IsJudged (FileGives (F.holds folder.now)) file.now
+    ensures judged { IfOk result (λ records. AreRecorded (FileGives (F.holds folder.now)) file.now
         (map (λ file. file.now) files.now) records.bytes.items records.status) }
     ensures refused { IfErr result (ByExercise (F.holds folder.now) file.now) }
 {
@@ -106,7 +108,7 @@ fn records_of<F: Folder>(
 ) -> Result<Records, AllocError>
     ensures { IfOk result (λ made. (records : List ℕ) × AreRecords (FileGives (F.holds folder.now))
         trials.now (map (λ file. file.now) files.now) records made.status
-        × (made.bytes.items ≡ judged_text records)) }
+        × (made.bytes.items ≡ header_and_records records)) }
 {
     let header = Vec::from_slice(alloc, b"file,passed,input,what\n")?;
     let mut writer = Writer::from_writer(header);
@@ -131,7 +133,7 @@ fn write_record<W: Write + Drop>(
     requires { IsBetweenRecords writer.old }
     ensures between { OnOk result (IsBetweenRecords writer.new) }
     ensures text { OnOk result (Appends (text_written W.contents writer.old)
-        (text_written W.contents writer.new) (record_of file.now said.now)) }
+        (text_written W.contents writer.new) (file_record file.now said.now)) }
 {
     let fields = [
         file.as_bytes(),

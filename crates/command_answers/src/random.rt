@@ -13,9 +13,9 @@ use pram_commands::{
     tell_unset,
 };
 use pram_streams::{Reason, Sink, Source, put};
-use random_plan::{plan_text, random_rows};
 use refusals::tell_fault;
 use std::alloc::{AllocError, Global};
+use stop_plan::{plan_text, random_rows};
 
 /// A replay, and the text of the random plan that it follows.
 #[derive(Drop)]

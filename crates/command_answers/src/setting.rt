@@ -2,7 +2,7 @@
 ghost use Rattle.std.specs.Prelude.{◌≡◌, [], None, Ok, Err, map, IfErr, IfOk, IfSome, OnOk};
 ghost use Rattle.pardo_text.specs.Settings.{text_as_set, with_setting};
 ghost use Rattle.command_answers.specs.Setting.{AllMet, BySetting, FileGives, IsRefusedSet};
-ghost use Rattle.command_answers.specs.Setting.{IsSetText, IsUnfit, IsUnfitBy, RefuseNames};
+ghost use Rattle.command_answers.specs.Setting.{IsSetText, IsUnfitSetting, IsUnfitBy, RefuseNames};
 ghost use Rattle.command_answers.specs.Setting.{RefusesName, SetNames, SetsName};
 
 use pardo_answers::is_program;
@@ -63,7 +63,8 @@ fn unfit(
     set: &[u8],
 ) -> Result<Option<SetFault>, AllocError>
     ensures met { IfOk result (λ found. found ≡ None → AllMet settings.now text.now set.now) }
-    ensures unfit { IfOk result (λ found. IfSome found (IsUnfit settings.now text.now set.now)) }
+    ensures unfit { IfOk result
+        (λ found. IfSome found (IsUnfitSetting settings.now text.now set.now)) }
 {
     if !is_program(set) {
         return Ok(settings.unmet(text));

@@ -18,8 +18,8 @@ use Rattle.job_text.proofs.Naming.{array_words_lawful, is_same-true}
 use Rattle.pardo_program.specs.Program.{ArrayData, PrivateData, ProgramData}
 use Rattle.pardo_program.specs.Variables.{AreDistinct, variable_names}
 use Rattle.pardo_flat.specs.Layouts.{cells_of_array, private_cells, program_layout}
-use Rattle.naming.specs.ArrayNames.{may_name, name_of_private, private_name, row_at}
-use Rattle.naming.specs.ArrayNames.{shared_name, variable_name, word_of}
+use Rattle.naming.specs.ArrayNames.{may_name, name_of_private, private_name, array_row}
+use Rattle.naming.specs.ArrayNames.{shared_name, variable_name, word_of_array}
 
 -- ---- an array has the name of one variable
 
@@ -120,24 +120,24 @@ private_once (first ∷ privates) (suc x) (suc y) d low low_too are e =
 -- the private variable of this name has just these cells
 record IsPrivatesRow (program : ProgramData) (array : Array) (w : Word) : Type 0 where
   variable : PrivateData
-  there : slice_get program.privates (row_at program array) ≡ Some variable
+  there : slice_get program.privates (array_row program array) ≡ Some variable
   name : variable.name ≡ w
-  cells : private_cells (program_layout program) (row_at program array) ≡ array
+  cells : private_cells (program_layout program) (array_row program array) ≡ array
 
 row_found : (program : ProgramData) (array : Array) (w : Word) →
     private_name program array ≡ Some w → IsPrivatesRow program array w
 row_found program array w is = ⊎_elim
     (λ none. absurd (let never : None ≡ Some w = rw none at is in cc))
-    (λ some. go (slice_get program.privates (row_at program array)) refl (rw some at is))
+    (λ some. go (slice_get program.privates (array_row program array)) refl (rw some at is))
     (cases_Bool (array.len == 0))
   where
     go : (found : Option PrivateData) →
-        slice_get program.privates (row_at program array) ≡ found →
-        name_of_private found (private_cells (program_layout program) (row_at program array)) array
+        slice_get program.privates (array_row program array) ≡ found →
+        name_of_private found (private_cells (program_layout program) (array_row program array)) array
         ≡ Some w → IsPrivatesRow program array w
     go None at is = absurd (let never : None ≡ Some w = is in cc)
     go (Some variable) at is =
-        let cells = private_cells (program_layout program) (row_at program array) in
+        let cells = private_cells (program_layout program) (array_row program array) in
         ⊎_elim
         (λ same. record {
           variable = variable;
@@ -153,8 +153,8 @@ row_once : (program : ProgramData) (a b : Array) (w : Word) →
     IsPrivatesRow program b w → a ≡ b
 row_once program a b w are is so =
     let xs = program.privates in
-    let x = row_at program a in
-    let y = row_at program b in
+    let x = array_row program a in
+    let y = array_row program b in
     let first : get_or xs x is.variable ≡ is.variable =
     get_or_from_slice_get xs x is.variable is.variable is.there in
     let second : get_or xs y is.variable ≡ so.variable =
@@ -169,7 +169,7 @@ row_among : (program : ProgramData) (a : Array) (w : Word) → IsPrivatesRow pro
     Among (private_names program.privates) w
 row_among program a w is =
     let xs = program.privates in
-    let x = row_at program a in
+    let x = array_row program a in
     let first : get_or xs x is.variable ≡ is.variable =
     get_or_from_slice_get xs x is.variable is.variable is.there in
     subst (Among (private_names xs)) (ap (λ (v : PrivateData). v.name) first ∙ is.name)
@@ -230,7 +230,7 @@ record IsNameOf (o : Option Word) (word : Word) : Type 0 where
 abbrev IsWordOf : Option Word → Array → Word → Type 0
 IsWordOf o array word = IsNameOf o word ⊎ (word ≡ array_word array)
 
-word_is : (o : Option Word) (array : Array) → IsWordOf o array (word_of o array)
+word_is : (o : Option Word) (array : Array) → IsWordOf o array (word_of_array o array)
 word_is None array = inr refl
 word_is (Some w) array = go (may_name w) refl
   where
@@ -265,11 +265,11 @@ module _ (program : ProgramData) (are : AreDistinct (variable_names program)) (c
       (no_name (variable_name program b) word a so is)
   words_differ a b h k word (inr is) (inr so) = dotted.differ a b h k (sym is ∙ so)
 
-  pub names_lawful : AreArrayWords cells (λ array. word_of (variable_name program array) array)
+  pub names_lawful : AreArrayWords cells (λ array. word_of_array (variable_name program array) array)
   names_lawful = record {
     names = λ a h. name_of_word (variable_name program a) a _
         (word_is (variable_name program a) a) (dotted.names a h);
-    differ = λ a b h k e. words_differ a b h k (word_of (variable_name program a) a)
+    differ = λ a b h k e. words_differ a b h k (word_of_array (variable_name program a) a)
         (word_is (variable_name program a) a)
         (subst (IsWordOf (variable_name program b) b) (sym e)
         (word_is (variable_name program b) b));

@@ -22,7 +22,7 @@ use Rattle.pram_step.specs.Running.{is_running}
 use Rattle.pram_cost.specs.Costs.{IsLength}
 use Rattle.pram_cost.specs.Meetings.{IsFirstMeeting, IsFirstOrNone, Meet, access_by}
 use Rattle.pram_cost.specs.Printed.{cost_text}
-use Rattle.pram_cost.specs.Profiles.{executed_at, most_at, steps_at}
+use Rattle.pram_cost.specs.Profiles.{executed_at, most_at, instruction_steps}
 use Rattle.pram_cost.specs.declared.cost.Cost.{Cost}
 use Rattle.pram_cost.specs.declared.meeting.Meeting.{Meeting}
 use Rattle.pram_cost.specs.declared.meeting.Sharing.{Sharing}
@@ -46,10 +46,10 @@ use Rattle.pardo_law.proofs.FlatTelling.{jobs_tell_lines}
 use Rattle.pardo_answers.specs.Language.{is_program}
 use Rattle.pardo_answers.specs.Laws.{IsAnswerText, IsCarrying}
 use Rattle.pardo_answers.proofs.LawAnswers.{printed_answers_are_the_programs}
-use Rattle.pardo_costs.specs.declared.line_costs.LineCost.{LineCost}
+use Rattle.pardo_answers.specs.declared.line_costs.LineCost.{LineCost}
 use Rattle.pram_commands.specs.Costs.{TellsCost}
-use Rattle.naming.specs.Costs.{cost_words, line_costs}
-use Rattle.pardo_costs.specs.Costs.{line_cost}
+use Rattle.naming.specs.Costs.{cost_words, named_line_costs}
+use Rattle.pardo_answers.specs.Costs.{line_cost}
 use Rattle.naming.specs.Costs.{place_or_cell}
 use Rattle.naming.specs.Names.{AreNames, IsNaming, NamingData}
 use Rattle.command_law.specs.Programs.{AreLineCosts, AreProgramsCosts}
@@ -229,8 +229,8 @@ module _ (text : List ℕ) (job : JobData) (naming : NamingData) (names : IsNami
       names.makes all_lines.1 it.found it.counts in
       λ k. record {
         line = counted.number;
-        times = (ap (λ (p : ℕ). steps_at job p job.steps) it.first ∙ tells.times) k;
-        time = (ap (λ (p : ℕ). steps_at job p job.steps) it.own ∙ tells.time) k;
+        times = (ap (λ (p : ℕ). instruction_steps job p job.steps) it.first ∙ tells.times) k;
+        time = (ap (λ (p : ℕ). instruction_steps job p job.steps) it.own ∙ tells.time) k;
         operations = (ap (λ (p : ℕ). executed_at job p job.steps) it.own ∙ tells.operations) k;
         most = (ap (λ (p : ℕ). most_at job p job.steps) it.own ∙ tells.most) k;
       }
@@ -294,7 +294,7 @@ module _ (text : List ℕ) (job : JobData) (naming : NamingData) (names : IsNami
       ∙ ap (λ m. f (line_cost_by program n one) + m) (sum_of f counted)
       ∙ sym (sum_by-cons (λ c. f (line_cost_by program n c)) one counted)
 
-  pub costs_by_meaning : AreLineCosts program (line_costs (Some naming) job)
+  pub costs_by_meaning : AreLineCosts program (named_line_costs (Some naming) job)
   costs_by_meaning =
       let counted : List CountedLine = counted_from program 0 program.lines in
       let same : map (line_cost job) counted ≡ map (line_cost_by program n) counted =
@@ -336,10 +336,10 @@ by_names text job bytes answer one (Some naming) names tells same =
           cost.meetings.other_value reached first.other_value;
       conflict = conflict_is text job naming names is cost.steps cost.conflict
           tells.costs.length_is;
-      lines = line_costs (Some naming) job;
+      lines = named_line_costs (Some naming) job;
       lines_cost = costs_by_meaning text job naming names is;
       prints = tells.prints ∙ ap (λ (n : Option NamingData).
-          cost_text (cost_words n (line_costs n job)) cost tells.pram) same;
+          cost_text (cost_words n (named_line_costs n job)) cost tells.pram) same;
     }
 
 pub costs_tell : CostsTellTheProgramsLines
@@ -356,10 +356,10 @@ records_by_names text job bytes answer one (Some naming) names tells same =
     let is = programs_job text job naming names in record {
       naming = naming;
       is = is;
-      lines = line_costs (Some naming) job;
+      lines = named_line_costs (Some naming) job;
       lines_cost = costs_by_meaning text job naming names is;
       prints = tells.prints
-          ∙ ap (λ (n : Option NamingData). records_text text (line_costs n job)) same;
+          ∙ ap (λ (n : Option NamingData). records_text text (named_line_costs n job)) same;
     }
 
 pub records_tell : RecordsTellTheProgramsLines

@@ -12,7 +12,7 @@ use Rattle.pram_machine.specs.Instructions.{decided, decided_in, goes_to, reques
 use Rattle.pram_machine.specs.Machine.{State, counter, halted, register_place}
 use Rattle.pram_step.specs.Runs.{state_after}
 use Rattle.pram_step.proofs.LawCounters.{stopped_processor}
-use Rattle.pram_fates.specs.Fates.{NamesNone}
+use Rattle.pram_rows.specs.Fates.{NamesNone}
 use Rattle.pram_cost.specs.Accesses.{cell_by, put_to_cell}
 use Rattle.pram_cost.specs.Meetings.{access_by}
 use Rattle.pram_cost.specs.declared.meeting.Sharing.{Sharing}

@@ -13,12 +13,12 @@ use Rattle.pram_step.specs.declared.answer.RunAnswer.TheVariants.{Final, Conflic
 use Rattle.pram_step.specs.Runs.{AgreesAfter, IsAnswer, IsFault, IsReached, state_after}
 use Rattle.pram_step.proofs.LawAnswer.{conflict_ends}
 use Rattle.pram_step.proofs.LawFixed.{reached_down}
-use Rattle.pram_fates.specs.declared.fates.End.{End}
-use Rattle.pram_fates.specs.declared.fates.End.TheVariants.{Running, Stopped}
-use Rattle.pram_fates.specs.declared.fates.Fates.{Fates}
-use Rattle.pram_fates.specs.declared.fates.Lost.{Lost}
-use Rattle.pram_fates.specs.Fates.{AllName, AreFates, AreMade as AreStepsMade, IsEnd as IsEndAfter}
-use Rattle.pram_fates.specs.Fates.{IsFirstLost, IsFirstLostOrNone, NamesNone}
+use Rattle.pram_rows.specs.declared.fates.End.{End}
+use Rattle.pram_rows.specs.declared.fates.End.TheVariants.{Running, Stopped}
+use Rattle.pram_rows.specs.declared.fates.Fates.{Fates}
+use Rattle.pram_rows.specs.declared.fates.Lost.{Lost}
+use Rattle.pram_rows.specs.Fates.{AllName, AreFates, AreMade as AreStepsMade, IsEnd as IsEndAfter}
+use Rattle.pram_rows.specs.Fates.{IsFirstLost, IsFirstLostOrNone, NamesNone}
 use Rattle.pardo_program.specs.Program.{ProgramData}
 use Rattle.pardo_job.specs.Carries.{ShowsFlat}
 use Rattle.pardo_job.specs.Compiled.{IsWhole}

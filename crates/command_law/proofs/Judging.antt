@@ -5,7 +5,7 @@ use Rattle.pram_step.specs.declared.answer.RunAnswer.{RunAnswer}
 use Rattle.pram_cost.specs.Beyond.{beyond_line}
 use Rattle.pram_cost.specs.declared.pram.Pram.{Pram}
 use Rattle.pardo_answers.specs.Language.{is_program}
-use Rattle.naming.specs.Costs.{cost_words, line_costs}
+use Rattle.naming.specs.Costs.{cost_words, named_line_costs}
 use Rattle.naming.specs.Names.{AreNames, NamingData}
 use Rattle.pram_commands.specs.Under.{TellsBeyond}
 use Rattle.command_law.specs.Programs.{IsProgramsBeyond, ModelsJudgeTheProgram}
@@ -31,7 +31,7 @@ beyond_by_names pram text job bytes answer one (Some naming) names tells same =
           tells.beyond.meeting
           (reached_within job cost.steps cost.conflict tells.costs.length_is) tells.is.first;
       prints = tells.prints ∙ ap (λ (n : Option NamingData).
-          beyond_line (cost_words n (line_costs n job)) pram tells.beyond) same;
+          beyond_line (cost_words n (named_line_costs n job)) pram tells.beyond) same;
     }
 
 pub models_judge : ModelsJudgeTheProgram

@@ -12,7 +12,7 @@ use Rattle.pardo_job.specs.Meaning.{after}
 use Rattle.pardo_job.specs.Runs.{IsProgramEnd}
 use Rattle.pardo_answers.specs.Language.{is_program}
 use Rattle.pardo_answers.proofs.LawAnswers.{one_line}
-use Rattle.naming.specs.Costs.{line_costs}
+use Rattle.naming.specs.Costs.{named_line_costs}
 use Rattle.naming.specs.Names.{AreNames, IsNaming, NamingData}
 use Rattle.pram_commands.specs.Sweeps.{TellsRecord, end_word, fields_text, told_gone}
 use Rattle.command_law.specs.Programs.{IsEndWord, IsProgramsJob, IsProgramsRun}
@@ -82,11 +82,11 @@ run_by_names text job bytes answer one (Some naming) names tells same =
       costs = tells.costs;
       procs = tells.costs.cost_is.procs_are ∙ procs;
       needs = tells.needs;
-      lines = line_costs (Some naming) job;
+      lines = named_line_costs (Some naming) job;
       lines_cost = costs_by_meaning text job naming names is;
       word = end_word naming.program.procs (told_gone (Some naming)) cost.conflict;
       ends = word_is text job naming names is cost.steps cost.conflict tells.costs.length_is;
-      prints = tells.prints ∙ ap₂ (λ (n : Option NamingData) (p : ℕ). fields_text (line_costs n job)
+      prints = tells.prints ∙ ap₂ (λ (n : Option NamingData) (p : ℕ). fields_text (named_line_costs n job)
           cost tells.pram (end_word p (told_gone n) cost.conflict)) same procs;
     }
 

@@ -7,9 +7,9 @@ use Rattle.pram_step.specs.declared.answer.RunAnswer.{RunAnswer}
 use Rattle.pram_step.specs.declared.answer.RunAnswer.TheVariants.{Final, Conflict, Unfinished}
 use Rattle.pram_step.specs.Runs.{IsAnswer, IsReached, state_after}
 use Rattle.pram_step.proofs.LawPlaces.{writer_is}
-use Rattle.pram_fates.specs.declared.causes.Values.{Values}
-use Rattle.pram_fates.specs.Causes.{AreValuesOf, clash_values}
-use Rattle.pram_fates.proofs.LawCauses.{clash_written}
+use Rattle.pram_rows.specs.declared.causes.Values.{Values}
+use Rattle.pram_rows.specs.Causes.{AreValuesOf, clash_values}
+use Rattle.pram_rows.proofs.LawCauses.{clash_written}
 use Rattle.pardo_law.specs.Between.{PutsTo}
 use Rattle.stop_plan.specs.Plan.{PlanData}
 use Rattle.pram_board.specs.Seats.{SeatData}

@@ -12,12 +12,12 @@ use Rattle.pram_step.specs.declared.answer.RunAnswer.{RunAnswer}
 use Rattle.pram_step.specs.declared.answer.RunAnswer.TheVariants.{Final, Conflict, Unfinished}
 use Rattle.pram_step.specs.Runs.{IsAnswer, IsReached, state_after}
 use Rattle.pram_streams.specs.Printed.{summary}
-use Rattle.pram_fates.specs.declared.fates.End.{End}
-use Rattle.pram_fates.specs.declared.fates.End.TheVariants.{Running, Stopped}
-use Rattle.pram_fates.specs.declared.causes.Values.{Values}
-use Rattle.pram_fates.specs.declared.causes.Why.{Why}
-use Rattle.pram_fates.specs.declared.fates.Lost.{Lost}
-use Rattle.pram_fates.specs.Told.{why_text}
+use Rattle.pram_rows.specs.declared.fates.End.{End}
+use Rattle.pram_rows.specs.declared.fates.End.TheVariants.{Running, Stopped}
+use Rattle.pram_rows.specs.declared.causes.Values.{Values}
+use Rattle.pram_rows.specs.declared.causes.Why.{Why}
+use Rattle.pram_rows.specs.declared.fates.Lost.{Lost}
+use Rattle.pram_rows.specs.Told.{why_text}
 use Rattle.pram_rows.specs.Rows.{row_end, rows_text}
 use Rattle.pram_rows.specs.Shown.{last_step, steps_text}
 use Rattle.pram_rows.specs.declared.window.Window.{Window}
@@ -54,7 +54,7 @@ use Rattle.pardo_job.specs.declared.times.CountedLine.{CountedLine}
 use Rattle.pardo_law.specs.Between.{AreLinesMade, GoesThrough, PutsTo}
 use Rattle.pardo_answers.specs.Language.{is_program}
 use Rattle.naming.specs.CellLists.{AreCellsOf}
-use Rattle.pardo_costs.specs.declared.line_costs.LineCost.{LineCost}
+use Rattle.pardo_answers.specs.declared.line_costs.LineCost.{LineCost}
 use Rattle.naming.specs.Costs.{cost_words, place_or_cell, spot_in}
 use Rattle.pram_commands.specs.Costs.{costing}
 use Rattle.pram_commands.specs.LineRecords.{costing_by}

@@ -48,8 +48,8 @@ number_rule name least most =
     record (option_rule name) { parser = Some (Signed (pos least) (pos most)) }
 
 -- an argument that has to stand
-abbrev pub needed : Rule → Rule
-needed rule = record rule { required = true }
+abbrev pub has_to_stand : Rule → Rule
+has_to_stand rule = record rule { required = true }
 
 -- an option that stands or does not
 abbrev pub flag_rule : Text → Rule
@@ -65,7 +65,7 @@ list_rule name = several_rule (option_rule name)
 
 -- NAME FILE [--explain]
 abbrev pub on_text : Text → App
-on_text name = with_rule (with_rule (new_app name) (needed (placed_rule (codes "file"))))
+on_text name = with_rule (with_rule (new_app name) (has_to_stand (placed_rule (codes "file"))))
     (flag_rule (codes "explain"))
 
 -- NAME FILE [--explain] [--set NAME=V,..]..
@@ -74,11 +74,12 @@ on_file name = with_rule (on_text name) (list_rule (codes "set"))
 
 -- sweep FILE [--explain] --set NAME=V,.. [--set NAME=V,..]..
 abbrev pub on_sweep : App
-on_sweep = with_rule (on_text (codes "sweep")) (needed (list_rule (codes "set")))
+on_sweep = with_rule (on_text (codes "sweep")) (has_to_stand (list_rule (codes "set")))
 
 -- judge EXERCISE [--explain] FILE..
 abbrev pub on_judge : App
-on_judge = with_rule (on_text (codes "judge")) (needed (several_rule (placed_rule (codes "files"))))
+on_judge = with_rule (on_text (codes "judge"))
+    (has_to_stand (several_rule (placed_rule (codes "files"))))
 
 -- [--csv] [--why]
 abbrev pub with_style : App → App
@@ -113,7 +114,7 @@ on_trace = with_rule (on_file (codes "trace")) (flag_rule (codes "csv"))
 -- NAME FILE --workers W [--plan P]
 abbrev pub with_workers : Text → App
 with_workers name =
-    with_rule (with_rule (on_file name) (needed (number_rule (codes "workers") 1 64)))
+    with_rule (with_rule (on_file name) (has_to_stand (number_rule (codes "workers") 1 64)))
     (option_rule (codes "plan"))
 
 -- [--progress] [--pace MICROSECONDS]
@@ -132,7 +133,8 @@ on_run = with_style (with_manner (with_workers (codes "run")))
 -- watch FILE --workers W --cells C,C,.. --rounds R [--plan P], and these
 abbrev pub on_watch : App
 on_watch = with_manner (with_rule (with_rule (with_workers (codes "watch"))
-    (needed (option_rule (codes "cells")))) (needed (number_rule (codes "rounds") 1 1000000)))
+    (has_to_stand (option_rule (codes "cells"))))
+    (has_to_stand (number_rule (codes "rounds") 1 1000000)))
 
 -- replay FILE --workers W [--plan P] [--random SEED] [--csv]
 abbrev pub on_replay : App
@@ -293,8 +295,8 @@ IsMetAs matches file plan (Alone ask) = IsMetAlone matches file plan ask
 IsMetAs matches file plan (OnThreads ask) = IsMetOnThreads matches file plan ask
 
 -- the line is what was met
-abbrev pub IsMet : Option (Text × List Row) → Line → Type 0
-IsMet matches line = IsMetAs matches line.file.now (text_now line.plan) line.ask
+abbrev pub IsLineMet : Option (Text × List Row) → Line → Type 0
+IsLineMet matches line = IsMetAs matches line.file.now (text_now line.plan) line.ask
 
 -- how standard error is told how far the workers are
 abbrev pub telling_of : Ask → Telling
@@ -316,7 +318,7 @@ HasSeed matches random = IfSome matches (λ met. IsNumberIfSet (codes "random") 
 -- explained; what the line tells suits the device.
 pub record IsAskedLine (on_terminal : Bool) (matches : Option (Text × List Row))
     (asked : Asked) : Type 0 where
-  pub line : IsMet matches asked.line
+  pub line : IsLineMet matches asked.line
   pub telling : SuitsTerminal on_terminal (telling_of asked.line.ask)
   pub random : HasSeed matches asked.random
   pub explain : HasFlag (codes "explain") matches asked.explain
@@ -334,10 +336,10 @@ pub record IsJudging (matches : Option (Text × List Row)) (judging : Judging) :
   pub explain : HasFlag (codes "explain") matches judging.explain
 
 -- What was met is a line, with what names are set to; or submissions.
-abbrev pub IsGiven : Bool → Option (Text × List Row) → Given → Type 0
-IsGiven on_terminal matches (given.Line asked settings) = IsAskedLine on_terminal matches asked
+abbrev pub IsLineGiven : Bool → Option (Text × List Row) → Given → Type 0
+IsLineGiven on_terminal matches (given.Line asked settings) = IsAskedLine on_terminal matches asked
     × HasSettings matches (map (λ word. word.now) settings.items)
-IsGiven on_terminal matches (given.Judge judging) = IsJudging matches judging
+IsLineGiven on_terminal matches (given.Judge judging) = IsJudging matches judging
 
 -- What stands for cells names none.
 pub record HasBadCells (rows : List Row) : Type 0 where

@@ -1,7 +1,7 @@
 //! The arguments of a command, as `clap` is given them.
 ghost use Rattle.std.specs.Prelude.{◌≡◌, Some, false, IfOk};
 ghost use Rattle.clap.specs.Words.{App, Rule, app_of, rule_of, with_rule};
-ghost use Rattle.command_line.specs.CommandLine.{flag_rule, list_rule, needed, several_rule};
+ghost use Rattle.command_line.specs.CommandLine.{flag_rule, list_rule, has_to_stand, several_rule};
 ghost use Rattle.command_line.specs.CommandLine.{option_rule, placed_rule};
 
 use clap::builder::ValueParser;
@@ -79,7 +79,7 @@ pub(crate) fn numbered<'a>(arg: Arg<'a>, bounds: ValueParser<'a>) -> Arg<'a>
 
 // Makes an argument one that has to stand.
 pub(crate) fn needed<'a>(arg: Arg<'a>) -> Arg<'a>
-    ensures rule { rule_of result ≡ needed (rule_of arg.entry) }
+    ensures rule { rule_of result ≡ has_to_stand (rule_of arg.entry) }
     ensures local { result.global ≡ arg.entry.global }
 {
     arg.required(true)

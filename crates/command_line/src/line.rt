@@ -2,8 +2,10 @@
 ghost use Rattle.std.specs.Prelude.{◌≡◌, ◌≢◌, true, map, IfOk, IfErr, IfSome};
 ghost use Rattle.clap.specs.Words.{App, app_of, kind_of, subcommand_of, subcommand_rows_of};
 ghost use Rattle.clap.specs.Words.{with_subcommand};
-ghost use Rattle.command_line.specs.CommandLine.{AreRefused, FailsByWords, IsAskedLine, IsGiven};
-ghost use Rattle.command_line.specs.CommandLine.{IsJudging, IsMet, MeanNoLine, bare, HasSettings};
+ghost use Rattle.command_line.specs.CommandLine.{AreRefused, FailsByWords, IsAskedLine};
+ghost use Rattle.command_line.specs.CommandLine.{IsLineGiven};
+ghost use Rattle.command_line.specs.CommandLine.{IsJudging, IsLineMet, MeanNoLine, bare};
+ghost use Rattle.command_line.specs.CommandLine.{HasSettings};
 ghost use Rattle.command_line.specs.CommandLine.{on_machine, pramx, SuitsTerminal, telling_of};
 
 use crate::bad_value::{bad_value, value_error};
@@ -70,7 +72,7 @@ pub fn read_line<'a>(
     words: &'a [&'a str],
     on_terminal: bool,
 ) -> Result<Given<'a>, Error>
-    ensures given { IfOk result (IsGiven on_terminal
+    ensures given { IfOk result (IsLineGiven on_terminal
         (subcommand_of pramx (map (λ word. word.now) words.entry.now))) }
     ensures taken { IfOk result (λ given. ¬ MeanNoLine (map (λ word. word.now)
         words.entry.now)) }
@@ -93,7 +95,7 @@ pub fn read_line<'a>(
 
 // What the matches ask, if there is memory for it.
 fn given_of<'a>(alloc: Global, matches: &ArgMatches<'a>, on_terminal: bool) -> Option<Given<'a>>
-    ensures { IfSome result (IsGiven on_terminal (subcommand_rows_of matches.now)) }
+    ensures { IfSome result (IsLineGiven on_terminal (subcommand_rows_of matches.now)) }
 {
     let Ok(found) = judging_of(alloc, matches) else {
         return None;
@@ -214,7 +216,7 @@ fn asked_of<'a>(matches: &ArgMatches<'a>, on_terminal: bool) -> Option<Asked<'a>
 
 #[tactic(auto, using(crate::proofs::Matches::met_file))]
 fn line_of<'a>(matches: &ArgMatches<'a>, on_terminal: bool) -> Option<Line<'a>>
-    ensures met { IfSome result (IsMet (subcommand_rows_of matches.now)) }
+    ensures met { IfSome result (IsLineMet (subcommand_rows_of matches.now)) }
     ensures suits { IfSome result (λ line. SuitsTerminal on_terminal (telling_of line.ask)) }
 {
     let (name, inner) = matches.subcommand()?;
@@ -262,7 +264,7 @@ fn line_of<'a>(matches: &ArgMatches<'a>, on_terminal: bool) -> Option<Line<'a>>
 
 // The line that asks for rows, or for threads.
 fn rows_line_of<'a>(matches: &ArgMatches<'a>, on_terminal: bool) -> Option<Line<'a>>
-    ensures met { IfSome result (IsMet (subcommand_rows_of matches.now)) }
+    ensures met { IfSome result (IsLineMet (subcommand_rows_of matches.now)) }
     ensures suits { IfSome result (λ line. SuitsTerminal on_terminal (telling_of line.ask)) }
 {
     let (name, inner) = matches.subcommand()?;
@@ -297,7 +299,7 @@ fn rows_line_of<'a>(matches: &ArgMatches<'a>, on_terminal: bool) -> Option<Line<
 
 // The line that asks for threads.
 fn threads_line_of<'a>(matches: &ArgMatches<'a>, on_terminal: bool) -> Option<Line<'a>>
-    ensures met { IfSome result (IsMet (subcommand_rows_of matches.now)) }
+    ensures met { IfSome result (IsLineMet (subcommand_rows_of matches.now)) }
     ensures suits { IfSome result (λ line. SuitsTerminal on_terminal (telling_of line.ask)) }
 {
     let (name, inner) = matches.subcommand()?;

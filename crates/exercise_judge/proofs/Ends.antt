@@ -11,13 +11,13 @@ use Rattle.pardo_program.specs.Program.{ProgramData}
 use Rattle.pardo_text.specs.Reading.{program_of}
 use Rattle.pardo_text.specs.declared.fault.PardoFault.{PardoFault}
 use Rattle.pardo_job.specs.Compiled.{IsCompiled}
-use Rattle.pardo_costs.specs.declared.run.Run.{Run}
-use Rattle.pardo_costs.specs.Runs.{IsRun}
+use Rattle.pardo_answers.specs.declared.run.Run.{Run}
+use Rattle.pardo_answers.specs.Runs.{IsTextRun}
 use Rattle.exercise_text.specs.Entries.{EntryData, answer_of}
 use Rattle.exercise_text.specs.declared.key.Key.TheVariants.{Reference}
-use Rattle.exercise_header.specs.Headers.{header_as_set, header_of}
-use Rattle.exercise_header.specs.Values.{WantedData, held_by, start_of, wanted_by}
-use Rattle.exercise_judge.specs.Trials.{AreEnds, AreSaid, AreWanted, EndsWith, names_in, part_in}
+use Rattle.exercise_text.specs.Headers.{header_as_set, header_of}
+use Rattle.exercise_text.specs.Values.{WantedData, held_by, array_start, wanted_by}
+use Rattle.exercise_judge.specs.Trials.{AreEnds, AreSaid, AreWanted, EndsWith, wanted_names, part_in}
 use Rattle.exercise_judge.proofs.OneJob.{one_job}
 use Rattle.exercise_judge.proofs.Refused.{ok_same}
 
@@ -26,7 +26,7 @@ final_same a b same = cc
 
 -- ---- a run of the text
 
-module _ (text : List ℕ) (run : Run) (is : IsRun text run) (program : ProgramData) (job : JobData)
+module _ (text : List ℕ) (run : Run) (is : IsTextRun text run) (program : ProgramData) (job : JobData)
     (line_of : ℕ → ℕ) (cells : List ℕ) (it : EndsWith text program job line_of cells) where
   pub same_program : run.program ≡ program
   same_program = ok_same run.program program (program_of text) is.0 it.reads
@@ -80,7 +80,7 @@ said_same header words names a b (set, program, sets, reads, are) (
     let same : set ≡ other = text_same set other (header_as_set header words) sets other_sets in
     let one : program ≡ too = ok_same program too (header_of other (codes "0"))
     (subst (λ (s : List ℕ). header_of s (codes "0") ≡ Ok program) same reads) other_reads in
-    are ∙ ap (λ (p : ProgramData). map (wanted_by (start_of p.arrays)) names) one ∙ sym other_are
+    are ∙ ap (λ (p : ProgramData). map (wanted_by (array_start p.arrays)) names) one ∙ sym other_are
 
 pub wanted_same : (exercise : List EntryData) (input : EntryData) (header : List ℕ)
     (a b : List WantedData) → AreWanted exercise input header a →
@@ -88,9 +88,9 @@ pub wanted_same : (exercise : List EntryData) (input : EntryData) (header : List
 wanted_same exercise input header a b = by (answer_of (words_of input.text))
   where
     by : (said : Option Line) →
-        MatchOption said (AreEnds (header ++ part_in Reference exercise) (names_in exercise) a)
-        (λ words. AreSaid header words (names_in exercise) a) →
-        MatchOption said (AreEnds (header ++ part_in Reference exercise) (names_in exercise) b)
-        (λ words. AreSaid header words (names_in exercise) b) → a ≡ b
-    by None x y = ends_same (header ++ part_in Reference exercise) (names_in exercise) a b x y
-    by (Some words) x y = said_same header words (names_in exercise) a b x y
+        MatchOption said (AreEnds (header ++ part_in Reference exercise) (wanted_names exercise) a)
+        (λ words. AreSaid header words (wanted_names exercise) a) →
+        MatchOption said (AreEnds (header ++ part_in Reference exercise) (wanted_names exercise) b)
+        (λ words. AreSaid header words (wanted_names exercise) b) → a ≡ b
+    by None x y = ends_same (header ++ part_in Reference exercise) (wanted_names exercise) a b x y
+    by (Some words) x y = said_same header words (wanted_names exercise) a b x y

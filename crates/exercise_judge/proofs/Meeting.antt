@@ -5,17 +5,17 @@ use Rattle.pram_step.specs.declared.answer.RunAnswer.TheVariants.{Final}
 use Rattle.pram_step.specs.Runs.{IsAnswer}
 use Rattle.pram_cost.specs.Models.{AcceptsSteps}
 use Rattle.pram_cost.specs.declared.pram.Pram.{Pram}
-use Rattle.pardo_costs.specs.declared.line_costs.LineCost.{LineCost}
-use Rattle.pardo_costs.specs.declared.run.Run.{Run}
-use Rattle.pardo_costs.specs.Costs.{operations_in, time_in}
-use Rattle.pardo_costs.specs.Runs.{IsRun}
-use Rattle.exercise_given.specs.Submissions.{code_lines, judged_text, missing_line}
-use Rattle.exercise_judge.specs.Trials.{AreHeld, IsWithin, Meets, TrialData}
+use Rattle.pardo_answers.specs.declared.line_costs.LineCost.{LineCost}
+use Rattle.pardo_answers.specs.declared.run.Run.{Run}
+use Rattle.pardo_answers.specs.Costs.{operations_in, time_in}
+use Rattle.pardo_answers.specs.Runs.{IsTextRun}
+use Rattle.exercise_text.specs.Submissions.{code_lines, judged_text, missing_line}
+use Rattle.exercise_judge.specs.Trials.{AreHeld, KeepsBar, Meets, TrialData}
 use Rattle.exercise_judge.proofs.Costs.{all_steps}
 
 module _ (trial : TrialData) (submission : List ℕ) (run : Run) (cells : List ℕ)
     (given : missing_line trial.header submission ≡ None)
-    (is : IsRun (judged_text trial.header submission) run)
+    (is : IsTextRun (judged_text trial.header submission) run)
     (answer : run.ended.answer ≡ Final cells) where
   ends : IsAnswer run.job (Final cells)
   ends = subst (IsAnswer run.job) answer is.1.ended.answers
@@ -24,9 +24,9 @@ module _ (trial : TrialData) (submission : List ℕ) (run : Run) (cells : List �
   steps_are = all_steps run.job run.costs.cost cells is.1.cost ends
 
   pub met : AreHeld trial.wanted run.program (slice_index cells) →
-      IsWithin trial.time (time_in run.costs.lines.items) →
-      IsWithin trial.operations (operations_in run.costs.lines.items) →
-      IsWithin trial.steps run.job.steps → IsWithin trial.lines (code_lines submission) →
+      KeepsBar trial.time (time_in run.costs.lines.items) →
+      KeepsBar trial.operations (operations_in run.costs.lines.items) →
+      KeepsBar trial.steps run.job.steps → KeepsBar trial.lines (code_lines submission) →
       IfSome trial.model (λ allowed. AcceptsSteps allowed run.job run.costs.cost.steps) →
       Meets trial submission
   met values time operations steps lines model = record {
@@ -37,8 +37,8 @@ module _ (trial : TrialData) (submission : List ℕ) (run : Run) (cells : List �
     cells = cells;
     ends = record { reads = is.0; compiled = is.1.compiled; ends = ends };
     values = values;
-    time = subst (λ (l : List LineCost). IsWithin trial.time (time_in l)) is.1.lines time;
-    operations = subst (λ (l : List LineCost). IsWithin trial.operations (operations_in l))
+    time = subst (λ (l : List LineCost). KeepsBar trial.time (time_in l)) is.1.lines time;
+    operations = subst (λ (l : List LineCost). KeepsBar trial.operations (operations_in l))
         is.1.lines operations;
     steps = steps;
     lines = lines;

@@ -20,7 +20,7 @@ use Rattle.pardo_job.specs.Lines.{job_of, place_of}
 use Rattle.pardo_job.specs.Refusals.{IsProgramFault, IsProgramRefusal, IsTooGreat, is_level, is_short}
 use Rattle.pardo_job.proofs.JobFits.{code_length}
 use Rattle.pardo_job.proofs.Placed.{place_below}
-use Rattle.exercise_judge.specs.Verdicts.{IsOfText}
+use Rattle.exercise_judge.specs.Verdicts.{IsOfSubmission}
 
 both_true : (a b : Bool) → a ≡ true → b ≡ true → (a && b) ≡ false → ⊥
 both_true true true e f differ = cc
@@ -84,7 +84,7 @@ module _ (program : ProgramData) (job : JobData) (line_of : ℕ → ℕ)
 pub ok_same : (a b : ProgramData) (r : Result ProgramData PardoFault) → r ≡ Ok a → r ≡ Ok b → a ≡ b
 ok_same a b r x y = cc
 
-pub refused : (text : List ℕ) (refusal : Refusal) → IsProgramRefusal text refusal → IsOfText refusal →
+pub refused : (text : List ℕ) (refusal : Refusal) → IsProgramRefusal text refusal → IsOfSubmission refusal →
     (program : ProgramData) (job : JobData) (line_of : ℕ → ℕ) → program_of text ≡ Ok program →
     IsCompiled program job line_of → ⊥
 refused text (Text fault) is certain program job line_of reads compiled =

@@ -7,18 +7,18 @@ use Rattle.pram_step.specs.Runs.{IsAnswer}
 use Rattle.pram_cost.specs.Models.{AcceptsSteps}
 use Rattle.pram_cost.specs.declared.pram.Pram.{Pram}
 use Rattle.pardo_program.specs.Program.{ProgramData}
-use Rattle.pardo_costs.specs.declared.line_costs.LineCost.{LineCost}
-use Rattle.pardo_costs.specs.declared.run.Run.{Run}
-use Rattle.pardo_costs.specs.Costs.{line_costs, operations_in, time_in}
-use Rattle.pardo_costs.specs.Runs.{IsRun}
-use Rattle.exercise_given.specs.Submissions.{judged_text}
-use Rattle.exercise_judge.specs.Trials.{AreHeld, IsWithin, Meets, TrialData}
+use Rattle.pardo_answers.specs.declared.line_costs.LineCost.{LineCost}
+use Rattle.pardo_answers.specs.declared.run.Run.{Run}
+use Rattle.pardo_answers.specs.Costs.{line_costs, operations_in, time_in}
+use Rattle.pardo_answers.specs.Runs.{IsTextRun}
+use Rattle.exercise_text.specs.Submissions.{judged_text}
+use Rattle.exercise_judge.specs.Trials.{AreHeld, KeepsBar, Meets, TrialData}
 use Rattle.exercise_judge.proofs.Costs.{all_steps}
 use Rattle.exercise_judge.proofs.Ends.{final_same}
 use Rattle.exercise_judge.proofs.Ends as ends
 
 module _ (trial : TrialData) (submission : List ℕ) (run : Run)
-    (is : IsRun (judged_text trial.header submission) run) (met : Meets trial submission) where
+    (is : IsTextRun (judged_text trial.header submission) run) (met : Meets trial submission) where
   abbrev text : List ℕ
   text = judged_text trial.header submission
 
@@ -44,16 +44,16 @@ module _ (trial : TrialData) (submission : List ℕ) (run : Run)
   lines_are : line_costs met.program met.job ≡ run.costs.lines.items
   lines_are = sym (is.1.lines ∙ ap₂ line_costs same_program same_job)
 
-  pub costs_too : IsWithin trial.time (time_in run.costs.lines.items)
-      × IsWithin trial.operations (operations_in run.costs.lines.items)
+  pub costs_too : KeepsBar trial.time (time_in run.costs.lines.items)
+      × KeepsBar trial.operations (operations_in run.costs.lines.items)
   costs_too = (
-    subst (λ (l : List LineCost). IsWithin trial.time (time_in l)) lines_are met.time,
-    subst (λ (l : List LineCost). IsWithin trial.operations (operations_in l)) lines_are
+    subst (λ (l : List LineCost). KeepsBar trial.time (time_in l)) lines_are met.time,
+    subst (λ (l : List LineCost). KeepsBar trial.operations (operations_in l)) lines_are
         met.operations,
   )
 
-  pub steps_too : IsWithin trial.steps run.job.steps
-  steps_too = subst (λ (j : JobData). IsWithin trial.steps j.steps) (sym same_job) met.steps
+  pub steps_too : KeepsBar trial.steps run.job.steps
+  steps_too = subst (λ (j : JobData). KeepsBar trial.steps j.steps) (sym same_job) met.steps
 
   pub model_too : IfSome trial.model (λ (allowed : Pram).
       AcceptsSteps allowed run.job run.costs.cost.steps)

@@ -12,15 +12,16 @@ use Rattle.pram_cost.specs.declared.pram.Pram.{Pram}
 use Rattle.pardo_program.specs.Program.{ProgramData}
 use Rattle.pardo_text.specs.Reading.{program_of}
 use Rattle.pardo_job.specs.Compiled.{IsCompiled}
-use Rattle.pardo_costs.specs.Costs.{line_costs, operations_in, time_in}
+use Rattle.pardo_answers.specs.Costs.{line_costs, operations_in, time_in}
 use Rattle.exercise_text.specs.declared.key.Key.{Key}
 use Rattle.exercise_text.specs.declared.key.Key.TheVariants as key
-use Rattle.exercise_text.specs.Entries.{EntryData, answer_of, bar_in, model_in, number_in, text_of}
+use Rattle.exercise_text.specs.Entries.{EntryData, answer_of, bar_in, model_in, number_after}
+use Rattle.exercise_text.specs.Entries.{entry_text}
 use Rattle.exercise_text.specs.Keys.{is_input}
-use Rattle.exercise_given.specs.Submissions.{code_lines, judged_text, missing_line}
-use Rattle.exercise_given.specs.Sets.{unknown_word}
-use Rattle.exercise_header.specs.Headers.{header_as_set, header_of, value_by}
-use Rattle.exercise_header.specs.Values.{WantedData, held_by, start_of, wanted_by}
+use Rattle.exercise_text.specs.Submissions.{code_lines, judged_text, missing_line}
+use Rattle.exercise_text.specs.Sets.{unknown_word}
+use Rattle.exercise_text.specs.Headers.{header_as_set, header_of, expression_value}
+use Rattle.exercise_text.specs.Values.{WantedData, held_by, array_start, wanted_by}
 
 -- The header as the input sets it, what is wanted at the end, the bars, and the weakest model that
 -- is allowed.
@@ -45,8 +46,8 @@ pub record EndsWith (text : List ℕ) (program : ProgramData) (job : JobData) (l
 -- ---- a trial is met
 
 -- it takes no more than a bar, if there is one, allows
-abbrev pub IsWithin : Option ℕ → ℕ → Type 0
-IsWithin most took = IfSome most (λ allowed. took ≤ allowed)
+abbrev pub KeepsBar : Option ℕ → ℕ → Type 0
+KeepsBar most took = IfSome most (λ allowed. took ≤ allowed)
 
 -- the names hold what is wanted
 abbrev pub AreHeld : List WantedData → ProgramData → (ℕ → ℕ) → Type 0
@@ -63,31 +64,32 @@ pub record Meets (trial : TrialData) (submission : List ℕ) : Type 0 where
   pub cells : List ℕ
   pub ends : EndsWith (judged_text trial.header submission) program job line_of cells
   pub values : AreHeld trial.wanted program (slice_index cells)
-  pub time : IsWithin trial.time (time_in (line_costs program job))
-  pub operations : IsWithin trial.operations (operations_in (line_costs program job))
-  pub steps : IsWithin trial.steps job.steps
-  pub lines : IsWithin trial.lines (code_lines submission)
+  pub time : KeepsBar trial.time (time_in (line_costs program job))
+  pub operations : KeepsBar trial.operations (operations_in (line_costs program job))
+  pub steps : KeepsBar trial.steps job.steps
+  pub lines : KeepsBar trial.lines (code_lines submission)
   pub model : IfSome trial.model (λ model. AcceptsSteps model job job.steps)
 
 -- ---- the trials of an exercise
 
 -- the bar of this key has this value
 abbrev pub IsBar : List EntryData → List ℕ → Key → Option ℕ → Type 0
-IsBar exercise header key most = MatchOption (option_and_then bar_in (text_of key exercise))
-    (most ≡ None) (λ bar. (value : ℕ) × (value_by header bar ≡ Ok value) × (most ≡ Some value))
+IsBar exercise header key most = MatchOption (option_and_then bar_in (entry_text key exercise))
+    (most ≡ None)
+    (λ bar. (value : ℕ) × (expression_value header bar ≡ Ok value) × (most ≡ Some value))
 
 -- the names of an exercise
 abbrev pub part_in : Key → List EntryData → List ℕ
-part_in key exercise = unwrap_or (text_of key exercise) []
+part_in key exercise = unwrap_or (entry_text key exercise) []
 
-abbrev pub names_in : List EntryData → Line
-names_in exercise = words_of (part_in key.Want exercise)
+abbrev pub wanted_names : List EntryData → Line
+wanted_names exercise = words_of (part_in key.Want exercise)
 
 -- what the input says is wanted: what the names start with, as its words behind `->` set them
 abbrev pub AreSaid : List ℕ → Line → Line → List WantedData → Type 0
 AreSaid header words names wanted = (set : List ℕ) × (program : ProgramData)
     × (header_as_set header words ≡ Ok set) × (header_of set (codes "0") ≡ Ok program)
-    × (wanted ≡ map (wanted_by (start_of program.arrays)) names)
+    × (wanted ≡ map (wanted_by (array_start program.arrays)) names)
 
 -- what the names hold at the end of the program that a text spells
 pub record AreEnds (text : List ℕ) (names : Line) (wanted : List WantedData) : Type 0 where
@@ -101,15 +103,15 @@ pub record AreEnds (text : List ℕ) (names : Line) (wanted : List WantedData) :
 -- what an input says is wanted, or what the reference ends with
 abbrev pub AreWanted : List EntryData → EntryData → List ℕ → List WantedData → Type 0
 AreWanted exercise input header wanted = MatchOption (answer_of (words_of input.text))
-    (AreEnds (header ++ part_in key.Reference exercise) (names_in exercise) wanted)
-    (λ words. AreSaid header words (names_in exercise) wanted)
+    (AreEnds (header ++ part_in key.Reference exercise) (wanted_names exercise) wanted)
+    (λ words. AreSaid header words (wanted_names exercise) wanted)
 
 -- each wanted name has values
-abbrev pub AreKnown : List WantedData → Type 0
-AreKnown wanted = All (λ want. want.values ≢ []) wanted
+abbrev pub HaveValues : List WantedData → Type 0
+HaveValues wanted = All (λ want. want.values ≢ []) wanted
 
 abbrev pub model_of : List EntryData → Option Pram
-model_of exercise = option_and_then model_in (text_of key.Model exercise)
+model_of exercise = option_and_then model_in (entry_text key.Model exercise)
 
 -- The trial of an input of an exercise. Each word of the input sets a name that the header
 -- declares.
@@ -119,11 +121,11 @@ pub record IsTrial (exercise : List EntryData) (input : EntryData) (trial : Tria
   pub header : header_as_set (part_in key.Given exercise) (words_of input.text)
       ≡ Ok trial.header
   pub wanted : AreWanted exercise input trial.header trial.wanted
-  pub known : AreKnown trial.wanted
+  pub known : HaveValues trial.wanted
   pub time : IsBar exercise trial.header key.Time trial.time
   pub operations : IsBar exercise trial.header key.Operations trial.operations
   pub steps : IsBar exercise trial.header key.Steps trial.steps
-  pub lines : trial.lines ≡ option_and_then number_in (text_of key.Lines exercise)
+  pub lines : trial.lines ≡ option_and_then number_after (entry_text key.Lines exercise)
   pub model : trial.model ≡ model_of exercise
 
 -- an entry that is an input adds its trial, and another one nothing

@@ -17,14 +17,14 @@ use Rattle.exercise_judge.specs.declared.verdict.UnfitKind.TheVariants as unfit
 use Rattle.exercise_judge.specs.Trials.{IsTrial, Meets, TrialData}
 
 -- Memory did not run out, and the run was not cut off.
-abbrev pub IsOfText : Refusal → Type 0
-IsOfText (Text fault) = fault.kind ≢ text.Memory
-IsOfText (Job fault) = (fault.kind ≢ job.Memory) × (fault.kind ≢ job.Endless)
+abbrev pub IsOfSubmission : Refusal → Type 0
+IsOfSubmission (Text fault) = fault.kind ≢ text.Memory
+IsOfSubmission (Job fault) = (fault.kind ≢ job.Memory) × (fault.kind ≢ job.Endless)
 
 -- it says something of the submission
 abbrev pub IsCertain : Wrong → Type 0
 IsCertain wrong.Memory = ⊥
-IsCertain (wrong.Program refusal) = IsOfText refusal
+IsCertain (wrong.Program refusal) = IsOfSubmission refusal
 IsCertain _ = ⊤
 
 -- The fact holds if nothing is wrong, and does not if something is for certain.
@@ -42,16 +42,16 @@ pub record FailsAt (trials : List TrialData) (submission : List ℕ) (input : �
   pub met : All (λ trial. Meets trial submission) (take before trials)
   pub unmet : IsCertain wrong → ¬ Meets trial submission
 
-abbrev pub IsVerdict : List TrialData → List ℕ → Verdict → Type 0
-IsVerdict trials submission Passed = All (λ trial. Meets trial submission) trials
-IsVerdict trials submission (Failed input wrong) = FailsAt trials submission input wrong
+abbrev pub IsVerdictOn : List TrialData → List ℕ → Verdict → Type 0
+IsVerdictOn trials submission Passed = All (λ trial. Meets trial submission) trials
+IsVerdictOn trials submission (Failed input wrong) = FailsAt trials submission input wrong
 
 -- ---- an exercise that nothing can be judged by
 
 -- it says something of the exercise
 abbrev pub IsOfExercise : UnfitKind → Type 0
 IsOfExercise unfit.Memory = ⊥
-IsOfExercise (unfit.Reference refusal) = IsOfText refusal
+IsOfExercise (unfit.Reference refusal) = IsOfSubmission refusal
 IsOfExercise _ = ⊤
 
 -- there is no such thing, if that is certain

@@ -1,11 +1,11 @@
 //! Whether names hold what is wanted.
 ghost use Rattle.std.specs.Prelude.{◌≡◌, All, slice_index};
-ghost use Rattle.exercise_header.specs.Values.{held_by};
+ghost use Rattle.exercise_text.specs.Values.{held_by};
 ghost use Rattle.exercise_judge.specs.Verdicts.{Judges};
 
 use crate::place::place_text;
 use crate::verdict::Wrong;
-use exercise_header::{Wanted, array_named, held_by, value_at};
+use exercise_text::{Wanted, array_named, held_by, value_at};
 use pardo_text::Array;
 use std::alloc::{AllocError, Global};
 

@@ -4,18 +4,18 @@ ghost use Rattle.pram_job.specs.Job.{JobData};
 ghost use Rattle.pram_cost.specs.Costs.{IsCost};
 ghost use Rattle.pram_cost.specs.Models.{AcceptsSteps};
 ghost use Rattle.pram_step.specs.declared.answer.RunAnswer.TheVariants.{Final};
-ghost use Rattle.pardo_costs.specs.Costs.{operations_in, time_in};
-ghost use Rattle.pardo_costs.specs.Runs.{IsRun};
-ghost use Rattle.exercise_given.specs.Submissions.{judged_text, missing_line};
-ghost use Rattle.exercise_judge.specs.Trials.{IsWithin, Meets};
-ghost use Rattle.exercise_judge.specs.Verdicts.{IsCertain, IsVerdict, Judges};
+ghost use Rattle.pardo_answers.specs.Costs.{operations_in, time_in};
+ghost use Rattle.pardo_answers.specs.Runs.{IsTextRun};
+ghost use Rattle.exercise_text.specs.Submissions.{judged_text, missing_line};
+ghost use Rattle.exercise_judge.specs.Trials.{KeepsBar, Meets};
+ghost use Rattle.exercise_judge.specs.Verdicts.{IsCertain, IsVerdictOn, Judges};
 
 use crate::check::check_values;
 use crate::place::place_text;
 use crate::trial::Trial;
 use crate::verdict::{Bar, Verdict, Wrong, wrong_of};
-use exercise_given::{code_lines, judged_text, missing_line};
-use pardo_costs::{Costs, Run, run_program, total_operations, total_time};
+use exercise_text::{code_lines, judged_text, missing_line};
+use pardo_answers::{Costs, Run, run_program, total_operations, total_time};
 use pram_cost::{Beyond, Pram};
 use pram_step::{Fault, RunAnswer};
 use std::alloc::{AllocError, Global};
@@ -23,7 +23,7 @@ use std::alloc::{AllocError, Global};
 /// Judges a submission by the trials of an exercise, in their order, until one is not met. Its text
 /// is run once at most for each.
 pub fn judge(alloc: Global, trials: &[Trial], submission: &[u8]) -> Verdict
-    ensures { IsVerdict trials.now submission.now result }
+    ensures { IsVerdictOn trials.now submission.now result }
 {
     let mut input: usize = 0;
     for trial in trials {
@@ -52,7 +52,7 @@ pub fn judge_trial(alloc: Global, trial: &Trial, submission: &[u8]) -> Result<()
 // Whether a run of the submission meets the trial.
 fn check_run(alloc: Global, trial: &Trial, run: &Run, submission: &[u8]) -> Result<(), Wrong>
     requires given { missing_line trial.now.header submission.now ≡ None }
-    requires run { IsRun (judged_text trial.now.header submission.now) run.now }
+    requires run { IsTextRun (judged_text trial.now.header submission.now) run.now }
     ensures { Judges result (Meets trial.now submission.now) }
 {
     let cells = cells_of(alloc, run)?;
@@ -96,7 +96,7 @@ fn wide(most: Option<u32>) -> Option<u64>
 }
 
 fn check_bar(bar: Bar, most: Option<u64>, took: u64) -> Result<(), Wrong>
-    ensures { Judges result (IsWithin most took) }
+    ensures { Judges result (KeepsBar most took) }
 {
     match most {
         Some(most) if took > most => Err(Wrong::Bar { bar, took, most }),
@@ -106,8 +106,8 @@ fn check_bar(bar: Bar, most: Option<u64>, took: u64) -> Result<(), Wrong>
 
 // Whether the time and the operations are within their bars.
 fn check_costs(trial: &Trial, costs: &Costs) -> Result<(), Wrong>
-    ensures { Judges result (IsWithin trial.now.time (time_in costs.now.lines.items)
-        × IsWithin trial.now.operations (operations_in costs.now.lines.items)) }
+    ensures { Judges result (KeepsBar trial.now.time (time_in costs.now.lines.items)
+        × KeepsBar trial.now.operations (operations_in costs.now.lines.items)) }
 {
     let lines = costs.lines.as_slice();
     check_bar(Bar::Time, wide(trial.time), total_time(lines))?;

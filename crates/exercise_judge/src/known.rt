@@ -1,13 +1,12 @@
 //! Whether an exercise names what there is.
 ghost use Rattle.std.specs.Prelude.{◌≡◌, ◌≢◌, IfErr, None, OnOk};
 ghost use Rattle.text_lines.specs.Lines.{words_of};
-ghost use Rattle.exercise_given.specs.Sets.{unknown_word};
-ghost use Rattle.exercise_judge.specs.Trials.{AreKnown};
+ghost use Rattle.exercise_text.specs.Sets.{unknown_word};
+ghost use Rattle.exercise_judge.specs.Trials.{HaveValues};
 ghost use Rattle.exercise_judge.specs.Verdicts.{IsOfExercise};
 
 use crate::verdict::UnfitKind;
-use exercise_given::unknown_word;
-use exercise_header::Wanted;
+use exercise_text::{Wanted, unknown_word};
 use std::alloc::{AllocError, Global};
 
 /// Whether each word of an input sets a name that the header declares.
@@ -24,8 +23,8 @@ pub(crate) fn check_words(alloc: Global, header: &[u8], words: &[u8]) -> Result<
 
 /// Whether each wanted name has values.
 pub(crate) fn check_known(alloc: Global, wanted: &[Wanted]) -> Result<(), UnfitKind>
-    ensures known { OnOk result (AreKnown wanted.now) }
-    ensures unknown { IfErr result (λ kind. IsOfExercise kind → ¬ AreKnown wanted.now) }
+    ensures known { OnOk result (HaveValues wanted.now) }
+    ensures unknown { IfErr result (λ kind. IsOfExercise kind → ¬ HaveValues wanted.now) }
 {
     for want in wanted {
         if want.values.is_empty() {

@@ -10,8 +10,7 @@ mod trial;
 mod trials;
 mod verdict;
 
-pub use exercise_header::Wanted;
-pub use exercise_text::{Entry, Exercise, ExerciseFault, ExerciseKind, Key, read_exercise};
+pub use exercise_text::{Entry, Exercise, ExerciseFault, ExerciseKind, Key, Wanted, read_exercise};
 pub use judging::{judge, judge_trial};
 pub use trial::Trial;
 pub use trials::{part_in, trial_of, trials_of};

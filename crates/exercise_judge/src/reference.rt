@@ -1,14 +1,14 @@
 //! What the reference of an exercise ends with.
 ghost use Rattle.std.specs.Prelude.{◌≡◌, ◌≢◌, ◌++◌, ℕ, List, IfErr, IfOk, MatchOption};
 ghost use Rattle.text_lines.specs.Lines.{words_of};
-ghost use Rattle.pardo_costs.specs.Runs.{IsRun};
+ghost use Rattle.pardo_answers.specs.Runs.{IsTextRun};
 ghost use Rattle.pram_step.specs.declared.answer.RunAnswer.TheVariants.{Final};
 ghost use Rattle.exercise_judge.specs.Trials.{AreEnds};
 ghost use Rattle.exercise_judge.specs.Verdicts.{HasNone};
 
 use crate::verdict::{UnfitKind, is_memory};
-use exercise_header::{Wanted, wanted_at_end};
-use pardo_costs::{Run, run_program};
+use exercise_text::{Wanted, wanted_at_end};
+use pardo_answers::{Run, run_program};
 use pram_step::RunAnswer;
 use std::alloc::Global;
 
@@ -35,9 +35,9 @@ pub(crate) fn wanted_by_reference(
 
 // What they hold at the end of the run of a text.
 fn wanted_by_run(alloc: Global, run: &Run, names: &[u8]) -> Result<Vec<Wanted>, UnfitKind>
-    ensures ends { (text : List ℕ) → IsRun text run.now →
+    ensures ends { (text : List ℕ) → IsTextRun text run.now →
         IfOk result (λ wanted. AreEnds text (words_of names.now) wanted.items) }
-    ensures none { (text : List ℕ) → IsRun text run.now →
+    ensures none { (text : List ℕ) → IsTextRun text run.now →
         IfErr result (λ kind. HasNone kind (AreEnds text (words_of names.now))) }
 {
     match final_cells(run) {

@@ -1,5 +1,5 @@
 //! What a submission has to do under one input.
-use exercise_header::Wanted;
+use exercise_text::Wanted;
 use pram_cost::Pram;
 use std::marker::Model;
 

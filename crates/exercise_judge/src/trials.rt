@@ -2,9 +2,9 @@
 ghost use Rattle.std.specs.Prelude.{◌≡◌, ◌≢◌, ℕ, List, IfErr, IfOk, Ok, OnOk, true};
 ghost use Rattle.text_lines.specs.Lines.{words_of};
 ghost use Rattle.exercise_text.specs.declared.key.Key.TheVariants.{Given as GivenKey};
-ghost use Rattle.exercise_header.specs.Headers.{header_as_set};
-ghost use Rattle.exercise_header.specs.Values.{WantedData};
-ghost use Rattle.exercise_judge.specs.Trials.{AddsTrial, AreKnown, AreSaid, AreTrials, AreWanted};
+ghost use Rattle.exercise_text.specs.Headers.{header_as_set};
+ghost use Rattle.exercise_text.specs.Values.{WantedData};
+ghost use Rattle.exercise_judge.specs.Trials.{AddsTrial, HaveValues, AreSaid, AreTrials, AreWanted};
 ghost use Rattle.exercise_judge.specs.Trials.{IsBar, IsTrial, part_in};
 ghost use Rattle.exercise_judge.specs.Verdicts.{HasNone, IsOfExercise, IsUnfit};
 ghost use Rattle.exercise_text.specs.Keys.{is_input};
@@ -14,8 +14,9 @@ use crate::known::{check_known, check_words};
 use crate::reference::wanted_by_reference;
 use crate::trial::Trial;
 use crate::verdict::{Unfit, UnfitKind};
-use exercise_header::{Wanted, header_as_set, read_header, value_by, wanted_at_start};
-use exercise_text::{Entry, Exercise, Key, answer_in};
+use exercise_text::{
+    Entry, Exercise, Key, Wanted, answer_in, header_as_set, read_header, value_by, wanted_at_start,
+};
 use pardo_text::{PardoFault, PardoKind};
 use std::alloc::Global;
 
@@ -131,9 +132,9 @@ fn known_wanted(
     header: &[u8],
 ) -> Result<Vec<Wanted>, UnfitKind>
     ensures wanted { IfOk result (λ wanted. AreWanted exercise.now input.now header.now wanted.items
-        × AreKnown wanted.items) }
+        × HaveValues wanted.items) }
     ensures none { IfErr result (λ kind. HasNone kind (λ wanted.
-        AreWanted exercise.now input.now header.now wanted × AreKnown wanted)) }
+        AreWanted exercise.now input.now header.now wanted × HaveValues wanted)) }
 {
     let wanted = wanted_of(alloc, exercise, input, header)?;
     check_known(alloc, wanted.as_slice())?;

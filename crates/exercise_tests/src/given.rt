@@ -1,5 +1,5 @@
 //! Headers as an input sets them, and submissions with them.
-use exercise_given::{Size, code_lines, judged_text, missing_line, set_text};
+use exercise_text::{Size, code_lines, judged_text, missing_line, set_text};
 use std::alloc::Global;
 use std::rt::HostRuntime;
 use std::str::from_utf8;

@@ -1,5 +1,5 @@
 //! What a header says as an input sets it, and what names hold.
-use exercise_header::{header_as_set, read_header, value_by, wanted_at_end, wanted_at_start};
+use exercise_text::{header_as_set, read_header, value_by, wanted_at_end, wanted_at_start};
 use pardo_text::{PardoFault, Program};
 use std::alloc::Global;
 use std::rt::HostRuntime;

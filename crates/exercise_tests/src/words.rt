@@ -1,8 +1,9 @@
 //! What is said of submissions and exercises in words.
 use crate::submissions::{GOOD, SUMS};
 use exercise_judge::{ExerciseFault, ExerciseKind, Unfit, UnfitKind, Wrong};
-use exercise_records::{NOT_PASSED, NoTrials, said_of, trials_in};
-use exercise_words::{push_exercise_fault, push_unfit, push_wrong};
+use exercise_words::{
+    NOT_PASSED, NoTrials, push_exercise_fault, push_unfit, push_wrong, said_of, trials_in,
+};
 use pardo_job::{JobFault, JobKind, Refusal};
 use std::alloc::{AllocError, Global};
 use std::rt::HostRuntime;

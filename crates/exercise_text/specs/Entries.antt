@@ -12,7 +12,7 @@ use Rattle.text_lines.specs.Words.{one_of}
 use Rattle.pram_cost.specs.declared.pram.Pram.{Pram}
 use Rattle.pram_cost.specs.Beyond.{model_named}
 use Rattle.exercise_text.specs.declared.key.Key.{Key}
-use Rattle.exercise_text.specs.Keys.{place_of}
+use Rattle.exercise_text.specs.Keys.{key_place}
 
 -- What a line says, the number of the line, and what follows its first word; of a part its lines,
 -- each with a line feed after it.
@@ -28,15 +28,15 @@ abbrev pub first_place : (ℕ → Bool) → List ℕ → ℕ
 first_place is_of line = unwrap_or (position is_of line) (length line)
 
 -- the first word ends before the first blank
-abbrev pub word_of : List ℕ → Word
-word_of line = take (first_place is_blank line) line
+abbrev pub first_word : List ℕ → Word
+first_word line = take (first_place is_blank line) line
 
 abbrev pub trimmed : List ℕ → List ℕ
 trimmed line = drop (first_place (λ byte. not (is_blank byte)) line) line
 
 -- what follows it after blanks
-abbrev pub rest_of : List ℕ → List ℕ
-rest_of line = trimmed (drop (first_place is_blank line) line)
+abbrev pub rest_of_word : List ℕ → List ℕ
+rest_of_word line = trimmed (drop (first_place is_blank line) line)
 
 -- ---- what entries say
 
@@ -46,7 +46,7 @@ model_in text = option_and_then model_named (one_of (words_of text))
 
 -- what follows `<=`
 abbrev pub bar_in : List ℕ → Option (List ℕ)
-bar_in text = if bytes_eq (word_of text) (codes "<=") then Some (rest_of text) else None
+bar_in text = if bytes_eq (first_word text) (codes "<=") then Some (rest_of_word text) else None
 
 -- the number that digits spell, or the greatest of 64 bits where it is greater
 abbrev pub digits_in : Word → Option ℕ
@@ -54,8 +54,8 @@ digits_in word =
     if list_all is_ascii_digit word then Some (min (digits_value 10 word) (2 ^ 64 - 1)) else None
 
 -- the number that follows `<=`
-abbrev pub number_in : List ℕ → Option ℕ
-number_in text = option_and_then (λ bar. option_and_then digits_in (one_of (words_of bar)))
+abbrev pub number_after : List ℕ → Option ℕ
+number_after text = option_and_then (λ bar. option_and_then digits_in (one_of (words_of bar)))
     (bar_in text)
 
 abbrev pub is_arrow : Word → Bool
@@ -69,11 +69,11 @@ answer_of (word ∷ words) = if is_arrow word then Some words else answer_of wor
 -- ---- of an exercise
 
 abbrev pub has_key : Key → EntryData → Bool
-has_key key entry = place_of entry.key == place_of key
+has_key key entry = key_place entry.key == key_place key
 
 -- the first entry of this key
-abbrev pub entry_of : Key → List EntryData → Option EntryData
-entry_of key entries = find (has_key key) entries
+abbrev pub first_entry : Key → List EntryData → Option EntryData
+first_entry key entries = find (has_key key) entries
 
-abbrev pub text_of : Key → List EntryData → Option (List ℕ)
-text_of key entries = option_map (λ entry. entry.text) (entry_of key entries)
+abbrev pub entry_text : Key → List EntryData → Option (List ℕ)
+entry_text key entries = option_map (λ entry. entry.text) (first_entry key entries)

@@ -39,21 +39,21 @@ abbrev pub key_named : Word → Option Key
 key_named word = or_else (said_key word) (or_else (bar_key word) (part_key word))
 
 -- the place of a key among the keys, by which they differ
-abbrev pub place_of : Key → ℕ
-place_of Note = 0
-place_of Title = 1
-place_of Task = 2
-place_of Model = 3
-place_of Want = 4
-place_of Time = 5
-place_of Operations = 6
-place_of Steps = 7
-place_of Lines = 8
-place_of Given = 9
-place_of Start = 10
-place_of Reference = 11
-place_of Input = 12
-place_of Hidden = 13
+abbrev pub key_place : Key → ℕ
+key_place Note = 0
+key_place Title = 1
+key_place Task = 2
+key_place Model = 3
+key_place Want = 4
+key_place Time = 5
+key_place Operations = 6
+key_place Steps = 7
+key_place Lines = 8
+key_place Given = 9
+key_place Start = 10
+key_place Reference = 11
+key_place Input = 12
+key_place Hidden = 13
 
 -- lines of a program follow
 abbrev pub is_part : Key → Bool

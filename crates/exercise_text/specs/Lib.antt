@@ -2,3 +2,8 @@ pub mod Entries
 pub mod Inner
 pub mod Keys
 pub mod Reading
+pub mod LineKeys
+pub mod Sets
+pub mod Submissions
+pub mod Headers
+pub mod Values

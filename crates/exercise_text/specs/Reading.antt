@@ -15,8 +15,9 @@ use Rattle.exercise_text.specs.declared.fault.ExerciseKind.TheVariants.{Duplicat
 use Rattle.exercise_text.specs.declared.fault.ExerciseKind.TheVariants.{NoAnswer, Memory}
 use Rattle.exercise_text.specs.declared.key.Key.{Key}
 use Rattle.exercise_text.specs.declared.key.Key.TheVariants as key
-use Rattle.exercise_text.specs.Entries.{EntryData, answer_of, bar_in, entry_of, has_key, model_in}
-use Rattle.exercise_text.specs.Entries.{number_in, rest_of, word_of}
+use Rattle.exercise_text.specs.Entries.{EntryData, answer_of, bar_in, first_entry, has_key}
+use Rattle.exercise_text.specs.Entries.{model_in}
+use Rattle.exercise_text.specs.Entries.{number_after, rest_of_word, first_word}
 use Rattle.exercise_text.specs.Keys.{is_input, is_once, is_part, key_named}
 
 -- ---- a line
@@ -27,7 +28,7 @@ is_lawful key.Model text = is_some (model_in text)
 is_lawful key.Time text = is_some (bar_in text)
 is_lawful key.Operations text = is_some (bar_in text)
 is_lawful key.Steps text = is_some (bar_in text)
-is_lawful key.Lines text = is_some (number_in text)
+is_lawful key.Lines text = is_some (number_after text)
 is_lawful key.Want text = is_filled (words_of text)
 is_lawful key.Given text = not (is_filled (words_of text))
 is_lawful key.Start text = not (is_filled (words_of text))
@@ -45,7 +46,7 @@ is_note (byte ∷ rest) = byte == 59
 
 -- what another line says, by its first word
 abbrev pub key_of : List ℕ → Option Key
-key_of line = if is_note line then Some key.Note else key_named (word_of line)
+key_of line = if is_note line then Some key.Note else key_named (first_word line)
 
 -- ---- lines one after another
 
@@ -70,8 +71,8 @@ with_indented line draft =
     })
     else (if is_filled (words_of line) then Err BadLine else Ok draft)
 
-abbrev pub is_told : Key → DraftData → Bool
-is_told key draft =
+abbrev pub tells_wanted : Key → DraftData → Bool
+tells_wanted key draft =
     is_once key && (list_any (has_key key) draft.done || has_key key draft.last)
 
 -- the text of a part are its lines
@@ -81,7 +82,7 @@ own_text key text = if is_part key then [] else text
 -- one entry more
 abbrev pub with_entry : ℕ → Key → List ℕ → DraftData → Result DraftData ExerciseKind
 with_entry number key text draft =
-    if is_told key draft then Err Duplicate
+    if tells_wanted key draft then Err Duplicate
     else (if not (is_lawful key text) then Err BadLine
     else Ok (record {
       done = entries_of draft;
@@ -93,16 +94,16 @@ with_key number None text draft = Err UnknownKey
 with_key number (Some key) text draft = with_entry number key text draft
 
 -- one line more, which has this number
-unfoldable pub with_line : ℕ → List ℕ → DraftData → Result DraftData ExerciseKind
-with_line number line draft =
+unfoldable pub draft_with : ℕ → List ℕ → DraftData → Result DraftData ExerciseKind
+draft_with number line draft =
     if not (list_all is_allowed line) then Err NotAscii
     else (if is_indented line then with_indented line draft
-    else with_key number (key_of line) (rest_of line) draft)
+    else with_key number (key_of line) (rest_of_word line) draft)
 
 -- ---- what a text lacks
 
-abbrev pub lacks : List EntryData → Key → Bool
-lacks entries key = is_none (entry_of key entries)
+abbrev pub has_no : List EntryData → Key → Bool
+has_no entries key = is_none (first_entry key entries)
 
 abbrev pub needed : List Key
 needed = key.Title ∷ key.Want ∷ key.Given ∷ key.Start ∷ key.Input ∷ []
@@ -111,35 +112,35 @@ needed = key.Title ∷ key.Want ∷ key.Given ∷ key.Start ∷ key.Input ∷ []
 abbrev pub is_unanswered : EntryData → Bool
 is_unanswered entry = is_input entry.key && is_none (answer_of (words_of entry.text))
 
-abbrev pub answered : Option EntryData → List EntryData → Result (List EntryData) ExerciseFault
-answered None entries = Ok entries
-answered (Some entry) entries = Err (record { line = entry.number; kind = NoAnswer })
+abbrev pub with_answers : Option EntryData → List EntryData → Result (List EntryData) ExerciseFault
+with_answers None entries = Ok entries
+with_answers (Some entry) entries = Err (record { line = entry.number; kind = NoAnswer })
 
 abbrev pub complete : ℕ → Option Key → List EntryData → Result (List EntryData) ExerciseFault
 complete number (Some key) entries = Err (record { line = number; kind = Missing key })
 complete number None entries =
-    if lacks entries key.Reference then answered (find is_unanswered entries) entries
+    if has_no entries key.Reference then with_answers (find is_unanswered entries) entries
     else Ok entries
 
-unfoldable pub finished : ℕ → List EntryData → Result (List EntryData) ExerciseFault
-finished number entries = complete number (find (lacks entries) needed) entries
+unfoldable pub read_to_end : ℕ → List EntryData → Result (List EntryData) ExerciseFault
+read_to_end number entries = complete number (find (has_no entries) needed) entries
 
 -- ---- a text
 
-abbrev pub and_then : Result DraftData ExerciseKind → ℕ →
+abbrev pub then_line : Result DraftData ExerciseKind → ℕ →
     (DraftData → Result (List EntryData) ExerciseFault) → Result (List EntryData) ExerciseFault
-and_then (Ok draft) number next = next draft
-and_then (Err kind) number next = Err (record { line = number; kind = kind })
+then_line (Ok draft) number next = next draft
+then_line (Err kind) number next = Err (record { line = number; kind = kind })
 
 -- the exercise of a draft of so many lines and of these lines after it
 abbrev pub exercise_after : DraftData → ℕ → List (List ℕ) → Result (List EntryData) ExerciseFault
-exercise_after draft number [] = finished number (entries_of draft)
+exercise_after draft number [] = read_to_end number (entries_of draft)
 exercise_after draft number (line ∷ lines) =
-    and_then (with_line (number + 1) line draft) (number + 1)
+    then_line (draft_with (number + 1) line draft) (number + 1)
     (λ next. exercise_after next (number + 1) lines)
 
-abbrev pub is_header : List ℕ → Bool
-is_header line = elim (two_of (words_of line)) [
+abbrev pub begins_exercise : List ℕ → Bool
+begins_exercise line = elim (two_of (words_of line)) [
   | None ↦ false
   | Some words ↦ bytes_eq words.0 (codes "exercise") && bytes_eq words.1 (codes "1")
 ]
@@ -147,7 +148,7 @@ is_header line = elim (two_of (words_of line)) [
 abbrev pub exercise_in : List (List ℕ) → Result (List EntryData) ExerciseFault
 exercise_in [] = Err (record { line = 1; kind = BadHeader })
 exercise_in (line ∷ lines) =
-    if is_header line then exercise_after no_entry 1 lines
+    if begins_exercise line then exercise_after no_entry 1 lines
     else Err (record { line = 1; kind = BadHeader })
 
 -- The exercise that a text spells: its entries in their order; or its first bad line, and what is
@@ -156,6 +157,6 @@ unfoldable pub exercise_of : List ℕ → Result (List EntryData) ExerciseFault
 exercise_of text = exercise_in (lines_of text)
 
 -- A refusal names the fault. Out of memory it says nothing of it, and names line 0.
-abbrev pub IsRefusal : Result (List EntryData) ExerciseFault → ExerciseFault → Type 0
-IsRefusal read fault =
+abbrev pub IsExerciseRefusal : Result (List EntryData) ExerciseFault → ExerciseFault → Type 0
+IsExerciseRefusal read fault =
     (fault.kind ≢ Memory → read ≡ Err fault) × (fault.kind ≡ Memory → fault.line ≡ 0)

@@ -2,9 +2,9 @@
 ghost use Rattle.std.specs.Prelude.{◌≡◌, IfOk};
 ghost use Rattle.std.specs.List.{list_any};
 ghost use Rattle.exercise_text.specs.Entries.{has_key};
-ghost use Rattle.exercise_text.specs.Inner.Gives.{Gives};
-ghost use Rattle.exercise_text.specs.Reading.{entries_of, is_told, no_entry, with_entry};
-ghost use Rattle.exercise_text.specs.Reading.{with_indented, with_key, with_line};
+ghost use Rattle.exercise_text.specs.Inner.Gives.{GivesSeen};
+ghost use Rattle.exercise_text.specs.Reading.{entries_of, tells_wanted, no_entry, with_entry};
+ghost use Rattle.exercise_text.specs.Reading.{with_indented, with_key, draft_with};
 ghost use Rattle.exercise_text.specs.Reading.{is_indented, is_lawful, is_note, key_of};
 
 use crate::entry::Entry;
@@ -52,9 +52,9 @@ impl Draft {
     }
 
     /// Reads one line more, which has this number.
-    #[tactic(auto, unfolding(crate::specs::Reading::with_line))]
+    #[tactic(auto, unfolding(crate::specs::Reading::draft_with))]
     pub(crate) fn take_line(&mut self, number: u64, line: &[u8]) -> Result<(), ExerciseKind>
-        ensures { Gives (λ _. self.new) result (with_line number line.now self.old) }
+        ensures { GivesSeen (λ _. self.new) result (draft_with number line.now self.old) }
     {
         if !is_lawful(line) {
             return Err(ExerciseKind::NotAscii);
@@ -67,7 +67,7 @@ impl Draft {
     }
 
     fn take_indented(&mut self, line: &[u8]) -> Result<(), ExerciseKind>
-        ensures { Gives (λ _. self.new) result (with_indented line.now self.old) }
+        ensures { GivesSeen (λ _. self.new) result (with_indented line.now self.old) }
     {
         if self.last.key().is_part() {
             self.last.push_line(line)?;
@@ -80,7 +80,7 @@ impl Draft {
     }
 
     fn take_key(&mut self, number: u64, key: Option<Key>, text: &[u8]) -> Result<(), ExerciseKind>
-        ensures { Gives (λ _. self.new) result (with_key number key text.now self.old) }
+        ensures { GivesSeen (λ _. self.new) result (with_key number key text.now self.old) }
     {
         match key {
             None => Err(ExerciseKind::UnknownKey),
@@ -89,7 +89,7 @@ impl Draft {
     }
 
     fn take_entry(&mut self, number: u64, key: Key, text: &[u8]) -> Result<(), ExerciseKind>
-        ensures { Gives (λ _. self.new) result (with_entry number key text.now self.old) }
+        ensures { GivesSeen (λ _. self.new) result (with_entry number key text.now self.old) }
     {
         if self.is_told(key) {
             return Err(ExerciseKind::Duplicate);
@@ -108,7 +108,7 @@ impl Draft {
     }
 
     fn is_told(&self, key: Key) -> bool
-        ensures { result ≡ is_told key self.now }
+        ensures { result ≡ tells_wanted key self.now }
     {
         key.is_once() && (self.was_told(key) || self.last.has_key(key))
     }

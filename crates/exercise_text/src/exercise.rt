@@ -1,8 +1,9 @@
 //! Exercises.
 ghost use Rattle.std.specs.Prelude.{◌≡◌, ◌≢◌, IfErr, find};
 ghost use Rattle.std.specs.Option.{option_and_then, option_map};
-ghost use Rattle.exercise_text.specs.Entries.{bar_in, entry_of, model_in, number_in, text_of};
-ghost use Rattle.exercise_text.specs.Reading.{finished, is_unanswered, lacks};
+ghost use Rattle.exercise_text.specs.Entries.{bar_in, first_entry, model_in, number_after};
+ghost use Rattle.exercise_text.specs.Entries.{entry_text};
+ghost use Rattle.exercise_text.specs.Reading.{read_to_end, is_unanswered, has_no};
 ghost use Rattle.exercise_text.specs.Reading.{needed};
 ghost use Rattle.exercise_text.specs.declared.key.Key.TheVariants.{Lines, Model as ModelKey};
 
@@ -44,14 +45,14 @@ impl Exercise {
 
     /// The first entry of this key.
     pub fn entry(&self, key: Key) -> Option<&Entry>
-        ensures { option_map (λ entry. entry.now) result ≡ entry_of key self.now }
+        ensures { option_map (λ entry. entry.now) result ≡ first_entry key self.now }
     {
         self.entries.iter().find(|entry| entry.has_key(key))
     }
 
     /// What the first entry of this key says, or the lines of that part.
     pub fn text(&self, key: Key) -> Option<&[u8]>
-        ensures { option_map (λ text. text.now) result ≡ text_of key self.now }
+        ensures { option_map (λ text. text.now) result ≡ entry_text key self.now }
     {
         let entry = self.entry(key)?;
         Some(entry.text())
@@ -60,34 +61,34 @@ impl Exercise {
     /// The expression of a bar, if the exercise has it.
     pub fn bar(&self, key: Key) -> Option<&[u8]>
         ensures { option_map (λ bar. bar.now) result
-            ≡ option_and_then bar_in (text_of key self.now) }
+            ≡ option_and_then bar_in (entry_text key self.now) }
     {
         bar_in(self.text(key)?)
     }
 
     /// How many lines of code are allowed, if the exercise says it.
     pub fn most_lines(&self) -> Option<u64>
-        ensures { result ≡ option_and_then number_in (text_of Lines self.now) }
+        ensures { result ≡ option_and_then number_after (entry_text Lines self.now) }
     {
         number_in(self.text(Key::Lines)?)
     }
 
     /// The weakest model that is allowed, if the exercise names one.
     pub fn model(&self) -> Option<Pram>
-        ensures { result ≡ option_and_then model_in (text_of ModelKey self.now) }
+        ensures { result ≡ option_and_then model_in (entry_text ModelKey self.now) }
     {
         model_in(self.text(Key::Model)?)
     }
 
     fn lacks(&self, key: Key) -> bool
-        ensures { result ≡ lacks self.now key }
+        ensures { result ≡ has_no self.now key }
     {
         self.entry(key).is_none()
     }
 
     // The first key that it needs and does not have.
     fn first_lack(&self) -> Option<Key>
-        ensures { result ≡ find (lacks self.now) needed }
+        ensures { result ≡ find (has_no self.now) needed }
     {
         if self.lacks(Key::Title) {
             Some(Key::Title)
@@ -113,9 +114,9 @@ impl Exercise {
     }
 
     /// The exercise, of a text of so many lines, if it lacks nothing.
-    #[tactic(auto, unfolding(crate::specs::Reading::finished))]
+    #[tactic(auto, unfolding(crate::specs::Reading::read_to_end))]
     pub(crate) fn finished(self, number: u64) -> Result<Exercise, ExerciseFault>
-        ensures finished { finished number self ≡ result }
+        ensures finished { read_to_end number self ≡ result }
         ensures fault { IfErr result (λ fault. fault.kind ≢ ExerciseKind.Memory) }
     {
         if let Some(key) = self.first_lack() {

@@ -1,7 +1,7 @@
 //! What an entry of an exercise says, by its first word.
 ghost use Rattle.std.specs.Prelude.{◌≡◌, ◌≢◌, Some};
 ghost use Rattle.exercise_text.specs.Keys.{bar_key, is_bar, is_input, is_once, is_part, key_named};
-ghost use Rattle.exercise_text.specs.Keys.{part_key, place_of, said_key};
+ghost use Rattle.exercise_text.specs.Keys.{part_key, key_place, said_key};
 ghost use Rattle.exercise_text.specs.declared.key.Key.TheVariants.{Note};
 
 use text_lines::is_word;
@@ -77,7 +77,7 @@ impl Key {
 
     /// Its place among the keys, which tells it from the others.
     pub(crate) fn place(self) -> u8
-        ensures { result ≡ place_of self }
+        ensures { result ≡ key_place self }
     {
         match self {
             Key::Note => 0,

@@ -1,6 +1,7 @@
 //! Reads a text line by line.
 ghost use Rattle.std.specs.Prelude.{◌≡◌, ◌≢◌, Ok, IfOk, IfErr};
-ghost use Rattle.exercise_text.specs.Reading.{IsRefusal, exercise_after, exercise_of, is_header};
+ghost use Rattle.exercise_text.specs.Reading.{IsExerciseRefusal, exercise_after, exercise_of};
+ghost use Rattle.exercise_text.specs.Reading.{begins_exercise};
 ghost use Rattle.exercise_text.specs.Reading.{no_entry};
 ghost use Rattle.text_lines.specs.TextLines.{left_of, taken_of};
 
@@ -17,7 +18,7 @@ use text_lines::{TextLines, is_word, two_words};
 #[tactic(auto, unfolding(crate::specs::Reading::exercise_of))]
 pub fn read_exercise(alloc: Global, text: &[u8]) -> Result<Exercise, ExerciseFault>
     ensures exercise { IfOk result (λ exercise. exercise_of text.now ≡ Ok exercise) }
-    ensures refused { IfErr result (IsRefusal (exercise_of text.now)) }
+    ensures refused { IfErr result (IsExerciseRefusal (exercise_of text.now)) }
 {
     let mut lines = TextLines::new(text);
     match lines.take_line() {
@@ -30,7 +31,7 @@ pub fn read_exercise(alloc: Global, text: &[u8]) -> Result<Exercise, ExerciseFau
 fn read_rest(alloc: Global, lines: TextLines<'_>) -> Result<Exercise, ExerciseFault>
     ensures exercise { IfOk result (λ exercise.
         exercise_after no_entry (taken_of lines.entry) (left_of lines.entry) ≡ Ok exercise) }
-    ensures refused { IfErr result (IsRefusal
+    ensures refused { IfErr result (IsExerciseRefusal
         (exercise_after no_entry (taken_of lines.entry) (left_of lines.entry))) }
 {
     let mut lines = lines;
@@ -47,7 +48,7 @@ fn read_rest(alloc: Global, lines: TextLines<'_>) -> Result<Exercise, ExerciseFa
 }
 
 fn is_header(line: &[u8]) -> bool
-    ensures { result ≡ is_header line.now }
+    ensures { result ≡ begins_exercise line.now }
 {
     match two_words(line) {
         None => false,

@@ -6,7 +6,7 @@ ghost use Rattle.text_lines.specs.Lines.{is_blank, words_of};
 ghost use Rattle.std.specs.Char.{is_ascii_digit};
 ghost use Rattle.pram_cost.specs.Beyond.{model_named};
 ghost use Rattle.exercise_text.specs.Entries.{answer_of, bar_in, digits_in, is_arrow, model_in};
-ghost use Rattle.exercise_text.specs.Entries.{number_in, rest_of, trimmed, word_of};
+ghost use Rattle.exercise_text.specs.Entries.{number_after, rest_of_word, trimmed, first_word};
 
 use pram_cost::Pram;
 use std::str::from_utf8;
@@ -14,8 +14,8 @@ use text_lines::{is_blank, is_word, next_word, one_word, value_of};
 
 /// The first word of a line, which ends before the first blank, and what follows it after blanks.
 pub(crate) fn split_word(line: &[u8]) -> (&[u8], &[u8])
-    ensures word { result.0.now ≡ word_of line.now }
-    ensures rest { result.1.now ≡ rest_of line.now }
+    ensures word { result.0.now ≡ first_word line.now }
+    ensures rest { result.1.now ≡ rest_of_word line.now }
 {
     let (word, rest) = line.split_at(word_end(line).unwrap_or(line.len()));
     (word, trimmed(rest))
@@ -71,7 +71,7 @@ pub(crate) fn bar_in(text: &[u8]) -> Option<&[u8]>
 
 /// The number that follows `<=`.
 pub(crate) fn number_in(text: &[u8]) -> Option<u64>
-    ensures { result ≡ number_in text.now }
+    ensures { result ≡ number_after text.now }
 {
     digits_in(one_word(bar_in(text)?)?)
 }

@@ -1,1 +1,4 @@
 pub mod Outcomes
+pub mod Records
+pub mod Solving
+pub mod Summing

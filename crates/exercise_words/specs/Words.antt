@@ -25,13 +25,13 @@ use Rattle.exercise_judge.specs.declared.verdict.Wrong.TheVariants as wrong
 abbrev pub shown_byte : ℕ → ℕ
 shown_byte byte = if nat_le 32 byte && nat_le byte 126 then byte else 63
 
-abbrev pub shown : List ℕ → List ℕ
-shown words = map shown_byte words
+abbrev pub shown_value : List ℕ → List ℕ
+shown_value words = map shown_byte words
 
 -- such words were added
-pub record Adds (old new : List ℕ) (AreSaid : List ℕ → Type 0) : Type 0 where
+pub record AddsWords (old new : List ℕ) (AreSaid : List ℕ → Type 0) : Type 0 where
   pub words : List ℕ
-  pub added : new ≡ old ++ shown words
+  pub added : new ≡ old ++ shown_value words
   pub are : AreSaid words
 
 abbrev pub IsPrintable : ℕ → Type 0
@@ -51,16 +51,16 @@ abbrev pub IsAtLine : ℕ → List ℕ → Type 0
 IsAtLine line words = (sentence : List ℕ) × (words ≡ at_line line ++ sentence)
 
 -- what stands before the first `=` or `;`
-abbrev pub front_of : List ℕ → List ℕ
-front_of line = take (first_place (λ byte. (byte == 61) || (byte == 59)) line) line
+abbrev pub sentence_front : List ℕ → List ℕ
+sentence_front line = take (first_place (λ byte. (byte == 61) || (byte == 59)) line) line
 
 -- a place as it is named
-abbrev pub named : List ℕ → List ℕ
-named [] = codes "a cell"
-named (byte ∷ rest) = byte ∷ rest
+abbrev pub named_place : List ℕ → List ℕ
+named_place [] = codes "a cell"
+named_place (byte ∷ rest) = byte ∷ rest
 
 abbrev pub at_place : List ℕ → ℕ → List ℕ
-at_place place line = named place ++ codes " in line " ++ decimal line
+at_place place line = named_place place ++ codes " in line " ++ decimal line
 
 -- two processors
 unfoldable pub pair : ℕ → ℕ → List ℕ
@@ -74,12 +74,12 @@ meeting deed place line first second = pair first second ++ deed ++ at_place pla
 
 -- the name that the line declares, or what else it begins with
 abbrev pub IsMissingSaid : List ℕ → List ℕ → Type 0
-IsMissingSaid line words = (part : List ℕ) × IsTrimAscii (front_of line) part
+IsMissingSaid line words = (part : List ℕ) × IsTrimAscii (sentence_front line) part
     × (words ≡ codes "the line \"" ++ part ++ codes "\" is missing")
 
-abbrev pub line_of : Refusal → ℕ
-line_of (Text fault) = fault.line
-line_of (Job fault) = fault.line
+abbrev pub refused_line : Refusal → ℕ
+refused_line (Text fault) = fault.line
+refused_line (Job fault) = fault.line
 
 abbrev pub conflict_words : List ℕ → ℕ → ℕ → ℕ → List ℕ
 conflict_words place line first second =
@@ -87,20 +87,21 @@ conflict_words place line first second =
 
 abbrev pub value_words : List ℕ → ℕ → ℕ → List ℕ
 value_words place held wanted =
-    named place ++ codes " holds " ++ decimal held ++ codes ", wanted " ++ decimal wanted
+    named_place place ++ codes " holds " ++ decimal held ++ codes ", wanted " ++ decimal wanted
 
 -- what stands before the number that a submission takes, and behind it
-abbrev pub around : Bar → List ℕ × List ℕ
-around bar.Time = (codes "it takes time ", codes "")
-around bar.Operations = (codes "it takes ", codes " operations")
-around bar.Steps = (codes "it takes ", codes " steps of the machine")
-around bar.Lines = (codes "it has ", codes " lines of code")
+abbrev pub around_number : Bar → List ℕ × List ℕ
+around_number bar.Time = (codes "it takes time ", codes "")
+around_number bar.Operations = (codes "it takes ", codes " operations")
+around_number bar.Steps = (codes "it takes ", codes " steps of the machine")
+around_number bar.Lines = (codes "it has ", codes " lines of code")
 
 abbrev pub allowed_words : ℕ → List ℕ
 allowed_words most = if most == 1 then codes " is allowed" else codes " are allowed"
 
 abbrev pub bar_words : Bar → ℕ → ℕ → List ℕ
-bar_words bar took most = (around bar).0 ++ decimal took ++ (around bar).1 ++ codes ", "
+bar_words bar took most =
+    (around_number bar).0 ++ decimal took ++ (around_number bar).1 ++ codes ", "
     ++ decimal most ++ allowed_words most
 
 abbrev pub deed_of : Sharing → List ℕ
@@ -114,7 +115,7 @@ model_words needs allowed = codes "it needs " ++ name_of needs ++ codes ", " ++ 
 
 abbrev pub IsWrongSaid : Wrong → List ℕ → Type 0
 IsWrongSaid (wrong.Missing line) words = IsMissingSaid line.items words
-IsWrongSaid (wrong.Program refusal) words = IsAtLine (line_of refusal) words
+IsWrongSaid (wrong.Program refusal) words = IsAtLine (refused_line refusal) words
 IsWrongSaid (wrong.Conflict line place first second) words =
     words ≡ conflict_words place.items line first second
 IsWrongSaid (wrong.Value place held wanted) words = words ≡ value_words place.items held wanted
@@ -130,7 +131,7 @@ abbrev pub IsUnfitSaid : ℕ → UnfitKind → List ℕ → Type 0
 IsUnfitSaid line unfit.Conflict words =
     words ≡ at_line line ++ codes "the reference ends in a conflict"
 IsUnfitSaid line (unfit.Unknown word) words =
-    words ≡ at_line line ++ codes "nothing is named " ++ front_of word.items
+    words ≡ at_line line ++ codes "nothing is named " ++ sentence_front word.items
 IsUnfitSaid line unfit.Memory words = words ≡ codes "out of memory"
 IsUnfitSaid line _ words = IsAtLine line words
 

@@ -1,7 +1,8 @@
 //! Parts of what is said.
 ghost use Rattle.std.specs.Prelude.{◌≡◌, ◌++◌, ◌==◌, ◌||◌, OnOk};
 ghost use Rattle.std.specs.List.{position};
-ghost use Rattle.exercise_words.specs.Words.{at_line, at_place, front_of, meeting, named, pair};
+ghost use Rattle.exercise_words.specs.Words.{at_line, at_place, sentence_front, meeting};
+ghost use Rattle.exercise_words.specs.Words.{named_place, pair};
 
 use pram_streams::push_labelled;
 use std::alloc::AllocError;
@@ -46,7 +47,7 @@ fn push_at_place(words: &mut Vec<u8>, place: &[u8], line: u64) -> Result<(), All
 
 /// A place as it is named.
 pub(crate) fn named(place: &[u8]) -> &[u8]
-    ensures { result.now ≡ named place.now }
+    ensures { result.now ≡ named_place place.now }
 {
     match place {
         [] => b"a cell",
@@ -63,7 +64,7 @@ fn stop_in(line: &[u8]) -> Option<usize>
 
 /// What stands before the first `=` or `;`.
 pub(crate) fn front_of(line: &[u8]) -> &[u8]
-    ensures { result.now ≡ front_of line.now }
+    ensures { result.now ≡ sentence_front line.now }
 {
     line.split_at(stop_in(line).unwrap_or(line.len())).0
 }

@@ -1,6 +1,6 @@
 //! Words, as they are shown.
 ghost use Rattle.std.specs.Prelude.{◌≡◌, ◌++◌, IfOk, OnErr, OnOk};
-ghost use Rattle.exercise_words.specs.Words.{AddsPrintable, shown, shown_byte};
+ghost use Rattle.exercise_words.specs.Words.{AddsPrintable, shown_value, shown_byte};
 
 use std::alloc::{AllocError, Global};
 
@@ -16,14 +16,14 @@ fn shown_byte(byte: u8) -> u8
 }
 
 fn shown(alloc: Global, words: &[u8]) -> Result<Vec<u8>, AllocError>
-    ensures { IfOk result (λ text. text.items ≡ shown words.now) }
+    ensures { IfOk result (λ text. text.items ≡ shown_value words.now) }
 {
     words.iter().map(|&byte| shown_byte(byte)).collect(alloc)
 }
 
 /// Adds words as they are shown.
 pub(crate) fn push_shown(text: &mut Vec<u8>, words: &[u8]) -> Result<(), AllocError>
-    ensures ok { OnOk result (text.new.items ≡ text.old.items ++ shown words.now) }
+    ensures ok { OnOk result (text.new.items ≡ text.old.items ++ shown_value words.now) }
     ensures printable { OnOk result (AddsPrintable text.old.items text.new.items) }
     ensures err { OnErr result (text.new.items ≡ text.old.items) }
 {

@@ -1,6 +1,6 @@
 //! Why an exercise cannot be judged by, in words.
 ghost use Rattle.std.specs.Prelude.{◌≡◌, ◌++◌, IfOk, OnErr, OnOk};
-ghost use Rattle.exercise_words.specs.Words.{Adds, AddsPrintable, IsAtLine, IsFaultSaid};
+ghost use Rattle.exercise_words.specs.Words.{AddsWords, AddsPrintable, IsAtLine, IsFaultSaid};
 ghost use Rattle.exercise_words.specs.Words.{IsUnfitSaid, at_line};
 
 use crate::parts::{front_of, push_at_line};
@@ -14,7 +14,7 @@ use std::alloc::{AllocError, Global};
 /// Adds why an exercise cannot be judged by: the part of a sentence, on one line, without a stop. A
 /// byte that cannot be printed is shown as `?`.
 pub fn push_unfit(text: &mut Vec<u8>, unfit: &Unfit) -> Result<(), AllocError>
-    ensures said { OnOk result (Adds text.old.items text.new.items
+    ensures said { OnOk result (AddsWords text.old.items text.new.items
         (IsUnfitSaid unfit.now.line unfit.now.kind)) }
     ensures printable { OnOk result (AddsPrintable text.old.items text.new.items) }
     ensures err { OnErr result (text.new.items ≡ text.old.items) }
@@ -25,7 +25,7 @@ pub fn push_unfit(text: &mut Vec<u8>, unfit: &Unfit) -> Result<(), AllocError>
 
 /// Adds why a text is no exercise: the part of a sentence, on one line, without a stop.
 pub fn push_exercise_fault(text: &mut Vec<u8>, fault: &ExerciseFault) -> Result<(), AllocError>
-    ensures said { OnOk result (Adds text.old.items text.new.items
+    ensures said { OnOk result (AddsWords text.old.items text.new.items
         (IsFaultSaid fault.now.line fault.now.kind)) }
     ensures printable { OnOk result (AddsPrintable text.old.items text.new.items) }
     ensures err { OnErr result (text.new.items ≡ text.old.items) }

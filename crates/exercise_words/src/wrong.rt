@@ -1,14 +1,14 @@
 //! What is wrong with a submission, in words.
 ghost use Rattle.std.specs.Prelude.{◌≡◌, IfOk, OnErr, OnOk};
-ghost use Rattle.exercise_words.specs.Words.{Adds, AddsPrintable, IsAtLine, IsMissingSaid};
-ghost use Rattle.exercise_words.specs.Words.{IsWrongSaid, allowed_words, around, bar_words};
-ghost use Rattle.exercise_words.specs.Words.{conflict_words, deed_of, line_of, model_words};
+ghost use Rattle.exercise_words.specs.Words.{AddsWords, AddsPrintable, IsAtLine, IsMissingSaid};
+ghost use Rattle.exercise_words.specs.Words.{IsWrongSaid, allowed_words, around_number, bar_words};
+ghost use Rattle.exercise_words.specs.Words.{conflict_words, deed_of, refused_line, model_words};
 ghost use Rattle.exercise_words.specs.Words.{value_words};
 
 use crate::parts::{front_of, named, push_at_line, push_meeting};
 use crate::shown::push_shown;
-use exercise_given::judged_text;
 use exercise_judge::{Bar, Trial, Wrong};
+use exercise_text::judged_text;
 use pardo_job::Refusal;
 use pram_cost::{Pram, Sharing};
 use pram_streams::push_labelled;
@@ -26,7 +26,7 @@ pub fn push_wrong(
     trial: &Trial,
     submission: &[u8],
 ) -> Result<(), AllocError>
-    ensures said { OnOk result (Adds text.old.items text.new.items (IsWrongSaid wrong.now)) }
+    ensures said { OnOk result (AddsWords text.old.items text.new.items (IsWrongSaid wrong.now)) }
     ensures printable { OnOk result (AddsPrintable text.old.items text.new.items) }
     ensures err { OnErr result (text.new.items ≡ text.old.items) }
 {
@@ -91,7 +91,7 @@ fn refusal_words(
     trial: &Trial,
     submission: &[u8],
 ) -> Result<Vec<u8>, AllocError>
-    ensures { IfOk result (λ words. IsAtLine (line_of refusal) words.items) }
+    ensures { IfOk result (λ words. IsAtLine (refused_line refusal) words.items) }
 {
     let text = judged_text(alloc, trial.header.as_slice(), submission)?;
     let mut words = Vec::new(alloc);
@@ -104,7 +104,7 @@ fn refusal_words(
 }
 
 fn line_of(refusal: Refusal) -> u64
-    ensures { result ≡ line_of refusal }
+    ensures { result ≡ refused_line refusal }
 {
     match refusal {
         Refusal::Text(fault) => fault.line,
@@ -150,8 +150,8 @@ fn bar_words(alloc: Global, bar: Bar, took: u64, most: u64) -> Result<Vec<u8>, A
 
 // What stands before the number that a submission takes, and behind it.
 fn around(bar: Bar) -> (&'static str, &'static str)
-    ensures before { result.0.now ≡ (around bar).0 }
-    ensures after { result.1.now ≡ (around bar).1 }
+    ensures before { result.0.now ≡ (around_number bar).0 }
+    ensures after { result.1.now ≡ (around_number bar).1 }
 {
     match bar {
         Bar::Time => ("it takes time ", ""),

@@ -4,7 +4,7 @@ ghost use Rattle.library_core.specs.Calls.{IsCall};
 ghost use Rattle.library_core.specs.Cells.{AreCells, MeansNoJob};
 ghost use Rattle.library_core.specs.Commands.{checking, compiling, costing_by, in_lines};
 ghost use Rattle.library_core.specs.Commands.{plainly, replaying, stepping};
-ghost use Rattle.library_core.specs.Judging.{IsNoExercise, TellsVerdict};
+ghost use Rattle.library_core.specs.Judging.{IsExerciseFault, TellsVerdict};
 ghost use Rattle.library_core.specs.Plans.{AreRows, IsNoPlan};
 ghost use Rattle.library_core.specs.Requests.{is_set, window_of, wrong_in};
 ghost use Rattle.library_core.specs.Serving.{ServesRequest};
@@ -228,8 +228,8 @@ pub extern "C" fn ks_judge(
     out: &mut [u8],
     answer: &mut Answer,
 ) -> u32
-    ensures { IsCall (TellsVerdict exercise.now submission.now) (IsNoExercise exercise.now) out.old
-        out.new answer.old answer.new result }
+    ensures { IsCall (TellsVerdict exercise.now submission.now) (IsExerciseFault exercise.now)
+        out.old out.new answer.old answer.new result }
 {
     tell_verdict(alloc, exercise, submission, out, answer)
 }

@@ -22,7 +22,7 @@ use Rattle.walkx.specs.declared.operation.Op.{Op}
 use Rattle.walkx.specs.declared.operation.Op.TheVariants.{Load, Max, Swap}
 use Rattle.lawful_walk.proofs.Moments.{onward}
 use Rattle.lawful_walk.specs.Board.{held, root, stamp_at, Grows, LeafDone, Stands}
-use Rattle.lawful_walk.specs.Lands.{told_at}
+use Rattle.lawful_walk.specs.Lands.{landed_step}
 use Rattle.lawful_walk.proofs.Effects.{writes_keep}
 use Rattle.lawful_walk.proofs.Facts.{facts}
 use Rattle.lawful_walk.proofs.Growths.{root_up, place_as_heard}
@@ -178,7 +178,7 @@ module _ (job : JobData) (y : LayoutData) (w q : ℕ) (aim : Aim) (x : ℕ)
           let fl = floor first.words first.earlier in
           let low = begun first.words fl (omega arith) in
           subst (λ (f : Form). newer_payload a b
-          ≡ slice_index (state_after job (told_at f job x p)) p) compact
+          ≡ slice_index (state_after job (landed_step f job x p)) p) compact
           (place_as_heard job y x p a b first.words m.words words first.stands m.stands stands
           first.since m.since place fl.reached low first.heard m.heard early).value
 

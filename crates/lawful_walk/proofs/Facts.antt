@@ -38,7 +38,7 @@ use Rattle.lawful_walk.proofs.Values.{first_is, second_is, has_settled, newer_is
 use Rattle.lawful_walk.proofs.Values.{newer_is_second}
 use Rattle.lawful_walk.specs.Lands.{IsLanded, Lands, last_landing, landing_before, phase_claimed}
 use Rattle.lawful_walk.specs.Lands.{compact_phase_written, phase_written, settled, settled_before}
-use Rattle.lawful_walk.specs.Lands.{told_at, word_of_step}
+use Rattle.lawful_walk.specs.Lands.{landed_step, word_of_step}
 use Rattle.lawful_walk.proofs.Landings.{last_most, last_is, last_least, last_between, before_most}
 use Rattle.lawful_walk.proofs.Landings.{stamp_step, settled_tells}
 use Rattle.lawful_walk.proofs.Winners.{Winner, winner, cell_lands, lands_cell, lands_writer}
@@ -81,7 +81,7 @@ pub record WordsShow (job : JobData) (y : LayoutData) (words : List ℕ) : Type 
       conflict y words ≢ 0 → stamp_of (held y words (Asked i j)) ≡ conflict y words
   pub final_held : (p : ℕ) → p < places_of y → root y words ≡ 3 * job.steps → conflict y words ≡ 0 →
       payload_of (newer_word (held y words (Stored p 0)) (held y words (Stored p 1)))
-      ≡ slice_index (state_after job (told_at y.form job job.steps p)) p
+      ≡ slice_index (state_after job (landed_step y.form job job.steps p)) p
   pub claims_high : (x c i v : ℕ) → IsWord y (Claim c) → phase_claimed y.form x ≤ root y words →
       Asks job x c i v → stamped_word (suc x) (claim_of job i) ≤ held y words (Claim c)
 
@@ -639,7 +639,7 @@ module _ (job : JobData) (y : LayoutData) (words : List ℕ) (gone : ℕ) (limit
   pub newer_tells : (p a b : ℕ) → p < places_of y → stamp_of a ≤ gone → stamp_of b ≤ gone →
       IsPair y.form job (gone) (root y words) p a b →
       payload_of (newer_word a b)
-      ≡ slice_index (state_after job (told_at y.form job (gone) p)) p
+      ≡ slice_index (state_after job (landed_step y.form job (gone) p)) p
   newer_tells p a b place low also pair = ap payload_of (newer_settled p a b low also pair)
       ∙ settled_tells y.form job limits (gone) p (place_below p place)
 
@@ -674,7 +674,7 @@ module _ (job : JobData) (y : LayoutData) (words : List ℕ) (stands : Stands jo
 
   final : (p : ℕ) → p < places_of y → root y words ≡ 3 * job.steps → conflict y words ≡ 0 →
       payload_of (newer_word (held y words (Stored p 0)) (held y words (Stored p 1)))
-      ≡ slice_index (state_after job (told_at y.form job job.steps p)) p
+      ≡ slice_index (state_after job (landed_step y.form job job.steps p)) p
   final p place full none =
       let low = fins.low in
       let same : finished y words ≡ job.steps =
@@ -687,7 +687,7 @@ module _ (job : JobData) (y : LayoutData) (words : List ℕ) (stands : Stands jo
       let two = low_stamp p 1 (place, lit< tt) in
       subst (λ (t : ℕ).
       payload_of (newer_word (held y words (Stored p 0)) (held y words (Stored p 1)))
-      ≡ slice_index (state_after job (told_at y.form job t p)) p) same
+      ≡ slice_index (state_after job (landed_step y.form job t p)) p) same
       (newer_tells job y words (finished y words) stands.limits stands.sizes stands.layout
       stands.lawful fins.low fins.high p _ _ place (omega arith) (omega arith)
       (stands.lawful.stored p place))

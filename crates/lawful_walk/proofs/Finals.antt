@@ -13,7 +13,7 @@ use Rattle.walkx.specs.Records.{Record, after}
 use Rattle.walkx.specs.Tasks.{is_late}
 use Rattle.walkx.specs.declared.operation.Op.TheVariants.{Load}
 use Rattle.lawful_walk.specs.Board.{held, stamp_at, Stands}
-use Rattle.lawful_walk.specs.Lands.{told_at}
+use Rattle.lawful_walk.specs.Lands.{landed_step}
 use Rattle.lawful_walk.specs.Seen.{Heard, KnowsStep}
 use Rattle.lawful_walk.proofs.Facts.{facts}
 use Rattle.lawful_walk.proofs.Growths.{place_as_heard}
@@ -38,7 +38,7 @@ pub final_place : (job : JobData) (y : LayoutData) (r : Record) (p a b : ℕ) (w
     (after (after r (Load (number_of y (Stored p 0))) a) (Load (number_of y (Stored p 1))) b)
     words →
     payload_of (newer_word a b)
-    ≡ slice_index (state_after job (told_at y.form job job.steps p)) p
+    ≡ slice_index (state_after job (landed_step y.form job job.steps p)) p
 final_place job y r p a b words stands knows place m =
     let first = m.earlier in
     let k = known_now job y r job.steps first.words first.stands first.earlier knows in

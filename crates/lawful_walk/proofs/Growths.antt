@@ -16,7 +16,7 @@ use Rattle.lawful_walk.specs.Board.{Grows, held, root, stamp_at, finished, IsLat
 use Rattle.lawful_walk.specs.Board.{newer_first, newer_second, new_first, new_second, Stands}
 use Rattle.lawful_walk.proofs.Moments.{onward, stamps_rise}
 use Rattle.lawful_walk.specs.Lands.{landing_before, last_landing, settled, settled_before}
-use Rattle.lawful_walk.specs.Lands.{told_at, word_of_step}
+use Rattle.lawful_walk.specs.Lands.{landed_step, word_of_step}
 use Rattle.lawful_walk.proofs.Landings.{before_most, last_least, last_most, last_rises}
 use Rattle.lawful_walk.proofs.Landings.{settled_tells, stamp_step}
 use Rattle.lawful_walk.specs.Writes.{PlaceAsHeard}
@@ -256,7 +256,7 @@ module _ (job : JobData) (y : LayoutData) (x p a b : ℕ) (first second now : Li
       s1.lawful (facts job y first s1).root_low (facts job y first s1).root_high x p
 
   told_x : payload_of (settled y.form job x p)
-      ≡ slice_index (state_after job (told_at y.form job x p)) p
+      ≡ slice_index (state_after job (landed_step y.form job x p)) p
   told_x = settled_tells y.form job s1.limits x p (place_below job y first
       (finished y first) s1.limits s1.sizes s1.layout s1.lawful (facts job y first s1).root_low
       (facts job y first s1).root_high p place)
@@ -380,7 +380,7 @@ module _ (job : JobData) (y : LayoutData) (x p a b : ℕ) (first second now : Li
   ]
 
   value_of : payload_of (newer_word a b)
-      ≡ slice_index (state_after job (told_at y.form job x p)) p
+      ≡ slice_index (state_after job (landed_step y.form job x p)) p
   value_of = ap payload_of newer_two ∙ told_x
 
   rise_a : stamp_of a ≤ stamp_at y now p 0

@@ -19,7 +19,7 @@ use Rattle.pram_words.specs.Stamps.{stamp_of, payload_of}
 use Rattle.walk_memory.specs.Memory.{settled_at, settles}
 use Rattle.lawful_walk.specs.Lands.{IsShared, Lands, IsLanded, asked, own, is_written, lands}
 use Rattle.lawful_walk.specs.Lands.{landing_before, lands_own, last_landing, owner, settled}
-use Rattle.lawful_walk.specs.Lands.{told_at, word_of_step}
+use Rattle.lawful_walk.specs.Lands.{landed_step, word_of_step}
 use Rattle.lawful_walk.proofs.Settles.{settled_most, settled_new, settled_same}
 
 -- ---- places that are shared, and those of a processor's own
@@ -46,12 +46,12 @@ above_form Compact job p apart = absurd (apart tt)
 above_form (Wide g) job p apart = above_cells g job p apart
 
 pub told_shared : (form : Form) (job : JobData) (t p : ℕ) → IsShared form job p →
-    told_at form job t p ≡ t
+    landed_step form job t p ≡ t
 told_shared Compact job t p shared = refl
 told_shared (Wide g) job t p shared = rw (lt-ltb p job.cells shared) refl
 
 pub told_own : (form : Form) (job : JobData) (t p : ℕ) → (IsShared form job p → ⊥) →
-    told_at form job t p ≡ settled_at job t (owner job p)
+    landed_step form job t p ≡ settled_at job t (owner job p)
 told_own Compact job t p apart = absurd (apart tt)
 told_own (Wide g) job t p apart = rw (le-ltb p job.cells (above_cells g job p apart)) refl
 
@@ -70,7 +70,7 @@ lands_apart : (form : Form) (job : JobData) (t p : ℕ) → (IsShared form job p
 lands_apart Compact job t p apart = absurd (apart tt)
 lands_apart (Wide g) job t p apart = lands_above g job t p (above_cells g job p apart)
 
-pub told_most : (form : Form) (job : JobData) (t p : ℕ) → told_at form job t p ≤ t
+pub told_most : (form : Form) (job : JobData) (t p : ℕ) → landed_step form job t p ≤ t
 told_most form job t p = elim (shared_cases form job p) [
   | inl shared ↦ (let e = told_shared form job t p shared in omega (arith, e))
   | inr apart ↦ (let e = told_own form job t p apart in
@@ -130,11 +130,11 @@ module _ (form : Form) (job : JobData) (s p : ℕ) where
   last_this does = cond-true (lands form job s p) (suc s) (last_landing form job s p) does
 
   abbrev SameTold : Type 0
-  SameTold = slice_index (state_after job (told_at form job (suc s) p)) p
-      ≡ slice_index (state_after job (told_at form job s p)) p
+  SameTold = slice_index (state_after job (landed_step form job (suc s) p)) p
+      ≡ slice_index (state_after job (landed_step form job s p)) p
 
   -- the same step told, or two with one value
-  told_by : (a b : ℕ) → told_at form job (suc s) p ≡ a → told_at form job s p ≡ b →
+  told_by : (a b : ℕ) → landed_step form job (suc s) p ≡ a → landed_step form job s p ≡ b →
       slice_index (state_after job a) p ≡ slice_index (state_after job b) p → SameTold
   told_by a b new old same = ap (λ (n : ℕ). slice_index (state_after job n) p) new ∙ same
       ∙ sym (ap (λ (n : ℕ). slice_index (state_after job n) p) old)
@@ -174,7 +174,7 @@ module _ (form : Form) (job : JobData) (s p : ℕ) where
   ]
 
   -- What lands tells the step.
-  told_new : lands form job s p ≡ true → told_at form job (suc s) p ≡ suc s
+  told_new : lands form job s p ≡ true → landed_step form job (suc s) p ≡ suc s
   told_new does = elim (shared_cases form job p) [
     | inl shared ↦ told_shared form job (suc s) p shared
     | inr apart ↦ told_own form job (suc s) p apart ∙ settled_new job (owner job p) s
@@ -184,13 +184,13 @@ module _ (form : Form) (job : JobData) (s p : ℕ) where
 pub record Left (form : Form) (job : JobData) (s p : ℕ) : Type 0 where
   pub none : IsLanded form job s p → ⊥
   pub last : last_landing form job (suc s) p ≡ last_landing form job s p
-  pub told : p < place_count job → slice_index (state_after job (told_at form job (suc s) p)) p
-      ≡ slice_index (state_after job (told_at form job s p)) p
+  pub told : p < place_count job → slice_index (state_after job (landed_step form job (suc s) p)) p
+      ≡ slice_index (state_after job (landed_step form job s p)) p
 
 pub record Set (form : Form) (job : JobData) (s p : ℕ) : Type 0 where
   pub written : IsLanded form job s p
   pub last : last_landing form job (suc s) p ≡ suc s
-  pub told : told_at form job (suc s) p ≡ suc s
+  pub told : landed_step form job (suc s) p ≡ suc s
 
 pub landing_cases : (form : Form) (job : JobData) → IsJob job → (s p : ℕ) →
     Left form job s p ⊎ Set form job s p
@@ -273,7 +273,7 @@ module _ (form : Form) (job : JobData) (is_job : IsJob job) where
   -- ---- what is told
 
   abbrev Told : ℕ → ℕ → ℕ
-  Told t p = slice_index (state_after job (told_at form job t p)) p
+  Told t p = slice_index (state_after job (landed_step form job t p)) p
 
   -- While no word lands, it is the same value.
   pub told_between : (t u p : ℕ) → p < place_count job → t ≤ u → last_landing form job u p ≤ t →

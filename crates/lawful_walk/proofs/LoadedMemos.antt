@@ -6,7 +6,7 @@ use Rattle.std.proofs.lemmas.Option.{none-some}
 use Rattle.pram_job.specs.Job.{JobData, IsJob}
 use Rattle.pram_words.specs.declared.layout.Form.TheVariants.{Wide}
 use Rattle.walk_memory.specs.Memory.{IsTrueMemo, own_alone, own_at, settled_at}
-use Rattle.walk_memory.specs.Learned.{loaded_memo, newest_of, told_by}
+use Rattle.walk_memory.specs.Learned.{loaded_memo, newest_of, learned_own}
 use Rattle.walkx.specs.Passes.{own_places}
 use Rattle.lawful_walk.proofs.Settles.{loads_none_since, settled_most}
 use Rattle.lawful_walk.specs.Lands.{settled}
@@ -36,8 +36,8 @@ module _ (g : ℕ) (job : JobData) (x i : ℕ) (limits : IsJob job) (proc : i < 
       let there : suc x - 1 ≡ x = omega arith in
       record {
         step = omega (arith, time);
-        own = ap (λ (t : ℕ). own_alone job i (t - newest_of Words) (told_by Words)) there
-            ∙ ap (λ (s : ℕ). own_alone job i (x - s) (told_by Words)) newest_is
+        own = ap (λ (t : ℕ). own_alone job i (t - newest_of Words) (learned_own Words)) there
+            ∙ ap (λ (s : ℕ). own_alone job i (x - s) (learned_own Words)) newest_is
             ∙ ap (own_alone job i (x - S)) told_is ∙ alone_since
             ∙ ap (λ (t : ℕ). own_at job t i) (sym there);
         settled = newest_is ∙ ap (λ (t : ℕ). settled_at job t i) (sym there);

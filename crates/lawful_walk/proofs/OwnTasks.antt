@@ -40,7 +40,7 @@ use Rattle.walk_memory.proofs.Boards.{same_cells, same_procs}
 use Rattle.walk_memory.proofs.OwnFits.{cell_below}
 use Rattle.lawful_walk.specs.Board.{held, root, stamp_at, CarriedOwn, Claimed, DoneIn, IsLate}
 use Rattle.lawful_walk.specs.Board.{Rests, Stands}
-use Rattle.lawful_walk.specs.Lands.{Lands, phase_claimed, phase_written, told_at}
+use Rattle.lawful_walk.specs.Lands.{Lands, phase_claimed, phase_written, landed_step}
 use Rattle.lawful_walk.specs.Writes.{Floor}
 use Rattle.lawful_walk.proofs.Effects.{writes_keep}
 use Rattle.lawful_walk.proofs.Facts.{done_of_rests, facts}
@@ -92,10 +92,10 @@ module _ (job : JobData) (y : LayoutData) (w q : ℕ) (aim : Aim) (g x i : ℕ) 
       by (inl h) = from 0 (stamp_at y words c 0) (cell_in c cell, lit< tt) refl h
       by (inr h) = from 1 (stamp_at y words c 1) (cell_in c cell, lit< tt) refl h
 
-  told_cell : (form : Form) (c : ℕ) → c < job.cells → told_at form job x c ≡ x
+  told_cell : (form : Form) (c : ℕ) → c < job.cells → landed_step form job x c ≡ x
   told_cell form c cell = by form
     where
-      by : (form : Form) → told_at form job x c ≡ x
+      by : (form : Form) → landed_step form job x c ≡ x
       by Compact = refl
       by (Wide g) = cond_both (nat_lt c job.cells) _ _ (λ (t : ℕ). t ≡ x) (λ e. refl)
           (λ e. absurd (let l = ltb-false c job.cells e in omega (arith, l, cell)))

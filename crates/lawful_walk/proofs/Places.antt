@@ -13,7 +13,7 @@ use Rattle.walkx.specs.Tasks.{is_late}
 use Rattle.lawful_walk.proofs.Landings.{last_least, last_most, payload_step, stamp_step}
 use Rattle.lawful_walk.proofs.Landings.{told_last, told_shared}
 use Rattle.lawful_walk.proofs.Winners.{cell_shared, landed_value}
-use Rattle.lawful_walk.specs.Lands.{landing_before, last_landing, settled, told_at}
+use Rattle.lawful_walk.specs.Lands.{landing_before, last_landing, settled, landed_step}
 use Rattle.lawful_walk.proofs.Moments.{same}
 use Rattle.lawful_walk.specs.Board.{held, root, stamp_at, finished, Grows, Stands, IsPair}
 use Rattle.lawful_walk.specs.Board.{newer_first, newer_second, new_first, new_second}
@@ -75,7 +75,7 @@ old_value : (job : JobData) (y : LayoutData) (words : List ℕ) (x p k : ℕ) �
     Stands job y words → IsWord y (Stored p k) → x ≤ finished y words →
     stamp_at y words p k ≤ x → last_landing y.form job x p ≤ stamp_at y words p k →
     payload_of (held y words (Stored p k))
-    ≡ slice_index (state_after job (told_at y.form job x p)) p
+    ≡ slice_index (state_after job (landed_step y.form job x p)) p
 old_value job y words x p k stands is h low last =
     let z = stamp_at y words p k in
     let below = place_below job y words (finished y words) stands.limits stands.sizes stands.layout
@@ -92,7 +92,7 @@ pub first_value : (job : JobData) (y : LayoutData) (words : List ℕ) (x p : ℕ
     Stands job y words → p < places_of y → x ≤ finished y words →
     stamp_at y words p 0 ≤ x → x < stamp_at y words p 1 →
     payload_of (held y words (Stored p 0))
-    ≡ slice_index (state_after job (told_at y.form job x p)) p
+    ≡ slice_index (state_after job (landed_step y.form job x p)) p
 first_value job y words x p stands place h low high =
     old_value job y words x p 0 stands (place, lit< tt) h low
     ((beside job y words x p _ _ stands (stands.lawful.stored p place) h).0 high)
@@ -101,7 +101,7 @@ pub second_value : (job : JobData) (y : LayoutData) (words : List ℕ) (x p : �
     Stands job y words → p < places_of y → x ≤ finished y words →
     stamp_at y words p 1 ≤ x → x < stamp_at y words p 0 →
     payload_of (held y words (Stored p 1))
-    ≡ slice_index (state_after job (told_at y.form job x p)) p
+    ≡ slice_index (state_after job (landed_step y.form job x p)) p
 second_value job y words x p stands place h low high =
     old_value job y words x p 1 stands (place, lit< tt) h low
     ((beside job y words x p _ _ stands (stands.lawful.stored p place) h).1 high)
@@ -167,6 +167,6 @@ last_held job y words p stands place =
 
 -- a cell's words tell what it holds
 pub cell_value : (form : Form) (job : JobData) (t p : ℕ) → p < job.cells →
-    slice_index (state_after job (told_at form job t p)) p ≡ slice_index (state_after job t) p
+    slice_index (state_after job (landed_step form job t p)) p ≡ slice_index (state_after job t) p
 cell_value form job t p cell = ap (λ (n : ℕ). slice_index (state_after job n) p)
     (told_shared form job t p (cell_shared form job p cell))

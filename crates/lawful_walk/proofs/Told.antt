@@ -7,7 +7,7 @@ use Rattle.pram_step.specs.Runs.{state_after}
 use Rattle.pram_words.specs.declared.layout.Form.TheVariants.{Wide}
 use Rattle.pram_words.specs.Stamps.{payload_of, stamp_of}
 use Rattle.walk_memory.specs.Memory.{own_at, settled_at}
-use Rattle.walk_memory.specs.Learned.{newest_of, told_by}
+use Rattle.walk_memory.specs.Learned.{newest_of, learned_own}
 use Rattle.walkx.specs.Passes.{own_places}
 use Rattle.lawful_walk.specs.Lands.{last_landing, settled}
 use Rattle.lawful_walk.proofs.Landings.{settled_tells, stamp_step, told_own}
@@ -35,7 +35,7 @@ module _ (g : ℕ) (job : JobData) (is_job : IsJob job) (x i : ℕ) (proc : i < 
   register_tells r low = own_tells (register_place job i r) (inl (r, low, refl))
 
   -- all of them
-  pub told_settled : told_by (map (settled (Wide g) job x) (own_places job i)) ≡ own_at job T i
+  pub told_settled : learned_own (map (settled (Wide g) job x) (own_places job i)) ≡ own_at job T i
   told_settled =
       let c = own_tells (counter_place job i) (inr refl) in
       let r0 = register_tells 0 (lit< tt) in

@@ -31,8 +31,8 @@ IsShared Compact job place = Unit {0}
 IsShared (Wide grain) job place = place < job.cells
 
 -- the step after which a place held what its words tell after t steps
-abbrev pub told_at : Form → JobData → ℕ → ℕ → ℕ
-told_at form job t place =
+abbrev pub landed_step : Form → JobData → ℕ → ℕ → ℕ
+landed_step form job t place =
     by_form form t (if nat_lt place job.cells then t else settled_at job t (owner job place))
 
 -- ---- the writes that get a word

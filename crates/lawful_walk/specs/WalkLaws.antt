@@ -13,7 +13,7 @@ use Rattle.walkx.specs.declared.operation.Ended.TheVariants as ended
 use Rattle.walkx.specs.declared.operation.Op.{Op}
 use Rattle.walkx.specs.declared.operation.Op.TheVariants.{Load}
 use Rattle.walkx.specs.declared.operation.Reading.TheVariants.{At}
-use Rattle.walkx.specs.Bound.{told_all, history_of, most_steps}
+use Rattle.walkx.specs.Bound.{told_all, history_of, own_step_bound}
 use Rattle.walkx.specs.Doing as doing
 use Rattle.walkx.specs.Operations.{words_after, answer}
 use Rattle.walkx.specs.Reads.{step_seen, reader_script}
@@ -23,7 +23,7 @@ use Rattle.walkx.specs.Walk.{Walking, Fits, IsGoing, ask_of, told}
 use Rattle.walk_memory.specs.Blocks.{IsBoard}
 use Rattle.lawful_walk.specs.Board.{Stands, Grows, held, root, finished}
 use Rattle.lawful_walk.specs.Moments.{Backed, IsFixed, WasBacked, Sound, afters}
-use Rattle.lawful_walk.specs.Lands.{told_at}
+use Rattle.lawful_walk.specs.Lands.{landed_step}
 use Rattle.lawful_walk.specs.Seen.{Heard, KnowsStep}
 use Rattle.lawful_walk.specs.Walks.{Moves, IsLawfulRead, DoneWell, IsConflict, ProgressWell}
 use Rattle.lawful_walk.specs.Walks.{phase_now, steps_heard}
@@ -66,7 +66,7 @@ RecordedStepsAreBounded =
     IsBoard job layout → Fits job layout worker →
     Sound job layout past → Has past (history_of job layout worker answers) →
     IsGoing (told_all job layout worker answers).now →
-    length answers < most_steps job
+    length answers < own_step_bound job
 
 -- with these steps the record has them, after what the worker had heard
 abbrev pub HistoriesAreKept : Type 0
@@ -144,7 +144,7 @@ FinalValuesAreHeld =
     WasBacked job layout (after (after past (Load (number_of layout (Stored place 0))) first)
     (Load (number_of layout (Stored place 1))) second) →
     payload_of (newer_word first second)
-    ≡ slice_index (state_after job (told_at layout.form job job.steps place)) place
+    ≡ slice_index (state_after job (landed_step layout.form job job.steps place)) place
 
 -- a request word of the compact form, word 0 having been heard as t + 1
 abbrev pub ConflictRequestsAreHeld : Type 0

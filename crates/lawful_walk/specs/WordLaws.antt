@@ -14,7 +14,7 @@ use Rattle.lawful_walk.specs.Board.{held, stamp_at, finished, Stands}
 use Rattle.lawful_walk.specs.Faithful.{FaithfulAnswers, Faithful}
 use Rattle.lawful_walk.specs.Moments.{Backed, Sound}
 use Rattle.lawful_walk.specs.Writes.{Floor, MayWrite}
-use Rattle.lawful_walk.specs.Lands.{settled, told_at}
+use Rattle.lawful_walk.specs.Lands.{settled, landed_step}
 
 -- The settled word of a place tells what the place holds: of a processor's own place in the wide
 -- form what it held when the processor last settled.
@@ -22,7 +22,7 @@ abbrev pub SettledWordsTell : Type 0
 SettledWordsTell = (form : Form) (job : JobData) (t place : ℕ) → IsJob job →
     place < place_count job →
     payload_of (settled form job t place)
-    ≡ slice_index (state_after job (told_at form job t place)) place
+    ≡ slice_index (state_after job (landed_step form job t place)) place
 
 -- the words that a board starts with stand
 abbrev pub StartWordsAreLawful : Type 0
@@ -44,14 +44,14 @@ FinishedStepsAreHeld = (job : JobData) (layout : LayoutData) (words : List ℕ) 
     Stands job layout words → place < places_of layout → t ≤ finished layout words →
     (stamp_at layout words place 0 ≤ t → t < stamp_at layout words place 1 →
     payload_of (held layout words (Stored place 0))
-    ≡ slice_index (state_after job (told_at layout.form job t place)) place)
+    ≡ slice_index (state_after job (landed_step layout.form job t place)) place)
     × (stamp_at layout words place 1 ≤ t → t < stamp_at layout words place 0 →
     payload_of (held layout words (Stored place 1))
-    ≡ slice_index (state_after job (told_at layout.form job t place)) place)
+    ≡ slice_index (state_after job (landed_step layout.form job t place)) place)
     × (stamp_at layout words place 0 ≤ t → stamp_at layout words place 1 ≤ t →
     payload_of
     (newer_word (held layout words (Stored place 0)) (held layout words (Stored place 1)))
-    ≡ slice_index (state_after job (told_at layout.form job t place)) place)
+    ≡ slice_index (state_after job (landed_step layout.form job t place)) place)
 
 -- and after the last finished step there is one
 abbrev pub LastFinishedStepIsHeld : Type 0

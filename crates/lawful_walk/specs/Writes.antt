@@ -19,7 +19,7 @@ use Rattle.walkx.specs.Operations.{words_after}
 use Rattle.walkx.specs.Tasks.{claim_of}
 use Rattle.lawful_walk.specs.Board.{held, leaf_of, phase_in, root, stamp_at, IsLate, LeafDone}
 use Rattle.lawful_walk.specs.Board.{Rests}
-use Rattle.lawful_walk.specs.Lands.{Lands, phase_claimed, phase_written, told_at}
+use Rattle.lawful_walk.specs.Lands.{Lands, phase_claimed, phase_written, landed_step}
 use Rattle.lawful_walk.specs.Moments.{IsFixed, Keeps}
 
 -- Of a place whose two words were heard: the newer one has the value that they tell after t steps,
@@ -27,7 +27,7 @@ use Rattle.lawful_walk.specs.Moments.{IsFixed, Keeps}
 pub record PlaceAsHeard (job : JobData) (layout : LayoutData) (t place first second : ℕ)
     (now : List ℕ) : Type 0 where
   pub value : payload_of (newer_word first second)
-      ≡ slice_index (state_after job (told_at layout.form job t place)) place
+      ≡ slice_index (state_after job (landed_step layout.form job t place)) place
   pub stands : held layout now (Stored place (older first second)) ≡ older_word first second →
       (stamp_at layout now place 0 ≤ t) × (stamp_at layout now place 1 ≤ t)
       × (first_is_older (held layout now (Stored place 0)) (held layout now (Stored place 1))

@@ -139,13 +139,13 @@ pub record WasReadTold (cell : ℕ) (told : ReadingTold) (before later : Member)
   pub goes_on : MemberGoesOn before later
 
 -- the numbers at the front of the buffer, as many as there is room for
-abbrev pub front_of : List ℕ → List ℕ → List ℕ
-front_of numbers buffer = take (length buffer) numbers ++ drop (length numbers) buffer
+abbrev pub buffer_front : List ℕ → List ℕ → List ℕ
+buffer_front numbers buffer = take (length buffer) numbers ++ drop (length numbers) buffer
 
 pub record IsPut (old new : List ℕ) (before later : Member) : Type 0 where
   pub cells : List ℕ
   pub last : IsLastMemory before later cells
-  pub is : new ≡ front_of cells old
+  pub is : new ≡ buffer_front cells old
 
 pub record IsFaultTold (told : FaultTold) (before later : Member) : Type 0 where
   pub is : IsKnownFault before later (record {

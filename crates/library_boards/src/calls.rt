@@ -3,7 +3,7 @@ ghost use Rattle.std.specs.Prelude.{◌≡◌, ◌≢◌, ◌⊎◌, ◌<◌, �
 ghost use Rattle.library_boards.specs.Calls.{HasComeBack, HasWorked, IsFaultTold};
 ghost use Rattle.library_boards.specs.Calls.{IsNoWorkerStatus, IsOpenStatus, IsPut};
 ghost use Rattle.library_boards.specs.Calls.{TellsMemberProgress};
-ghost use Rattle.library_boards.specs.Calls.{WasReadTold, front_of, status_of_fault};
+ghost use Rattle.library_boards.specs.Calls.{WasReadTold, buffer_front, status_of_fault};
 ghost use Rattle.library_boards.specs.Calls.{status_of_stay};
 ghost use Rattle.library_boards.specs.Grains.{IsGrainAsked};
 ghost use Rattle.library_boards.specs.Jobs.{IsJobOf, IsUncountedJobOf};
@@ -230,7 +230,7 @@ pub fn memory(member: &mut Member, alloc: Global, cells: &mut [u32]) -> u32
 
 // Puts numbers to the front of a buffer, as many as there is room for.
 fn put_front(numbers: &[u32], buffer: &mut [u32])
-    ensures { buffer.new ≡ front_of numbers.now buffer.old }
+    ensures { buffer.new ≡ buffer_front numbers.now buffer.old }
 {
     if numbers.len() > buffer.len() {
         buffer.copy_from_slice(&numbers[..buffer.len()]);

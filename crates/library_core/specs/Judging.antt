@@ -6,10 +6,10 @@ use Rattle.exercise_text.specs.Reading.{exercise_of}
 use Rattle.exercise_judge.specs.Trials.{TrialData}
 use Rattle.exercise_judge.specs.Verdicts.{IsUnfit}
 use Rattle.exercise_judge.specs.declared.verdict.Unfit.{Unfit}
-use Rattle.exercise_records.specs.Records.{HasTrials, IsSaid, fields_of, status_of}
-use Rattle.exercise_records.specs.declared.said.Said.{Said}
-use Rattle.exercise_records.specs.declared.trials.NoTrials.{NoTrials}
-use Rattle.exercise_records.specs.declared.trials.NoTrials.TheVariants as why
+use Rattle.exercise_words.specs.Records.{HasTrials, IsSaid, fields_of, passed_status}
+use Rattle.exercise_words.specs.declared.said.Said.{Said}
+use Rattle.exercise_words.specs.declared.trials.NoTrials.{NoTrials}
+use Rattle.exercise_words.specs.declared.trials.NoTrials.TheVariants as why
 use Rattle.refusals.specs.declared.fault.CommandFault.TheVariants.{Memory}
 use Rattle.library_core.specs.declared.fault.CallFault.{CallFault}
 use Rattle.library_core.specs.declared.fault.CallFault.TheVariants as call
@@ -24,7 +24,7 @@ pub record IsRecord (trials : List TrialData) (submission text : List ℕ) (stat
   pub said : Said
   pub is : IsSaid trials submission said
   pub writes : text ≡ record_of said
-  pub ends : status ≡ status_of said.passed
+  pub ends : status ≡ passed_status said.passed
 
 -- ---- the call
 
@@ -35,16 +35,16 @@ pub record TellsVerdict (exercise submission text : List ℕ) (status : ℕ) : T
   pub judged : IsRecord trials submission text status
 
 -- the text is no exercise, or it is one by which nothing can be judged, or memory ran out
-abbrev pub IsNoExercise : List ℕ → CallFault → Type 0
-IsNoExercise text (call.Exercise fault) = exercise_of text ≡ Err fault
-IsNoExercise text (call.Unfit line) = (exercise : List EntryData)
+abbrev pub IsExerciseFault : List ℕ → CallFault → Type 0
+IsExerciseFault text (call.Exercise fault) = exercise_of text ≡ Err fault
+IsExerciseFault text (call.Unfit line) = (exercise : List EntryData)
     × (exercise_of text ≡ Ok exercise)
     × ((found : Unfit) × IsUnfit exercise found × (line ≡ found.line))
-IsNoExercise text (call.Command fault) = fault ≡ Memory
-IsNoExercise text _ = ⊥
+IsExerciseFault text (call.Command fault) = fault ≡ Memory
+IsExerciseFault text _ = ⊥
 
 -- what is told of why it was not judged
-abbrev pub fault_of : NoTrials → CallFault
-fault_of (why.Fault fault) = call.Exercise fault
-fault_of (why.Unfit unfit) = call.Unfit unfit.line
-fault_of why.Memory = call.Command Memory
+abbrev pub judging_fault : NoTrials → CallFault
+judging_fault (why.Fault fault) = call.Exercise fault
+judging_fault (why.Unfit unfit) = call.Unfit unfit.line
+judging_fault why.Memory = call.Command Memory

@@ -20,8 +20,8 @@ use Rattle.library_core.specs.declared.fault.CallFault.TheVariants as call
 use Rattle.library_core.specs.declared.fault.Misset.{Misset}
 
 -- what stands before the first `=` of a line, and what stands after it
-abbrev pub parts_of : List ℕ → Option (List ℕ × List ℕ)
-parts_of line = option_map (λ at. (take at line, drop (at + 1) line))
+abbrev pub halves_of : List ℕ → Option (List ℕ × List ℕ)
+halves_of line = option_map (λ at. (take at line, drop (at + 1) line))
     (position (λ byte. byte == 61) line)
 
 -- the settings, and one more: a name, and a text of its values
@@ -30,13 +30,13 @@ abbrev pub with_parts : List SettingData → Option (List ℕ × List ℕ) →
 with_parts settings None = Err BadSetting
 with_parts settings (Some parts) = with_setting settings parts.0 parts.1
 
-abbrev pub with_line : List SettingData → List ℕ → Result (List SettingData) SetKind
-with_line settings line = with_parts settings (parts_of line)
+abbrev pub setting_with : List SettingData → List ℕ → Result (List SettingData) SetKind
+setting_with settings line = with_parts settings (halves_of line)
 
 -- what is wrong with the setting of this number
-abbrev pub numbered : {A : Type 0} → ℕ → Result A SetKind → Result A Misset
-numbered number (Ok value) = Ok value
-numbered number (Err kind) = Err (record { number = number; kind = kind })
+abbrev pub numbered_setting : {A : Type 0} → ℕ → Result A SetKind → Result A Misset
+numbered_setting number (Ok value) = Ok value
+numbered_setting number (Err kind) = Err (record { number = number; kind = kind })
 
 -- so many settings, and those of lines after them; an empty line has none
 abbrev pub with_lines : ℕ → List SettingData → List (List ℕ) → Result (List SettingData) Misset
@@ -44,7 +44,7 @@ with_lines count settings [] = Ok settings
 with_lines count settings (line ∷ lines) =
     if length line == 0 then with_lines count settings lines
     else (do
-      next ← numbered (count + 1) (with_line settings line)
+      next ← numbered_setting (count + 1) (setting_with settings line)
       with_lines (count + 1) next lines)
 
 -- what a text sets, or the first of its settings that is wrong by itself
@@ -68,14 +68,14 @@ abbrev pub if_fit : Option SetFault → List ℕ → Result (List ℕ) Misset
 if_fit None set = Ok set
 if_fit (Some fault) set = Err (record { number = fault.at + 1; kind = fault.kind })
 
-abbrev pub fitting : List SettingData → (text set : List ℕ) → Result (List ℕ) Misset
-fitting settings text set = if_fit (unfit_in settings text set) set
+abbrev pub set_fitting : List SettingData → (text set : List ℕ) → Result (List ℕ) Misset
+set_fitting settings text set = if_fit (unfit_in settings text set) set
 
 -- The text as the other one sets it, or the first setting that is wrong, or does not fit.
 unfoldable pub text_set_by : (text others : List ℕ) → Result (List ℕ) Misset
 text_set_by text others = do
   settings ← settings_in others
-  fitting settings text (text_as_set settings text)
+  set_fitting settings text (text_as_set settings text)
 
 -- this is told of what is wrong, or that memory ran out
 abbrev pub TellsWhy : {A : Type 0} → Result A Misset → CallFault → Type 0

@@ -3,11 +3,11 @@ ghost use Rattle.std.specs.Prelude.{◌≡◌, ◌==◌, IfErr, IfOk, OnOk};
 ghost use Rattle.std.specs.List.{position};
 ghost use Rattle.std.specs.Io.KnownBytes.{Appends};
 ghost use Rattle.csv.specs.Writing.{text_written};
-ghost use Rattle.exercise_records.specs.Records.{HasNoTrials};
+ghost use Rattle.exercise_words.specs.Records.{HasNoTrials};
 ghost use Rattle.pram_streams.specs.Records.{IsBetweenRecords};
 ghost use Rattle.library_core.specs.Calls.{IsCall, IsEndingStatus, RefusesOrNot};
-ghost use Rattle.library_core.specs.Judging.{IsNoExercise, IsRecord, TellsVerdict};
-ghost use Rattle.library_core.specs.Judging.{fault_of, record_of};
+ghost use Rattle.library_core.specs.Judging.{IsExerciseFault, IsRecord, TellsVerdict};
+ghost use Rattle.library_core.specs.Judging.{judging_fault, record_of};
 ghost use Rattle.library_core.specs.Telling.{IsThisOrMemory};
 
 use crate::answer::{ANSWER_SIZE, Answer};
@@ -16,8 +16,9 @@ use crate::serving::Served;
 use crate::telling::{show, tell};
 use csv::Writer;
 use exercise_judge::Trial;
-use exercise_records::{NoTrials, Said, said_of, trials_in};
-use exercise_words::{fault_name, push_exercise_fault, push_unfit, unfit_name};
+use exercise_words::{
+    NoTrials, Said, fault_name, push_exercise_fault, push_unfit, said_of, trials_in, unfit_name,
+};
 use pardo_explain::Diagnosis;
 use refusals::{CommandFault, FAILED};
 use std::alloc::{AllocError, Global};
@@ -33,8 +34,8 @@ pub fn tell_verdict(
     out: &mut [u8],
     answer: &mut Answer,
 ) -> u32
-    ensures { IsCall (TellsVerdict exercise.now submission.now) (IsNoExercise exercise.now) out.old
-        out.new answer.old answer.new result }
+    ensures { IsCall (TellsVerdict exercise.now submission.now) (IsExerciseFault exercise.now)
+        out.old out.new answer.old answer.new result }
 {
     match judged(alloc, exercise, submission) {
         Ok(served) => show(served.bytes.as_slice(), served.status, out, answer),
@@ -94,7 +95,7 @@ fn write_record<W: Write + Drop>(writer: &mut Writer<W>, said: &Said) -> Result<
 // Ends a call that judged nothing, and gives its status.
 fn refuse_unjudged(alloc: Global, why: &NoTrials, answer: &mut Answer) -> u32
     ensures ending { ¬ IsEndingStatus result }
-    ensures refused { RefusesOrNot (IsThisOrMemory (fault_of why.now)) answer.old answer.new
+    ensures refused { RefusesOrNot (IsThisOrMemory (judging_fault why.now)) answer.old answer.new
         result }
 {
     if answer.size != ANSWER_SIZE {
@@ -108,7 +109,7 @@ fn refuse_unjudged(alloc: Global, why: &NoTrials, answer: &mut Answer) -> u32
 }
 
 fn fault_of(why: &NoTrials) -> CallFault
-    ensures { result ≡ fault_of why.now }
+    ensures { result ≡ judging_fault why.now }
 {
     match why {
         NoTrials::Fault(fault) => CallFault::Exercise(*fault),

@@ -5,9 +5,10 @@ ghost use Rattle.std.specs.List.{position};
 ghost use Rattle.std.specs.Option.{option_map};
 ghost use Rattle.pardo_text.specs.Settings.{with_setting};
 ghost use Rattle.library_core.specs.Calls.{IsCall};
-ghost use Rattle.library_core.specs.Settings.{IsNotSet, IsTextSet, TellsWhy, if_fit, numbered};
-ghost use Rattle.library_core.specs.Settings.{parts_of, settings_in, text_set_by, unfit_in};
-ghost use Rattle.library_core.specs.Settings.{with_line};
+ghost use Rattle.library_core.specs.Settings.{IsNotSet, IsTextSet, TellsWhy, if_fit};
+ghost use Rattle.library_core.specs.Settings.{numbered_setting};
+ghost use Rattle.library_core.specs.Settings.{halves_of, settings_in, text_set_by, unfit_in};
+ghost use Rattle.library_core.specs.Settings.{setting_with};
 ghost use Rattle.library_core.specs.declared.fault.CallFault.TheVariants.{Command};
 ghost use Rattle.refusals.specs.declared.fault.CommandFault.TheVariants.{Memory};
 
@@ -75,8 +76,9 @@ fn settings_in(alloc: Global, text: &[u8]) -> Result<Settings, CallFault>
 // Adds the setting of a line, which is the one of this number.
 fn add(settings: &mut Settings, number: u64, line: &[u8]) -> Result<(), CallFault>
     ensures next { OnOk result
-        (numbered number (with_line settings.old line.now) ≡ Ok settings.new) }
-    ensures wrong { IfErr result (TellsWhy (numbered number (with_line settings.old line.now))) }
+        (numbered_setting number (setting_with settings.old line.now) ≡ Ok settings.new) }
+    ensures wrong { IfErr result
+        (TellsWhy (numbered_setting number (setting_with settings.old line.now))) }
 {
     match parts_of(line) {
         Some((name, values)) => set(settings, number, name, values),
@@ -89,10 +91,10 @@ fn add(settings: &mut Settings, number: u64, line: &[u8]) -> Result<(), CallFaul
 
 // Sets a name to the values that a text spells.
 fn set(settings: &mut Settings, number: u64, name: &[u8], values: &[u8]) -> Result<(), CallFault>
-    ensures next { OnOk result
-        (numbered number (with_setting settings.old name.now values.now) ≡ Ok settings.new) }
+    ensures next { OnOk result (numbered_setting number
+        (with_setting settings.old name.now values.now) ≡ Ok settings.new) }
     ensures wrong { IfErr result
-        (TellsWhy (numbered number (with_setting settings.old name.now values.now))) }
+        (TellsWhy (numbered_setting number (with_setting settings.old name.now values.now))) }
 {
     match settings.add(name, values) {
         Ok(()) => Ok(()),
@@ -103,7 +105,7 @@ fn set(settings: &mut Settings, number: u64, name: &[u8], values: &[u8]) -> Resu
 
 // The name and the values of a line.
 fn parts_of(line: &[u8]) -> Option<(&[u8], &[u8])>
-    ensures { option_map (λ parts. (parts.0.now, parts.1.now)) result ≡ parts_of line.now }
+    ensures { option_map (λ parts. (parts.0.now, parts.1.now)) result ≡ halves_of line.now }
 {
     let at = equals_in(line)?;
     Some((&line[..at], &line[at + 1..]))

@@ -4,10 +4,9 @@ ghost use Rattle.pram_machine.specs.Machine.{place_count};
 ghost use Rattle.pram_step.specs.Runs.{IsStateAfter};
 
 use crate::table::expect;
-use pram_fates::{Origin, why_after, why_text};
 use pram_job::Job;
 use pram_machine::Request;
-use pram_rows::ByNumbers;
+use pram_rows::{ByNumbers, Origin, why_after, why_text};
 use pram_step::{
     Arrival, Cells, Dispute, Fault, Outcome, RunAnswer, State, counter, dispute, go_to, laws,
     make_step, plain_answer, request, request_after, run_plain, step,

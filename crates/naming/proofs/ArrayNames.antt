@@ -20,7 +20,7 @@ use Rattle.job_text.specs.Printed.{is_same}
 use Rattle.pardo_program.specs.Lawful.{AreArrays}
 use Rattle.pardo_program.specs.Program.{ArrayData, PrivateData, ProgramData, shared_cells}
 use Rattle.pardo_flat.specs.Layouts.{cells_of_array, private_cells, program_layout}
-use Rattle.naming.specs.ArrayNames.{name_if, name_of_private, private_name, row_at}
+use Rattle.naming.specs.ArrayNames.{name_if, name_of_private, private_name, array_row}
 use Rattle.naming.specs.ArrayNames.{shared_name}
 use Rattle.naming.proofs.Rows.{begins_after}
 
@@ -158,8 +158,8 @@ the_same None cells array same = refl
 the_same (Some variable) cells array same = rw same refl
 
 by_len : (program : ProgramData) (array : Array) (o : Option Word) →
-    name_of_private (slice_get program.privates (row_at program array))
-    (private_cells (program_layout program) (row_at program array)) array ≡ o →
+    name_of_private (slice_get program.privates (array_row program array))
+    (private_cells (program_layout program) (array_row program array)) array ≡ o →
     (array.len == 0) ≡ false → private_name program array ≡ o
 by_len program array o is some = rw some is
 
@@ -169,10 +169,10 @@ no_place program array none = rw (eq-eqb array.len 0 none) refl
 
 module _ (program : ProgramData) (array : Array) (some : array.len ≢ 0) where
   abbrev row_cells : Array
-  row_cells = private_cells (program_layout program) (row_at program array)
+  row_cells = private_cells (program_layout program) (array_row program array)
 
   abbrev found : Option PrivateData
-  found = slice_get program.privates (row_at program array)
+  found = slice_get program.privates (array_row program array)
 
   unnamed : is_same row_cells array ≡ false → private_name program array ≡ None
   unnamed other = by_len program array None (not_same found row_cells array other)

@@ -10,7 +10,7 @@ use Rattle.std.proofs.lemmas.List.{get_or-take, get_or_default, length-append}
 use Rattle.std.proofs.Math.Seq.{get_or-append_seam, take-append_seam}
 use Rattle.command_data.specs.CellLists.{SpellsCell, cell_listed, part_at}
 use Rattle.pram_job.specs.Job.{JobData}
-use Rattle.naming.specs.CellLists.{AreNamed, HasCells, NamesCells, IsFirstOutside, IsOutside}
+use Rattle.naming.specs.CellLists.{AreStretches, HasCells, NamesCells, IsFirstOutside, IsOutside}
 use Rattle.naming.specs.CellLists.{cells_from}
 use Rattle.naming.specs.declared.places.Stretch.{Stretch}
 use Rattle.naming.specs.Names.{NamingData}
@@ -54,15 +54,15 @@ found_some (Some y) No Yes x told is = let same : y ≡ x = cc is in subst Yes s
 
 module _ (names : Option NamingData) where
   pub named_more : (parts : List (List ℕ)) (named : List Stretch) (part : List ℕ)
-      (cells : Stretch) → AreNamed names parts named → NamesCells names part cells →
-      AreNamed names (parts ++ part ∷ []) (named ++ cells ∷ [])
+      (cells : Stretch) → AreStretches names parts named → NamesCells names part cells →
+      AreStretches names (parts ++ part ∷ []) (named ++ cells ∷ [])
   named_more [] [] part cells are is = (is, tt)
   named_more [] (other ∷ named) part cells are is = absurd are
   named_more (first ∷ parts) [] part cells are is = absurd are
   named_more (first ∷ parts) (other ∷ named) part cells are is =
       (are.0, named_more parts named part cells are.1 is)
 
-  pub as_many : (parts : List (List ℕ)) (named : List Stretch) → AreNamed names parts named →
+  pub as_many : (parts : List (List ℕ)) (named : List Stretch) → AreStretches names parts named →
       length parts ≡ length named
   as_many [] [] are = refl
   as_many [] (other ∷ named) are = absurd are
@@ -74,7 +74,7 @@ module _ (names : Option NamingData) where
     IsWithin cells = cells.end ≤ job.cells
 
     at_place : (parts : List (List ℕ)) (named : List Stretch) (k : ℕ) →
-        AreNamed names parts named → All IsWithin named → k < length parts →
+        AreStretches names parts named → All IsWithin named → k < length parts →
         HasCells names job (get_or parts k [])
     at_place [] named k are within lt = absurd (omega (arith, lt))
     at_place (first ∷ parts) [] k are within lt = absurd are
@@ -86,7 +86,7 @@ module _ (names : Option NamingData) where
     -- the first part that has no cells
     pub first_without : (parts so_far : List (List ℕ)) (named : List Stretch) (n : ℕ)
         (part : List ℕ) → so_far ≡ take n parts → length so_far ≡ n →
-        AreNamed names so_far named → All IsWithin named →
+        AreStretches names so_far named → All IsWithin named →
         (n < length parts) × (part ≡ get_or parts n part) → ¬ HasCells names job part →
         IsFirstOutside names job parts n
     first_without parts so_far named n part front count are within turn none = record {

@@ -25,15 +25,15 @@ name_of_private None cells array = None
 name_of_private (Some variable) cells array = name_if variable.name cells array
 
 -- in whose row the array begins
-abbrev pub row_at : ProgramData → Array → ℕ
-row_at program array = (array.base - shared_cells program.arrays) / program.procs
+abbrev pub array_row : ProgramData → Array → ℕ
+array_row program array = (array.base - shared_cells program.arrays) / program.procs
 
 -- of the private variable that has just these cells
 abbrev pub private_name : ProgramData → Array → Option Word
 private_name program array =
     if array.len == 0 then None
-    else name_of_private (slice_get program.privates (row_at program array))
-    (private_cells (program_layout program) (row_at program array)) array
+    else name_of_private (slice_get program.privates (array_row program array))
+    (private_cells (program_layout program) (array_row program array)) array
 
 abbrev pub variable_name : ProgramData → Array → Option Word
 variable_name program array =
@@ -43,11 +43,11 @@ variable_name program array =
 abbrev pub may_name : Word → Bool
 may_name word = is_name word && is_err (register_of word)
 
-abbrev pub word_of : Option Word → Array → Word
-word_of None array = array_word array
-word_of (Some name) array = if may_name name then name else array_word array
+abbrev pub word_of_array : Option Word → Array → Word
+word_of_array None array = array_word array
+word_of_array (Some name) array = if may_name name then name else array_word array
 
 -- An array has the name of the program's variable that has just its cells, where it may.
 abbrev pub array_words : Option NamingData → ArrayWords
 array_words None = array_word
-array_words (Some naming) = λ array. word_of (variable_name naming.program array) array
+array_words (Some naming) = λ array. word_of_array (variable_name naming.program array) array

@@ -47,21 +47,21 @@ abbrev pub IsAlone : ℕ → Stretch → Type 0
 IsAlone cell cells = (cells.first ≡ cell) × (cells.end ≡ cell + 1)
 
 -- a word names the cell whose place it is, or all cells of an array
-abbrev pub ArePlaces : Option NamingData → List ℕ → Stretch → Type 0
-ArePlaces names part cells =
+abbrev pub IsStretch : Option NamingData → List ℕ → Stretch → Type 0
+IsStretch names part cells =
     ((cell : ℕ) × IsPlaceOf names cell part × IsAlone cell cells) ⊎ AreAnArrays names part cells
 
 -- A number names the cell of that number, and another part places.
 abbrev pub NamesCells : Option NamingData → List ℕ → Stretch → Type 0
 NamesCells names part cells = (SpellsCell part × IsAlone (cell_listed part) cells)
-    ⊎ ((¬ SpellsCell part) × ArePlaces names part cells)
+    ⊎ ((¬ SpellsCell part) × IsStretch names part cells)
 
 -- cells that follow one another, for each part
-abbrev pub AreNamed : Option NamingData → List (List ℕ) → List Stretch → Type 0
-AreNamed names [] [] = ⊤
-AreNamed names (part ∷ parts) (cells ∷ named) =
-    NamesCells names part cells × AreNamed names parts named
-AreNamed names _ _ = ⊥
+abbrev pub AreStretches : Option NamingData → List (List ℕ) → List Stretch → Type 0
+AreStretches names [] [] = ⊤
+AreStretches names (part ∷ parts) (cells ∷ named) =
+    NamesCells names part cells × AreStretches names parts named
+AreStretches names _ _ = ⊥
 
 abbrev pub cells_from : Stretch → List ℕ
 cells_from cells = range_with_len cells.first (cells.end - cells.first)
@@ -69,7 +69,7 @@ cells_from cells = range_with_len cells.first (cells.end - cells.first)
 -- the cells that the parts name, in order
 abbrev pub AreCellsOf : Option NamingData → List (List ℕ) → List ℕ → Type 0
 AreCellsOf names parts cells =
-    (named : List Stretch) × AreNamed names parts named × (cells ≡ flat_map cells_from named)
+    (named : List Stretch) × AreStretches names parts named × (cells ≡ flat_map cells_from named)
 
 -- the job has the cells that the part names
 abbrev pub HasCells : Option NamingData → JobData → List ℕ → Type 0

@@ -2,7 +2,7 @@
 use Rattle.std.specs.Prelude.{◌==◌, ◌++◌, if◌then◌else◌, ℕ, List, [], ◌∷◌, Option, None, Some}
 use Rattle.std.specs.Prelude.{codes, decimal}
 use Rattle.std.specs.List.{list_any}
-use Rattle.pram_run.specs.Printed.{CellWords, by_numbers}
+use Rattle.pram_run.specs.Printed.{CellWords, cells_by_number}
 use Rattle.pardo_job.specs.Printed.{cell_text}
 use Rattle.naming.specs.Names.{NamingData}
 
@@ -17,7 +17,7 @@ or_number [] cell = decimal cell
 or_number (byte ∷ bytes) cell = as_field (byte ∷ bytes)
 
 abbrev pub cell_words : Option NamingData → CellWords
-cell_words None = by_numbers
+cell_words None = cells_by_number
 cell_words (Some naming) = record {
   header = codes "step,place,value\n";
   word = λ cell. or_number (cell_text naming.program.arrays cell) cell;

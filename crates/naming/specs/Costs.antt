@@ -6,8 +6,8 @@ use Rattle.pram_step.specs.declared.answer.RunAnswer.TheVariants.{Conflict}
 use Rattle.pram_cost.specs.Printed.{CostWords, by_cells}
 use Rattle.pram_cost.specs.declared.meeting.Meeting.{Meeting}
 use Rattle.pardo_job.specs.Printed.{cell_text}
-use Rattle.pardo_costs.specs.Costs.{line_costs as program_costs, operations_in, time_in}
-use Rattle.pardo_costs.specs.declared.line_costs.LineCost.{LineCost}
+use Rattle.pardo_answers.specs.Costs.{line_costs as program_costs, operations_in, time_in}
+use Rattle.pardo_answers.specs.declared.line_costs.LineCost.{LineCost}
 use Rattle.naming.specs.Names.{NamingData, printed_answer}
 
 -- the place of a meeting, and where its cell has none the cell
@@ -22,9 +22,9 @@ spot_in naming meeting =
     ++ place_or_cell (cell_text naming.program.arrays meeting.cell) meeting
 
 -- the costs of all counted lines; a text of the machine has none
-abbrev pub line_costs : Option NamingData → JobData → List LineCost
-line_costs None job = []
-line_costs (Some naming) job = program_costs naming.program job
+abbrev pub named_line_costs : Option NamingData → JobData → List LineCost
+named_line_costs None job = []
+named_line_costs (Some naming) job = program_costs naming.program job
 
 -- their sums: the time and the operations of the program
 abbrev pub sums_text : List LineCost → List ℕ

@@ -5,7 +5,7 @@ ghost use Rattle.std.specs.Option.{option_copied, option_map};
 ghost use Rattle.pardo_program.specs.Lawful.{AreArrays};
 ghost use Rattle.pardo_program.specs.Program.{shared_cells};
 ghost use Rattle.naming.specs.ArrayNames.{array_words, may_name, private_name};
-ghost use Rattle.naming.specs.ArrayNames.{shared_name, variable_name, word_of};
+ghost use Rattle.naming.specs.ArrayNames.{shared_name, variable_name, word_of_array};
 ghost use Rattle.naming.specs.RowNames.{place_word, range_word, row_words};
 ghost use Rattle.pardo_job.specs.Printed.{cell_text};
 
@@ -84,7 +84,7 @@ fn range_in(alloc: Global, program: &Program, array: Array) -> Result<String, Al
 fn push_name_of(text: &mut String, program: &Program, array: Array) -> Result<(), AllocError>
     requires { AreArrays program.now.arrays 0 }
     ensures { OnOk result (string_bytes text.new ≡ string_bytes text.old
-        ++ word_of (variable_name program.now array) array) }
+        ++ word_of_array (variable_name program.now array) array) }
 {
     if let Some(name) = variable_name(program, array) {
         if let Some(word) = word_in(name) {

@@ -3,7 +3,7 @@ ghost use Rattle.std.specs.Prelude.{◌≡◌, ◌+◌, ◌^◌, ◌<◌, ◌≤
 ghost use Rattle.std.specs.Prelude.{MatchOption, OnOk};
 ghost use Rattle.std.specs.List.{flat_map};
 ghost use Rattle.command_data.specs.CellLists.{SpellsCell, cell_listed, parts_of};
-ghost use Rattle.naming.specs.CellLists.{AreCellsOf, AreNamed, ArePlaces, HasCells, IsAlone};
+ghost use Rattle.naming.specs.CellLists.{AreCellsOf, AreStretches, IsStretch, HasCells, IsAlone};
 ghost use Rattle.naming.specs.CellLists.{IsOutside, NamesCells, cells_from};
 ghost use Rattle.naming.specs.declared.places.Stretch.{Stretch};
 
@@ -27,7 +27,7 @@ pub fn cells_in(alloc: Global, text: &str, spelled: &Spelled) -> Result<Vec<u32>
 
 // What each part names.
 fn named_in(alloc: Global, text: &str, spelled: &Spelled) -> Result<Vec<Stretch>, CommandFault>
-    ensures named { IfOk result (λ named. AreNamed spelled.now.names
+    ensures named { IfOk result (λ named. AreStretches spelled.now.names
         (parts_of text.now) named.items) }
     ensures within { IfOk result (λ named.
         All (λ cells. cells.end ≤ spelled.now.job.cells) named.items) }
@@ -111,9 +111,9 @@ fn alone(cell: u32) -> Stretch
 fn places_in(alloc: Global, part: &str, spelled: &Spelled) -> Result<Option<Stretch>, AllocError>
     ensures { IfOk result (λ found. MatchOption found
         ((cells : Stretch) → cells.end ≤ spelled.now.job.cells
-        → ¬ ArePlaces spelled.now.names part.now cells)
+        → ¬ IsStretch spelled.now.names part.now cells)
         (λ cells. (cells.end ≤ spelled.now.job.cells)
-        × ArePlaces spelled.now.names part.now cells)) }
+        × IsStretch spelled.now.names part.now cells)) }
 {
     let Some(naming) = &spelled.names else {
         return Ok(None);

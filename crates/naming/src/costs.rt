@@ -1,10 +1,10 @@
 //! Costs that are told by the lines of a program.
 ghost use Rattle.std.specs.Prelude.{◌≡◌, ◌++◌, OnOk};
 ghost use Rattle.naming.specs.Costs.{sums_text};
-ghost use Rattle.pardo_costs.specs.Costs.{AreSmall};
+ghost use Rattle.pardo_answers.specs.Costs.{AreSmall};
 
 use crate::texts::Spelled;
-use pardo_costs::{LineCost, total_operations, total_time};
+use pardo_answers::{LineCost, total_operations, total_time};
 use pram_streams::push_labelled;
 use std::alloc::AllocError;
 

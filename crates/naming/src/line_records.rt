@@ -2,14 +2,14 @@
 ghost use Rattle.std.specs.Prelude.{◌≡◌, ◌≤◌, IfOk, OnOk};
 ghost use Rattle.std.specs.Io.KnownBytes.{Appends};
 ghost use Rattle.csv.specs.Writing.{text_written};
-ghost use Rattle.naming.specs.LineRecords.{line_numbered, line_record, records_text};
-ghost use Rattle.naming.specs.Inner.Finding.{IsAt};
+ghost use Rattle.naming.specs.LineRecords.{numbered_line, line_record, records_text};
+ghost use Rattle.naming.specs.Inner.Finding.{HasTaken};
 ghost use Rattle.pram_streams.specs.Records.{IsBetweenRecords};
 ghost use Rattle.text_lines.specs.TextLines.{taken_of};
 
 use csv::Writer;
 use itoa::Buffer;
-use pardo_costs::LineCost;
+use pardo_answers::LineCost;
 use pram_streams::number_text;
 use std::alloc::{AllocError, Global};
 use std::io::Write;
@@ -67,7 +67,7 @@ struct Place<'t> {
     text: &'t [u8],
     lines: TextLines<'t>,
     line: &'t [u8],
-    ghost is: { IsAt text.now lines line.now },
+    ghost is: { HasTaken text.now lines line.now },
 }
 
 impl<'t> Place<'t> {
@@ -99,7 +99,7 @@ fn before<'t>(place: Place<'t>, number: u64) -> Place<'t>
 // The line of this number, and the place after it. Where it was taken before, it is looked for from
 // the start.
 fn line_from<'t>(place: Place<'t>, number: u64) -> (&'t [u8], Place<'t>)
-    ensures line { result.0.now ≡ line_numbered place.entry.text.now number }
+    ensures line { result.0.now ≡ numbered_line place.entry.text.now number }
     ensures text { result.1.text ≡ place.entry.text }
 {
     let start = before(place, number);

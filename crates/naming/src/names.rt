@@ -6,7 +6,7 @@ ghost use Rattle.pardo_program.specs.Lawful.{AreArrays};
 ghost use Rattle.pardo_job.specs.Ends.{gone_in};
 ghost use Rattle.pardo_job.specs.Printed.{cell_text};
 ghost use Rattle.pardo_answers.specs.Language.{is_program};
-ghost use Rattle.pram_fates.specs.Told.{line_in};
+ghost use Rattle.pram_rows.specs.Told.{line_in};
 ghost use Rattle.naming.specs.Writing.{writing};
 ghost use Rattle.naming.specs.Costed.{AreCosts};
 ghost use Rattle.naming.specs.Puts.{PutText};
@@ -23,15 +23,14 @@ use crate::costs::{Costed, push_sums};
 use crate::drafts::{counted, drafted, fault_of, program_draft};
 use crate::places::{Stretch, array_at, cell_at, place_text, push_told};
 use crate::texts::Spelled;
-use pardo_answers::{Names, is_program, print_named, print_records, push_conflict};
-use pardo_costs::{Costs, Run, finish_costed};
+use pardo_answers::{
+    Costs, Names, Run, Tracer, finish_costed, is_program, print_named, print_records, push_conflict,
+};
 use pardo_job::{Ended, Refusal};
 use pardo_text::{Array, Program};
-use pardo_trace::Tracer;
 use pram_cost::{ByCells, CostNames, Meeting, cost_of};
-use pram_fates::Origin;
 use pram_job::Job;
-use pram_rows::print_cells;
+use pram_rows::{Origin, print_cells};
 use pram_run::{CellNames, Numbers};
 use pram_step::{Cells, Fault, RunAnswer};
 use pram_streams::{PrintFault, Sink, print_answer};

@@ -6,3 +6,5 @@ mod Counting
 mod Noting
 pub mod ReadCells
 mod Telling
+mod ExerciseTelling
+pub mod Unset

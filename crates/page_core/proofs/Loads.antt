@@ -22,7 +22,7 @@ use Rattle.lawful_walk.proofs.Sounding.{was_read}
 use Rattle.lawful_walk.proofs.Staying.{loads_keep}
 use Rattle.pram_world.specs.Worlds.{WorldData}
 use Rattle.page_core.specs.declared.reads.ReadRow.{ReadRow}
-use Rattle.page_core.specs.Answers.{AreLawful, AreRead, loaded, read_in, read_through, row_of_read}
+use Rattle.page_core.specs.Answers.{AreLawful, AreRead, record_loaded, read_in, read_through, row_of_read}
 
 -- ---- a script of loads
 
@@ -114,7 +114,7 @@ load_all : (job : JobData) (y : LayoutData) (words : List ℕ) (before : Record)
     (script : Script Reading) (s : Script Reading) (r : Record) (answers : List ℕ) →
     Stands job y words → Loads s → rest script answers ≡ s →
     r ≡ afters before (heard_in script answers) → Backed job y r words →
-    Loaded job y words before script (read_through words s) (loaded words r s)
+    Loaded job y words before script (read_through words s) (record_loaded words r s)
 load_all job y words before script (ends reading) r answers stands l at is backed =
     record { answers = answers; over = at; is = is; backed = backed }
 load_all job y words before script (asks (Load k) next) r answers stands l at is backed =
@@ -150,11 +150,11 @@ lawful_over job y words before c (At step value) rest_after stands cell l =
 -- *Lawful read*: what a reader gets from lawful words that bear out a record, after that record
 lawful_in : (s : WorldData) (made : Record) (c : ℕ) →
     Stands s.job s.layout s.words → Backed s.job s.layout made s.words → c < s.layout.cells →
-    IsLawfulRead s.job s.layout made (loaded s.words made (reader_script s.layout c)) c
+    IsLawfulRead s.job s.layout made (record_loaded s.words made (reader_script s.layout c)) c
     (read_in s c).step (read_in s c).value
 lawful_in s made c stands backed cell =
     lawful_over s.job s.layout s.words made c (read_through s.words (reader_script s.layout c))
-    (loaded s.words made (reader_script s.layout c)) stands cell
+    (record_loaded s.words made (reader_script s.layout c)) stands cell
     (load_all s.job s.layout s.words made (reader_script s.layout c)
     (reader_script s.layout c) made [] stands (reader_loads s.layout c) refl refl backed)
 
@@ -167,5 +167,5 @@ pub lawful_rows : (s : WorldData) (made : Record) (rows : List ReadRow) →
 lawful_rows s made rows stands backed cells read c row below is =
     let this : read_in s c ≡ row = some_same (read_in s c) row (sym (read c below) ∙ is) in
     subst (λ (x : ReadRow). IsLawfulRead s.job s.layout made
-    (loaded s.words made (reader_script s.layout c)) c x.step x.value)
+    (record_loaded s.words made (reader_script s.layout c)) c x.step x.value)
     this (lawful_in s made c stands backed (omega arith))

@@ -76,18 +76,18 @@ AreRead world rows =
     (cell : ℕ) → cell < world.job.cells → slice_get rows cell ≡ Some (read_in world cell)
 
 -- the record after the loads of a script that are all answered by these words
-abbrev pub loaded : List ℕ → Record → Script Reading → Record
-loaded words past (asks op next) =
-    let found = operations.answer words op in loaded words (after past op found) (next found)
-loaded words past (ends reading) = past
+abbrev pub record_loaded : List ℕ → Record → Script Reading → Record
+record_loaded words past (asks op next) =
+    let found = operations.answer words op in record_loaded words (after past op found) (next found)
+record_loaded words past (ends reading) = past
 
 -- *Lawful read*: each row is one of its cell, after the record of all atomic steps so far: what
 -- the cell held after a step that is reached, none that any body knew before being later.
 abbrev pub AreLawful : JobData → WorldData → Record → List ReadRow → Type 0
 AreLawful job world made rows =
     (cell : ℕ) (row : ReadRow) → cell < job.cells → slice_get rows cell ≡ Some row →
-    IsLawfulRead job world.layout made (loaded world.words made (reader_script world.layout cell))
-    cell row.step row.value
+    IsLawfulRead job world.layout made
+    (record_loaded world.words made (reader_script world.layout cell)) cell row.step row.value
 
 -- the rows of all cells, on this board, the record of all atomic steps on it being such a one
 abbrev pub AreAllRead : JobData → WorldData → Record → ℕ → ℕ → List ReadRow → Type 0

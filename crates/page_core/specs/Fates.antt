@@ -1,11 +1,11 @@
 -- What is told of what became of the processors.
 use Rattle.std.specs.Prelude.{◌≡◌, ◌⊎◌, ℕ, List, [], Option, Some, None}
 use Rattle.pram_text.specs.InstructionLines.{line_of}
-use Rattle.pram_fates.specs.declared.fates.End.{End}
-use Rattle.pram_fates.specs.declared.fates.End.TheVariants.{Running, Stopped}
-use Rattle.pram_fates.specs.declared.fates.Fates.{Fates}
-use Rattle.pram_fates.specs.declared.fates.Lost.{Lost}
-use Rattle.pram_fates.specs.Fates.{AreFates}
+use Rattle.pram_rows.specs.declared.fates.End.{End}
+use Rattle.pram_rows.specs.declared.fates.End.TheVariants.{Running, Stopped}
+use Rattle.pram_rows.specs.declared.fates.Fates.{Fates}
+use Rattle.pram_rows.specs.declared.fates.Lost.{Lost}
+use Rattle.pram_rows.specs.Fates.{AreFates}
 use Rattle.page_core.specs.declared.codes.TheConstants.{DONE}
 use Rattle.page_core.specs.declared.fates.EndRow.{EndRow}
 use Rattle.page_core.specs.declared.fates.FatesTold.{FatesTold}

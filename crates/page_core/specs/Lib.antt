@@ -10,3 +10,8 @@ pub mod Costs
 pub mod Steps
 pub mod Last
 pub mod Programs
+pub mod Put
+pub mod Entries
+pub mod Given
+pub mod Submissions
+pub mod Verdicts

@@ -1,12 +1,12 @@
 //! What became of the processors.
 ghost use Rattle.std.specs.Prelude.{◌≡◌, IfErr, IfOk};
-ghost use Rattle.pram_fates.specs.Fates.{AreFates};
+ghost use Rattle.pram_rows.specs.Fates.{AreFates};
 ghost use Rattle.page_core.specs.Fates.{AreFatesTold, end_row, fates_row, lost_row, no_fates};
 ghost use Rattle.page_core.specs.Texts.{IsRefused, OfJob};
 
 use crate::codes::{Status, TOLD};
 use crate::text::{Refusal, take_job, tell_refusal};
-use pram_fates::{End, Fates, Lost, fates_after};
+use pram_rows::{End, Fates, Lost, fates_after};
 use pram_text::instruction_line;
 use std::alloc::Global;
 

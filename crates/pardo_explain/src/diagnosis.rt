@@ -3,7 +3,7 @@ ghost use Rattle.std.specs.Prelude.{◌≡◌, ◌++◌, OnOk};
 ghost use Rattle.pardo_explain.specs.Diagnoses.{diagnosis_text, indented, mark, spot};
 
 use crate::look::{Look, push_sign};
-use pardo_hints::push_number;
+use crate::push_number;
 use std::alloc::AllocError;
 
 /// Where a text is wrong, and a sentence on it: the line and the column, both counted from 1, the

@@ -2,7 +2,7 @@
 //! without brackets.
 use crate::diagnosis::Diagnosis;
 use crate::second_look::pointing;
-use pardo_hints::{Piece, Pieces, is_among, is_comparison, trimmed};
+use crate::{Piece, Pieces, is_among, is_comparison, trimmed};
 use pardo_text::said;
 use std::alloc::{AllocError, Global};
 use text_lines::{TextLines, is_word};

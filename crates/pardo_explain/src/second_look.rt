@@ -4,7 +4,7 @@ ghost use Rattle.pardo_program.specs.Program.{ProgramData};
 ghost use Rattle.pardo_text.specs.Reading.{program_of};
 
 use crate::diagnosis::Diagnosis;
-use pardo_hints::{lines_before, point_of, push_sentence};
+use crate::{lines_before, point_of, push_sentence};
 use pardo_text::{PardoFault, PardoKind, Stop, read_or_stop, said};
 use std::alloc::{AllocError, Global};
 use text_lines::{TextLines, is_blank};

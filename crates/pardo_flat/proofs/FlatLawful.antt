@@ -23,10 +23,10 @@ use Rattle.pardo_program.specs.Lawful.{Bounds, IsCommon, IsCommonTree, IsExpress
 use Rattle.pardo_program.specs.Lawful.{IsPrivate, IsProgram, IsStatement, bounds_of, masks_of}
 use Rattle.pardo_program.specs.Program.{PrivateData, ProgramData, shared_cells}
 use Rattle.pardo_flat.specs.Flat.{base_of, beside, first_flat_of, fits, flat, giving, has_room}
-use Rattle.pardo_flat.specs.Flat.{hidden, is_beside, is_common, last_line, last_of, last_pieces}
+use Rattle.pardo_flat.specs.Flat.{hidden, is_beside, is_for_all, last_line, last_of, last_pieces}
 use Rattle.pardo_flat.specs.Flat.{lines_for, most_pieces, moved_statement, nameless, pieces_count}
 use Rattle.pardo_flat.specs.Flat.{pieces_of, shape_of, split, split_last, split_statement}
-use Rattle.pardo_flat.specs.Flat.{statement_parts, taken, variable}
+use Rattle.pardo_flat.specs.Flat.{statement_parts, registers_taken, variable}
 use Rattle.pardo_flat.specs.Statements.{statement_at}
 use Rattle.pardo_flat.proofs.FlatLines.{all_at, hidden_for, last_is, last_stands, some_at}
 
@@ -204,7 +204,7 @@ module _ (program : ProgramData) where
   count_in common (first ∷ lines) (suc j) line is =
       let e = count_in common lines j line is in omega (arith, e)
 
-  count_is : (line : Line) (common : Bool) → is_common line.statement ≡ common →
+  count_is : (line : Line) (common : Bool) → is_for_all line.statement ≡ common →
       pieces_count common program line ≡ length (pieces_of program line)
   count_is line true e =
       ap (λ b. if b then length (pieces_of program line) else 0) e
@@ -215,13 +215,13 @@ module _ (program : ProgramData) where
       length (pieces_of program line)
       ≤ max (most_pieces false program lines) (most_pieces true program lines)
   most_in lines j line is = ⊎_elim
-      (λ (on : is_common line.statement ≡ true).
+      (λ (on : is_for_all line.statement ≡ true).
       let e = count_is line true on in
       let f = count_in true lines j line is in omega (arith, e, f))
-      (λ (off : is_common line.statement ≡ false).
+      (λ (off : is_for_all line.statement ≡ false).
       let e = count_is line false off in
       let f = count_in false lines j line is in omega (arith, e, f))
-      (cases_Bool (is_common line.statement))
+      (cases_Bool (is_for_all line.statement))
 
 module _ (program : ProgramData) (lawful : IsProgram program) where
   abbrev b : Bounds
@@ -246,22 +246,22 @@ module _ (program : ProgramData) (lawful : IsProgram program) where
 
   few_pieces : (j : ℕ) (line : Line) → slice_get program.lines j ≡ Some line →
       base_of program line.statement + length (pieces_of program line)
-      ≤ limit (is_common line.statement) c
+      ≤ limit (is_for_all line.statement) c
   few_pieces j line is = ⊎_elim
-      (λ (on : is_common line.statement ≡ true).
+      (λ (on : is_for_all line.statement ≡ true).
       let e = count_is program line true on in
       let f = count_in program true program.lines j line is in
       let base_is = ap (λ b. if b then program.loops else base) on in
       subst (λ b. base_of program line.statement + length (pieces_of program line) ≤ limit b c)
       (sym on) (omega (arith, e, f, base_is)))
-      (λ (off : is_common line.statement ≡ false).
+      (λ (off : is_for_all line.statement ≡ false).
       let e = count_is program line false off in
       let f = count_in program false program.lines j line is in
       let g = privates_are in
       let base_is = ap (λ b. if b then program.loops else base) off in
       subst (λ b. base_of program line.statement + length (pieces_of program line) ≤ limit b c)
       (sym off) (omega (arith, e, f, g, base_is)))
-      (cases_Bool (is_common line.statement))
+      (cases_Bool (is_for_all line.statement))
 
   -- a line of the text has a last flat line
   last_within : (j : ℕ) → j < length program.lines → last_of program j < c.lines
@@ -293,7 +293,7 @@ module _ (program : ProgramData) (lawful : IsProgram program) where
 
   plain_parts : (statement : Statement) (depth : ℕ) → IsStatement b statement →
       depth + masks_of statement ≤ b.choices →
-      AreParts (is_common statement) ([], statement) depth
+      AreParts (is_for_all statement) ([], statement) depth
   plain_parts (Assign (Private x) tree) depth is few = (
     no_pieces false,
     ((let e = privates_are in let f = is.0 in omega (arith, e, f)), wide tree is.1),
@@ -325,15 +325,15 @@ module _ (program : ProgramData) (lawful : IsProgram program) where
   split_parts : (statement : Statement) (depth : ℕ) → IsStatement b statement →
       depth + masks_of statement ≤ b.choices →
       base_of program statement + length (split_statement program statement).0
-      ≤ limit (is_common statement) c →
-      AreParts (is_common statement) (split_statement program statement) depth
+      ≤ limit (is_for_all statement) c →
+      AreParts (is_for_all statement) (split_statement program statement) depth
   split_parts (Assign (Private x) tree) depth is few low =
       let parts = split_lawful false c base tree (wide tree is.1) low in
       (parts.0, ((let e = privates_are in let f = is.0 in omega (arith, e, f)), parts.1), few)
   split_parts (Assign (Shared array index) tree) depth is few low =
       let left = split false base tree in
       let right = split false (base + length left.0) index in
-      let room = has_room (taken (shape_of left.1)) (shape_of index) in
+      let room = has_room (registers_taken (shape_of left.1)) (shape_of index) in
       let least = beside_least false base room left right in
       let one = split_lawful false c base tree (wide tree is.1) (omega (arith, least, low)) in
       let other = split_lawful false c (base + length left.0) index (wide index is.0.1)
@@ -367,8 +367,8 @@ module _ (program : ProgramData) (lawful : IsProgram program) where
       depth + masks_of statement ≤ b.choices →
       base_of program statement
       + length (if level then ([], statement) else split_statement program statement).0
-      ≤ limit (is_common statement) c →
-      AreParts (is_common statement)
+      ≤ limit (is_for_all statement) c →
+      AreParts (is_for_all statement)
       (if level then ([], statement) else split_statement program statement) depth
   by_level true statement depth is few low = plain_parts statement depth is few
   by_level false statement depth is few low = split_parts statement depth is few low
@@ -399,8 +399,8 @@ module _ (program : ProgramData) (lawful : IsProgram program) where
   parts_lawful : (statement : Statement) (depth : ℕ) → IsStatement b statement →
       depth + masks_of statement ≤ b.choices →
       base_of program statement + length (statement_parts program statement).0
-      ≤ limit (is_common statement) c →
-      AreParts (is_common statement) (statement_parts program statement) depth
+      ≤ limit (is_for_all statement) c →
+      AreParts (is_for_all statement) (statement_parts program statement) depth
   parts_lawful (EndFor begin) depth is few low = (
     last_are (statement_at program begin) (opener_is begin is)
         (fits (statement_at program begin)) low,
@@ -426,19 +426,19 @@ module _ (program : ProgramData) (lawful : IsProgram program) where
 
   hidden_lawful : (end : ℕ) (line : Line) (t : ℕ) (pieces : List Tree) → end < c.lines →
       line.depth ≤ c.choices →
-      t + length pieces ≤ limit (is_common line.statement) c →
-      All (IsPiece (is_common line.statement) c) pieces →
+      t + length pieces ≤ limit (is_for_all line.statement) c →
+      All (IsPiece (is_for_all line.statement) c) pieces →
       All (IsLine c) (hidden end line t pieces)
   hidden_lawful end line t [] within low few are = All-nil (IsLine c)
   hidden_lawful end line t (piece ∷ pieces) within low few are =
-      let given = giving_is (is_common line.statement) end t piece (omega (arith, few)) within
-      (all_at (IsPiece (is_common line.statement) c) (piece ∷ pieces) 0 piece are refl) in
+      let given = giving_is (is_for_all line.statement) end t piece (omega (arith, few)) within
+      (all_at (IsPiece (is_for_all line.statement) c) (piece ∷ pieces) 0 piece are refl) in
       let none = given.1 in
       All-cons (IsLine c)
-      (record line { statement = giving (is_common line.statement) end t piece })
+      (record line { statement = giving (is_for_all line.statement) end t piece })
       (hidden end line (t + 1) pieces) (given.0, omega (arith, low, none))
       (hidden_lawful end line (t + 1) pieces within low (omega (arith, few))
-      (All-tail (IsPiece (is_common line.statement) c) piece pieces are))
+      (All-tail (IsPiece (is_for_all line.statement) c) piece pieces are))
 
   lines_lawful : (j : ℕ) (line : Line) → slice_get program.lines j ≡ Some line →
       All (IsLine c) (lines_for program line)

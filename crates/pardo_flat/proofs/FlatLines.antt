@@ -16,7 +16,7 @@ use Rattle.std.proofs.lemmas.Option.{none-some, same_Some}
 use Rattle.pardo_program.specs.declared.statement.Line.{Line}
 use Rattle.pardo_program.specs.Expression.{Tree}
 use Rattle.pardo_program.specs.Program.{ProgramData}
-use Rattle.pardo_flat.specs.Flat.{base_of, first_flat_of, flat, giving, hidden, is_common}
+use Rattle.pardo_flat.specs.Flat.{base_of, first_flat_of, flat, giving, hidden, is_for_all}
 use Rattle.pardo_flat.specs.Flat.{flat_size, last_line, last_of, lines_for, pieces_of}
 
 -- ---- places in lists
@@ -101,7 +101,7 @@ length-hidden end line t (piece ∷ pieces) = ap suc (length-hidden end line (t 
 -- each hidden line gives a piece to a variable
 pub hidden_is : (end : ℕ) (line : Line) (t : ℕ) (pieces : List Tree) (k : ℕ) → k < length pieces →
     (x : ℕ) × (tree : Tree) × (slice_get (hidden end line t pieces) k
-    ≡ Some (record line { statement = giving (is_common line.statement) end x tree }))
+    ≡ Some (record line { statement = giving (is_for_all line.statement) end x tree }))
 hidden_is end line t [] k lt = absurd (omega (arith, lt))
 hidden_is end line t (piece ∷ pieces) zero lt = (t, piece, refl)
 hidden_is end line t (piece ∷ pieces) (suc k) lt =
@@ -159,7 +159,7 @@ module _ (program : ProgramData) where
         let end = last_of program 0 in
         let there = hidden_is end line (base_of program line.statement) (pieces_of program line) k
         low in (
-          record line { statement = giving (is_common line.statement) end there.0 there.1 },
+          record line { statement = giving (is_for_all line.statement) end there.0 there.1 },
           hidden_stands k low ∙ there.2,
           refl,
         ))

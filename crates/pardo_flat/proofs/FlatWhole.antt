@@ -13,7 +13,7 @@ use Rattle.pardo_program.specs.declared.statement.Statement.TheVariants.{EndFor}
 use Rattle.pardo_program.specs.Expression.{Tree}
 use Rattle.pardo_program.specs.Lawful.{IsLine, IsProgram, IsStatement, bounds_of}
 use Rattle.pardo_program.specs.Program.{PrivateData, ProgramData}
-use Rattle.pardo_flat.specs.Flat.{base_of, first_flat_of, fits, flat, flat_size, hidden, is_common}
+use Rattle.pardo_flat.specs.Flat.{base_of, first_flat_of, fits, flat, flat_size, hidden, is_for_all}
 use Rattle.pardo_flat.specs.Flat.{last_line, last_of, last_pieces, line_parts, lines_for}
 use Rattle.pardo_flat.specs.Flat.{most_pieces, moved_statement, nameless, pieces_count, pieces_of}
 use Rattle.pardo_flat.specs.Flat.{split_statement, statement_parts}
@@ -79,10 +79,10 @@ module _ (program : ProgramData) where
 
   none_of : (common : Bool) (line : Line) → length (pieces_of program line) ≡ 0 →
       pieces_count common program line ≡ 0
-  none_of true line none = ap (λ n. if is_common line.statement then n else 0) none
-      ∙ if_same (is_common line.statement) 0
-  none_of false line none = ap (λ n. if is_common line.statement then 0 else n) none
-      ∙ if_same (is_common line.statement) 0
+  none_of true line none = ap (λ n. if is_for_all line.statement then n else 0) none
+      ∙ if_same (is_for_all line.statement) 0
+  none_of false line none = ap (λ n. if is_for_all line.statement then 0 else n) none
+      ∙ if_same (is_for_all line.statement) 0
 
   none_most : AllFit program.lines → (common : Bool) (lines : List Line) → AllFit lines →
       most_pieces common program lines ≡ 0

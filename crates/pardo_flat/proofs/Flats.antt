@@ -24,7 +24,7 @@ use Rattle.pardo_program.specs.Expression.{Tree, number}
 use Rattle.pardo_program.specs.Lawful.{IsProgram, IsLine, IsStatement, bounds_of}
 use Rattle.pardo_program.specs.Program.{PrivateData, ProgramData, shared_cells}
 use Rattle.pardo_flat.specs.Flat.{base_of, first_flat_of, fits, flat, flat_size, giving, hidden}
-use Rattle.pardo_flat.specs.Flat.{is_common, last_of, line_parts, lines_for, most_pieces}
+use Rattle.pardo_flat.specs.Flat.{is_for_all, last_of, line_parts, lines_for, most_pieces}
 use Rattle.pardo_flat.specs.Flat.{moved_statement, nameless, pieces_count, pieces_of, split}
 use Rattle.pardo_flat.specs.Flat.{split_bounds, split_statement, statement_parts}
 use Rattle.pardo_flat.specs.declared.flat.Flat.{Flat}
@@ -61,7 +61,7 @@ get_take (y ∷ ys) (suc n) (suc k) lt = get_take ys n k (omega (arith, lt))
 -- the line that gives a piece to a variable
 abbrev given_line : Line → ℕ → Tree → Line
 given_line line t piece =
-    record line { statement = giving (is_common line.statement) 0 t piece }
+    record line { statement = giving (is_for_all line.statement) 0 t piece }
 
 pub hidden_more : (line : Line) (t : ℕ) (pieces : List Tree) (piece : Tree) →
     hidden 0 line t (pieces ++ piece ∷ [])
@@ -77,7 +77,7 @@ hidden_more line t (first ∷ pieces) piece =
 pub hidden_step : (line : Line) (t i : ℕ) (pieces : List Tree) (d piece : Tree)
     (common : Bool) (statement : Statement)
     (before lines new_lines : List Line) → i < length pieces → piece ≡ get_or pieces i d →
-    common ≡ is_common line.statement → statement ≡ giving common 0 (t + i) piece →
+    common ≡ is_for_all line.statement → statement ≡ giving common 0 (t + i) piece →
     lines ≡ before ++ hidden 0 line t (take i pieces) →
     new_lines ≡ lines ++ record line { statement = statement } ∷ [] →
     new_lines ≡ before ++ hidden 0 line t (take (i + 1) pieces)
@@ -172,9 +172,9 @@ module _ (program : ProgramData) where
     some_pieces : (new_most new_loops : ℕ) → new_most ≡ max most (pieces_count false program line) →
         new_loops ≡ max loops (pieces_count true program line) → max most loops ≡ 0 →
         0 < max new_most new_loops → 0 < length (pieces_of program line)
-    some_pieces new_most new_loops e f none some = by_kind (is_common line.statement) refl
+    some_pieces new_most new_loops e f none some = by_kind (is_for_all line.statement) refl
       where
-        by_kind : (b : Bool) → is_common line.statement ≡ b → 0 < length (pieces_of program line)
+        by_kind : (b : Bool) → is_for_all line.statement ≡ b → 0 < length (pieces_of program line)
         by_kind true is =
             let a = ap (λ c. if c then 0 else length (pieces_of program line)) is in
             let b = ap (λ c. if c then length (pieces_of program line) else 0) is in
@@ -220,8 +220,8 @@ module _ (program : ProgramData) where
         b ≡ base line → (pieces, rest) ≡ statement_parts program line.statement →
         new_lines ≡ lines ++ parted_line b line pieces rest →
         new_firsts ≡ firsts ++ length lines ∷ [] →
-        new_most ≡ max most (if is_common line.statement then 0 else length pieces) →
-        new_loops ≡ max loops (if is_common line.statement then length pieces else 0) →
+        new_most ≡ max most (if is_for_all line.statement then 0 else length pieces) →
+        new_loops ≡ max loops (if is_for_all line.statement then length pieces else 0) →
         new_split ≡ (if max most loops == 0 then line.number else split) →
         AreFlatSoFar program (n + 1) new_lines new_firsts new_most new_loops new_split
     flat_more b new_lines new_firsts new_most new_loops new_split pieces rest from parts e f g g_too
@@ -232,10 +232,10 @@ module _ (program : ProgramData) where
         ap (λ (p : List Tree × Statement). p.1) parts in
         let taken = take_one_more program.lines n line there in
         let most_same : new_most ≡ max most (pieces_count false program line) =
-        g ∙ ap (λ (l : List Tree). max most (if is_common line.statement then 0 else length l))
+        g ∙ ap (λ (l : List Tree). max most (if is_for_all line.statement then 0 else length l))
         pieces_are in
         let loops_same : new_loops ≡ max loops (pieces_count true program line) =
-        g_too ∙ ap (λ (l : List Tree). max loops (if is_common line.statement then length l else 0))
+        g_too ∙ ap (λ (l : List Tree). max loops (if is_for_all line.statement then length l else 0))
         pieces_are in
         record {
           lines_are = e ∙ ap (λ (l : List Line). l ++ parted_line b line pieces rest)
@@ -337,9 +337,9 @@ module _ (program : ProgramData) (firsts : List ℕ) (are : AreFirsts program fi
   hidden_same line t (piece ∷ pieces) some =
       ap (λ (s : Statement). record line { statement = s }
       ∷ map (moved_line first) (hidden 0 line (t + 1) pieces))
-      (giving_same (is_common line.statement) t piece some)
+      (giving_same (is_for_all line.statement) t piece some)
       ∙ ap (λ (l : List Line). record line {
-        statement = giving (is_common line.statement) (last_of program 0) t piece;
+        statement = giving (is_for_all line.statement) (last_of program 0) t piece;
       } ∷ l) (hidden_same line (t + 1) pieces some)
 
   line_same : (line : Line) → IsStatement (bounds_of program) line.statement →

@@ -17,7 +17,7 @@ use Rattle.pardo_flat.specs.Flat.{shape_of, split}
 use Rattle.pardo_flat.specs.Flat.{variable}
 use Rattle.pardo_program.specs.Inner.Postfixes.{HasOperands}
 use Rattle.pardo_flat.specs.Inner.Splits.{AreSplit, CanSplit, JoinsTo}
-use Rattle.pardo_flat.specs.Inner.Splits.{CanShape, ShapesNode, TakesNode, joined, shapes_of}
+use Rattle.pardo_flat.specs.Inner.Splits.{CanShape, ShapesNode, TakesNode, joined_splits, shapes_of}
 use Rattle.pardo_flat.specs.Inner.Splits.{split_part, parts_after, pieces_after}
 
 -- ---- the variable of a piece
@@ -204,12 +204,12 @@ module _ (common : Bool) (t : ℕ) (op : Op) (before : List Tree) (second first 
       AreSplit common t before (apply op first second ∷ trees) new_pieces new_parts
   joined_taken new_pieces new_parts j = ⊎_elim
       (λ (on : is_beside op left.shape right.whole ≡ true). stays_beside new_pieces new_parts on
-      (j.0 ∙ ap (λ b. (joined common t op b left right pieces).0) on)
-      (j.1 ∙ ap (λ b. rest ++ (joined common t op b left right pieces).1 ∷ []) on))
+      (j.0 ∙ ap (λ b. (joined_splits common t op b left right pieces).0) on)
+      (j.1 ∙ ap (λ b. rest ++ (joined_splits common t op b left right pieces).1 ∷ []) on))
       (λ (away : is_beside op left.shape right.whole ≡ false).
       becomes_piece new_pieces new_parts away
-      (j.0 ∙ ap (λ b. (joined common t op b left right pieces).0) away)
-      (j.1 ∙ ap (λ b. rest ++ (joined common t op b left right pieces).1 ∷ []) away))
+      (j.0 ∙ ap (λ b. (joined_splits common t op b left right pieces).0) away)
+      (j.1 ∙ ap (λ b. rest ++ (joined_splits common t op b left right pieces).1 ∷ []) away))
       (cases_Bool (is_beside op left.shape right.whole))
 
 -- ---- a node

@@ -39,8 +39,8 @@ computed_shape truth need =
     record { is_computed = true; is_number = false; is_truth = truth; need = min 4 need }
 
 -- how many registers are taken for its value
-abbrev pub taken : ShapeData → ℕ
-taken shape = if shape.is_computed then 1 else 0
+abbrev pub registers_taken : ShapeData → ℕ
+registers_taken shape = if shape.is_computed then 1 else 0
 
 -- a number that stands first comes into a register of its own
 abbrev pub first_need : ShapeData → ShapeData → ℕ
@@ -81,7 +81,7 @@ gives_truth _ are_truths = false
 
 unfoldable pub applied_shape : Op → ShapeData → ShapeData → ShapeData
 applied_shape op first second = computed_shape (gives_truth op (first.is_truth && second.is_truth))
-    (max first.need (max (taken first + second.need) (operation_need op first second)))
+    (max first.need (max (registers_taken first + second.need) (operation_need op first second)))
 
 abbrev pub shape_of : Tree → ShapeData
 shape_of (number k) =
@@ -135,7 +135,7 @@ split common t tree = ([], tree)
 abbrev pub split_store : ℕ → Tree → Tree → List Tree × Tree × Tree
 split_store t tree index =
     let value = split false t tree in
-    beside false t (has_room (taken (shape_of value.1)) (shape_of index)) value
+    beside false t (has_room (registers_taken (shape_of value.1)) (shape_of index)) value
     (split false (t + length value.0) index)
 
 -- those of the last bound of a `for`, which has a register less
@@ -171,15 +171,15 @@ split_statement program statement = ([], statement)
 abbrev pub fits : Statement → Bool
 fits (Assign (Private x) tree) = has_room 0 (shape_of tree)
 fits (Assign (Shared array index) tree) =
-    has_room 0 (shape_of tree) && has_room (taken (shape_of tree)) (shape_of index)
+    has_room 0 (shape_of tree) && has_room (registers_taken (shape_of tree)) (shape_of index)
 fits (If tree) = has_room 0 (shape_of tree)
 fits (While tree end) = has_room 0 (shape_of tree)
 fits (For nest first last up end) = has_room 0 (shape_of first) && has_room 1 (shape_of last)
 fits statement = true
 
 -- then nothing is split off
-abbrev pub parts_of : ProgramData → Statement → List Tree × Statement
-parts_of program statement =
+abbrev pub split_off : ProgramData → Statement → List Tree × Statement
+split_off program statement =
     if fits statement then ([], statement) else split_statement program statement
 
 -- the pieces of the last bound of a `for`
@@ -194,7 +194,7 @@ bound_pieces program opener = if fits opener then [] else last_pieces program op
 abbrev pub statement_parts : ProgramData → Statement → List Tree × Statement
 statement_parts program (EndFor begin) =
     (bound_pieces program (statement_at program begin), EndFor begin)
-statement_parts program statement = parts_of program statement
+statement_parts program statement = split_off program statement
 
 abbrev pub line_parts : ProgramData → Line → List Tree × Statement
 line_parts program line = statement_parts program line.statement
@@ -203,16 +203,16 @@ abbrev pub pieces_of : ProgramData → Line → List Tree
 pieces_of program line = (line_parts program line).0
 
 -- whether its pieces are common to all processors
-abbrev pub is_common : Statement → Bool
-is_common (While tree end) = true
-is_common (For nest first last up end) = true
-is_common (EndFor begin) = true
-is_common statement = false
+abbrev pub is_for_all : Statement → Bool
+is_for_all (While tree end) = true
+is_for_all (For nest first last up end) = true
+is_for_all (EndFor begin) = true
+is_for_all statement = false
 
 -- the number of the variable of its first piece
 abbrev pub base_of : ProgramData → Statement → ℕ
 base_of program statement =
-    if is_common statement then program.loops else length program.privates
+    if is_for_all statement then program.loops else length program.privates
 
 -- how many lines there are for it
 abbrev pub flat_size : ProgramData → Line → ℕ
@@ -243,7 +243,7 @@ giving false end t piece = Assign (Private t) piece
 abbrev pub hidden : ℕ → Line → ℕ → List Tree → List Line
 hidden end line t [] = []
 hidden end line t (piece ∷ pieces) =
-    record line { statement = giving (is_common line.statement) end t piece }
+    record line { statement = giving (is_for_all line.statement) end t piece }
     ∷ hidden end line (t + 1) pieces
 
 abbrev pub last_line : ProgramData → Line → Line
@@ -260,9 +260,9 @@ lines_for program line =
 -- how many private variables, and how many variables of loops, its pieces have
 abbrev pub pieces_count : Bool → ProgramData → Line → ℕ
 pieces_count true program line =
-    if is_common line.statement then length (pieces_of program line) else 0
+    if is_for_all line.statement then length (pieces_of program line) else 0
 pieces_count false program line =
-    if is_common line.statement then 0 else length (pieces_of program line)
+    if is_for_all line.statement then 0 else length (pieces_of program line)
 
 -- as many as the line with most has
 abbrev pub most_pieces : Bool → ProgramData → List Line → ℕ

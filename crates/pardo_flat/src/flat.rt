@@ -2,8 +2,8 @@
 ghost use Rattle.std.specs.Prelude.{◌≡◌, ◌+◌, ◌-◌, ◌≤◌, ◌==◌, ◌++◌, ◌∷◌, [], IfOk, OnOk};
 ghost use Rattle.std.specs.Prelude.{if◌then◌else◌, length, map, max, slice_index, true};
 ghost use Rattle.pardo_program.specs.Lawful.{IsProgram};
-ghost use Rattle.pardo_flat.specs.Flat.{base_of, bound_pieces, flat, giving, hidden, is_common};
-ghost use Rattle.pardo_flat.specs.Flat.{last_pieces, parts_of, split_statement, statement_parts};
+ghost use Rattle.pardo_flat.specs.Flat.{base_of, bound_pieces, flat, giving, hidden, is_for_all};
+ghost use Rattle.pardo_flat.specs.Flat.{last_pieces, split_off, split_statement, statement_parts};
 ghost use Rattle.pardo_flat.specs.Inner.Flats.{AreFlat, DoAllFit, IsFlattened, moved_by};
 ghost use Rattle.pardo_flat.specs.Inner.Flats.{moved_line, parted_line};
 ghost use Rattle.pardo_flat.specs.Statements.{statement_at};
@@ -98,9 +98,9 @@ impl FlatLines {
         ensures firsts { OnOk result (self.new.firsts.items
             ≡ self.old.firsts.items ++ length self.old.lines.items ∷ []) }
         ensures most { OnOk result (self.new.most ≡ max self.old.most
-            (if is_common line.now.statement then 0 else length parts.pieces.items)) }
+            (if is_for_all line.now.statement then 0 else length parts.pieces.items)) }
         ensures loops { OnOk result (self.new.loops ≡ max self.old.loops
-            (if is_common line.now.statement then length parts.pieces.items else 0)) }
+            (if is_for_all line.now.statement then length parts.pieces.items else 0)) }
         ensures split { OnOk result (self.new.split ≡ (if max self.old.most self.old.loops == 0
             then line.now.number else self.old.split)) }
     {
@@ -189,7 +189,7 @@ fn giving(
 
 // Whether pieces of a line are common to all processors.
 fn is_common(statement: &Statement) -> bool
-    ensures { result ≡ is_common statement.now }
+    ensures { result ≡ is_for_all statement.now }
 {
     matches!(
         statement,
@@ -251,7 +251,7 @@ fn parts_of(
     requires none { shapes.old.items ≡ [] }
     ensures none { OnOk result (shapes.new.items ≡ []) }
     ensures parts { IfOk result (λ parts.
-        (parts.pieces.items, parts.rest) ≡ parts_of program.now statement.now) }
+        (parts.pieces.items, parts.rest) ≡ split_off program.now statement.now) }
 {
     if fits(shapes, statement)? {
         let rest = copied(alloc, statement)?;

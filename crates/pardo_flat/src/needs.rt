@@ -2,7 +2,8 @@
 ghost use Rattle.std.specs.Prelude.{◌≡◌, ◌<◌, ◌++◌, ◌∷◌, [], ◌&&◌, ◌||◌, false, max, vec_len};
 ghost use Rattle.std.specs.Prelude.{if◌then◌else◌, IfOk, OnOk};
 ghost use Rattle.pardo_flat.specs.Flat.{applied_shape, computed_shape, first_need, fits, has_room};
-ghost use Rattle.pardo_flat.specs.Flat.{gives_truth, is_beside, operation_need, shape_of, taken};
+ghost use Rattle.pardo_flat.specs.Flat.{gives_truth, is_beside, operation_need, shape_of};
+ghost use Rattle.pardo_flat.specs.Flat.{registers_taken};
 ghost use Rattle.pardo_flat.specs.Inner.Splits.{CanShape, ShapesNode};
 
 use pardo_program::{Expr, Node, Op, Statement, Target};
@@ -73,7 +74,7 @@ impl Shape {
 
     /// How many registers its value takes.
     pub(crate) fn taken(self) -> u8
-        ensures { result ≡ taken self }
+        ensures { result ≡ registers_taken self }
     {
         if self.is_computed { 1 } else { 0 }
     }

@@ -17,7 +17,7 @@ use Rattle.pardo_program.specs.declared.operation.Op.TheVariants.{Within}
 use Rattle.pardo_program.specs.Operations.{bit, operation_value}
 use Rattle.pardo_job.specs.Operations.{native, choice, operation_code}
 use Rattle.pardo_job.specs.Operations.{taken_by, is_shallow, negation}
-use Rattle.pardo_job.specs.Straight.{Registers, operand_in, Computes}
+use Rattle.pardo_job.specs.Straight.{Registers, operand_value, Computes}
 use Rattle.pardo_job.proofs.Straight.{computes_negation}
 use Rattle.pardo_job.proofs.Shallow.{shallow_front}
 use Rattle.pardo_job.proofs.Operating.{IsNative, IsApart, computes_native}
@@ -108,8 +108,8 @@ pub record Operands (at i a b : ℕ) (held : Registers) (first second : Operand)
   pub second_at : IsAt (at + taken_by first) second
   pub first_fits : a < 2 ^ 32
   pub second_fits : b < 2 ^ 32
-  pub first_is : operand_in held first ≡ a
-  pub second_is : operand_in held second ≡ b
+  pub first_is : operand_value held first ≡ a
+  pub second_is : operand_value held second ≡ b
 
 native_of : (op : Op) (memory : ℕ → ℕ) (i at a b : ℕ) (held : Registers) (first second : Operand) →
     IsNative op → Operands at i a b held first second →

@@ -16,7 +16,7 @@ use Rattle.pardo_job.specs.Lines.{none_code, while_code}
 use Rattle.pardo_job.specs.Meaning.{Source, value, has_none}
 use Rattle.pardo_job.specs.Operations.{native, is_shallow, taken_by, register_or_spare}
 use Rattle.pardo_job.specs.Sees.{Sees}
-use Rattle.pardo_job.specs.Straight.{Registers, put, operand_in, after_all, IsKept, Computes}
+use Rattle.pardo_job.specs.Straight.{Registers, put, operand_value, after_all, IsKept, Computes}
 use Rattle.pardo_job.specs.Values.{value_code, value_operand, takes}
 use Rattle.pardo_job.proofs.Straight.{after_front, put_same, put_other}
 use Rattle.pardo_job.proofs.Shallow.{shallow_front, shallow_back}
@@ -37,8 +37,8 @@ pub record HasBoth (memory : ℕ → ℕ) (i : ℕ) (held : Registers) (layout :
     (first second : Tree) (a b : ℕ) : Type 0 where
   pub now : Registers
   pub runs : after_all memory i (both_code layout first second) held ≡ Some now
-  pub first_is : operand_in now (value_operand 0 first) ≡ a
-  pub second_is : operand_in now (value_operand (takes first) second) ≡ b
+  pub first_is : operand_value now (value_operand 0 first) ≡ a
+  pub second_is : operand_value now (value_operand (takes first) second) ≡ b
   pub keeps : now 3 ≡ held 3
 
 -- none where one of the two has no value
@@ -54,7 +54,7 @@ BothTo memory i held layout first second (Some a) (Some b) =
 
 first_stays : (tree : Tree) (held now : Registers) →
     ((which : ℕ) → IsKept (takes tree) which → now which ≡ held which) →
-    operand_in now (value_operand 0 tree) ≡ operand_in held (value_operand 0 tree)
+    operand_value now (value_operand 0 tree) ≡ operand_value held (value_operand 0 tree)
 first_stays (number k) held now keeps = refl
 first_stays own held now keeps = keeps 3 (inr refl)
 first_stays (loop nest) held now keeps = keeps 0 (inl (omega arith))
@@ -119,7 +119,7 @@ ready : (memory : ℕ → ℕ) (i v register : ℕ) (layout : ProgramLayoutData)
 ready memory i v register layout tree held is c = record {
   now = c.now;
   runs = ap (λ code. after_all memory i code held) (append-nil (value_code layout 0 tree)) ∙ c.runs;
-  gives = sym (ap (operand_in c.now) is) ∙ c.gives;
+  gives = sym (ap (operand_value c.now) is) ∙ c.gives;
   keeps = c.keeps 3 (inr refl);
 }
 
@@ -156,8 +156,8 @@ no_turn true a b = refl
 no_turn false a b = refl
 
 compares : (memory : ℕ → ℕ) (i a b : ℕ) (up : Bool) (first second : Operand) (held : Registers) →
-    IsAt 0 first → IsAt (0 + taken_by first) second → operand_in held first ≡ a →
-    operand_in held second ≡ b → is_shallow (native 0 (order_of up) first second) ≡ true →
+    IsAt 0 first → IsAt (0 + taken_by first) second → operand_value held first ≡ a →
+    operand_value held second ≡ b → is_shallow (native 0 (order_of up) first second) ≡ true →
     Computes memory i held 0 (native 0 (order_of up) first second)
     (operation_value (order_of up) a b)
 compares memory i a b true first second held p q e f shallow =

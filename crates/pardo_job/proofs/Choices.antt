@@ -13,7 +13,7 @@ use Rattle.pardo_program.specs.declared.operation.Op.TheVariants.{Min, Max}
 use Rattle.pardo_program.specs.Operations.{operation_value}
 use Rattle.pardo_job.specs.Operations.{chosen_of, choice, copy_code, taken_by, is_shallow}
 use Rattle.pardo_job.specs.Operations.{negation, is_max}
-use Rattle.pardo_job.specs.Straight.{Registers, put, operand_in, after_one, Computes}
+use Rattle.pardo_job.specs.Straight.{Registers, put, operand_value, after_one, Computes}
 use Rattle.pardo_job.proofs.Straight.{put_same}
 use Rattle.pardo_job.proofs.Shallow.{shallow_target, shallow_back}
 use Rattle.pardo_job.proofs.Choosing.{IsOther, operand_other, IsNext, computes_after}
@@ -37,7 +37,7 @@ IsChoice _ = ⊥
 
 choice_value : (op : Op) (memory : ℕ → ℕ) (i at a b : ℕ) (second : Operand) (held : Registers) →
     IsChoice op → IsNext at second → at < 3 → at + 1 + taken_by second < 3 → a < 2 ^ 32 →
-    b < 2 ^ 32 → held at ≡ a → operand_in held second ≡ b →
+    b < 2 ^ 32 → held at ≡ a → operand_value held second ≡ b →
     Computes memory i held at (chosen_of at op second) (operation_value op a b)
 unfolding operation_value
 choice_value Min memory i at a b second held is next lt less la lb ha hb =
@@ -82,7 +82,7 @@ test_shallow at op front second shallow =
 choice_ready : (op : Op) (memory : ℕ → ℕ) (i at a b register : ℕ) (second : Operand)
     (held : Registers) →
     IsChoice op → register ≡ at → register < 3 → IsNext at second → a < 2 ^ 32 → b < 2 ^ 32 →
-    held register ≡ a → operand_in held second ≡ b →
+    held register ≡ a → operand_value held second ≡ b →
     is_shallow (copy_code at (Register register) ++ chosen_of at op second) ≡ true →
     Computes memory i held at (copy_code at (Register register) ++ chosen_of at op second)
     (operation_value op a b)
@@ -102,7 +102,7 @@ choice_copied : (op : Op) (memory : ℕ → ℕ) (i at a b : ℕ) (first second 
     (held : Registers) →
     IsChoice op → copy_code at first ≡ one ∷ [] → after_one memory i one held ≡
     Some (put at a held) →
-    IsNext at second → IsOther at second → a < 2 ^ 32 → b < 2 ^ 32 → operand_in held second ≡ b →
+    IsNext at second → IsOther at second → a < 2 ^ 32 → b < 2 ^ 32 → operand_value held second ≡ b →
     is_shallow (copy_code at first ++ chosen_of at op second) ≡ true →
     Computes memory i held at (copy_code at first ++ chosen_of at op second)
     (operation_value op a b)
@@ -124,7 +124,7 @@ choice_copied op memory i at a b first second one held is copy leads next other 
 copied_own : (op : Op) (memory : ℕ → ℕ) (i at a b register : ℕ) (second : Operand)
     (held : Registers) →
     IsChoice op → register ≡ 3 → held 3 ≡ i → IsNext at second → IsOther at second →
-    a < 2 ^ 32 → b < 2 ^ 32 → held register ≡ a → operand_in held second ≡ b →
+    a < 2 ^ 32 → b < 2 ^ 32 → held register ≡ a → operand_value held second ≡ b →
     is_shallow (copy_code at (Register register) ++ chosen_of at op second) ≡ true →
     Computes memory i held at (copy_code at (Register register) ++ chosen_of at op second)
     (operation_value op a b)
@@ -137,7 +137,7 @@ copied_own op memory i at a b register second held is own own_i next other la lb
 copied_number : (op : Op) (memory : ℕ → ℕ) (i at a b number : ℕ) (second : Operand)
     (held : Registers) →
     IsChoice op → IsNext at second → IsOther at second →
-    a < 2 ^ 32 → b < 2 ^ 32 → number ≡ a → operand_in held second ≡ b →
+    a < 2 ^ 32 → b < 2 ^ 32 → number ≡ a → operand_value held second ≡ b →
     is_shallow (copy_code at (Number number) ++ chosen_of at op second) ≡ true →
     Computes memory i held at (copy_code at (Number number) ++ chosen_of at op second)
     (operation_value op a b)
@@ -148,7 +148,7 @@ copied_number op memory i at a b number second held is next other la lb ha hb sh
 -- what the lemma says of two operands
 abbrev pub ComputesChoice : Op → (ℕ → ℕ) → ℕ → ℕ → ℕ → ℕ → Registers → Operand → Operand → Type 0
 ComputesChoice op memory i at a b held first second =
-    operand_in held first ≡ a → operand_in held second ≡ b →
+    operand_value held first ≡ a → operand_value held second ≡ b →
     is_shallow (choice at op first second) ≡ true →
     Computes memory i held at (choice at op first second) (operation_value op a b)
 

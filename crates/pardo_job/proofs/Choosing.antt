@@ -11,7 +11,7 @@ use Rattle.pardo_program.specs.declared.operation.Op.TheVariants as op
 use Rattle.pardo_program.specs.Operations.{bit}
 use Rattle.pardo_job.specs.Operations.{chosen_of}
 use Rattle.pardo_job.specs.Operations.{taken_by}
-use Rattle.pardo_job.specs.Straight.{Registers, put, operand_in, after_all, IsKept, Computes}
+use Rattle.pardo_job.specs.Straight.{Registers, put, operand_value, after_all, IsKept, Computes}
 use Rattle.pardo_job.proofs.Straight.{put_same, put_other, after_front}
 
 -- the operand is not this register
@@ -20,7 +20,7 @@ IsOther which (Register register) = register ≢ which
 IsOther which (Number number) = Unit {0}
 
 pub operand_other : (which value : ℕ) (held : Registers) (operand : Operand) →
-    IsOther which operand → operand_in (put which value held) operand ≡ operand_in held operand
+    IsOther which operand → operand_value (put which value held) operand ≡ operand_value held operand
 operand_other which value held (Register register) other = put_other which value register held other
 operand_other which value held (Number number) other = refl
 
@@ -41,28 +41,28 @@ blend_code at test second = instr.Sub at at second ∷ instr.Mul at at (Register
 
 pub blends : (memory : ℕ → ℕ) (i at test a b c : ℕ) (second : Operand) (held : Registers) →
     at < 3 → test ≢ at → IsOther at second → held at ≡ a → held test ≡ c →
-    operand_in held second ≡ b →
+    operand_value held second ≡ b →
     Computes memory i held at (blend_code at test second) (blended a b c)
 blends memory i at test a b c second held lt ne other ha hc hb =
-    let x : ℕ = (held at + (2 ^ 32 - operand_in held second)) % 2 ^ 32 in
+    let x : ℕ = (held at + (2 ^ 32 - operand_value held second)) % 2 ^ 32 in
     let h1 : Registers = put at x held in
     let y : ℕ = (h1 at * h1 test) % 2 ^ 32 in
     let h2 : Registers = put at y h1 in
-    let z : ℕ = (h2 at + operand_in h2 second) % 2 ^ 32 in
+    let z : ℕ = (h2 at + operand_value h2 second) % 2 ^ 32 in
     let is_x : h1 at ≡ (a + (2 ^ 32 - b)) % 2 ^ 32 = put_same at x held
-    ∙ ap (λ v. (v + (2 ^ 32 - operand_in held second)) % 2 ^ 32) ha
+    ∙ ap (λ v. (v + (2 ^ 32 - operand_value held second)) % 2 ^ 32) ha
     ∙ ap (λ v. (a + (2 ^ 32 - v)) % 2 ^ 32) hb in
     let is_c : h1 test ≡ c = put_other at x test held ne ∙ hc in
     let is_y : h2 at ≡ ((a + (2 ^ 32 - b)) % 2 ^ 32 * c) % 2 ^ 32 = put_same at y h1
     ∙ ap (λ v. (v * h1 test) % 2 ^ 32) is_x
     ∙ ap (λ v. ((a + (2 ^ 32 - b)) % 2 ^ 32 * v) % 2 ^ 32) is_c in
-    let is_b : operand_in h2 second ≡ b =
+    let is_b : operand_value h2 second ≡ b =
     operand_other at y h1 second other ∙ operand_other at x held second other ∙ hb in
     record {
       now = put at z h2;
       runs = refl;
       gives = put_same at z h2
-          ∙ ap (λ v. (v + operand_in h2 second) % 2 ^ 32) is_y
+          ∙ ap (λ v. (v + operand_value h2 second) % 2 ^ 32) is_y
           ∙ ap (λ v. (((a + (2 ^ 32 - b)) % 2 ^ 32 * c) % 2 ^ 32 + v) % 2 ^ 32) is_b;
       keeps = λ which kept.
           let apart : which ≢ at = not_kept at at (omega arith) lt which kept in
@@ -131,14 +131,14 @@ computes_after memory i at target value result front back held le lt e c = recor
 
 pub least_chosen : (memory : ℕ → ℕ) (i at a b : ℕ) (second : Operand) (held : Registers) →
     IsNext at second → at < 3 → at + 1 + taken_by second < 3 → a < 2 ^ 32 → b < 2 ^ 32 →
-    held at ≡ a → operand_in held second ≡ b →
+    held at ≡ a → operand_value held second ≡ b →
     Computes memory i held at (chosen_of at op.Min second) (min a b)
 least_chosen memory i at a b second held next at_lt lt la lb ha hb =
     let test : ℕ = at + 1 + taken_by second in
-    let c : ℕ = bit (nat_lt (held at) (operand_in held second)) in
+    let c : ℕ = bit (nat_lt (held at) (operand_value held second)) in
     let ne : test ≢ at = λ same. omega arith in
     let ne_too : at ≢ test = λ same. omega arith in
-    let is_c : c ≡ bit (nat_lt a b) = ap (λ v. bit (nat_lt v (operand_in held second))) ha ∙
+    let is_c : c ≡ bit (nat_lt a b) = ap (λ v. bit (nat_lt v (operand_value held second))) ha ∙
     ap (λ v. bit (nat_lt a v)) hb in
     computes_after memory i at test c (min a b) (instr.Lt test at second ∷ [])
     (blend_code at test second) held (omega arith) lt refl
@@ -150,16 +150,16 @@ least_chosen memory i at a b second held next at_lt lt la lb ha hb =
 
 pub greatest_chosen : (memory : ℕ → ℕ) (i at a b : ℕ) (second : Operand) (held : Registers) →
     IsNext at second → at < 3 → at + 1 + taken_by second < 3 → a < 2 ^ 32 → b < 2 ^ 32 →
-    held at ≡ a → operand_in held second ≡ b →
+    held at ≡ a → operand_value held second ≡ b →
     Computes memory i held at (chosen_of at op.Max second) (max a b)
 greatest_chosen memory i at a b second held next at_lt lt la lb ha hb =
     let test : ℕ = at + 1 + taken_by second in
-    let c : ℕ = bit (nat_lt (held at) (operand_in held second)) in
+    let c : ℕ = bit (nat_lt (held at) (operand_value held second)) in
     let h1 : Registers = put test c held in
     let d : ℕ = bit (h1 test == 0) in
     let ne : test ≢ at = λ same. omega arith in
     let ne_too : at ≢ test = λ same. omega arith in
-    let is_c : c ≡ bit (nat_lt a b) = ap (λ v. bit (nat_lt v (operand_in held second))) ha ∙
+    let is_c : c ≡ bit (nat_lt a b) = ap (λ v. bit (nat_lt v (operand_value held second))) ha ∙
     ap (λ v. bit (nat_lt a v)) hb in
     let is_d : d ≡ bit (bit (nat_lt a b) == 0) =
     ap (λ v. bit (v == 0)) (put_same test c held ∙ is_c) in

@@ -25,7 +25,7 @@ use Rattle.pardo_flat.specs.Flat.{first_flat_of, flat, flat_size}
 use Rattle.pardo_flat.specs.Layouts.{ProgramLayoutData, array_cells, mask_cells, program_layout}
 use Rattle.pardo_flat.proofs.FlatLines.{first_next, some_at}
 use Rattle.pardo_job.specs.declared.times.CountedLine.{CountedLine}
-use Rattle.pardo_job.specs.Lines.{assignment_code, choosing, code_of, condition_code, idle}
+use Rattle.pardo_job.specs.Lines.{assignment_code, choosing, code_of, condition_code, no_code}
 use Rattle.pardo_job.specs.Lines.{length_of_line, line_code, masked, own_store, place_of}
 use Rattle.pardo_job.specs.Times.{behind_mask, counted_from, counted_line, counted_place}
 use Rattle.pardo_job.specs.Times.{is_counted, is_place, reads_shared}
@@ -44,17 +44,17 @@ by_length false a b p q = q
 abbrev under_mask : ProgramLayoutData → ℕ → ℕ → List Instr → List Instr
 under_mask layout at depth body = own_load 0 (mask_cells layout depth) ∷ (Jz 0 (at + 3)
     ∷ (Jmp (at + 4 + length body)
-    ∷ (idle (at + 3) (length body) ++ (Jmp (at + 4 + 2 * length body) ∷ body))))
+    ∷ (no_code (at + 3) (length body) ++ (Jmp (at + 4 + 2 * length body) ∷ body))))
 
 abbrev choice_of : ProgramLayoutData → ℕ → ℕ → List Instr → List Instr
 choice_of layout at depth body = own_load 0 (mask_cells layout depth) ∷ (Jz 0 (at + 3 + length body)
-    ∷ (body ++ (Jmp (at + 4 + 2 * length body) ∷ idle (at + 3 + length body) (length body + 1))))
+    ∷ (body ++ (Jmp (at + 4 + 2 * length body) ∷ no_code (at + 3 + length body) (length body + 1))))
 
 choice_long : (layout : ProgramLayoutData) (at depth : ℕ) (body : List Instr) →
     2 < length (choice_of layout at depth body)
 choice_long layout at depth body =
     let e = length-append body (Jmp (at + 4 + 2 * length body)
-    ∷ idle (at + 3 + length body) (length body + 1)) in omega arith
+    ∷ no_code (at + 3 + length body) (length body + 1)) in omega arith
 
 masked_long : (layout : ProgramLayoutData) (at depth : ℕ) (body : List Instr) → 0 < length body →
     behind_mask depth < length (masked layout at depth body)

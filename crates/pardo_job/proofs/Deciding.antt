@@ -13,7 +13,7 @@ use Rattle.pardo_job.specs.Leaves.{Decides, DecidesTo, ConditionsDecide}
 use Rattle.pardo_job.specs.Lines.{condition_code}
 use Rattle.pardo_job.specs.Meaning.{value}
 use Rattle.pardo_job.specs.Operations.{native, is_shallow}
-use Rattle.pardo_job.specs.Straight.{Registers, operand_in, after_all, Computes}
+use Rattle.pardo_job.specs.Straight.{Registers, operand_value, after_all, Computes}
 use Rattle.pardo_job.specs.Values.{value_code, value_operand, is_truth}
 use Rattle.pardo_job.proofs.Straight.{after_front, after_append}
 use Rattle.pardo_job.proofs.Shallow.{shallow_front, shallow_back}
@@ -66,7 +66,7 @@ unfolding operation_value
 equals_zero v = refl
 
 tested_twice : (memory : ℕ → ℕ) (i v : ℕ) (tree : Tree) (held : Registers) →
-    operand_in held (value_operand 0 tree) ≡ v → is_shallow (twice tree) ≡ true →
+    operand_value held (value_operand 0 tree) ≡ v → is_shallow (twice tree) ≡ true →
     Decides memory i held (twice tree) v
 tested_twice memory i v tree held e shallow =
     let front : List Instr = native 0 op.Eq (value_operand 0 tree) (Number 0) in
@@ -97,7 +97,7 @@ decides_after : (memory : ℕ → ℕ) (i v : ℕ) (layout : ProgramLayoutData) 
 decides_after memory i v layout tree held true is c shallow = record {
   now = c.now;
   runs = ap (λ code. after_all memory i code held) (append-nil (value_code layout 0 tree)) ∙ c.runs;
-  gives = sym (ap (operand_in c.now) (truth_operand tree is)) ∙ c.gives ∙
+  gives = sym (ap (operand_value c.now) (truth_operand tree is)) ∙ c.gives ∙
       truth_of_value v (c.truth is);
   keeps = c.keeps 3 (inr refl);
 }

@@ -17,7 +17,7 @@ use Rattle.pardo_program.specs.Operations.{bit, is_division, lacks, operation_va
 use Rattle.pardo_job.specs.Operations.{in_order, instruction_of, is_shallow, native}
 use Rattle.pardo_job.specs.Operations.{operation_code, taken_by, within_code, index_code}
 use Rattle.pardo_job.specs.Operations.{test_register}
-use Rattle.pardo_job.specs.Straight.{Registers, put, operand_in, after_one, after_all, IsKept}
+use Rattle.pardo_job.specs.Straight.{Registers, put, operand_value, after_one, after_all, IsKept}
 use Rattle.pardo_job.specs.Straight.{Computes}
 use Rattle.pardo_job.proofs.Applying.{IsPlain, IsTruth, Operands, computes_operation, first_apart}
 use Rattle.pardo_job.proofs.Operating.{IsApart, operand_kept}
@@ -48,7 +48,7 @@ IsQuotient _ = ⊥
 module _ (memory : ℕ → ℕ) (i at : ℕ) where
   one_divides : (op : Op) (first : ℕ) (second : Operand) (held : Registers) → IsQuotient op →
       after_one memory i (instruction_of op at first second) held
-      ≡ option_map (λ v. put at v held) (worked_out op (held first) (operand_in held second))
+      ≡ option_map (λ v. put at v held) (worked_out op (held first) (operand_value held second))
   unfolding lacks is_division operation_value
   one_divides Div first second held is = refl
   one_divides Rem first second held is = refl
@@ -80,7 +80,7 @@ module _ (memory : ℕ → ℕ) (i at : ℕ) where
       (λ (k : which ≡ 3). let no : ⊥ = omega arith in no) kept
 
   divides : (op : Op) (a b : ℕ) (first second : Operand) (held : Registers) → IsQuotient op →
-      at < 3 → IsApart at first second → operand_in held first ≡ a → operand_in held second ≡ b →
+      at < 3 → IsApart at first second → operand_value held first ≡ a → operand_value held second ≡ b →
       is_shallow (in_order at op first second) ≡ true →
       ComputesTo memory i held at (in_order at op first second) (worked_out op a b)
   divides op a b (Register register) second held is lt apart e f shallow =
@@ -94,7 +94,7 @@ module _ (memory : ℕ → ℕ) (i at : ℕ) where
       shallow_target (instr.Set spare number) (one ∷ []) shallow in
       let now : Registers = put spare number held in
       let first_is : now spare ≡ a = put_same spare number held ∙ e in
-      let second_is : operand_in now second ≡ b =
+      let second_is : operand_value now second ≡ b =
       operand_kept at number held second lt less apart ∙ f in
       after_put spare number (one ∷ []) (instr.Set spare number ∷ one ∷ []) held (worked_out op a b)
       refl (not_kept spare (omega arith) less)
@@ -130,7 +130,7 @@ worked_within a b = by_test (nat_lt a b)
 
 module _ (memory : ℕ → ℕ) (i at : ℕ) where
   index_of : (index : ℕ) (bound : Operand) (a b : ℕ) (held : Registers) → at < 3 →
-      test_register at index < 3 → held index ≡ a → operand_in held bound ≡ b →
+      test_register at index < 3 → held index ≡ a → operand_value held bound ≡ b →
       ComputesTo memory i held at (index_code at index bound) (worked_out Within a b)
   index_of index bound a b held lt less e f =
       let test : ℕ = test_register at index in

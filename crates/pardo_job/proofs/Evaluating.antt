@@ -21,7 +21,7 @@ use Rattle.pardo_job.specs.Leaves.{LeavesTo, ExpressionsAreEvaluated}
 use Rattle.pardo_job.specs.Meaning.{Source, value, array_cell}
 use Rattle.pardo_job.specs.Operations.{operation_code, is_shallow, taken_by}
 use Rattle.pardo_job.specs.Sees.{Sees}
-use Rattle.pardo_job.specs.Straight.{Registers, put, operand_in, after_one, after_all, IsKept}
+use Rattle.pardo_job.specs.Straight.{Registers, put, operand_value, after_one, after_all, IsKept}
 use Rattle.pardo_job.specs.Values.{value_code, takes, value_operand, is_truth, own_load}
 use Rattle.pardo_job.proofs.Straight.{put_same, put_other, after_append, after_front}
 use Rattle.pardo_job.proofs.Shallow.{shallow_front, shallow_back}
@@ -40,7 +40,7 @@ pub record Evaluated (memory : ℕ → ℕ) (i : ℕ) (held : Registers) (layout
     (tree : Tree) (v : ℕ) : Type 0 where
   pub now : Registers
   pub runs : after_all memory i (value_code layout at tree) held ≡ Some now
-  pub gives : operand_in now (value_operand at tree) ≡ v
+  pub gives : operand_value now (value_operand at tree) ≡ v
   pub keeps : (which : ℕ) → IsKept at which → now which ≡ held which
   pub fits : v < 2 ^ 32
   pub truth : is_truth tree ≡ true → IsTruth v
@@ -62,7 +62,7 @@ none_after memory i front back held e =
 
 pub load_within : (memory : ℕ → ℕ) (i at k : ℕ) (held : Registers) (cells : Array)
     (operand : Operand) →
-    operand_in held operand ≡ k → k < cells.len →
+    operand_value held operand ≡ k → k < cells.len →
     after_one memory i (instr.Ld at (Named cells operand)) held
     ≡ Some (put at (memory (cells.base + k)) held)
 load_within memory i at k held cells operand e lt =
@@ -72,7 +72,7 @@ load_within memory i at k held cells operand e lt =
 
 load_outside : (memory : ℕ → ℕ) (i at k : ℕ) (held : Registers) (cells : Array)
     (operand : Operand) →
-    operand_in held operand ≡ k → cells.len ≤ k →
+    operand_value held operand ≡ k → cells.len ≤ k →
     after_one memory i (instr.Ld at (Named cells operand)) held ≡ None
 load_outside memory i at k held cells operand e le =
     ap (λ x. if nat_lt x cells.len then Some (put at (memory (cells.base + x)) held) else None) e
@@ -161,7 +161,7 @@ operand_taken at (apply op first second) below = taken_one at (below refl)
 -- an operand stays while the next one is evaluated
 operand_stays : (at : ℕ) (tree : Tree) (held now : Registers) →
     ((which : ℕ) → IsKept (at + takes tree) which → now which ≡ held which) →
-    operand_in now (value_operand at tree) ≡ operand_in held (value_operand at tree)
+    operand_value now (value_operand at tree) ≡ operand_value held (value_operand at tree)
 operand_stays at (number k) held now keeps = refl
 operand_stays at own held now keeps = keeps 3 (inr refl)
 operand_stays at (loop nest) held now keeps = keeps at (inl (omega arith))
@@ -285,7 +285,7 @@ leaf_loaded memory i at v held layout tree cells code is plain lt own_i less m f
   now = put at v held;
   runs = ap (λ c. after_all memory i c held) code ∙
       own_loaded memory i at v held cells lt own_i less m;
-  gives = ap (operand_in (put at v held)) is ∙ put_same at v held;
+  gives = ap (operand_value (put at v held)) is ∙ put_same at v held;
   keeps = kept_put at v held lt;
   fits = fits;
   truth = λ yes. no_truth (sym plain ∙ yes);

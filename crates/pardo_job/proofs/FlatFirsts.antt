@@ -16,8 +16,8 @@ use Rattle.pardo_program.specs.Expression.{Tree, number, own as own_number, loop
 use Rattle.pardo_program.specs.Expression.{apply}
 use Rattle.pardo_program.specs.Program.{ProgramData}
 use Rattle.pardo_flat.specs.Flat.{base_of, beside, first_flat_of, fits, flat, flat_size, giving}
-use Rattle.pardo_flat.specs.Flat.{is_beside, is_common, last_line, last_of, moved_statement}
-use Rattle.pardo_flat.specs.Flat.{parts_of}
+use Rattle.pardo_flat.specs.Flat.{is_beside, is_for_all, last_line, last_of, moved_statement}
+use Rattle.pardo_flat.specs.Flat.{split_off}
 use Rattle.pardo_flat.specs.Flat.{pieces_of, shape_of, split, split_statement, statement_parts}
 use Rattle.pardo_flat.proofs.FlatLines.{first_next, hidden_is, hidden_stands, last_stands}
 use Rattle.pardo_job.specs.Lines.{length_of_line, place_of}
@@ -124,8 +124,8 @@ module _ (program : ProgramData) where
     rest_counts (EndFor begin) counts b none = absurd (let e : false ≡ true = counts in cc)
 
     counted_parts : (statement : Statement) → is_counted statement ≡ true →
-        (statement_parts program statement ≡ parts_of program statement)
-        × (is_common statement ≡ false)
+        (statement_parts program statement ≡ split_off program statement)
+        × (is_for_all statement ≡ false)
     counted_parts (Assign target tree) counts = (refl, refl)
     counted_parts (If tree) counts = (refl, refl)
     counted_parts Else counts = absurd (let e : false ≡ true = counts in cc)
@@ -157,7 +157,7 @@ module _ (program : ProgramData) where
         let there = hidden_is end line (base_of program line.statement) (pieces_of program line) 0
         some in
         let e : first_flat_of program j + 0 ≡ first_flat_of program j = omega arith in record {
-          line_is = record line { statement = giving (is_common line.statement) end there.0 there.1 };
+          line_is = record line { statement = giving (is_for_all line.statement) end there.0 there.1 };
           found = ap (slice_get (flat program).lines) (sym e)
               ∙ hidden_stands program j line is 0 some ∙ there.2;
           depth = refl;

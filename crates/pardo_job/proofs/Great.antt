@@ -25,7 +25,7 @@ use Rattle.pardo_job.specs.declared.fault.JobKind.TheVariants.{TooDeep, TooLong,
 use Rattle.pardo_job.specs.declared.fault.JobKind.TheVariants.{TooManyCells}
 use Rattle.pardo_job.specs.Inner.Emitting.{IsCodeFault}
 use Rattle.pardo_job.specs.Inner.Pieces.{IsLineFault, PutsLine, bounds_code, choice_code, under}
-use Rattle.pardo_job.specs.Lines.{assignment_code, choosing, condition_code, first_code, idle}
+use Rattle.pardo_job.specs.Lines.{assignment_code, choosing, condition_code, first_code, no_code}
 use Rattle.pardo_job.specs.Lines.{line_code, masked, none_code, own_store, while_code}
 use Rattle.pardo_job.specs.Operations.{chosen_of, conjunction, choice, copy_code, first_chosen}
 use Rattle.pardo_job.specs.Operations.{in_order, instruction_of, is_shallow, is_turned, native}
@@ -255,7 +255,7 @@ masked_either layout at depth body true = record { same = refl; few = omega arit
 masked_either layout at depth body false =
     let n : ℕ = length body in
     record {
-      same = shallow_both (idle (at + 3) n) (Jmp (at + 4 + 2 * n) ∷ body)
+      same = shallow_both (no_code (at + 3) n) (Jmp (at + 4 + 2 * n) ∷ body)
           ∙ ap (λ b. b && is_shallow body) (idle_shallow (at + 3) n);
       few = under_long layout at depth body;
     }
@@ -268,12 +268,12 @@ masked_part layout at depth body = masked_either layout at depth body (depth == 
 choice_either : (layout : ProgramLayoutData) (at depth : ℕ) (body : List Instr) (b : Bool) →
     is_shallow (if b then body else own_load 0
     (mask_cells layout depth) ∷ Jz 0 (at + 3 + length body)
-    ∷ (body ++ Jmp (at + 4 + 2 * length body) ∷ idle (at + 3 + length body) (length body + 1)))
+    ∷ (body ++ Jmp (at + 4 + 2 * length body) ∷ no_code (at + 3 + length body) (length body + 1)))
     ≡ is_shallow body
 choice_either layout at depth body true = refl
 choice_either layout at depth body false =
     let n : ℕ = length body in
-    shallow_both body (Jmp (at + 4 + 2 * n) ∷ idle (at + 3 + n) (n + 1))
+    shallow_both body (Jmp (at + 4 + 2 * n) ∷ no_code (at + 3 + n) (n + 1))
     ∙ ap (λ b. is_shallow body && b) (idle_shallow (at + 3 + n) (n + 1))
     ∙ and_true (is_shallow body)
 

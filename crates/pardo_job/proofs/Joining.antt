@@ -11,7 +11,7 @@ use Rattle.pram_job.specs.declared.instr.Operand.TheVariants.{Register, Number}
 use Rattle.pardo_program.specs.Operations.{bit}
 use Rattle.pardo_job.specs.Operations.{register_or_spare, zero_test, tested_in, conjunction}
 use Rattle.pardo_job.specs.Operations.{taken_by, is_shallow, negation}
-use Rattle.pardo_job.specs.Straight.{Registers, put, operand_in, after_all, Computes}
+use Rattle.pardo_job.specs.Straight.{Registers, put, operand_value, after_all, Computes}
 use Rattle.pardo_job.proofs.Straight.{put_same, put_other, after_front, computes_one}
 use Rattle.pardo_job.proofs.Straight.{computes_negation}
 use Rattle.pardo_job.proofs.Shallow.{shallow_target, shallow_rest, shallow_front, shallow_back}
@@ -40,7 +40,7 @@ tested_spare spare = elim (spare == 3) as (λ t. (if t then spare else spare) �
     [ true ↦ refl | false ↦ refl ]
 
 tests_zero : (memory : ℕ → ℕ) (i spare v : ℕ) (operand : Operand) (held : Registers) →
-    operand_in held operand ≡ v →
+    operand_value held operand ≡ v →
     Tests memory i held (test_target spare operand) (zero_test spare operand) (bit (v == 0))
 tests_zero memory i spare v (Register register) held e =
     let t : ℕ = tested_in spare register in
@@ -173,9 +173,9 @@ neither_zero false true = refl
 neither_zero false false = refl
 
 other_kept : (which value : ℕ) (held now : Registers) (operand : Operand) →
-    ((k : ℕ) → k ≢ which → now k ≡ held k) → IsOther which operand → operand_in held operand ≡
+    ((k : ℕ) → k ≢ which → now k ≡ held k) → IsOther which operand → operand_value held operand ≡
     value →
-    operand_in now operand ≡ value
+    operand_value now operand ≡ value
 other_kept which value held now (Register register) keeps other e = keeps register other ∙ e
 other_kept which value held now (Number number) keeps other e = e
 
@@ -196,7 +196,7 @@ joined memory i at t u a b held lt ht hu =
 pub computes_conjunction : (memory : ℕ → ℕ) (i at a b : ℕ) (held : Registers)
     (first second : Operand) →
     at < 3 → IsAt at first → IsAt (at + taken_by first) second →
-    operand_in held first ≡ a → operand_in held second ≡ b →
+    operand_value held first ≡ a → operand_value held second ≡ b →
     is_shallow (conjunction at first second) ≡ true →
     Computes memory i held at (conjunction at first second) (bit (not (a == 0) && not (b == 0)))
 unfolding conjunction

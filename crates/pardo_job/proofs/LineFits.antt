@@ -31,7 +31,7 @@ use Rattle.pardo_flat.specs.Layouts.{mask_cells, private_cells}
 use Rattle.pardo_flat.specs.Statements.{statement_at}
 use Rattle.pardo_job.specs.Inner.Pieces.{IsLawfulTarget}
 use Rattle.pardo_job.specs.Lawful.{IsLawfulTree}
-use Rattle.pardo_job.specs.Lines.{assignment_code, choosing, condition_code, first_code, idle}
+use Rattle.pardo_job.specs.Lines.{assignment_code, choosing, condition_code, first_code, no_code}
 use Rattle.pardo_job.specs.Lines.{line_code, loop_end, masked}
 use Rattle.pardo_job.specs.Lines.{next_value, none_code, others, own_store, turn_code, while_code}
 use Rattle.pardo_job.specs.Operations.{is_shallow, native, register_code, register_or_spare}
@@ -204,7 +204,7 @@ store_fits : (cells len : ℕ) (layout : ProgramLayoutData) (which : ℕ) →
 store_fits cells len layout which is = let r0 : 0 < 4 = omega arith in
     ((own_fits cells (mask_cells layout which) is, r0), tt)
 
-pub idle_fits : (cells len at n : ℕ) → at + n ≤ len → Fit cells len (idle at n)
+pub idle_fits : (cells len at n : ℕ) → at + n ≤ len → Fit cells len (no_code at n)
 idle_fits cells len at zero le = tt
 idle_fits cells len at (suc n) le =
     ((let j : at + 1 ≤ len = omega arith in j), idle_fits cells len (at + 1) n (omega arith))
@@ -214,16 +214,16 @@ idle_fits cells len at (suc n) le =
 masked_body_either : (layout : ProgramLayoutData) (at depth : ℕ) (body : List Instr) (b : Bool) →
     is_shallow (if b then body else own_load 0 (mask_cells layout depth) ∷ instr.Jz 0 (at + 3) ∷
     instr.Jmp (at + 4 + length body)
-    ∷ (idle (at + 3) (length body) ++ instr.Jmp (at + 4 + 2 * length body) ∷ body)) ≡ true →
+    ∷ (no_code (at + 3) (length body) ++ instr.Jmp (at + 4 + 2 * length body) ∷ body)) ≡ true →
     is_shallow body ≡ true
 masked_body_either layout at depth body true shallow = shallow
 masked_body_either layout at depth body false shallow =
     let n : ℕ = length body in
     let last : List Instr = instr.Jmp (at + 4 + 2 * n) ∷ body in
-    let three : List Instr = idle (at + 3) n ++ last in
+    let three : List Instr = no_code (at + 3) n ++ last in
     let two : List Instr = instr.Jmp (at + 4 + n) ∷ three in
     let one : List Instr = instr.Jz 0 (at + 3) ∷ two in
-    shallow_rest (instr.Jmp (at + 4 + 2 * n)) body (shallow_back (idle (at + 3) n) last
+    shallow_rest (instr.Jmp (at + 4 + 2 * n)) body (shallow_back (no_code (at + 3) n) last
     (shallow_rest (instr.Jmp (at + 4 + n)) three (shallow_rest (instr.Jz 0 (at + 3)) two
     (shallow_rest (own_load 0 (mask_cells layout depth)) one shallow))))
 
@@ -238,11 +238,11 @@ choosing_body_either : (layout : ProgramLayoutData) (at depth : ℕ) (body : Lis
     is_shallow (if b then body else own_load 0 (mask_cells layout depth) ∷
     instr.Jz 0 (at + 3 + length body)
     ∷ (body ++ instr.Jmp (at + 4 + 2 * length body) ∷
-    idle (at + 3 + length body) (length body + 1))) ≡ true → is_shallow body ≡ true
+    no_code (at + 3 + length body) (length body + 1))) ≡ true → is_shallow body ≡ true
 choosing_body_either layout at depth body true shallow = shallow
 choosing_body_either layout at depth body false shallow =
     let n : ℕ = length body in
-    let last : List Instr = instr.Jmp (at + 4 + 2 * n) ∷ idle (at + 3 + n) (n + 1) in
+    let last : List Instr = instr.Jmp (at + 4 + 2 * n) ∷ no_code (at + 3 + n) (n + 1) in
     let one : List Instr = instr.Jz 0 (at + 3 + n) ∷ (body ++ last) in
     shallow_front body last (shallow_rest (instr.Jz 0 (at + 3 + n)) (body ++ last)
     (shallow_rest (own_load 0 (mask_cells layout depth)) one shallow))
@@ -255,7 +255,7 @@ choosing_body layout at depth body shallow = choosing_body_either layout at dept
     (shallow_front (if depth == 0 then body
     else own_load 0 (mask_cells layout depth) ∷ instr.Jz 0 (at + 3 + length body)
     ∷ (body ++ instr.Jmp (at + 4 + 2 * length body) ∷
-    idle (at + 3 + length body) (length body + 1)))
+    no_code (at + 3 + length body) (length body + 1)))
     (own_store (mask_cells layout (depth + 1)) ∷ []) shallow)
 
 -- the code of an assignment
@@ -264,15 +264,15 @@ masked_either : (cells len : ℕ) (layout : ProgramLayoutData) (at depth : ℕ) 
     (b ≡ false → 0 < depth) → depth ≤ layout.choices → Fit cells len body →
     at + length (if b then body else own_load 0 (mask_cells layout depth) ∷ instr.Jz 0 (at + 3) ∷
     instr.Jmp (at + 4 + length body)
-    ∷ (idle (at + 3) (length body) ++ instr.Jmp (at + 4 + 2 * length body) ∷ body)) ≤ len →
+    ∷ (no_code (at + 3) (length body) ++ instr.Jmp (at + 4 + 2 * length body) ∷ body)) ≤ len →
     Fit cells len (if b then body else own_load 0 (mask_cells layout depth) ∷ instr.Jz 0 (at + 3) ∷
     instr.Jmp (at + 4 + length body)
-    ∷ (idle (at + 3) (length body) ++ instr.Jmp (at + 4 + 2 * length body) ∷ body))
+    ∷ (no_code (at + 3) (length body) ++ instr.Jmp (at + 4 + 2 * length body) ∷ body))
 masked_either cells len layout at depth body true laid some le fits room = fits
 masked_either cells len layout at depth body false laid some le fits room =
     let r0 : 0 < 4 = omega arith in
     let n : ℕ = length body in
-    let pads : List Instr = idle (at + 3) n in
+    let pads : List Instr = no_code (at + 3) n in
     let sum : length (pads ++ instr.Jmp (at + 4 + 2 * n) ∷ body) ≡ length pads +
     length (instr.Jmp (at + 4 + 2 * n) ∷ body) =
     length-append pads (instr.Jmp (at + 4 + 2 * n) ∷ body) in
@@ -313,16 +313,16 @@ choice_either : (cells len : ℕ) (layout : ProgramLayoutData) (at depth : ℕ) 
     at + length (if b then body else own_load 0 (mask_cells layout depth) ∷
     instr.Jz 0 (at + 3 + length body)
     ∷ (body ++ instr.Jmp (at + 4 + 2 * length body) ∷
-    idle (at + 3 + length body) (length body + 1))) ≤ len →
+    no_code (at + 3 + length body) (length body + 1))) ≤ len →
     Fit cells len (if b then body else own_load 0 (mask_cells layout depth) ∷
     instr.Jz 0 (at + 3 + length body)
     ∷ (body ++ instr.Jmp (at + 4 + 2 * length body) ∷
-    idle (at + 3 + length body) (length body + 1)))
+    no_code (at + 3 + length body) (length body + 1)))
 choice_either cells len layout at depth body true laid some le fits room = fits
 choice_either cells len layout at depth body false laid some le fits room =
     let r0 : 0 < 4 = omega arith in
     let n : ℕ = length body in
-    let pads : List Instr = idle (at + 3 + n) (n + 1) in
+    let pads : List Instr = no_code (at + 3 + n) (n + 1) in
     let sum : length (body ++ instr.Jmp (at + 4 + 2 * n) ∷ pads) ≡ n +
     length (instr.Jmp (at + 4 + 2 * n) ∷ pads) =
     length-append body (instr.Jmp (at + 4 + 2 * n) ∷ pads) in
@@ -352,7 +352,7 @@ choosing_fits cells len layout at depth body laid le fits room =
     let front : List Instr = if depth == 0 then body
     else own_load 0 (mask_cells layout depth) ∷ instr.Jz 0 (at + 3 + length body)
     ∷ (body ++ instr.Jmp (at + 4 + 2 * length body) ∷
-    idle (at + 3 + length body) (length body + 1)) in
+    no_code (at + 3 + length body) (length body + 1)) in
     let store : List Instr = own_store (mask_cells layout (depth + 1)) ∷ [] in
     let sum : length (front ++ store) ≡ length front + length store = length-append front store in
     fit_both cells len front store

@@ -21,7 +21,7 @@ use Rattle.pardo_program.specs.declared.operation.Op.{Op}
 use Rattle.pardo_program.specs.declared.operation.Op.TheVariants as op
 use Rattle.pardo_job.specs.Inner.Pieces.{IsLineFault, PutsLine, bounds_code, bounds_operands}
 use Rattle.pardo_job.specs.Inner.Pieces.{choice_code, under}
-use Rattle.pardo_job.specs.Lines.{choosing, idle, masked, none_code, own_store}
+use Rattle.pardo_job.specs.Lines.{choosing, no_code, masked, none_code, own_store}
 use Rattle.pardo_job.specs.Operations.{is_shallow, native}
 use Rattle.pardo_job.specs.Values.{value_operand, own_load, takes, value_code}
 use Rattle.pardo_job.proofs.Emitting.{fault_front, puts_fails, puts_then, shallow_both}
@@ -53,44 +53,44 @@ line_too_long old new code s lt = record { all = tt; shallow = tt; fault = (s, l
 where_next : (at n : ℕ) → at + 1 + n + 1 ≡ at + suc n + 1
 where_next at n = omega arith
 
-pub idle_suc : (at n : ℕ) → idle at (suc n) ≡ idle at n ++ Jmp (at + n + 1) ∷ []
+pub idle_suc : (at n : ℕ) → no_code at (suc n) ≡ no_code at n ++ Jmp (at + n + 1) ∷ []
 idle_suc at zero = let e : at + 1 ≡ at + 0 + 1 = omega arith in ap (λ (k : ℕ). Jmp k ∷ []) e
 idle_suc at (suc n) =
     ap (λ (l : List Instr). Jmp (at + 1) ∷ l)
-    (idle_suc (at + 1) n ∙ ap (λ (k : ℕ). idle (at + 1) n ++ Jmp k ∷ []) (where_next at n))
+    (idle_suc (at + 1) n ∙ ap (λ (k : ℕ). no_code (at + 1) n ++ Jmp k ∷ []) (where_next at n))
 
-pub idle_more : (at n : ℕ) → idle at (n + 1) ≡ idle at n ++ Jmp (at + n + 1) ∷ []
+pub idle_more : (at n : ℕ) → no_code at (n + 1) ≡ no_code at n ++ Jmp (at + n + 1) ∷ []
 idle_more at n =
     let e : n + 1 ≡ suc n = omega arith in
-    ap (idle at) e ∙ idle_suc at n
+    ap (no_code at) e ∙ idle_suc at n
 
-pub idle_shallow : (at n : ℕ) → is_shallow (idle at n) ≡ true
+pub idle_shallow : (at n : ℕ) → is_shallow (no_code at n) ≡ true
 idle_shallow at zero = refl
 idle_shallow at (suc n) = idle_shallow (at + 1) n
 
-pub idle_length : (at n : ℕ) → length (idle at n) ≡ n
+pub idle_length : (at n : ℕ) → length (no_code at n) ≡ n
 idle_length at zero = refl
 idle_length at (suc n) = let e = idle_length (at + 1) n in omega (arith, e)
 
-pub idle_count : (first now : List Instr) (n : ℕ) → now ≡ first ++ idle (length first) n →
+pub idle_count : (first now : List Instr) (n : ℕ) → now ≡ first ++ no_code (length first) n →
     length now ≡ length first + n
 idle_count first now n e =
     omega (
       arith,
       ap (λ (l : List Instr). length l) e,
-      length-append first (idle (length first) n),
+      length-append first (no_code (length first) n),
       idle_length (length first) n,
     )
 
-pub idle_step : (first now new : List Instr) (n next : ℕ) → now ≡ first ++ idle (length first) n →
+pub idle_step : (first now new : List Instr) (n next : ℕ) → now ≡ first ++ no_code (length first) n →
     new ≡ now ++ Jmp next ∷ [] →
-    next ≡ length now + 1 → new ≡ first ++ idle (length first) (n + 1)
+    next ≡ length now + 1 → new ≡ first ++ no_code (length first) (n + 1)
 idle_step first now new n next e f g =
     let at : ℕ = length first in
     let is : next ≡ at + n + 1 = omega (arith, idle_count first now n e, g) in
     f ∙ ap (λ (l : List Instr). l ++ Jmp next ∷ []) e ∙
-    ap (λ (k : ℕ). (first ++ idle at n) ++ Jmp k ∷ []) is
-    ∙ append_assoc first (idle at n) (Jmp (at + n + 1) ∷ []) ∙
+    ap (λ (k : ℕ). (first ++ no_code at n) ++ Jmp k ∷ []) is
+    ∙ append_assoc first (no_code at n) (Jmp (at + n + 1) ∷ []) ∙
     ap (λ (l : List Instr). first ++ l) (sym (idle_more at n))
 
 -- ---- the code of masked lines
@@ -112,14 +112,14 @@ under_shallow : (layout : ProgramLayoutData) (at depth : ℕ) (body : List Instr
     is_shallow (under layout at depth body) ≡ true
 under_shallow layout at depth body s =
     let n : ℕ = length body in
-    shallow_both (idle (at + 3) n) (Jmp (at + 4 + 2 * n) ∷ body)
+    shallow_both (no_code (at + 3) n) (Jmp (at + 4 + 2 * n) ∷ body)
     ∙ ap (λ b. b && is_shallow body) (idle_shallow (at + 3) n) ∙ s
 
 pub under_long : (layout : ProgramLayoutData) (at depth : ℕ) (body : List Instr) →
     length body ≤ length (under layout at depth body)
 under_long layout at depth body =
     let n : ℕ = length body in
-    omega (arith, length-append (idle (at + 3) n) (Jmp (at + 4 + 2 * n) ∷ body))
+    omega (arith, length-append (no_code (at + 3) n) (Jmp (at + 4 + 2 * n) ∷ body))
 
 -- a body that is too long
 pub masked_too_long : {A : Type 0} (old new : List Instr) (layout : ProgramLayoutData)
@@ -141,22 +141,22 @@ choice_shallow : (layout : ProgramLayoutData) (at depth : ℕ) (body : List Inst
     is_shallow body ≡ true →
     is_shallow (if b then body else own_load 0 (mask_cells layout depth) ∷
     Jz 0 (at + 3 + length body)
-    ∷ (body ++ Jmp (at + 4 + 2 * length body) ∷ idle (at + 3 + length body) (length body + 1))) ≡
+    ∷ (body ++ Jmp (at + 4 + 2 * length body) ∷ no_code (at + 3 + length body) (length body + 1))) ≡
     true
 choice_shallow layout at depth body true s = s
 choice_shallow layout at depth body false s =
     let n : ℕ = length body in
-    shallow_both body (Jmp (at + 4 + 2 * n) ∷ idle (at + 3 + n) (n + 1))
-    ∙ ap (λ b. b && is_shallow (idle (at + 3 + n) (n + 1))) s ∙ idle_shallow (at + 3 + n) (n + 1)
+    shallow_both body (Jmp (at + 4 + 2 * n) ∷ no_code (at + 3 + n) (n + 1))
+    ∙ ap (λ b. b && is_shallow (no_code (at + 3 + n) (n + 1))) s ∙ idle_shallow (at + 3 + n) (n + 1)
 
 pub choice_long : (layout : ProgramLayoutData) (at depth : ℕ) (body : List Instr) (b : Bool) →
     length body ≤ length (if b then body else own_load 0 (mask_cells layout depth) ∷
     Jz 0 (at + 3 + length body)
-    ∷ (body ++ Jmp (at + 4 + 2 * length body) ∷ idle (at + 3 + length body) (length body + 1)))
+    ∷ (body ++ Jmp (at + 4 + 2 * length body) ∷ no_code (at + 3 + length body) (length body + 1)))
 choice_long layout at depth body true = omega arith
 choice_long layout at depth body false =
     let n : ℕ = length body in
-    omega (arith, length-append body (Jmp (at + 4 + 2 * n) ∷ idle (at + 3 + n) (n + 1)))
+    omega (arith, length-append body (Jmp (at + 4 + 2 * n) ∷ no_code (at + 3 + n) (n + 1)))
 
 pub choosing_too_long : {A : Type 0} (old new : List Instr) (layout : ProgramLayoutData)
     (at depth : ℕ)

@@ -15,14 +15,14 @@ use Rattle.pardo_program.specs.Expression.{Tree, number, own, loop, private, pla
 use Rattle.pardo_program.specs.Operations.{worked_out}
 use Rattle.pardo_program.specs.Program.{ProgramData}
 use Rattle.pardo_flat.specs.Statements.{statement_at}
-use Rattle.pardo_job.specs.Conflicts.{asked}
+use Rattle.pardo_job.specs.Conflicts.{asked_for}
 use Rattle.pardo_job.specs.Laws.{LoopsAreCommon, OutsideIsUnchanged, GoneForGood}
 use Rattle.pardo_job.specs.Meaning.{Source, value, array_cell, is_active, asked_in, write_of}
 use Rattle.pardo_job.specs.Meaning.{losing}
 use Rattle.pardo_job.specs.Meaning.{next}
 use Rattle.pardo_job.specs.Meaning.{after_statement, on_to, loop_ended, has_none}
 use Rattle.pardo_job.specs.Meaning.{by_common, common_value}
-use Rattle.pardo_job.specs.Meaning.{private_assigned, shared_assigned, chosen, otherwise, turned}
+use Rattle.pardo_job.specs.Meaning.{private_assigned, shared_assigned, chosen, otherwise, loop_turned}
 use Rattle.pardo_job.specs.Meaning.{next_turn}
 
 pub loops_are_common : LoopsAreCommon
@@ -119,8 +119,8 @@ chosen_kept program line depth tree source i e = keeps source
 otherwise_kept : (depth : ℕ) (source : Source) (i : ℕ) → Keeps source (otherwise depth source) i
 otherwise_kept depth source i = keeps source (otherwise depth source) i (λ x. refl) refl
 
-turned_kept : (nest v : ℕ) (source : Source) (i : ℕ) → Keeps source (turned nest v source) i
-turned_kept nest v source i = keeps source (turned nest v source) i (λ x. refl) refl
+turned_kept : (nest v : ℕ) (source : Source) (i : ℕ) → Keeps source (loop_turned nest v source) i
+turned_kept nest v source i = keeps source (loop_turned nest v source) i (λ x. refl) refl
 
 loop_kept : (program : ProgramData) (line begin : ℕ) (opener : Statement) (source : Source)
     (i : ℕ) → Keeps source (loop_ended program line begin opener source) i
@@ -128,9 +128,9 @@ loop_kept program line begin (For nest first last up end) source i =
     common_kept program line source (common_value program source last) _ i (λ b.
     keeps_if (source.loops nest == b) source
     (on_to (end + 1) source) (on_to (begin + 1)
-    (turned nest (next_turn up (source.loops nest)) source)) i
+    (loop_turned nest (next_turn up (source.loops nest)) source)) i
     (moved (end + 1) source source i (same source i))
-    (moved (begin + 1) source (turned nest (next_turn up (source.loops nest)) source) i
+    (moved (begin + 1) source (loop_turned nest (next_turn up (source.loops nest)) source) i
     (turned_kept nest (next_turn up (source.loops nest)) source i)))
 loop_kept program line begin (Assign target tree) source i = same source i
 loop_kept program line begin (If tree) source i = same source i
@@ -168,9 +168,9 @@ statement_kept program line depth (For nest first last up end) source i e =
     common_kept program line source (common_value program source first) _ i (λ a.
     common_kept program line source (common_value program source last) _ i (λ b.
     keeps_if (has_none up a b) source (on_to (end + 1) source)
-    (on_to (source.at + 1) (turned nest a source)) i
+    (on_to (source.at + 1) (loop_turned nest a source)) i
     (moved (end + 1) source source i (same source i))
-    (moved (source.at + 1) source (turned nest a source) i (turned_kept nest a source i))))
+    (moved (source.at + 1) source (loop_turned nest a source) i (turned_kept nest a source i))))
 statement_kept program line depth (EndFor begin) source i e =
     loop_kept program line begin (statement_at program begin) source i
 
@@ -198,8 +198,8 @@ next_at program source line e = ap (λ o. elim o [
 
 pub asked_at : (program : ProgramData) (source : Source) (line : Line) (i : ℕ) →
     slice_get program.lines source.at ≡ Some line →
-    asked program source i ≡ asked_in program source line.depth line.statement i
-unfolding asked
+    asked_for program source i ≡ asked_in program source line.depth line.statement i
+unfolding asked_for
 asked_at program source line i e = ap (λ o. elim o [
   | None ↦ None
   | Some found ↦ asked_in program source found.depth found.statement i

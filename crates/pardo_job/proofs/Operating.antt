@@ -18,7 +18,7 @@ use Rattle.pardo_program.specs.declared.operation.Op.TheVariants.{Within}
 use Rattle.pardo_program.specs.Operations.{bit, operation_value}
 use Rattle.pardo_job.specs.Operations.{native, in_order, is_turned, instruction_of}
 use Rattle.pardo_job.specs.Operations.{taken_by, is_shallow}
-use Rattle.pardo_job.specs.Straight.{Registers, put, operand_in, after_one, after_all, Computes}
+use Rattle.pardo_job.specs.Straight.{Registers, put, operand_value, after_one, after_all, Computes}
 use Rattle.pardo_job.proofs.Straight.{put_same, put_other, computes_one}
 use Rattle.pardo_job.proofs.Shallow.{shallow_target, shallow_rest, instruction_target}
 
@@ -46,7 +46,7 @@ mirrored op = op
 
 one_value : (memory : ℕ → ℕ) (i at first : ℕ) (second : Operand) (held : Registers) (op : Op) →
     IsNative op → after_one memory i (instruction_of op at first second) held
-    ≡ Some (put at (operation_value (mirrored op) (held first) (operand_in held second)) held)
+    ≡ Some (put at (operation_value (mirrored op) (held first) (operand_value held second)) held)
 unfolding operation_value
 one_value memory i at first second held Add is = refl
 one_value memory i at first second held Sub is = refl
@@ -92,7 +92,7 @@ spare_apart at register lt less (inr own) e = omega arith
 
 pub operand_kept : (at number : ℕ) (held : Registers) (other : Operand) → at < 3 →
     at + taken_by other < 3 → IsApart at (Number number) other →
-    operand_in (put (at + taken_by other) number held) other ≡ operand_in held other
+    operand_value (put (at + taken_by other) number held) other ≡ operand_value held other
 operand_kept at number held (Number other) lt less apart = refl
 operand_kept at number held (Register register) lt less apart =
     put_other (at + taken_by (Register register)) number register held
@@ -102,7 +102,7 @@ operand_kept at number held (Register register) lt less apart =
 
 ordered_number : (memory : ℕ → ℕ) (i at number b : ℕ) (second : Operand) (held : Registers)
     (op : Op) →
-    IsNative op → IsApart at (Number number) second → operand_in held second ≡ b →
+    IsNative op → IsApart at (Number number) second → operand_value held second ≡ b →
     at < 3 → at + taken_by second < 3 →
     Computes memory i held at (in_order at op (Number number) second)
     (operation_value (mirrored op) number b)
@@ -110,11 +110,11 @@ ordered_number memory i at number b second held op is apart e lt less =
     let spare : ℕ = at + taken_by second in
     let held1 : Registers = put spare number held in
     let same : held1 spare ≡ number = put_same spare number held in
-    let other : operand_in held1 second ≡ b = operand_kept at number held second lt less apart ∙
+    let other : operand_value held1 second ≡ b = operand_kept at number held second lt less apart ∙
     e in
-    let v : ℕ = operation_value (mirrored op) (held1 spare) (operand_in held1 second) in
+    let v : ℕ = operation_value (mirrored op) (held1 spare) (operand_value held1 second) in
     let is_v : v ≡ operation_value (mirrored op) number b =
-    ap (λ x. operation_value (mirrored op) x (operand_in held1 second)) same
+    ap (λ x. operation_value (mirrored op) x (operand_value held1 second)) same
     ∙ ap (operation_value (mirrored op) number) other in
     record {
       now = put at v held1;
@@ -130,7 +130,7 @@ ordered_number memory i at number b second held op is apart e lt less =
     }
 
 ordered : (memory : ℕ → ℕ) (i at a b : ℕ) (first second : Operand) (held : Registers) (op : Op) →
-    IsNative op → IsApart at first second → operand_in held first ≡ a → operand_in held second ≡ b →
+    IsNative op → IsApart at first second → operand_value held first ≡ a → operand_value held second ≡ b →
     is_shallow (in_order at op first second) ≡ true →
     Computes memory i held at (in_order at op first second) (operation_value (mirrored op) a b)
 ordered memory i at a b (Number number) second held op is apart e f shallow =
@@ -149,7 +149,7 @@ ordered memory i at a b (Register register) second held op is apart e f shallow 
     computes_one memory i held at (operation_value (mirrored op) a b)
     (instruction_of op at register second) at_lt
     (one_value memory i at register second held op is
-    ∙ ap (λ x. Some (put at (operation_value (mirrored op) x (operand_in held second)) held)) e
+    ∙ ap (λ x. Some (put at (operation_value (mirrored op) x (operand_value held second)) held)) e
     ∙ ap (λ x. Some (put at (operation_value (mirrored op) a x) held)) f)
 
 -- an operation that may change its operands' places
@@ -203,7 +203,7 @@ straight_value Within first e = refl
 
 pub computes_native : (memory : ℕ → ℕ) (i at a b : ℕ) (first second : Operand) (held : Registers)
     (op : Op) → IsNative op → IsApart at first second → IsApart at second first →
-    operand_in held first ≡ a → operand_in held second ≡ b →
+    operand_value held first ≡ a → operand_value held second ≡ b →
     is_shallow (native at op first second) ≡ true →
     Computes memory i held at (native at op first second) (operation_value op a b)
 unfolding native

@@ -12,7 +12,7 @@ use Rattle.pardo_program.specs.declared.statement.Statement.TheVariants.{EndFor}
 use Rattle.pardo_program.specs.Program.{ProgramData}
 use Rattle.pardo_flat.specs.Layouts.{ProgramLayoutData, program_layout, loop_cells, mask_cells}
 use Rattle.pardo_flat.specs.Statements.{statement_at}
-use Rattle.pardo_job.specs.Lines.{idle, masked, choosing, loop_end, line_code, next_value}
+use Rattle.pardo_job.specs.Lines.{no_code, masked, choosing, loop_end, line_code, next_value}
 use Rattle.pardo_job.specs.Lines.{assignment_code, condition_code, while_code, none_code}
 use Rattle.pardo_job.specs.Lines.{first_code, turn_code, own_store}
 use Rattle.pardo_job.specs.Operations.{is_shallow, target_of, register_or_spare}
@@ -27,7 +27,7 @@ unplaced instr = instr
 abbrev pub shape : List Instr → List Instr
 shape code = map unplaced code
 
-idle_shape : (a b n : ℕ) → shape (idle a n) ≡ shape (idle b n)
+idle_shape : (a b n : ℕ) → shape (no_code a n) ≡ shape (no_code b n)
 idle_shape a b zero = refl
 idle_shape a b (suc n) = ap (λ (l : List Instr). Jmp 0 ∷ l) (idle_shape (a + 1) (b + 1) n)
 
@@ -45,7 +45,7 @@ either false x y u v e f = f
 
 -- what comes of an assignment's code after its mask
 abbrev passing : ℕ → List Instr → List Instr
-passing at body = idle (at + 3) (length body) ++ Jmp (at + 4 + 2 * length body) ∷ body
+passing at body = no_code (at + 3) (length body) ++ Jmp (at + 4 + 2 * length body) ∷ body
 
 abbrev skipping : ℕ → List Instr → List Instr
 skipping at body = Jz 0 (at + 3) ∷ Jmp (at + 4 + length body) ∷ passing at body
@@ -54,7 +54,7 @@ skipping_shape : (a b : ℕ) (body : List Instr) → shape (skipping a body) ≡
 skipping_shape a b body =
     let n : ℕ = length body in
     ap (λ (l : List Instr). Jz 0 0 ∷ Jmp 0 ∷ l)
-    (join (idle (a + 3) n) (idle (b + 3) n) (Jmp (a + 4 + 2 * n) ∷ body)
+    (join (no_code (a + 3) n) (no_code (b + 3) n) (Jmp (a + 4 + 2 * n) ∷ body)
     (Jmp (b + 4 + 2 * n) ∷ body) (idle_shape (a + 3) (b + 3) n) refl)
 
 masked_shape : (layout : ProgramLayoutData) (a b depth : ℕ) (body : List Instr) →
@@ -68,13 +68,13 @@ masked_shape layout a b depth body =
 -- what comes of a condition's code after its mask
 abbrev deciding : ℕ → List Instr → List Instr
 deciding at body = Jz 0 (at + 3 + length body)
-    ∷ (body ++ Jmp (at + 4 + 2 * length body) ∷ idle (at + 3 + length body) (length body + 1))
+    ∷ (body ++ Jmp (at + 4 + 2 * length body) ∷ no_code (at + 3 + length body) (length body + 1))
 
 deciding_shape : (a b : ℕ) (body : List Instr) → shape (deciding a body) ≡ shape (deciding b body)
 deciding_shape a b body =
     let n : ℕ = length body in
-    let x : List Instr = idle (a + 3 + n) (n + 1) in
-    let y : List Instr = idle (b + 3 + n) (n + 1) in
+    let x : List Instr = no_code (a + 3 + n) (n + 1) in
+    let y : List Instr = no_code (b + 3 + n) (n + 1) in
     ap (λ (l : List Instr). Jz 0 0 ∷ l)
     (join body body (Jmp (a + 4 + 2 * n) ∷ x) (Jmp (b + 4 + 2 * n) ∷ y) refl
     (ap (λ (l : List Instr). Jmp 0 ∷ l) (idle_shape (a + 3 + n) (b + 3 + n) (n + 1))))

@@ -6,8 +6,8 @@ use Rattle.pardo_program.specs.Program.{ProgramData}
 use Rattle.pardo_job.specs.Meaning.{Source, asked_in}
 
 -- what processor i asks for in the line that is next: a shared cell and a value
-unfoldable pub asked : ProgramData → Source → ℕ → Option (ℕ × ℕ)
-asked program source i = elim (slice_get program.lines source.at) [
+unfoldable pub asked_for : ProgramData → Source → ℕ → Option (ℕ × ℕ)
+asked_for program source i = elim (slice_get program.lines source.at) [
   | None ↦ None
   | Some line ↦ asked_in program source line.depth line.statement i
 ]
@@ -15,7 +15,7 @@ asked program source i = elim (slice_get program.lines source.at) [
 -- processor i assigns the value to the cell in the line that is next
 abbrev pub Assigns : ProgramData → Source → ℕ → ℕ → ℕ → Type 0
 Assigns program source cell i value =
-    (i < program.procs) × (asked program source i ≡ Some (cell, value))
+    (i < program.procs) × (asked_for program source i ≡ Some (cell, value))
 
 -- processors i and j assign to the cell against the rule
 abbrev pub LineClashes : ProgramData → Source → ℕ → ℕ → ℕ → Type 0

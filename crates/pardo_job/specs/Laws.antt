@@ -14,7 +14,7 @@ use Rattle.pardo_program.specs.Tests.{Known, without_tests}
 use Rattle.pram_step.specs.declared.answer.Dispute.{Dispute}
 use Rattle.pardo_flat.specs.Layouts.{program_layout}
 use Rattle.pardo_job.specs.declared.limits.TheConstants.{MAX_STEPS, MAX_WORK}
-use Rattle.pardo_job.specs.Conflicts.{LineAgrees, IsLineDispute, Assigns, asked}
+use Rattle.pardo_job.specs.Conflicts.{LineAgrees, IsLineDispute, Assigns, asked_for}
 use Rattle.pardo_job.specs.Lawful.{IsLawfulTree}
 use Rattle.pardo_job.specs.Meaning.{Source, is_active, next, value}
 use Rattle.pardo_job.specs.Runs.{AllGone, IsLineReached}
@@ -53,7 +53,7 @@ UnwrittenIsKept = (program : ProgramData) (source : Source) (cell : ℕ) →
 -- A processor that is not active asks for nothing, keeps its variables, and is gone or there as
 -- before, where not all are gone.
 pub record IsUnchanged (program : ProgramData) (source : Source) (i : ℕ) : Type 0 where
-  pub asks : asked program source i ≡ None
+  pub asks : asked_for program source i ≡ None
   pub privates : (x : ℕ) → (next program source).privates x i ≡ source.privates x i
   pub gone : ((next program source).gone i ≡ source.gone i) ⊎ AllGone program (next program source)
 

@@ -10,7 +10,7 @@ use Rattle.pardo_job.specs.Lines.{condition_code}
 use Rattle.pardo_job.specs.Meaning.{Source, value}
 use Rattle.pardo_job.specs.Operations.{is_shallow}
 use Rattle.pardo_job.specs.Sees.{Sees}
-use Rattle.pardo_job.specs.Straight.{Registers, operand_in, after_all, IsKept}
+use Rattle.pardo_job.specs.Straight.{Registers, operand_value, after_all, IsKept}
 use Rattle.pardo_job.specs.Values.{value_code, value_operand}
 
 -- the value is where it is looked for, and the kept registers hold what they held
@@ -19,7 +19,7 @@ pub record LeavesValue (memory : ℕ → ℕ) (i : ℕ) (held : Registers) (layo
     (tree : Tree) (v : ℕ) : Type 0 where
   pub now : Registers
   pub runs : after_all memory i (value_code layout at tree) held ≡ Some now
-  pub gives : operand_in now (value_operand at tree) ≡ v
+  pub gives : operand_value now (value_operand at tree) ≡ v
   pub keeps : (which : ℕ) → IsKept at which → now which ≡ held which
   pub fits : v < 2 ^ 32
 

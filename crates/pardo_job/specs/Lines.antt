@@ -72,23 +72,23 @@ abbrev pub own_store : Array → Instr
 own_store cells = St (own_place cells) (Register 0)
 
 -- steps that do nothing, as many as the count, from this place on
-abbrev pub idle : ℕ → ℕ → List Instr
-idle at zero = []
-idle at (suc count) = Jmp (at + 1) ∷ idle (at + 1) count
+abbrev pub no_code : ℕ → ℕ → List Instr
+no_code at zero = []
+no_code at (suc count) = Jmp (at + 1) ∷ no_code (at + 1) count
 
 -- What an active processor does; the others are idle as long.
 unfoldable pub masked : ProgramLayoutData → ℕ → ℕ → List Instr → List Instr
 masked layout at depth body =
     if depth == 0 then body
     else own_load 0 (mask_cells layout depth) ∷ Jz 0 (at + 3) ∷ Jmp (at + 4 + length body)
-    ∷ (idle (at + 3) (length body) ++ Jmp (at + 4 + 2 * length body) ∷ body)
+    ∷ (no_code (at + 3) (length body) ++ Jmp (at + 4 + 2 * length body) ∷ body)
 
 -- the mask after an `if`: 0 for those that are not active
 unfoldable pub choosing : ProgramLayoutData → ℕ → ℕ → List Instr → List Instr
 choosing layout at depth body =
     (if depth == 0 then body
     else own_load 0 (mask_cells layout depth) ∷ Jz 0 (at + 3 + length body)
-    ∷ (body ++ Jmp (at + 4 + 2 * length body) ∷ idle (at + 3 + length body) (length body + 1)))
+    ∷ (body ++ Jmp (at + 4 + 2 * length body) ∷ no_code (at + 3 + length body) (length body + 1)))
     ++ own_store (mask_cells layout (depth + 1)) ∷ []
 
 -- the mask after an `else`

@@ -162,8 +162,8 @@ otherwise depth source = record source {
 }
 
 -- the variable of a loop takes a value
-abbrev pub turned : ℕ → ℕ → Source → Source
-turned nest value source = record source {
+abbrev pub loop_turned : ℕ → ℕ → Source → Source
+loop_turned nest value source = record source {
   loops = λ n. if n == nest then value else source.loops n;
 }
 
@@ -192,7 +192,7 @@ abbrev pub loop_ended : ProgramData → ℕ → ℕ → Statement → Source →
 loop_ended program text_line begin (For nest first last up end) source =
     by_common program text_line source (common_value program source last) (λ b.
     if source.loops nest == b then on_to (end + 1) source
-    else on_to (begin + 1) (turned nest (next_turn up (source.loops nest)) source))
+    else on_to (begin + 1) (loop_turned nest (next_turn up (source.loops nest)) source))
 loop_ended program text_line begin _ source = source
 
 -- The state after a line, the next one being that after it where nothing else is said.
@@ -214,7 +214,7 @@ after_statement program text_line depth (For nest first last up end) source =
     by_common program text_line source (common_value program source first) (λ a.
     by_common program text_line source (common_value program source last) (λ b.
     if has_none up a b then on_to (end + 1) source
-    else on_to (source.at + 1) (turned nest a source)))
+    else on_to (source.at + 1) (loop_turned nest a source)))
 after_statement program text_line depth (EndFor begin) source =
     loop_ended program text_line begin (statement_at program begin) source
 

@@ -21,32 +21,32 @@ Registers = ℕ → ℕ
 abbrev pub put : ℕ → ℕ → Registers → Registers
 put target value held = λ which. if which == target then value else held which
 
-abbrev pub operand_in : Registers → Operand → ℕ
-operand_in held (Register register) = held register
-operand_in held (Number number) = number
+abbrev pub operand_value : Registers → Operand → ℕ
+operand_value held (Register register) = held register
+operand_value held (Number number) = number
 
 -- The registers of processor i after an instruction that has these operands, and computes this of
 -- two numbers; none if it reads a place of an array that there is not, or divides by 0. Stores and
 -- jumps change none.
-abbrev pub registers_after : (ℕ → ℕ) → ℕ → (ℕ → ℕ → Option ℕ) → Operands → Registers →
+abbrev pub registers_then : (ℕ → ℕ) → ℕ → (ℕ → ℕ → Option ℕ) → Operands → Registers →
     Option Registers
-registers_after memory i computes Bare held = Some held
-registers_after memory i computes (Target target) held = Some (put target i held)
-registers_after memory i computes (TargetNumber target number) held = Some (put target number held)
-registers_after memory i computes (TargetPlace target (Cell index)) held =
-    Some (put target (memory (operand_in held index)) held)
-registers_after memory i computes (TargetPlace target (Named array index)) held =
-    if nat_lt (operand_in held index) array.len
-    then Some (put target (memory (array.base + operand_in held index)) held) else None
-registers_after memory i computes (TargetTwo target a b) held =
-    option_map (λ value. put target value held) (computes (held a) (operand_in held b))
-registers_after memory i computes (PlaceValue place value) held = Some held
-registers_after memory i computes (RegisterIndex register index) held = Some held
-registers_after memory i computes (Index index) held = Some held
+registers_then memory i computes Bare held = Some held
+registers_then memory i computes (Target target) held = Some (put target i held)
+registers_then memory i computes (TargetNumber target number) held = Some (put target number held)
+registers_then memory i computes (TargetPlace target (Cell index)) held =
+    Some (put target (memory (operand_value held index)) held)
+registers_then memory i computes (TargetPlace target (Named array index)) held =
+    if nat_lt (operand_value held index) array.len
+    then Some (put target (memory (array.base + operand_value held index)) held) else None
+registers_then memory i computes (TargetTwo target a b) held =
+    option_map (λ value. put target value held) (computes (held a) (operand_value held b))
+registers_then memory i computes (PlaceValue place value) held = Some held
+registers_then memory i computes (RegisterIndex register index) held = Some held
+registers_then memory i computes (Index index) held = Some held
 
 abbrev pub after_one : (ℕ → ℕ) → ℕ → Instr → Registers → Option Registers
 after_one memory i instr held =
-    registers_after memory i (computed instr) (row_of instr).1 held
+    registers_then memory i (computed instr) (row_of instr).1 held
 
 -- the registers after some instructions
 abbrev pub after_all : (ℕ → ℕ) → ℕ → List Instr → Registers → Option Registers

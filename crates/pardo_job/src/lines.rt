@@ -7,7 +7,7 @@ ghost use Rattle.pardo_program.specs.Lawful.{IsLine, IsProgram, IsStatement, bou
 ghost use Rattle.pardo_flat.specs.Layouts.{program_layout};
 ghost use Rattle.pardo_job.specs.Inner.Emitting.{PutsCode};
 ghost use Rattle.pardo_job.specs.Inner.Pieces.{PutsLine, choice_code, rest_code, under};
-ghost use Rattle.pardo_job.specs.Lines.{choosing, idle, line_code, loop_end, masked, next_value};
+ghost use Rattle.pardo_job.specs.Lines.{choosing, no_code, line_code, loop_end, masked, next_value};
 ghost use Rattle.pardo_job.specs.Lines.{others};
 ghost use Rattle.pardo_job.specs.Operations.{is_shallow};
 
@@ -286,7 +286,8 @@ fn next_turn(up: bool) -> Instr
 // Puts instructions that do nothing, as many as the count says.
 fn put_idle(code: &mut Vec<Instr>, count: u32) -> Result<(), JobKind>
     requires { vec_len code.old + count < 2 ^ 32 }
-    ensures { PutsCode code.old.items code.new.items result (idle (length code.old.items) count) }
+    ensures { PutsCode code.old.items code.new.items result
+        (no_code (length code.old.items) count) }
 {
     for _pad in 0..count {
         let next = code.len() as u32 + 1;

@@ -14,7 +14,7 @@ use Rattle.pardo_job.specs.Lines.{own_store, place_of}
 use Rattle.pardo_job.specs.Lines.{next_value, while_code, none_code, first_code}
 use Rattle.pardo_job.specs.Lines.{turn_code}
 use Rattle.pardo_job.specs.Meaning.{Source, value, common_value, on_to}
-use Rattle.pardo_job.specs.Meaning.{turned, has_none, next_turn}
+use Rattle.pardo_job.specs.Meaning.{loop_turned, has_none, next_turn}
 use Rattle.pardo_job.specs.Meaning.{abandoned, by_common}
 use Rattle.pardo_job.specs.Operations.{is_shallow, register_or_spare}
 use Rattle.pardo_job.specs.Values.{value_code, value_operand}
@@ -210,7 +210,7 @@ module _ (program : ProgramData) (job : JobData) (of : IsOf program job) (source
       (by_common program text_line source (common_value program source first) (λ a.
       by_common program text_line source (common_value program source last) (λ b.
       if has_none up a b then on_to (end + 1) source
-      else on_to (source.at + 1) (turned nest a source))))
+      else on_to (source.at + 1) (loop_turned nest a source))))
       t (cost_by (length (none_code (program_layout program) up first last) + 1)
       (common_value program source first) (λ a.
       cost_by (length (none_code (program_layout program) up first last) + 1)
@@ -236,7 +236,7 @@ module _ (program : ProgramData) (job : JobData) (of : IsOf program job) (source
       by_value : (a b : ℕ) → common_value program source first ≡ Some a →
           common_value program source last ≡ Some b → (none : Bool) → has_none up a b ≡ none →
           Advance program job (λ i. None)
-          (if none then on_to (end + 1) source else on_to (source.at + 1) (turned nest a source))
+          (if none then on_to (end + 1) source else on_to (source.at + 1) (loop_turned nest a source))
           t (if none then length (none_code (program_layout program) up first last) + 1 + 1
           else suc ((length (none_code (program_layout program) up first last) + 1) +
           length (value_code (program_layout program) 0 first))) at hi
@@ -291,7 +291,7 @@ module _ (program : ProgramData) (job : JobData) (of : IsOf program job) (source
       by_last : (a : ℕ) → common_value program source first ≡ Some a → (o : Option ℕ) →
           common_value program source last ≡ o → Advance program job (λ i. None)
           (by_common program text_line source o (λ b. if has_none up a b then on_to (end + 1) source
-          else on_to (source.at + 1) (turned nest a source)))
+          else on_to (source.at + 1) (loop_turned nest a source)))
           t (cost_by (length (none_code (program_layout program) up first last) + 1) o
           (λ b. if has_none up a b
           then length (none_code (program_layout program) up first last) + 1 + 1
@@ -305,7 +305,7 @@ module _ (program : ProgramData) (job : JobData) (of : IsOf program job) (source
           Advance program job (λ i. None) (by_common program text_line source o (λ a.
           by_common program text_line source (common_value program source last) (λ b.
           if has_none up a b then on_to (end + 1) source
-          else on_to (source.at + 1) (turned nest a source))))
+          else on_to (source.at + 1) (loop_turned nest a source))))
           t (cost_by (length (none_code (program_layout program) up first last) + 1) o (λ a.
           cost_by (length (none_code (program_layout program) up first last) + 1)
           (common_value program source last) (λ b. if has_none up a b
@@ -342,7 +342,7 @@ module _ (program : ProgramData) (job : JobData) (of : IsOf program job) (source
       Advance program job (λ i. None)
       (by_common program text_line source (common_value program source last) (λ b.
       if source.loops nest == b then on_to (end + 1) source
-      else on_to (begin + 1) (turned nest (next_turn up (source.loops nest)) source)))
+      else on_to (begin + 1) (loop_turned nest (next_turn up (source.loops nest)) source)))
       t (cost_by (length (turn_code (program_layout program) nest last) + 1)
       (common_value program source last) (λ b. if source.loops nest == b
       then length (turn_code (program_layout program) nest last) + 1
@@ -353,7 +353,7 @@ module _ (program : ProgramData) (job : JobData) (of : IsOf program job) (source
       by_value : (b : ℕ) → common_value program source last ≡ Some b → (ends : Bool) →
           (source.loops nest == b) ≡ ends →
           Advance program job (λ i. None) (if ends then on_to (end + 1) source
-          else on_to (begin + 1) (turned nest (next_turn up (source.loops nest)) source))
+          else on_to (begin + 1) (loop_turned nest (next_turn up (source.loops nest)) source))
           t (if ends then length (turn_code (program_layout program) nest last) + 1
           else suc ((length (turn_code (program_layout program) nest last) + 1) + 1) + 1) at hi
       by_value b has true e = went_on (end + 1)
@@ -429,7 +429,7 @@ module _ (program : ProgramData) (job : JobData) (of : IsOf program job) (source
       by_has : (o : Option ℕ) → common_value program source last ≡ o →
           Advance program job (λ i. None) (by_common program text_line source o (λ b.
           if source.loops nest == b then on_to (end + 1) source
-          else on_to (begin + 1) (turned nest (next_turn up (source.loops nest)) source)))
+          else on_to (begin + 1) (loop_turned nest (next_turn up (source.loops nest)) source)))
           t (cost_by (length (turn_code (program_layout program) nest last) + 1) o
           (λ b. if source.loops nest == b
           then length (turn_code (program_layout program) nest last) + 1

@@ -13,12 +13,12 @@ use Rattle.pram_job.specs.declared.instr.Operand.{Operand}
 use Rattle.pram_job.specs.declared.instr.Operand.TheVariants.{Register}
 use Rattle.pram_job.specs.Job.{JobData}
 use Rattle.pardo_flat.specs.Layouts.{ProgramLayoutData, mask_cells}
-use Rattle.pardo_job.specs.Lines.{idle, own_store}
-use Rattle.pardo_job.specs.Straight.{Registers, put, operand_in, after_one, after_all}
+use Rattle.pardo_job.specs.Lines.{no_code, own_store}
+use Rattle.pardo_job.specs.Straight.{Registers, put, operand_value, after_one, after_all}
 use Rattle.pardo_job.specs.Values.{own_place, own_load}
 use Rattle.pardo_job.proofs.Straight.{put_other}
 use Rattle.pardo_job.proofs.Evaluating.{load_within}
-use Rattle.pardo_law.specs.Locals.{Local, standing_at, after_instr, store_by}
+use Rattle.pardo_law.specs.Locals.{Local, standing_at, after_instr, local_store_by}
 use Rattle.pardo_law.specs.Locals.{AreStraight, HasCodeAt}
 use Rattle.pardo_law.proofs.Lengths.{length-idle}
 use Rattle.pardo_law.proofs.Placing.{runs_to, stands_front, stands_back}
@@ -49,7 +49,7 @@ pub record HasValue (memory : ℕ → ℕ) (i : ℕ) (code : List Instr) (held :
     Type 0 where
   pub now : Registers
   pub runs : after_all memory i code held ≡ Some now
-  pub gives : operand_in now operand ≡ v
+  pub gives : operand_value now operand ≡ v
   pub own : now 3 ≡ i
 
 abbrev pub ValueTo : (ℕ → ℕ) → ℕ → List Instr → Registers → Operand → Option ℕ → Type 0
@@ -67,12 +67,12 @@ own_goes cells operand job memory i at held own lt =
     ∙ ap (λ b. if b then Some (at + 1, held) else None) (lt-ltb i cells.len lt)
 
 own_stored : (cells : Array) (operand : Operand) (i v : ℕ) (held : Registers) →
-    held 3 ≡ i → i < cells.len → operand_in held operand ≡ v →
-    store_by held (St (own_place cells) operand) ≡ Some (cells.base + i, v)
+    held 3 ≡ i → i < cells.len → operand_value held operand ≡ v →
+    local_store_by held (St (own_place cells) operand) ≡ Some (cells.base + i, v)
 own_stored cells operand i v held own lt gives =
-    ap (λ n. if nat_lt n cells.len then Some (cells.base + n, operand_in held operand) else None)
+    ap (λ n. if nat_lt n cells.len then Some (cells.base + n, operand_value held operand) else None)
     own
-    ∙ ap (λ b. if b then Some (cells.base + i, operand_in held operand) else None)
+    ∙ ap (λ b. if b then Some (cells.base + i, operand_value held operand) else None)
     (lt-ltb i cells.len lt)
     ∙ ap (λ w. Some (cells.base + i, w)) gives
 
@@ -85,18 +85,18 @@ with_store job memory i n l P store other e c = subst (λ x. Makes job memory i 
 abbrev pub under : ProgramLayoutData → ℕ → ℕ → List Instr → List Instr
 under layout at depth body = own_load 0 (mask_cells layout depth) ∷ (Jz 0 (at + 3)
     ∷ (Jmp (at + 4 + length body)
-    ∷ (idle (at + 3) (length body) ++ (Jmp (at + 4 + 2 * length body) ∷ body))))
+    ∷ (no_code (at + 3) (length body) ++ (Jmp (at + 4 + 2 * length body) ∷ body))))
 
 -- a condition under a mask, up to its store
 abbrev pub between : ProgramLayoutData → ℕ → ℕ → List Instr → List Instr
 between layout at depth body = own_load 0 (mask_cells layout depth) ∷ (Jz 0 (at + 3 + length body)
-    ∷ (body ++ (Jmp (at + 4 + 2 * length body) ∷ idle (at + 3 + length body) (length body + 1))))
+    ∷ (body ++ (Jmp (at + 4 + 2 * length body) ∷ no_code (at + 3 + length body) (length body + 1))))
 
 module _ (job : JobData) (memory : ℕ → ℕ) (i : ℕ) where
   -- the last instruction of such code
   pub own_last : (at v : ℕ) (cells : Array) (operand : Operand) (held : Registers) →
       slice_get job.code at ≡ Some (St (own_place cells) operand) → held 3 ≡ i → i < cells.len →
-      operand_in held operand ≡ v →
+      operand_value held operand ≡ v →
       Makes job memory i 0 (Some (at, held)) (Some (cells.base + i, v)) (IsThere (at + 1) i)
   own_last at v cells operand held stands own lt gives =
       with_store job memory i 0 (Some (at, held)) (IsThere (at + 1) i) _ _
@@ -162,18 +162,18 @@ module _ (job : JobData) (memory : ℕ → ℕ) (i : ℕ) where
       (lt : i < layout.procs) where
     abbrev rest : List Instr
     rest = Jmp (at + 4 + length body) ∷
-        (idle (at + 3) (length body) ++ (Jmp (at + 4 + 2 * length body) ∷ body))
+        (no_code (at + 3) (length body) ++ (Jmp (at + 4 + 2 * length body) ∷ body))
 
     back_stands : HasCodeAt job (at + 3)
-        (idle (at + 3) (length body) ++ (Jmp (at + 4 + 2 * length body) ∷ body))
+        (no_code (at + 3) (length body) ++ (Jmp (at + 4 + 2 * length body) ∷ body))
     back_stands = let e : at + 1 + 1 + 1 ≡ at + 3 = omega arith in
-        subst (λ k. HasCodeAt job k (idle (at + 3) (length body) ++
+        subst (λ k. HasCodeAt job k (no_code (at + 3) (length body) ++
         (Jmp (at + 4 + 2 * length body) ∷ body))) e stands.1.1.1
 
     last_stands : HasCodeAt job (at + 3 + length body) (Jmp (at + 4 + 2 * length body) ∷ body)
     last_stands = subst (λ k. HasCodeAt job (at + 3 + k) (Jmp (at + 4 + 2 * length body) ∷ body))
         (length-idle (at + 3) (length body))
-        (stands_back job (at + 3) (idle (at + 3) (length body))
+        (stands_back job (at + 3) (no_code (at + 3) (length body))
         (Jmp (at + 4 + 2 * length body) ∷ body) back_stands)
 
     pub body_stands : HasCodeAt job (at + 4 + length body) body
@@ -192,7 +192,7 @@ module _ (job : JobData) (memory : ℕ → ℕ) (i : ℕ) where
         (makes_then job memory i (length body) 0 (Some (at + 3, put 0 0 held))
         (Some (at + 3 + length body, put 0 0 held)) None (IsThere end i)
         (runs_idle job memory i (put 0 0 held) (length body) (at + 3)
-        (stands_front job (at + 3) (idle (at + 3) (length body)) (Jmp end ∷ body) back_stands))
+        (stands_front job (at + 3) (no_code (at + 3) (length body)) (Jmp end ∷ body) back_stands))
         (makes_last job memory i (at + 3 + length body) (put 0 0 held) (Jmp end) (IsThere end i)
         last_stands.0 tt
         (there_at end i (put 0 0 held) (put_own 0 held own)))))
@@ -214,7 +214,7 @@ module _ (job : JobData) (memory : ℕ → ℕ) (i : ℕ) where
       length (between layout at depth body) ≡ 4 + 2 * length body
   length-between layout at depth body =
       let e = length-append body (Jmp (at + 4 + 2 * length body) ∷
-      idle (at + 3 + length body) (length body + 1)) in
+      no_code (at + 3 + length body) (length body + 1)) in
       let f = length-idle (at + 3 + length body) (length body + 1) in omega arith
 
   module _ (layout : ProgramLayoutData) (at depth : ℕ) (body : List Instr) (held : Registers)
@@ -237,15 +237,15 @@ module _ (job : JobData) (memory : ℕ → ℕ) (i : ℕ) where
         subst (λ n. slice_get job.code n ≡ Some (own_store cells)) e
         (stands_back job at (between layout at depth body) (own_store cells ∷ []) whole).0
 
-    inner : HasCodeAt job (at + 1 + 1) (body ++ (Jmp end ∷ idle skip (length body + 1)))
+    inner : HasCodeAt job (at + 1 + 1) (body ++ (Jmp end ∷ no_code skip (length body + 1)))
     inner = stands.1.1
 
-    jump_stands : HasCodeAt job (at + 1 + 1 + length body) (Jmp end ∷ idle skip (length body + 1))
-    jump_stands = stands_back job (at + 1 + 1) body (Jmp end ∷ idle skip (length body + 1)) inner
+    jump_stands : HasCodeAt job (at + 1 + 1 + length body) (Jmp end ∷ no_code skip (length body + 1))
+    jump_stands = stands_back job (at + 1 + 1) body (Jmp end ∷ no_code skip (length body + 1)) inner
 
-    idle_stands : HasCodeAt job skip (idle skip (length body + 1))
+    idle_stands : HasCodeAt job skip (no_code skip (length body + 1))
     idle_stands = let e : at + 1 + 1 + length body + 1 ≡ skip = omega arith in
-        subst (λ n. HasCodeAt job n (idle skip (length body + 1))) e jump_stands.1
+        subst (λ n. HasCodeAt job n (no_code skip (length body + 1))) e jump_stands.1
 
     -- a processor outside the mask stores 0
     pub goes_around : memory ((mask_cells layout depth).base + i) ≡ 0 →
@@ -253,7 +253,7 @@ module _ (job : JobData) (memory : ℕ → ℕ) (i : ℕ) where
         (Some (cells.base + i, 0)) (IsThere (end + 1) i)
     goes_around is =
         makes_mask layout depth (length body + 1) at skip 0 held
-        (body ++ (Jmp end ∷ idle skip (length body + 1))) (Some (cells.base + i, 0))
+        (body ++ (Jmp end ∷ no_code skip (length body + 1))) (Some (cells.base + i, 0))
         (IsThere (end + 1) i) stands own lt is
         (subst (λ n. Makes job memory i n (Some (skip, put 0 0 held)) (Some (cells.base + i, 0))
         (IsThere (end + 1) i))
@@ -277,24 +277,24 @@ module _ (job : JobData) (memory : ℕ → ℕ) (i : ℕ) where
         (Arrives (end + 1) i o)
     goes_through None straight is leaves =
         makes_mask layout depth (length body + 1) at skip 1 held
-        (body ++ (Jmp end ∷ idle skip (length body + 1))) None (λ l. l ≡ None) stands own lt is
+        (body ++ (Jmp end ∷ no_code skip (length body + 1))) None (λ l. l ≡ None) stands own lt is
         (makes_then job memory i (length body) 1 (Some (at + 1 + 1, put 0 1 held)) None None
         (λ l. l ≡ None)
         (runs_to job memory i body (at + 1 + 1) (put 0 1 held) None straight
-        (stands_front job (at + 1 + 1) body (Jmp end ∷ idle skip (length body + 1)) inner)
+        (stands_front job (at + 1 + 1) body (Jmp end ∷ no_code skip (length body + 1)) inner)
         (leaves (put 0 1 held) (put_own 1 held own)))
         (makes_out job memory i 1 (λ l. l ≡ None) refl))
     goes_through (Some v) straight is leaves =
         let found : HasValue memory i body (put 0 1 held) (Register 0) v =
         leaves (put 0 1 held) (put_own 1 held own) in
         makes_mask layout depth (length body + 1) at skip 1 held
-        (body ++ (Jmp end ∷ idle skip (length body + 1))) (Some (cells.base + i, v))
+        (body ++ (Jmp end ∷ no_code skip (length body + 1))) (Some (cells.base + i, v))
         (IsThere (end + 1) i) stands own lt is
         (makes_then job memory i (length body) 1 (Some (at + 1 + 1, put 0 1 held))
         (Some (at + 1 + 1 + length body, found.now))
         (Some (cells.base + i, v)) (IsThere (end + 1) i)
         (runs_to job memory i body (at + 1 + 1) (put 0 1 held) (Some found.now) straight
-        (stands_front job (at + 1 + 1) body (Jmp end ∷ idle skip (length body + 1)) inner)
+        (stands_front job (at + 1 + 1) body (Jmp end ∷ no_code skip (length body + 1)) inner)
         found.runs)
         (makes_one job memory i 0 (at + 1 + 1 + length body) found.now (Jmp end)
         (Some (cells.base + i, v)) (IsThere (end + 1) i)

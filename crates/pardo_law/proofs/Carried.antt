@@ -22,7 +22,7 @@ use Rattle.pardo_program.specs.Program.{ProgramData}
 use Rattle.pardo_flat.specs.Layouts.{ProgramLayoutData, program_layout}
 use Rattle.pardo_flat.specs.Layouts.{mask_cells}
 use Rattle.pardo_flat.specs.Statements.{statement_at}
-use Rattle.pardo_job.specs.Lines.{idle, masked, choosing, others, own_store, place_of}
+use Rattle.pardo_job.specs.Lines.{no_code, masked, choosing, others, own_store, place_of}
 use Rattle.pardo_job.specs.Lines.{length_of_line}
 use Rattle.pardo_job.specs.Lines.{condition_code, while_code, none_code}
 use Rattle.pardo_job.specs.Lines.{turn_code}
@@ -181,26 +181,26 @@ masked_body : (layout : ProgramLayoutData) (at depth : ℕ) (body : List Instr) 
 masked_body layout at depth body true shallow = shallow
 masked_body layout at depth body false shallow =
     shallow_rest (Jmp (at + 4 + 2 * length body)) body
-    (shallow_back (idle (at + 3) (length body)) (Jmp (at + 4 + 2 * length body) ∷ body)
+    (shallow_back (no_code (at + 3) (length body)) (Jmp (at + 4 + 2 * length body) ∷ body)
     (shallow_rest (Jmp (at + 4 + length body))
-    (idle (at + 3) (length body) ++ (Jmp (at + 4 + 2 * length body) ∷ body))
+    (no_code (at + 3) (length body) ++ (Jmp (at + 4 + 2 * length body) ∷ body))
     (shallow_rest (Jz 0 (at + 3)) (Jmp (at + 4 + length body) ∷
-    (idle (at + 3) (length body) ++ (Jmp (at + 4 + 2 * length body) ∷ body)))
+    (no_code (at + 3) (length body) ++ (Jmp (at + 4 + 2 * length body) ∷ body)))
     (shallow_rest (own_load 0 (mask_cells layout depth))
     (Jz 0 (at + 3) ∷ (Jmp (at + 4 + length body) ∷
-    (idle (at + 3) (length body) ++ (Jmp (at + 4 + 2 * length body) ∷ body)))) shallow))))
+    (no_code (at + 3) (length body) ++ (Jmp (at + 4 + 2 * length body) ∷ body)))) shallow))))
 
 choosing_body : (layout : ProgramLayoutData) (at depth : ℕ) (body : List Instr) (t : Bool) →
     is_shallow (if t then body else between layout at depth body) ≡ true → is_shallow body ≡ true
 choosing_body layout at depth body true shallow = shallow
 choosing_body layout at depth body false shallow =
     shallow_front body (Jmp (at + 4 + 2 * length body) ∷
-    idle (at + 3 + length body) (length body + 1))
+    no_code (at + 3 + length body) (length body + 1))
     (shallow_rest (Jz 0 (at + 3 + length body))
-    (body ++ (Jmp (at + 4 + 2 * length body) ∷ idle (at + 3 + length body) (length body + 1)))
+    (body ++ (Jmp (at + 4 + 2 * length body) ∷ no_code (at + 3 + length body) (length body + 1)))
     (shallow_rest (own_load 0 (mask_cells layout depth))
     (Jz 0 (at + 3 + length body) ∷ (body ++
-    (Jmp (at + 4 + 2 * length body) ∷ idle (at + 3 + length body) (length body + 1)))) shallow))
+    (Jmp (at + 4 + 2 * length body) ∷ no_code (at + 3 + length body) (length body + 1)))) shallow))
 
 pub shallow_masked : (layout : ProgramLayoutData) (at depth : ℕ) (body : List Instr) →
     is_shallow (masked layout at depth body) ≡ true →

@@ -22,7 +22,7 @@ use Rattle.pardo_program.specs.Operations.{bit}
 use Rattle.pardo_program.specs.Program.{ProgramData}
 use Rattle.pardo_flat.specs.Layouts.{mask_cells, program_layout}
 use Rattle.pardo_job.specs.Lines.{assignment_code, choosing, condition_code, line_code, masked}
-use Rattle.pardo_job.specs.Lines.{idle, own_store, place_of}
+use Rattle.pardo_job.specs.Lines.{no_code, own_store, place_of}
 use Rattle.pardo_job.specs.Meaning.{Source, is_active}
 use Rattle.pardo_job.specs.Straight.{put}
 use Rattle.pardo_job.specs.Times.{is_counted, taking_part}
@@ -287,7 +287,7 @@ module _ (program : ProgramData) (job : JobData) (of : IsOf program job) (source
           else under (program_layout program) lo line.depth body)) inner stands in record {
             target = lo + 3;
             rest = Jmp (lo + 4 + length body)
-                ∷ (idle (lo + 3) (length body) ++ Jmp (lo + 4 + 2 * length body) ∷ body);
+                ∷ (no_code (lo + 3) (length body) ++ Jmp (lo + 4 + 2 * length body) ∷ body);
             stands = here;
             far = omega arith;
           }
@@ -302,7 +302,7 @@ module _ (program : ProgramData) (job : JobData) (of : IsOf program job) (source
           record {
             target = lo + 3 + length body;
             rest = body ++ (Jmp (lo + 4 + 2 * length body)
-                ∷ idle (lo + 3 + length body) (length body + 1));
+                ∷ no_code (lo + 3 + length body) (length body + 1));
             stands = stands_front job lo (between (program_layout program) lo line.depth body)
                 (own_store (mask_cells (program_layout program) (line.depth + 1)) ∷ []) here;
             far = omega arith;

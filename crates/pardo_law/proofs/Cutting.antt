@@ -19,7 +19,7 @@ use Rattle.pram_step.specs.Runs.{state_after}
 use Rattle.pram_step.proofs.LawFixed.{length-state_after}
 use Rattle.pardo_job.specs.Straight.{Registers}
 use Rattle.pardo_law.specs.Locals.{Local, after_instr, after_fetched, next_local, store_by_instr}
-use Rattle.pardo_law.specs.Locals.{store_of, IsNamedAt}
+use Rattle.pardo_law.specs.Locals.{local_store, IsNamedAt}
 use Rattle.pardo_law.specs.Locals.{HasCodeAt, StandsAfter, StoresAgree, IsLocal, memory_of}
 use Rattle.pardo_law.proofs.Making.{Makes, Goes, IsMade, Went, all_make, all_go, moved, runs_moved}
 use Rattle.pardo_law.proofs.Running.{IsQuiet, Runs, quiet_run}
@@ -139,7 +139,7 @@ module _ (lo hi : ℕ) (job : JobData) where
       ap (after_fetched (site lo hi job) memory i local.0 local.1) (get_same local.0 is)
       ∙ fetched_same memory i local.0 local.1 (slice_get job.code local.0)
 
-  store_same : (l : Local) → Within l → store_of (site lo hi job) l ≡ store_of job l
+  store_same : (l : Local) → Within l → local_store (site lo hi job) l ≡ local_store job l
   store_same None is = refl
   store_same (Some local) is = ap (store_by_instr local.1) (get_same local.0 is)
 
@@ -301,7 +301,7 @@ module _ (job : JobData) (is_job : IsJob job) (lo hi t n : ℕ) (memory : ℕ �
   stored : (mids : ℕ → Local) → AllRun mids → (k i cell value : ℕ) → k < suc n → i < job.procs →
       cell < job.cells → IsNamedAt job (moved job memory i k (locals i)) →
       (request_in job (state_after job (t + k)) i).put ≡ Some (cell, value) →
-      store_of job (moved job memory i k (locals i)) ≡ Some (cell, value)
+      local_store job (moved job memory i k (locals i)) ≡ Some (cell, value)
   stored mids runs k i cell value lt less low named put =
       (each_by_itself job (state_after job (t + k)) i (moved job memory i k (locals i)) is_job
       (length-state_after job (t + k) is_job) less
@@ -348,7 +348,7 @@ module _ (job : JobData) (is_job : IsJob job) (lo hi t n : ℕ) (memory : ℕ �
         let made = (kept_in i lt).makes in
         let same : moved job memory i n (locals i) ≡ made.mid =
         runs_moved job memory i n (locals i) made.mid made.runs in
-        sym made.stores ∙ ap (store_of job) (sym same)
+        sym made.stores ∙ ap (local_store job) (sym same)
         ∙ stored (λ j. moved job memory j n (locals j)) kept_runs n i cell value (omega arith) lt
         low (subst (IsNamedAt job) (sym same) made.named) put
 

@@ -21,7 +21,7 @@ use Rattle.pardo_program.specs.Lawful.{IsStatement, bounds_of}
 use Rattle.pardo_program.specs.Program.{ProgramData}
 use Rattle.pardo_flat.specs.Layouts.{program_layout}
 use Rattle.pardo_job.specs.Compiled.{AreLineNumbers}
-use Rattle.pardo_job.specs.Conflicts.{LineAgrees, LineClashes, Assigns, IsLineDispute, asked}
+use Rattle.pardo_job.specs.Conflicts.{LineAgrees, LineClashes, Assigns, IsLineDispute, asked_for}
 use Rattle.pardo_job.specs.Lines.{line_code, place_of}
 use Rattle.pardo_job.specs.Meaning.{Source, asked_in, losing, write_of}
 use Rattle.pardo_job.specs.Operations.{is_shallow}
@@ -29,7 +29,7 @@ use Rattle.pardo_job.specs.Runs.{line_number}
 use Rattle.pardo_job.proofs.Assigning.{both_code}
 use Rattle.pardo_job.proofs.Meanings.{asked_at}
 use Rattle.pardo_job.proofs.Placed.{number_in}
-use Rattle.pardo_law.specs.Locals.{Local, IsLocal, IsNamedAt, StandsAfter, store_of, HasCodeAt}
+use Rattle.pardo_law.specs.Locals.{Local, IsLocal, IsNamedAt, StandsAfter, local_store, HasCodeAt}
 use Rattle.pardo_law.specs.Locals.{next_local}
 use Rattle.pardo_law.proofs.Carried.{Carried, cost, place_low}
 use Rattle.pardo_law.proofs.Advancing.{asked_shared}
@@ -148,11 +148,11 @@ module _ (program : ProgramData) (job : JobData) (of : IsOf program job) (source
   named = mids_named job of.job_is t steps carried.memory carried.locals carried.standing stores
       Comes made
 
-  store_is : (i : ℕ) → i < job.procs → store_of job (mid i) ≡ stores i
+  store_is : (i : ℕ) → i < job.procs → local_store job (mid i) ≡ stores i
   store_is = mids_store job of.job_is t steps carried.memory carried.locals carried.standing stores
       Comes made
 
-  asks : (i : ℕ) → asked program source i ≡ stores i
+  asks : (i : ℕ) → asked_for program source i ≡ stores i
   asks i = asked_at program source line i is ∙
       ap (λ s. asked_in program source line.depth s i) statement_is
 
@@ -270,7 +270,7 @@ module _ (program : ProgramData) (job : JobData) (of : IsOf program job) (source
       (made i lt).goes)
 
   -- where a writer stands
-  stands_by : (i v cell : ℕ) (l : Local) → store_of job l ≡ Some (cell, v) → Within lo hi job l →
+  stands_by : (i v cell : ℕ) (l : Local) → local_store job l ≡ Some (cell, v) → Within lo hi job l →
       IsLocal job (state_after job (t + steps)) i l →
       is_inside lo hi (counter job (state_after job (t + steps)) i) ≡ true
   stands_by i v cell None e inside local = absurd (none-some (cell, v) e)

@@ -14,7 +14,7 @@ use Rattle.pardo_program.specs.Program.{ProgramData}
 use Rattle.pardo_flat.specs.Layouts.{program_layout, private_cells, loop_cells, mask_cells}
 use Rattle.pardo_job.specs.Lines.{place_of}
 use Rattle.pardo_job.specs.Meaning.{Source, value, is_active, losing, on_to, private_assigned}
-use Rattle.pardo_job.specs.Meaning.{turned}
+use Rattle.pardo_job.specs.Meaning.{loop_turned}
 use Rattle.pardo_law.specs.Locals.{Local, after_stores}
 use Rattle.pardo_law.proofs.Making.{IsMade}
 use Rattle.pardo_law.proofs.Masks.{still}
@@ -200,7 +200,7 @@ module _ (program : ProgramData) (job : JobData) (of : IsOf program job) (source
       (λ i. if is_none (source.gone i) then Some v else None))
       (λ i. IsHere (source.gone i) place i)) where
     abbrev turned_on : Source
-    turned_on = on_to at (turned nest v source)
+    turned_on = on_to at (loop_turned nest v source)
 
     abbrev loop_row : ℕ
     loop_row = (program_layout program).privates + nest

@@ -17,7 +17,7 @@ use Rattle.pardo_flat.specs.Layouts.{private_cells, program_layout}
 use Rattle.pardo_flat.specs.Flat.{flat, most_pieces, nameless, pieces_of}
 use Rattle.pardo_flat.proofs.FlatLines.{none_stands}
 use Rattle.pardo_job.specs.Compiled.{AreLineNumbers, IsWhole}
-use Rattle.pardo_job.specs.Conflicts.{Assigns, asked}
+use Rattle.pardo_job.specs.Conflicts.{Assigns, asked_for}
 use Rattle.pardo_job.specs.Lines.{place_of}
 use Rattle.pardo_job.specs.Meaning.{Source, after, asked_in}
 use Rattle.pardo_job.specs.Runs.{AllGone, IsLineReached, IsProgramOver, line_number}
@@ -47,8 +47,8 @@ unfolding after
 start_there program i = refl
 
 nothing_asked : (program : ProgramData) (source : Source) (i : ℕ) →
-    slice_get program.lines source.at ≡ None → asked program source i ≡ None
-unfolding asked
+    slice_get program.lines source.at ≡ None → asked_for program source i ≡ None
+unfolding asked_for
 nothing_asked program source i none =
     ap (λ (o : Option Line). elim o as (λ (x : Option Line). Option (ℕ × ℕ)) [
       | None ↦ None
@@ -371,7 +371,7 @@ module _ (program : ProgramData) (lawful : IsProgram program) (job : JobData) (l
   writes_in t n cell i value at (Some line) e writes =
       let keep = keeps_line program lawful n line e in
       let few = some_few t n at line e in
-      let here = ap (λ j. asked other (after other j) i) (sym at.is_at) ∙ writes.1 in
+      let here = ap (λ j. asked_for other (after other j) i) (sym at.is_at) ∙ writes.1 in
       ⊎_elim
       (λ (hidden : at.k < length (pieces_of program line)).
       absurd (none-some (cell, value) (sym (keep.hidden at.k i hidden) ∙ here)))
@@ -379,7 +379,7 @@ module _ (program : ProgramData) (lawful : IsProgram program) (job : JobData) (l
       let all : length (pieces_of program line) ≡ at.k = omega (arith, few, high) in (
         writes.0,
         sym (keep.asks i)
-            ∙ ap (λ k. asked other (after other (count n + k)) i) all ∙ here,
+            ∙ ap (λ k. asked_for other (after other (count n + k)) i) all ∙ here,
       ))
       (cases_lt at.k (length (pieces_of program line)))
 

@@ -22,16 +22,16 @@ use Rattle.pardo_program.specs.Nested.{IsNested}
 use Rattle.pardo_program.specs.Program.{ProgramData, shared_cells}
 use Rattle.pardo_flat.specs.Layouts.{cell_count, program_layout}
 use Rattle.pardo_flat.specs.Statements.{statement_at}
-use Rattle.pardo_flat.specs.Flat.{first_flat_of, flat, is_common, last_line, pieces_of}
+use Rattle.pardo_flat.specs.Flat.{first_flat_of, flat, is_for_all, last_line, pieces_of}
 use Rattle.pardo_flat.proofs.FlatLines.{flat_at, flat_end, last_stands}
 use Rattle.pardo_job.specs.Carries.{EndsAs}
 use Rattle.pardo_job.specs.Compiled.{AreLineNumbers, IsCompiled, IsWhole}
-use Rattle.pardo_job.specs.Conflicts.{LineAgrees, IsLineDispute, asked}
+use Rattle.pardo_job.specs.Conflicts.{LineAgrees, IsLineDispute, asked_for}
 use Rattle.pardo_job.specs.Leaving.{GoneIn}
 use Rattle.pardo_job.specs.Lines.{job_of}
 use Rattle.pardo_job.specs.Meaning.{Source, after, after_statement, common_value, has_none}
 use Rattle.pardo_job.specs.Meaning.{by_common, loop_ended, next, next_turn, on_to}
-use Rattle.pardo_job.specs.Meaning.{turned}
+use Rattle.pardo_job.specs.Meaning.{loop_turned}
 use Rattle.pardo_job.specs.Runs.{AllGone, IsLineReached, IsProgramConflict, IsProgramEnd}
 use Rattle.pardo_job.specs.Runs.{IsProgramOver, line_number}
 use Rattle.pardo_job.proofs.Meanings.{next_at, outside_is_unchanged}
@@ -76,7 +76,7 @@ loop_within : (program : ProgramData) (text_line begin : ℕ) (opener : Statemen
 loop_within program text_line begin (For nest first last up end) source low is lt =
     common_at program text_line source (common_value program source last) _ (λ b.
     if_at (source.loops nest == b) (on_to (end + 1) source)
-    (on_to (begin + 1) (turned nest (next_turn up (source.loops nest)) source))
+    (on_to (begin + 1) (loop_turned nest (next_turn up (source.loops nest)) source))
     (length program.lines) (let e = is.3 in omega (arith, e)) (omega (arith, low)))
 loop_within program text_line begin (Assign target tree) source low is lt = omega (arith, lt)
 loop_within program text_line begin (If tree) source low is lt = omega (arith, lt)
@@ -113,7 +113,7 @@ statement_within program lawful text_line depth (EndWhile begin) source is lt =
 statement_within program lawful text_line depth (For nest first last up end) source is lt =
     common_at program text_line source (common_value program source first) _ (λ a.
     common_at program text_line source (common_value program source last) _ (λ b.
-    if_at (has_none up a b) (on_to (end + 1) source) (on_to (source.at + 1) (turned nest a source))
+    if_at (has_none up a b) (on_to (end + 1) source) (on_to (source.at + 1) (loop_turned nest a source))
     (length program.lines) (let e = is.3 in omega (arith, e)) (omega (arith, lt))))
 statement_within program lawful text_line depth (EndFor begin) source is lt =
     loop_within program text_line begin (statement_at program begin) source is
@@ -169,7 +169,7 @@ none_clash rule procs requests none cell i j clash =
     none-some (cell, clash.value) (sym (none i clash.writes.0) ∙ clash.writes.1)
 
 module _ (program : ProgramData) (source flat_source : Source)
-    (same : (i : ℕ) → asked (flat program) flat_source i ≡ asked program source i) where
+    (same : (i : ℕ) → asked_for (flat program) flat_source i ≡ asked_for program source i) where
   pub agrees_to : LineAgrees program source → LineAgrees (flat program) flat_source
   agrees_to agrees =
       subst (AgreeBy program.rule program.procs) (sym (fun_ext same)) agrees
@@ -244,7 +244,7 @@ module _ (program : ProgramData) (lawful : IsProgram program) where
       ⊎ AllGone other (after other (count n + k))
   at_line n k line is le = ⊎_elim
       (λ here. inl (here_line n k line is le here))
-      (λ (left : IsTrue (is_common line.statement) × IsLeft other (after other (count n + k))).
+      (λ (left : IsTrue (is_for_all line.statement) × IsLeft other (after other (count n + k))).
       inr (λ i lt. left.1.all i))
       ((keeps_line n line is).at k le)
 
@@ -298,7 +298,7 @@ module _ (program : ProgramData) (lawful : IsProgram program) where
       (all_later (count n + k) (p - k) all) in
       let now = after other (count n + p) in
       agrees_from program (after program n) now keep.asks
-      (none_clash program.rule program.procs (asked other now)
+      (none_clash program.rule program.procs (asked_for other now)
       (λ i lt. ⊎_elim
       (λ (at : now.at ≡ first_flat_of program (after program n).at + p).
       let gone = is_gone (now.gone i) (late i lt) in
@@ -306,7 +306,7 @@ module _ (program : ProgramData) (lawful : IsProgram program) where
       ap (slice_get other.lines) at ∙ last_stands program (after program n).at line is in
       (outside_is_unchanged other now (last_line program line) i here
       (inactive_gone now line.depth i gone.0 gone.1)).asks)
-      (λ (left : IsTrue (is_common line.statement) × IsLeft other now).
+      (λ (left : IsTrue (is_for_all line.statement) × IsLeft other now).
       none_asked other now i (left_none now left.1))
       (keep.at p (omega arith))))
 
@@ -316,7 +316,7 @@ module _ (program : ProgramData) (lawful : IsProgram program) where
       slice_get program.lines (after program n).at ≡ Some line →
       k < length (pieces_of program line) → LineAgrees other (after other (count n + k))
   hidden_agrees n k line is lt =
-      none_clash program.rule program.procs (asked other (after other (count n + k)))
+      none_clash program.rule program.procs (asked_for other (after other (count n + k)))
       (λ i low. (keeps_line n line is).hidden k i lt)
 
   made_at : (n k : ℕ) (line : Line) → slice_get program.lines (after program n).at ≡ Some line →
@@ -324,7 +324,7 @@ module _ (program : ProgramData) (lawful : IsProgram program) where
       IsMade other (count n + k)
   made_at n k line is le agrees = ⊎_elim
       (λ here. inl (here_line n k line is le here, agrees))
-      (λ (left : IsTrue (is_common line.statement) × IsLeft other (after other (count n + k))).
+      (λ (left : IsTrue (is_for_all line.statement) × IsLeft other (after other (count n + k))).
       inr (left_none (after other (count n + k)) left.1))
       ((keeps_line n line is).at k le)
 
@@ -388,7 +388,7 @@ module _ (program : ProgramData) (lawful : IsProgram program) where
       ⊎ AllGone other (after other (count n + k))
   same_number n k line is le = ⊎_elim
       (λ at. inl (same_number_at n k line is le at))
-      (λ (left : IsTrue (is_common line.statement) × IsLeft other (after other (count n + k))).
+      (λ (left : IsTrue (is_for_all line.statement) × IsLeft other (after other (count n + k))).
       inr (λ i lt. left.1.all i))
       ((keeps_line n line is).at k le)
 
@@ -402,8 +402,8 @@ module _ (program : ProgramData) (lawful : IsProgram program) where
       let now = after other (count n + p) in
       let keep = keeps_line n line here in ⊎_elim
       (λ at. at)
-      (λ (left : IsTrue (is_common line.statement) × IsLeft other now).
-      absurd (none_clash program.rule program.procs (asked program (after program n))
+      (λ (left : IsTrue (is_for_all line.statement) × IsLeft other now).
+      absurd (none_clash program.rule program.procs (asked_for program (after program n))
       (λ i lt. sym (keep.asks i) ∙ none_asked other now i (left_none now left.1))
       dispute.cell dispute.first dispute.second is.disputed.clash))
       (keep.at p (omega arith))

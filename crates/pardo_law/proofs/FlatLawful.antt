@@ -15,7 +15,7 @@ use Rattle.pardo_program.specs.declared.statement.Target.TheVariants.{Private, A
 use Rattle.pardo_program.specs.Expression.{Tree}
 use Rattle.pardo_program.specs.Program.{ProgramData}
 use Rattle.pardo_flat.specs.Statements.{statement_at}
-use Rattle.pardo_flat.specs.Flat.{base_of, fits, flat, giving, is_common, last_line, last_of}
+use Rattle.pardo_flat.specs.Flat.{base_of, fits, flat, giving, is_for_all, last_line, last_of}
 use Rattle.pardo_flat.specs.Flat.{lines_for, moved_statement, pieces_of, split_statement}
 use Rattle.pardo_flat.specs.Flat.{statement_parts}
 use Rattle.pardo_flat.proofs.FlatLines.{get_back, get_front, hidden_for, hidden_is, last_is}
@@ -143,9 +143,9 @@ module _ (program : ProgramData) where
       let base = base_of program line.statement in
       let is = hidden_is end line base (pieces_of program line) k
       (let l = length-hidden end line base (pieces_of program line) in omega (arith, l, low)) in
-      let same : record line { statement = giving (is_common line.statement) end is.0 is.1 }
+      let same : record line { statement = giving (is_for_all line.statement) end is.0 is.1 }
       ≡ found = same_Some _ found (sym is.2 ∙ sym (get_front front rest k low) ∙ here) in
-      absurd (no_end (is_common line.statement) end is.0 is.1 begin
+      absurd (no_end (is_for_all line.statement) end is.0 is.1 begin
       (ap (λ (l : Line). l.statement) same ∙ e)))
       (λ (high : length front ≤ k).
       let j : ℕ = k - length front in

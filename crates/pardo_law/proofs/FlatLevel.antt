@@ -20,7 +20,7 @@ use Rattle.pardo_flat.specs.Flat.{ShapeData, applied_shape, beside, computed_sha
 use Rattle.pardo_flat.specs.Flat.{has_room}
 use Rattle.pardo_flat.specs.Flat.{is_beside}
 use Rattle.pardo_flat.specs.Flat.{operation_need, shape_of, split, split_last, variable}
-use Rattle.pardo_flat.specs.Flat.{taken}
+use Rattle.pardo_flat.specs.Flat.{registers_taken}
 use Rattle.pardo_flat.specs.Layouts.{ProgramLayoutData, array_cells, loop_cells}
 use Rattle.pardo_flat.specs.Layouts.{private_cells}
 use Rattle.pardo_flat.specs.Flat.{gives_truth}
@@ -58,14 +58,14 @@ IsOf shape at (Register register) =
     ⊎ ((register ≡ 3) × (shape.is_computed ≡ false))
 
 taken_as : (shape : ShapeData) (at : ℕ) (x : Operand) → IsOf shape at x →
-    taken_by x ≡ taken shape
+    taken_by x ≡ registers_taken shape
 taken_as shape at (Number k) is = sym (ap (λ b. if b then 1 else 0) is.1)
 taken_as shape at (Register register) (inl here) =
     taken_one register here.1 ∙ sym (ap (λ b. if b then 1 else 0) here.2)
 taken_as shape at (Register register) (inr own_one) =
     taken_none register own_one.0 ∙ sym (ap (λ b. if b then 1 else 0) own_one.1)
 
-pub taken_few : (shape : ShapeData) → taken shape ≤ 1
+pub taken_few : (shape : ShapeData) → registers_taken shape ≤ 1
 taken_few shape = few shape.is_computed
   where
     few : (b : Bool) → (if b then 1 else 0) ≤ 1
@@ -171,7 +171,7 @@ test_level shape at spare (Register register) (inr own_one) less =
 
 -- two registers where one of the operands is not computed_shape
 both_level : (at : ℕ) (a b : ShapeData) (x y : Operand) → IsOf a at x →
-    IsOf b (at + taken a) y → at < 3 →
+    IsOf b (at + registers_taken a) y → at < 3 →
     at + (if a.is_computed && b.is_computed then 1 else 2) ≤ 3 →
     is_shallow (conjunction at x y) ≡ true
 unfolding conjunction
@@ -179,7 +179,7 @@ both_level at a b x y is too lt few =
     let first_spare : ℕ = at + taken_by y in
     let t : ℕ = tested_in first_spare (register_or_spare first_spare x) in
     let u : ℕ = tested_in (at + 1) (register_or_spare (at + 1) y) in
-    let one = taken_as b (at + taken a) y too in
+    let one = taken_as b (at + registers_taken a) y too in
     let less = taken_few b in
     both (zero_test first_spare x) (zero_test (at + 1) y ++ (instr.Or at t (Register u)
     ∷ negation at))
@@ -187,7 +187,7 @@ both_level at a b x y is too lt few =
     subst (λ c. at + (if c && b.is_computed then 1 else 2) ≤ 3) away few in
     omega (arith, low, one, less)))
     (both (zero_test (at + 1) y) (instr.Or at t (Register u) ∷ negation at)
-    (test_level b (at + taken a) (at + 1) y too (λ away. let low : at + 2 ≤ 3 =
+    (test_level b (at + registers_taken a) (at + 1) y too (λ away. let low : at + 2 ≤ 3 =
     second_away a.is_computed (subst (λ c. at + (if a.is_computed && c then 1 else 2) ≤ 3) away
     few) in omega (arith, low)))
     (more (instr.Or at t (Register u)) (negation at) at refl lt
@@ -227,13 +227,13 @@ copy_level at (Register register) lt = maybe (nat_lt register 3)
     maybe false = more (instr.Pid at) [] at refl lt refl
 
 choice_level : (at : ℕ) (op : Op) (a b : ShapeData) (x y : Operand) → IsOf a at x →
-    IsOf b (at + taken a) y →
+    IsOf b (at + registers_taken a) y →
     at + (if a.is_computed && b.is_computed then 3 else 2) ≤ 3 →
     is_shallow (choice at op x y) ≡ true
 unfolding choice
 choice_level at op a b x y is too few =
     let one = taken_as a at x is in
-    let other = taken_as b (at + taken a) y too in
+    let other = taken_as b (at + registers_taken a) y too in
     let lt : at < 3 = least (a.is_computed && b.is_computed) few in
     both (copy_code at (first_chosen x y)) (chosen_of at op (second_chosen x y))
     (copy_level at (first_chosen x y) lt)
@@ -292,7 +292,7 @@ test_low at index less = by_case (index == at)
     by_case false = omega (arith, less)
 
 within_level : (at : ℕ) (a b : ShapeData) (x y : Operand) → IsOf a at x →
-    IsOf b (at + taken a) y → at + (if a.is_computed || a.is_number then 2 else 1) ≤ 3 →
+    IsOf b (at + registers_taken a) y → at + (if a.is_computed || a.is_number then 2 else 1) ≤ 3 →
     is_shallow (within_code at x y) ≡ true
 unfolding within_code
 within_level at a b (Number k) y is too few =
@@ -329,7 +329,7 @@ within_level at a b (Register register) y (inr own_one) too few =
 -- ---- each operation
 
 truths_level : (t : Bool) (at : ℕ) (a b : ShapeData) (x y : Operand) → IsOf a at x →
-    IsOf b (at + taken a) y → at < 3 →
+    IsOf b (at + registers_taken a) y → at < 3 →
     at + (if t || (a.is_computed && b.is_computed) then 1 else 2) ≤ 3 →
     is_shallow (if t then native at BitAnd x y else conjunction at x y) ≡ true
 truths_level true at a b x y is too lt few =
@@ -408,9 +408,9 @@ few_need op a b = by_op op
     by_op Within = most (a.is_computed || a.is_number) 2 1 (omega arith) (omega arith)
 
 module _ (at : ℕ) (a b : ShapeData) (x y : Operand) (is : IsOf a at x)
-    (too : IsOf b (at + taken a) y) where
+    (too : IsOf b (at + registers_taken a) y) where
   abbrev spare_x : at + first_need a b ≤ 3 → (k : ℕ) → x ≡ Number k → at + taken_by y < 3
-  spare_x few k e = spare_first at a b (at + taken a) x y is too few k e
+  spare_x few k e = spare_first at a b (at + registers_taken a) x y is too few k e
 
   first_low : at + first_need a b ≤ 3 → at < 3
   first_low few = low (a.is_number && b.is_computed) few
@@ -429,7 +429,7 @@ module _ (at : ℕ) (a b : ShapeData) (x y : Operand) (is : IsOf a at x)
   -- room for the second operand, if it is a number
   spare_y : at + first_need b a ≤ 3 → (k : ℕ) → y ≡ Number k → at + taken_by x < 3
   spare_y few k e =
-      let number_is : b.is_number ≡ true = (subst (IsOf b (at + taken a)) e too).0 in
+      let number_is : b.is_number ≡ true = (subst (IsOf b (at + registers_taken a)) e too).0 in
       let one = taken_as a at x is in
       let need : first_need b a ≡ (if a.is_computed then 2 else 1) =
       ap (λ t. if t && a.is_computed then 2 else 1) number_is in
@@ -483,7 +483,7 @@ module _ (at : ℕ) (a b : ShapeData) (x y : Operand) (is : IsOf a at x)
 
 -- ---- expressions
 
-pub takes_as : (tree : Tree) → takes tree ≡ taken (shape_of tree)
+pub takes_as : (tree : Tree) → takes tree ≡ registers_taken (shape_of tree)
 unfolding applied_shape
 takes_as (number k) = refl
 takes_as own = refl
@@ -533,7 +533,7 @@ room_is_enough layout (apply op first second) at few =
     let a = shape_of first in
     let b = shape_of second in
     let same = takes_as first in
-    let up : ℕ = at + taken a in
+    let up : ℕ = at + registers_taken a in
     let truths : (is_truth first && is_truth second) ≡ (a.is_truth && b.is_truth) =
     ap (λ t. t && is_truth second) (truth_as first) ∙ ap (λ t. a.is_truth && t) (truth_as second)
     in
@@ -598,7 +598,7 @@ abbrev pub AreSmall : List Tree × Tree → Type 0
 AreSmall parts = All IsSmall parts.0 × IsSmall parts.1
 
 -- an operation whose operands have room
-joins_small : (op : Op) (a b : ShapeData) → a.need ≤ 3 → taken a + b.need ≤ 3 →
+joins_small : (op : Op) (a b : ShapeData) → a.need ≤ 3 → registers_taken a + b.need ≤ 3 →
     (applied_shape op a b).need ≤ 3
 unfolding applied_shape
 joins_small op a b one other = let e = few_need op a b in omega (arith, one, other, e)
@@ -623,15 +623,15 @@ split_are_small common t (apply op first second) =
         (shape_of left.1).is_computed ≡ c →
         (not (shape_of left.1).is_computed
         || has_room 0 (applied_shape op (shape_of left.1) (shape_of second))) ≡ true →
-        taken (shape_of left.1) + (shape_of right.1).need ≤ 3
+        registers_taken (shape_of left.1) + (shape_of right.1).need ≤ 3
     by_taken left right second one other small false e on =
-        let none : taken (shape_of left.1) ≡ 0 = ap (λ b. if b then 1 else 0) e in
+        let none : registers_taken (shape_of left.1) ≡ 0 = ap (λ b. if b then 1 else 0) e in
         omega (arith, other, none)
     by_taken left right second one other small true e on =
         let room = ap (λ c. not c || has_room 0 (applied_shape op (shape_of left.1) (shape_of second)))
         (sym e) ∙ on in
         let few = leb-true (0 + (applied_shape op (shape_of left.1) (shape_of second)).need) 3 room in
-        let beside_it : taken (shape_of left.1) + (shape_of second).need ≤ 3 =
+        let beside_it : registers_taken (shape_of left.1) + (shape_of second).need ≤ 3 =
         omega (arith, few) in
         let same = ap (λ (s : List Tree × Tree). (shape_of s.1).need) (small (omega (arith, beside_it)))
         in omega (arith, beside_it, same)
@@ -696,21 +696,21 @@ compared_level up first last small smaller =
     subst (λ n. is_shallow (native 0 (if up then Gt else Lt) (value_operand 0 first)
     (value_operand n last)) ≡ true)
     (let e = takes_as first in
-    let same : 0 + taken (shape_of first) ≡ takes first = omega (arith, e) in same) (by_way up)
+    let same : 0 + registers_taken (shape_of first) ≡ takes first = omega (arith, e) in same) (by_way up)
   where
     one : IsOf (shape_of first) 0 (value_operand 0 first)
     one = operand_of first 0 (omega (arith, small))
 
-    other : IsOf (shape_of last) (0 + taken (shape_of first))
-        (value_operand (0 + taken (shape_of first)) last)
+    other : IsOf (shape_of last) (0 + registers_taken (shape_of first))
+        (value_operand (0 + registers_taken (shape_of first)) last)
     other = let few = taken_few (shape_of first) in
-        operand_of last (0 + taken (shape_of first)) (omega (arith, few, smaller))
+        operand_of last (0 + registers_taken (shape_of first)) (omega (arith, few, smaller))
 
     by_way : (up : Bool) → is_shallow (native 0 (if up then Gt else Lt) (value_operand 0 first)
-        (value_operand (0 + taken (shape_of first)) last)) ≡ true
+        (value_operand (0 + registers_taken (shape_of first)) last)) ≡ true
     by_way true = greater 0 (shape_of first) (shape_of last) (value_operand 0 first)
-        (value_operand (0 + taken (shape_of first)) last) one other
+        (value_operand (0 + registers_taken (shape_of first)) last) one other
         (let few = first_few (shape_of last) (shape_of first) in omega (arith, few))
     by_way false = fixed 0 (shape_of first) (shape_of last) (value_operand 0 first)
-        (value_operand (0 + taken (shape_of first)) last) one other Lt (λ z. refl)
+        (value_operand (0 + registers_taken (shape_of first)) last) one other Lt (λ z. refl)
         (let few = first_few (shape_of first) (shape_of last) in omega (arith, few))

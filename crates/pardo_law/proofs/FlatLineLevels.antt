@@ -22,15 +22,15 @@ use Rattle.pardo_program.specs.declared.statement.Target.TheVariants.{Private, A
 use Rattle.pardo_program.specs.Program.{ProgramData}
 use Rattle.pardo_program.specs.Expression.{Tree, number}
 use Rattle.pardo_flat.specs.Flat.{ShapeData, base_of, beside, first_flat_of, fits, flat, giving}
-use Rattle.pardo_flat.specs.Flat.{has_room, hidden, is_common, last_line, last_of, last_pieces}
+use Rattle.pardo_flat.specs.Flat.{has_room, hidden, is_for_all, last_line, last_of, last_pieces}
 use Rattle.pardo_flat.specs.Flat.{line_parts, lines_for, moved_statement, pieces_of, shape_of}
 use Rattle.pardo_flat.specs.Flat.{split}
-use Rattle.pardo_flat.specs.Flat.{split_last, split_statement, statement_parts, taken}
+use Rattle.pardo_flat.specs.Flat.{split_last, split_statement, statement_parts, registers_taken}
 use Rattle.pardo_flat.specs.Layouts.{ProgramLayoutData, array_cells, loop_cells, mask_cells}
 use Rattle.pardo_flat.specs.Layouts.{private_cells, program_layout}
 use Rattle.pardo_flat.specs.Statements.{statement_at}
 use Rattle.pardo_flat.proofs.FlatLines.{hidden_for}
-use Rattle.pardo_job.specs.Lines.{assignment_code, choosing, condition_code, first_code, idle}
+use Rattle.pardo_job.specs.Lines.{assignment_code, choosing, condition_code, first_code, no_code}
 use Rattle.pardo_job.specs.Lines.{line_code, loop_end, masked, next_value, none_code, others}
 use Rattle.pardo_job.specs.Lines.{own_store, turn_code, while_code}
 use Rattle.pardo_job.specs.Operations.{is_shallow, native, register_code, register_or_spare}
@@ -56,7 +56,7 @@ private_level layout x tree small =
     (more last [] 0 refl (omega arith) refl)
 
 shared_level : (layout : ProgramLayoutData) (array : ℕ) (index tree : Tree) → IsSmall tree →
-    taken (shape_of tree) + (shape_of index).need ≤ 3 →
+    registers_taken (shape_of tree) + (shape_of index).need ≤ 3 →
     is_shallow (assignment_code layout (Shared array index) tree) ≡ true
 unfolding assignment_code
 shared_level layout array index tree small room =
@@ -88,9 +88,9 @@ condition_level layout tree small =
         (omega arith))
         (turned_level 0 Eq ((λ k. refl), (λ register. refl)) (Register 0) (Number 0) (omega arith))
 
-idle_level : (at count : ℕ) → is_shallow (idle at count) ≡ true
+idle_level : (at count : ℕ) → is_shallow (no_code at count) ≡ true
 idle_level at zero = refl
-idle_level at (suc count) = more (instr.Jmp (at + 1)) (idle (at + 1) count) 0 refl (omega arith)
+idle_level at (suc count) = more (instr.Jmp (at + 1)) (no_code (at + 1) count) 0 refl (omega arith)
     (idle_level (at + 1) count)
 
 masked_level : (layout : ProgramLayoutData) (at depth : ℕ) (body : List Instr) →
@@ -101,16 +101,16 @@ masked_level layout at depth body shallow = by_depth (depth == 0)
     by_depth : (t : Bool) → is_shallow (if t then body
         else own_load 0 (mask_cells layout depth) ∷ instr.Jz 0 (at + 3)
         ∷ instr.Jmp (at + 4 + length body)
-        ∷ (idle (at + 3) (length body) ++ instr.Jmp (at + 4 + 2 * length body) ∷ body)) ≡ true
+        ∷ (no_code (at + 3) (length body) ++ instr.Jmp (at + 4 + 2 * length body) ∷ body)) ≡ true
     by_depth true = shallow
     by_depth false =
         let n : ℕ = length body in
-        let rest : List Instr = idle (at + 3) n ++ instr.Jmp (at + 4 + 2 * n) ∷ body in
+        let rest : List Instr = no_code (at + 3) n ++ instr.Jmp (at + 4 + 2 * n) ∷ body in
         more (own_load 0 (mask_cells layout depth))
         (instr.Jz 0 (at + 3) ∷ instr.Jmp (at + 4 + n) ∷ rest) 0 refl (omega arith)
         (more (instr.Jz 0 (at + 3)) (instr.Jmp (at + 4 + n) ∷ rest) 0 refl (omega arith)
         (more (instr.Jmp (at + 4 + n)) rest 0 refl (omega arith)
-        (both (idle (at + 3) n) (instr.Jmp (at + 4 + 2 * n) ∷ body) (idle_level (at + 3) n)
+        (both (no_code (at + 3) n) (instr.Jmp (at + 4 + 2 * n) ∷ body) (idle_level (at + 3) n)
         (more (instr.Jmp (at + 4 + 2 * n)) body 0 refl (omega arith) shallow))))
 
 choosing_level : (layout : ProgramLayoutData) (at depth : ℕ) (body : List Instr) →
@@ -121,22 +121,22 @@ choosing_level layout at depth body shallow =
     let last : Instr = own_store (mask_cells layout (depth + 1)) in
     both (if depth == 0 then body
     else own_load 0 (mask_cells layout depth) ∷ instr.Jz 0 (at + 3 + n)
-    ∷ (body ++ instr.Jmp (at + 4 + 2 * n) ∷ idle (at + 3 + n) (n + 1))) (last ∷ [])
+    ∷ (body ++ instr.Jmp (at + 4 + 2 * n) ∷ no_code (at + 3 + n) (n + 1))) (last ∷ [])
     (by_depth (depth == 0)) (more last [] 0 refl (omega arith) refl)
   where
     by_depth : (t : Bool) → is_shallow (if t then body
         else own_load 0 (mask_cells layout depth) ∷ instr.Jz 0 (at + 3 + length body)
         ∷ (body ++ instr.Jmp (at + 4 + 2 * length body)
-        ∷ idle (at + 3 + length body) (length body + 1))) ≡ true
+        ∷ no_code (at + 3 + length body) (length body + 1))) ≡ true
     by_depth true = shallow
     by_depth false =
         let n : ℕ = length body in
-        let rest : List Instr = instr.Jmp (at + 4 + 2 * n) ∷ idle (at + 3 + n) (n + 1) in
+        let rest : List Instr = instr.Jmp (at + 4 + 2 * n) ∷ no_code (at + 3 + n) (n + 1) in
         more (own_load 0 (mask_cells layout depth)) (instr.Jz 0 (at + 3 + n) ∷ (body ++ rest)) 0
         refl (omega arith)
         (more (instr.Jz 0 (at + 3 + n)) (body ++ rest) 0 refl (omega arith)
         (both body rest shallow
-        (more (instr.Jmp (at + 4 + 2 * n)) (idle (at + 3 + n) (n + 1)) 0 refl (omega arith)
+        (more (instr.Jmp (at + 4 + 2 * n)) (no_code (at + 3 + n) (n + 1)) 0 refl (omega arith)
         (idle_level (at + 3 + n) (n + 1)))))
 
 -- ---- lines of loops
@@ -257,7 +257,7 @@ module _ (program : ProgramData) where
       (private_level (program_layout other) x tree small)
 
   shared_line : (depth array : ℕ) (index tree : Tree) → IsSmall tree →
-      taken (shape_of tree) + (shape_of index).need ≤ 3 →
+      registers_taken (shape_of tree) + (shape_of index).need ≤ 3 →
       IsLevelAt depth (Assign (Shared array index) tree)
   unfolding line_code
   shared_line depth array index tree small room = masked_level (program_layout other) 0 depth
@@ -316,7 +316,7 @@ module _ (program : ProgramData) where
   abbrev Fitting : Statement → Type 0
   Fitting (Assign (Private x) tree) = IsSmall tree
   Fitting (Assign (Shared array index) tree) =
-      IsSmall tree × (taken (shape_of tree) + (shape_of index).need ≤ 3)
+      IsSmall tree × (registers_taken (shape_of tree) + (shape_of index).need ≤ 3)
   Fitting (If tree) = IsSmall tree
   Fitting (While tree end) = IsSmall tree
   Fitting (For nest first last up end) = IsSmall first × IsSmaller last
@@ -329,9 +329,9 @@ module _ (program : ProgramData) where
   whole_fits (Assign (Private x) tree) e = has_small (shape_of tree) e
   whole_fits (Assign (Shared array index) tree) e =
       let parts = and_both (has_room 0 (shape_of tree))
-      (has_room (taken (shape_of tree)) (shape_of index)) e in (
+      (has_room (registers_taken (shape_of tree)) (shape_of index)) e in (
         has_small (shape_of tree) parts.0,
-        leb-true (taken (shape_of tree) + (shape_of index).need) 3 parts.1,
+        leb-true (registers_taken (shape_of tree) + (shape_of index).need) 3 parts.1,
       )
   whole_fits (If tree) e = has_small (shape_of tree) e
   whole_fits Else e = tt
@@ -346,10 +346,10 @@ module _ (program : ProgramData) where
   split_fits : (statement : Statement) → AreFitting (split_statement program statement)
   split_fits (Assign (Private x) tree) = split_are_small false base tree
   split_fits (Assign (Shared array index) tree) =
-      by_room (has_room (taken (shape_of (split false base tree).1)) (shape_of index)) refl
+      by_room (has_room (registers_taken (shape_of (split false base tree).1)) (shape_of index)) refl
     where
       by_room : (room : Bool) →
-          has_room (taken (shape_of (split false base tree).1)) (shape_of index) ≡ room →
+          has_room (registers_taken (shape_of (split false base tree).1)) (shape_of index) ≡ room →
           AreFitting (let parts = beside false base room (split false base tree)
           (split false (base + length (split false base tree).0) index) in
           (parts.0, Assign (Shared array parts.2) parts.1))
@@ -358,7 +358,7 @@ module _ (program : ProgramData) where
           let u : ℕ = base + length value.0 in
           let one = split_are_small false base tree in
           let other_one = split_are_small false u index in
-          let room = leb-true (taken (shape_of value.1) + (shape_of index).need) 3 on in
+          let room = leb-true (registers_taken (shape_of value.1) + (shape_of index).need) 3 on in
           let whole = split_small false u index (omega (arith, room)) in
           let same = ap (λ (s : List Tree × Tree). (shape_of s.1).need) whole in (
             All-append IsSmall value.0 (split false u index).0 one.0 other_one.0,
@@ -446,9 +446,9 @@ module _ (program : ProgramData) where
       All HasBound (hidden end line t pieces)
   hidden_bounds end line t [] = All-nil HasBound
   hidden_bounds end line t (piece ∷ pieces) = All-cons HasBound
-      (record line { statement = giving (is_common line.statement) end t piece })
+      (record line { statement = giving (is_for_all line.statement) end t piece })
       (hidden end line (t + 1) pieces)
-      (giving_bound (is_common line.statement) end t piece)
+      (giving_bound (is_for_all line.statement) end t piece)
       (hidden_bounds end line (t + 1) pieces)
 
   line_bounds : (line : Line) → All HasBound (lines_for program line)
@@ -498,9 +498,9 @@ module _ (program : ProgramData) where
       All Level (hidden end line t pieces)
   hidden_level end line t [] are = All-nil Level
   hidden_level end line t (piece ∷ pieces) are = All-cons Level
-      (record line { statement = giving (is_common line.statement) end t piece })
+      (record line { statement = giving (is_for_all line.statement) end t piece })
       (hidden end line (t + 1) pieces)
-      (giving_level (is_common line.statement) line.depth end t piece
+      (giving_level (is_for_all line.statement) line.depth end t piece
       (all_at IsSmall (piece ∷ pieces) 0 piece are refl))
       (hidden_level end line (t + 1) pieces (All-tail IsSmall piece pieces are))
 

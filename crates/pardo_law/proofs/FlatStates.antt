@@ -19,17 +19,17 @@ use Rattle.pardo_program.specs.Lawful.{bounds_of}
 use Rattle.pardo_program.specs.Operations.{worked_out}
 use Rattle.pardo_program.specs.Program.{ProgramData}
 use Rattle.pardo_flat.specs.Statements.{statement_at}
-use Rattle.pardo_flat.specs.Flat.{first_flat_of, fits, flat, has_room, is_common}
+use Rattle.pardo_flat.specs.Flat.{first_flat_of, fits, flat, has_room, is_for_all}
 use Rattle.pardo_flat.specs.Flat.{last_line, last_of, last_pieces, line_parts, moved_statement}
 use Rattle.pardo_flat.specs.Flat.{shape_of, split, split_bounds, split_statement, split_store}
-use Rattle.pardo_flat.specs.Flat.{statement_parts, taken}
+use Rattle.pardo_flat.specs.Flat.{statement_parts, registers_taken}
 use Rattle.pardo_flat.proofs.FlatLines.{flat_end, last_next, last_stands, last_is}
 pub use Rattle.pardo_flat.proofs.FlatLines.{some_at}
 use Rattle.pardo_job.specs.Meaning.{Source, value, array_cell, is_active, after_statement, losing}
 use Rattle.pardo_job.specs.Meaning.{asked_in, chosen, common_value, given_to, first_below, has_none}
 use Rattle.pardo_job.specs.Meaning.{abandoned, by_common, is_true, loop_ended, next_turn, on_to}
 use Rattle.pardo_job.specs.Meaning.{otherwise}
-use Rattle.pardo_job.specs.Meaning.{private_assigned, shared_assigned, turned}
+use Rattle.pardo_job.specs.Meaning.{private_assigned, shared_assigned, loop_turned}
 use Rattle.pardo_job.specs.Meaning.{value_written, write_of}
 use Rattle.pardo_job.specs.Carries.{Shares, StandsFor}
 use Rattle.pardo_law.proofs.Carrying.{all_at}
@@ -388,7 +388,7 @@ module _ (program : ProgramData) (source flat_source : Source)
   }
 
   turn : (nest v w a b : ℕ) → w ≡ v → b ≡ first_flat_of program a →
-      StandsFor program (on_to a (turned nest v source)) (on_to b (turned nest w flat_source))
+      StandsFor program (on_to a (loop_turned nest v source)) (on_to b (loop_turned nest w flat_source))
   turn nest v w a b same leads = record {
     shares = record {
       cells = shares.cells;
@@ -489,9 +489,9 @@ module _ (program : ProgramData) (source flat_source : Source)
       common_stands (common_value program source last) (common_value other flat_source high)
       same_too _ _ (λ b.
       either (has_none up a b) (has_none up a b)
-      (on_to (end + 1) source) (on_to (source.at + 1) (turned nest a source))
+      (on_to (end + 1) source) (on_to (source.at + 1) (loop_turned nest a source))
       (on_to (last_of program end + 1) flat_source)
-      (on_to (flat_source.at + 1) (turned nest a flat_source)) refl
+      (on_to (flat_source.at + 1) (loop_turned nest a flat_source)) refl
       (jump (end + 1) (last_of program end + 1) (after_last end lt))
       (turn nest a a (source.at + 1) (flat_source.at + 1) refl leads)))
 
@@ -509,10 +509,10 @@ module _ (program : ProgramData) (source flat_source : Source)
       same_last _ _ (λ b.
       either (source.loops nest == b) (flat_source.loops nest == b)
       (on_to (end + 1) source)
-      (on_to (begin + 1) (turned nest (next_turn up (source.loops nest)) source))
+      (on_to (begin + 1) (loop_turned nest (next_turn up (source.loops nest)) source))
       (on_to (last_of program end + 1) flat_source)
       (on_to (last_of program begin + 1)
-      (turned nest (next_turn up (flat_source.loops nest)) flat_source))
+      (loop_turned nest (next_turn up (flat_source.loops nest)) flat_source))
       (ap (λ n. n == b) same)
       (jump (end + 1) (last_of program end + 1) (after_last end lt))
       (turn nest (next_turn up (source.loops nest)) (next_turn up (flat_source.loops nest))
@@ -633,7 +633,7 @@ module _ (program : ProgramData) (source flat_source : Source)
       × ((i : ℕ) → asked_in other (after_pieces other text_line depth base parts.0 flat_source) depth
       (moved_statement program parts.1) i ≡ asked_in program source depth statement i)
 
-  plain_stands : (statement : Statement) → is_common statement ≡ false →
+  plain_stands : (statement : Statement) → is_for_all statement ≡ false →
       IsStatement (bounds_of program) statement → LineStands statement ([], statement)
   plain_stands (Assign (Private x) tree) plain is leads = (
     private_stands [] x tree tree is.1 (λ i active. inl (active, refl)) leads,
@@ -662,7 +662,7 @@ module _ (program : ProgramData) (source flat_source : Source)
   reads_of : (tree : Tree) → Reads tree → ReadsBelow base tree
   reads_of tree is = expression_reads (bounds_of program) tree is
 
-  split_stands : (statement : Statement) → is_common statement ≡ false →
+  split_stands : (statement : Statement) → is_for_all statement ≡ false →
       IsStatement (bounds_of program) statement →
       LineStands statement (split_statement program statement)
   split_stands (Assign (Private x) tree) plain is leads =
@@ -676,7 +676,7 @@ module _ (program : ProgramData) (source flat_source : Source)
       let value_parts = split false base tree in
       let u = base + length value_parts.0 in
       let index_parts = split false u index in
-      let room = has_room (taken (shape_of value_parts.1)) (shape_of index) in
+      let room = has_room (registers_taken (shape_of value_parts.1)) (shape_of index) in
       let parts = split_store base tree index in
       let reads = reads_of tree is.1 in
       let reads_index = reads_of index is.0.1 in
@@ -705,7 +705,7 @@ module _ (program : ProgramData) (source flat_source : Source)
       absurd (let no : true ≡ false = plain in cc)
   split_stands (EndFor begin) plain is leads = absurd (let no : true ≡ false = plain in cc)
 
-  level_stands : (level : Bool) (statement : Statement) → is_common statement ≡ false →
+  level_stands : (level : Bool) (statement : Statement) → is_for_all statement ≡ false →
       IsStatement (bounds_of program) statement →
       LineStands statement
       (if level then ([], statement) else split_statement program statement)
@@ -713,7 +713,7 @@ module _ (program : ProgramData) (source flat_source : Source)
   level_stands false statement plain is = split_stands statement plain is
 
   -- a line that is not one of a loop
-  pub line_stands : (statement : Statement) → is_common statement ≡ false →
+  pub line_stands : (statement : Statement) → is_for_all statement ≡ false →
       IsStatement (bounds_of program) statement →
       LineStands statement (statement_parts program statement)
   line_stands (Assign target tree) plain is =

@@ -11,7 +11,7 @@ use Rattle.std.proofs.lemmas.Bool.{cases_eq, cases_lt, eq-eqb, ne_eqb}
 use Rattle.pram_job.specs.Job.{JobData}
 use Rattle.pram_step.specs.declared.answer.Dispute.{Dispute}
 use Rattle.pram_step.specs.Runs.{state_after}
-use Rattle.pram_cost.specs.Profiles.{executed_at, most_at, standing_at_index, steps_at}
+use Rattle.pram_cost.specs.Profiles.{executed_at, most_at, standing_at_index, instruction_steps}
 use Rattle.pardo_program.specs.declared.operation.Op.{Op}
 use Rattle.pardo_program.specs.declared.statement.Line.{Line}
 use Rattle.pardo_program.specs.declared.statement.Statement.{Statement}
@@ -24,7 +24,7 @@ use Rattle.pardo_program.specs.Expression.{apply}
 use Rattle.pardo_program.specs.Lawful.{IsProgram}
 use Rattle.pardo_program.specs.Operations.{bit}
 use Rattle.pardo_program.specs.Program.{ProgramData}
-use Rattle.pardo_flat.specs.Flat.{first_flat_of, flat, is_common, pieces_of}
+use Rattle.pardo_flat.specs.Flat.{first_flat_of, flat, is_for_all, pieces_of}
 use Rattle.pardo_flat.proofs.FlatLines.{first_next, flat_at, hidden_is, hidden_stands, last_stands}
 use Rattle.pardo_job.specs.Compiled.{AreLineNumbers, IsWhole}
 use Rattle.pardo_job.specs.Lines.{place_of}
@@ -136,7 +136,7 @@ module _ (program : ProgramData) (lawful : IsProgram program) (job : JobData) (l
           line_there.0 (ap (slice_get other.lines) here ∙ line_there.1)
           (λ same. let only = first_only program (after program n).at j (suc k) found line at is le
           (sym here ∙ same) in let none = only.1 in absurd (omega (arith, none))))
-          (λ (left : IsTrue (is_common found.statement)
+          (λ (left : IsTrue (is_for_all found.statement)
           × IsLeft other (after other (count n + suc k))).
           ap gathered (time_same other (count n + suc k)
           (left_none program lawful (after other (count n + suc k)) left.1)))
@@ -242,13 +242,13 @@ module _ (program : ProgramData) (lawful : IsProgram program) (job : JobData) (l
         (λ m. refl) n reached here)
 
     time_told : (n : ℕ) → AreAllLines program n →
-        steps_at job own_p job.steps ≡ line_time program j n
-    unfolding steps_at line_time
+        instruction_steps job own_p job.steps ≡ line_time program j n
+    unfolding instruction_steps line_time
     time_told = told_by own_p low_p high_p (λ a b. a + b) some_bit add_zero
-        (steps_at job own_p) (λ n. refl) (λ n. some_bit (share program j n)) (line_time program j)
+        (instruction_steps job own_p) (λ n. refl) (λ n. some_bit (share program j n)) (line_time program j)
         refl (λ n. refl)
         (λ n a apart. ap (λ v. a + some_bit v) (share_none program j n apart) ∙ add_zero a)
-        (λ n reached goes_on here. taken (λ a b. a + b) some_bit add_zero (steps_at job own_p)
+        (λ n reached goes_on here. taken (λ a b. a + b) some_bit add_zero (instruction_steps job own_p)
         (λ m. refl) n reached here)
 
     most_told : (n : ℕ) → AreAllLines program n →
@@ -261,20 +261,20 @@ module _ (program : ProgramData) (lawful : IsProgram program) (job : JobData) (l
         (λ m. refl) n reached here)
 
     times_told : (n : ℕ) → AreAllLines program n →
-        steps_at job first_p job.steps ≡ line_times program j n
-    unfolding steps_at line_times
+        instruction_steps job first_p job.steps ≡ line_times program j n
+    unfolding instruction_steps line_times
     times_told = told_by first_p (omega arith) high_first (λ a b. a + b) some_bit add_zero
-        (steps_at job first_p) (λ n. refl) (λ n. bit ((after program n).at == j))
+        (instruction_steps job first_p) (λ n. refl) (λ n. bit ((after program n).at == j))
         (line_times program j) refl (λ n. refl)
         (λ n a apart. ap (λ b. a + bit b) (ne_eqb (after program n).at j apart) ∙ add_zero a)
         (λ n reached goes_on here.
         let c = carried n reached in
         let there = at_first n here in
         in_it other job the place_in its_line its.found its.counts first_p (omega arith)
-        high_first (λ a b. a + b) some_bit add_zero (steps_at job first_p) (λ m. refl) (count n) 0 _
+        high_first (λ a b. a + b) some_bit add_zero (instruction_steps job first_p) (λ m. refl) (count n) 0 _
         c there (first_is_turn other job the place_in its_line its.found its.counts (count n) c
         there) refl
-        ∙ ap (λ v. steps_at job first_p (time n) + v)
+        ∙ ap (λ v. instruction_steps job first_p (time n) + v)
         (begun other job the place_in its_line its.found its.counts (count n) c
         (not_over n goes_on here) there
         ∙ sym (ap bit (eq-eqb (after program n).at j here))))

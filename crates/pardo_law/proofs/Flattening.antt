@@ -20,15 +20,15 @@ use Rattle.pardo_program.specs.Lawful.{Bounds, IsExpression, IsLine, IsProgram, 
 use Rattle.pardo_program.specs.Lawful.{bounds_of}
 use Rattle.pardo_program.specs.Program.{PrivateData, ProgramData}
 use Rattle.pardo_flat.specs.Statements.{statement_at}
-use Rattle.pardo_flat.specs.Flat.{base_of, first_flat_of, fits, flat, giving, hidden, is_common}
+use Rattle.pardo_flat.specs.Flat.{base_of, first_flat_of, fits, flat, giving, hidden, is_for_all}
 use Rattle.pardo_flat.specs.Flat.{last_line, last_of, last_pieces, line_parts, most_pieces}
 use Rattle.pardo_flat.specs.Flat.{moved_statement, nameless, pieces_of, split_statement}
 use Rattle.pardo_flat.specs.Flat.{statement_parts}
 use Rattle.pardo_flat.proofs.FlatLines.{first_next, get_front, hidden_is, hidden_stands}
 use Rattle.pardo_flat.proofs.FlatLines.{last_stands}
-use Rattle.pardo_job.specs.Conflicts.{asked}
+use Rattle.pardo_job.specs.Conflicts.{asked_for}
 use Rattle.pardo_job.specs.Meaning.{Source, abandoned, after, after_statement, asked_in, by_common}
-use Rattle.pardo_job.specs.Meaning.{common_value, next, on_to, turned}
+use Rattle.pardo_job.specs.Meaning.{common_value, next, on_to, loop_turned}
 use Rattle.pardo_job.proofs.Meanings.{asked_at, gone_for_good, next_at}
 use Rattle.pardo_law.specs.Flattening.{FlatteningKeepsRuns, IsLeft, KeepsLine}
 use Rattle.pardo_job.specs.Carries.{Shares, StandsFor}
@@ -67,7 +67,7 @@ step program m line is =
     ap (after program) (let e : m + 1 ≡ suc m = omega arith in e)
     ∙ after_next program m ∙ next_at program (after program m) line is
 
-made : (program : ProgramData) (end : ℕ) (line : Line) → is_common line.statement ≡ false →
+made : (program : ProgramData) (end : ℕ) (line : Line) → is_for_all line.statement ≡ false →
     (t : ℕ) (pieces : List Tree) (m : ℕ) →
     ((k : ℕ) → k < length pieces →
     slice_get program.lines ((after program m).at + k) ≡ slice_get (hidden end line t pieces) k) →
@@ -118,40 +118,40 @@ none_below a = le-ltb a 0 (omega arith)
 let_is : (program : ProgramData) (number depth end t : ℕ) (piece : Tree) (source : Source) →
     after_statement program number depth (giving true end t piece) source
     ≡ by_common program number source (common_value program source piece) (λ v.
-    on_to (source.at + 1) (turned t v source))
+    on_to (source.at + 1) (loop_turned t v source))
 let_is program number depth end t piece source =
     ap (by_common program number source (common_value program source piece))
     (fun_ext (λ a. ap (λ b. if b then on_to (end + 1) source
-    else on_to (source.at + 1) (turned t a source)) (none_below a)))
+    else on_to (source.at + 1) (loop_turned t a source)) (none_below a)))
 
 then_made : (program : ProgramData) (number t m k : ℕ) (piece : Tree) (rest : List Tree)
     (source : Source) → after program (m + 1) ≡ by_common program number source
-    (common_value program source piece) (λ v. on_to (source.at + 1) (turned t v source)) →
-    ((v : ℕ) → after program (m + 1) ≡ on_to (source.at + 1) (turned t v source) →
+    (common_value program source piece) (λ v. on_to (source.at + 1) (loop_turned t v source)) →
+    ((v : ℕ) → after program (m + 1) ≡ on_to (source.at + 1) (loop_turned t v source) →
     after program ((m + 1) + k)
     ≡ after_lets program number (t + 1) rest (after program (m + 1))) →
     (o : Option ℕ) → common_value program source piece ≡ o →
     after program ((m + 1) + k) ≡ by_common program number source o (λ v.
-    after_lets program number (t + 1) rest (on_to (source.at + 1) (turned t v source)))
+    after_lets program number (t + 1) rest (on_to (source.at + 1) (loop_turned t v source)))
 then_made program number t m k piece rest source one more None e =
     let now : after program (m + 1) ≡ abandoned program number source =
     one ∙ ap (λ o. by_common program number source o (λ v.
-    on_to (source.at + 1) (turned t v source))) e in
+    on_to (source.at + 1) (loop_turned t v source))) e in
     stays_over program (m + 1) k
     (ap (λ (s : Source). slice_get program.lines s.at) now ∙ no_more program.lines) ∙ now
 then_made program number t m k piece rest source one more (Some v) e =
-    let now : after program (m + 1) ≡ on_to (source.at + 1) (turned t v source) =
+    let now : after program (m + 1) ≡ on_to (source.at + 1) (loop_turned t v source) =
     one ∙ ap (λ o. by_common program number source o (λ w.
-    on_to (source.at + 1) (turned t w source))) e in
+    on_to (source.at + 1) (loop_turned t w source))) e in
     more v now ∙ ap (after_lets program number (t + 1) rest) now
 
-one_let : (program : ProgramData) (end : ℕ) (line : Line) → is_common line.statement ≡ true →
+one_let : (program : ProgramData) (end : ℕ) (line : Line) → is_for_all line.statement ≡ true →
     (t : ℕ) (piece : Tree) (pieces : List Tree) (m : ℕ) →
     slice_get program.lines ((after program m).at + 0)
     ≡ slice_get (hidden end line t (piece ∷ pieces)) 0 →
     after program (m + 1) ≡ by_common program line.number (after program m)
     (common_value program (after program m) piece) (λ v.
-    on_to ((after program m).at + 1) (turned t v (after program m)))
+    on_to ((after program m).at + 1) (loop_turned t v (after program m)))
 one_let program end line common t piece pieces m stand =
     let place = (after program m).at in
     let here : slice_get program.lines place
@@ -161,7 +161,7 @@ one_let program end line common t piece pieces m stand =
     step program m (record line { statement = giving true end t piece }) here
     ∙ let_is program line.number line.depth end t piece (after program m)
 
-made_lets : (program : ProgramData) (end : ℕ) (line : Line) → is_common line.statement ≡ true →
+made_lets : (program : ProgramData) (end : ℕ) (line : Line) → is_for_all line.statement ≡ true →
     (t : ℕ) (pieces : List Tree) (m : ℕ) →
     ((k : ℕ) → k < length pieces →
     slice_get program.lines ((after program m).at + k) ≡ slice_get (hidden end line t pieces) k) →
@@ -256,7 +256,7 @@ module _ (program : ProgramData) (lawful : IsProgram program) where
   pieces_below false (EndFor begin) is opens = absurd opens
 
   statement_below : (statement : Statement) → IsStatement (bounds_of program) statement →
-      is_common statement ≡ true →
+      is_for_all statement ≡ true →
       PiecesBelow program.loops (statement_parts program statement).0
   statement_below (While tree end) is common =
       pieces_below (fits (While tree end)) (While tree end) is tt
@@ -274,7 +274,7 @@ module _ (program : ProgramData) (lawful : IsProgram program) where
 -- ---- lines of loops ask for nothing
 
 nothing_asked : (program : ProgramData) (source : Source) (depth : ℕ) (statement : Statement)
-    (i : ℕ) → is_common statement ≡ true → asked_in program source depth statement i ≡ None
+    (i : ℕ) → is_for_all statement ≡ true → asked_in program source depth statement i ≡ None
 nothing_asked program source depth (While tree end) i common = refl
 nothing_asked program source depth (For nest first last up end) i common = refl
 nothing_asked program source depth (EndFor begin) i common = refl
@@ -296,8 +296,8 @@ giving_asks program source depth true end x tree i = refl
 giving_asks program source depth false end x tree i = refl
 
 pub none_asked : (program : ProgramData) (source : Source) (i : ℕ) →
-    slice_get program.lines source.at ≡ None → asked program source i ≡ None
-unfolding asked
+    slice_get program.lines source.at ≡ None → asked_for program source i ≡ None
+unfolding asked_for
 none_asked program source i none =
     ap (λ (o : Option Line). elim o as (λ (x : Option Line). Option (ℕ × ℕ)) [
       | None ↦ None
@@ -306,9 +306,9 @@ none_asked program source i none =
 
 -- what is left of a line of a loop is one
 level_common : (program : ProgramData) (statement : Statement) (level : Bool) →
-    is_common (moved_statement program
+    is_for_all (moved_statement program
     (if level then ([], statement) else split_statement program statement).1)
-    ≡ is_common statement
+    ≡ is_for_all statement
 level_common program (Assign (Private x) tree) true = refl
 level_common program (Assign (Shared array index) tree) true = refl
 level_common program (If tree) true = refl
@@ -329,8 +329,8 @@ level_common program (For nest first last up end) false = refl
 level_common program (EndFor begin) false = refl
 
 still_common : (program : ProgramData) (statement : Statement) →
-    is_common (moved_statement program (statement_parts program statement).1)
-    ≡ is_common statement
+    is_for_all (moved_statement program (statement_parts program statement).1)
+    ≡ is_for_all statement
 still_common program (Assign target tree) =
     level_common program (Assign target tree) (fits (Assign target tree))
 still_common program (If tree) = level_common program (If tree) (fits (If tree))
@@ -413,11 +413,11 @@ module _ (program : ProgramData) (lawful : IsProgram program) (n : ℕ)
   -- it stands in the midst of the lines for it, or is left
   abbrev At : ℕ → Type 0
   At k = ((after (flat program) (m + k)).at ≡ first_flat_of program source.at + k)
-      ⊎ (IsTrue (is_common line.statement) × IsLeft (flat program) (after (flat program) (m + k)))
+      ⊎ (IsTrue (is_for_all line.statement) × IsLeft (flat program) (after (flat program) (m + k)))
 
   abbrev Asks : Type 0
-  Asks = (i : ℕ) → asked (flat program) (after (flat program) (m + length pieces)) i
-      ≡ asked program source i
+  Asks = (i : ℕ) → asked_for (flat program) (after (flat program) (m + length pieces)) i
+      ≡ asked_for program source i
 
   record Kind : Type 0 where
     shares : (k : ℕ) → k ≤ length pieces →
@@ -428,7 +428,7 @@ module _ (program : ProgramData) (lawful : IsProgram program) (n : ℕ)
 
   -- ---- a line that is not one of a loop
 
-  module _ (plain : is_common line.statement ≡ false) where
+  module _ (plain : is_for_all line.statement ≡ false) where
     abbrev base : ℕ
     base = length program.privates
 
@@ -496,7 +496,7 @@ module _ (program : ProgramData) (lawful : IsProgram program) (n : ℕ)
 
   -- ---- a line of a loop
 
-  module _ (common : is_common line.statement ≡ true) where
+  module _ (common : is_for_all line.statement ≡ true) where
     loops_is : base_of program line.statement ≡ program.loops
     loops_is = ap (λ b. if b then program.loops else length program.privates) common
 
@@ -583,12 +583,12 @@ module _ (program : ProgramData) (lawful : IsProgram program) (n : ℕ)
         common line_is last_source cut)
 
     -- neither the line nor the last of the lines for it asks for something
-    nothing : (i : ℕ) → asked program source i ≡ None
+    nothing : (i : ℕ) → asked_for program source i ≡ None
     nothing i = asked_at program source line i is
         ∙ nothing_asked program source line.depth line.statement i common
 
     flat_nothing : (i : ℕ) → Let (flat program) line.number program.loops pieces first_flat
-        last_source → asked (flat program) last_source i ≡ None
+        last_source → asked_for (flat program) last_source i ≡ None
     flat_nothing i (inl whole) =
         let at : last_source.at ≡ first_flat_of program source.at + length pieces =
         (let e = whole.at in let start = stands.at in omega (arith, e, start)) in
@@ -610,28 +610,28 @@ module _ (program : ProgramData) (lawful : IsProgram program) (n : ℕ)
     }
 
   kind : Kind
-  kind = ⊎_elim (λ (common : is_common line.statement ≡ true). loop_kind common)
-      (λ (plain : is_common line.statement ≡ false). plain_kind plain)
-      (cases_Bool (is_common line.statement))
+  kind = ⊎_elim (λ (common : is_for_all line.statement ≡ true). loop_kind common)
+      (λ (plain : is_for_all line.statement ≡ false). plain_kind plain)
+      (cases_Bool (is_for_all line.statement))
 
   pub stands_next : StandsFor program (after program (suc n))
       (after (flat program) (flat_count program (suc n)))
   stands_next = kind.next
 
   hidden_none : (k i : ℕ) → k < length pieces → At k →
-      asked (flat program) (after (flat program) (m + k)) i ≡ None
+      asked_for (flat program) (after (flat program) (m + k)) i ≡ None
   hidden_none k i lt (inl at) =
       let base = base_of program line.statement in
       let there = hidden_is (last_of program 0) line base pieces k lt in
       let shown : Line = record line {
-        statement = giving (is_common line.statement) (last_of program 0) there.0 there.1;
+        statement = giving (is_for_all line.statement) (last_of program 0) there.0 there.1;
       } in
       let here : slice_get (flat program).lines (after (flat program) (m + k)).at ≡ Some shown =
       ap (slice_get (flat program).lines) at
       ∙ hidden_stands program source.at line is k lt ∙ there.2 in
       asked_at (flat program) (after (flat program) (m + k)) shown i here
       ∙ giving_asks (flat program) (after (flat program) (m + k)) line.depth
-      (is_common line.statement) (last_of program 0) there.0 there.1 i
+      (is_for_all line.statement) (last_of program 0) there.0 there.1 i
   hidden_none k i lt (inr left) = none_asked (flat program) (after (flat program) (m + k)) i
       (sym (ap (slice_get (flat program).lines) left.1.at) ∙ no_more (flat program).lines)
 

@@ -3,14 +3,14 @@ use Rattle.std.proofs.Common.{◌≡◌, ℕ, zero, suc, ◌+◌, Some}
 use Rattle.std.proofs.Common.{refl, ap, subst, arith}
 use Rattle.pram_job.specs.declared.instr.Instr.TheVariants.{Jmp}
 use Rattle.pram_job.specs.Job.{JobData}
-use Rattle.pardo_job.specs.Lines.{idle}
+use Rattle.pardo_job.specs.Lines.{no_code}
 use Rattle.pardo_law.specs.Locals.{HasCodeAt, IdlingStays}
 use Rattle.pardo_job.specs.Straight.{Registers}
 use Rattle.pardo_law.proofs.Placing.{runs_one}
 use Rattle.pardo_law.proofs.Running.{Runs, quiet_run}
 
 pub runs_idle : (job : JobData) (memory : ℕ → ℕ) (i : ℕ) (held : Registers) (count at : ℕ) →
-    HasCodeAt job at (idle at count) →
+    HasCodeAt job at (no_code at count) →
     Runs job memory i count (Some (at, held)) (Some (at + count, held))
 runs_idle job memory i held zero at stands =
     let e : at ≡ at + 0 = omega arith in ap (λ n. Some (n, held)) e

@@ -22,7 +22,7 @@ use Rattle.pardo_program.specs.declared.statement.Statement.TheVariants.{EndFor}
 use Rattle.pardo_program.specs.declared.statement.Target.TheVariants.{Private, Array as Shared}
 use Rattle.pardo_program.specs.Program.{ProgramData}
 use Rattle.pardo_flat.specs.Layouts.{ProgramLayoutData, program_layout, mask_cells}
-use Rattle.pardo_job.specs.Lines.{idle, masked, choosing, own_store, line_code, assignment_code}
+use Rattle.pardo_job.specs.Lines.{no_code, masked, choosing, own_store, line_code, assignment_code}
 use Rattle.pardo_job.specs.Lines.{condition_code}
 use Rattle.pardo_job.specs.Straight.{Registers}
 use Rattle.pardo_job.specs.Times.{is_counted}
@@ -74,7 +74,7 @@ straight_leading at [] is = tt
 straight_leading at (one ∷ code) is =
     (straight_one at one is.0, straight_leading (at + 1) code is.1)
 
-idle_leading : (at count : ℕ) → AreLeading at (idle at count)
+idle_leading : (at count : ℕ) → AreLeading at (no_code at count)
 idle_leading at zero = tt
 idle_leading at (suc count) = (omega arith, idle_leading (at + 1) count)
 
@@ -185,8 +185,8 @@ module _ (layout : ProgramLayoutData) (at depth : ℕ) (body : List Instr)
           (
             omega arith,
             subst (λ n. AreLeading n
-                (idle (at + 3) (length body) ++ Jmp (at + 4 + 2 * length body) ∷ body)) e
-                (leading_append (at + 3) (idle (at + 3) (length body))
+                (no_code (at + 3) (length body) ++ Jmp (at + 4 + 2 * length body) ∷ body)) e
+                (leading_append (at + 3) (no_code (at + 3) (length body))
                 (Jmp (at + 4 + 2 * length body) ∷ body) (idle_leading (at + 3) (length body))
                 (omega arith, leads _)),
           ),
@@ -200,11 +200,11 @@ module _ (layout : ProgramLayoutData) (at depth : ℕ) (body : List Instr)
         (
           omega arith,
           leading_append (at + 1 + 1) body
-              (Jmp (at + 4 + 2 * length body) ∷ idle (at + 3 + length body) (length body + 1))
+              (Jmp (at + 4 + 2 * length body) ∷ no_code (at + 3 + length body) (length body + 1))
               (leads (at + 1 + 1)) (
                 omega arith,
                 subst (λ n. AreLeading n
-                    (idle (at + 3 + length body) (length body + 1))) e
+                    (no_code (at + 3 + length body) (length body + 1))) e
                     (idle_leading (at + 3 + length body) (length body + 1)),
               ),
         ),

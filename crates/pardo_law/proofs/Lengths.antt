@@ -17,7 +17,7 @@ use Rattle.pardo_program.specs.declared.statement.Statement.TheVariants.{EndFor}
 use Rattle.pardo_program.specs.Program.{ProgramData}
 use Rattle.pardo_flat.specs.Layouts.{ProgramLayoutData, program_layout, mask_cells, loop_cells}
 use Rattle.pardo_flat.specs.Statements.{statement_at}
-use Rattle.pardo_job.specs.Lines.{idle, masked, choosing, line_code, loop_end, length_of_line}
+use Rattle.pardo_job.specs.Lines.{no_code, masked, choosing, line_code, loop_end, length_of_line}
 use Rattle.pardo_job.specs.Lines.{place_of}
 use Rattle.pardo_job.specs.Lines.{code_from, code_of, own_store, turn_code, next_value, while_code}
 use Rattle.pardo_job.specs.Lines.{none_code, first_code}
@@ -28,18 +28,18 @@ use Rattle.pardo_law.proofs.Placing.{stands_whole}
 
 -- ---- the length of a line does not depend on its place
 
-pub length-idle : (at count : ℕ) → length (idle at count) ≡ count
+pub length-idle : (at count : ℕ) → length (no_code at count) ≡ count
 length-idle at zero = refl
 length-idle at (suc count) = ap suc (length-idle (at + 1) count)
 
 length_idle_same : (at other count : ℕ) (back other_back : List Instr) → length back ≡
     length other_back →
-    length (idle at count ++ back) ≡ length (idle other count ++ other_back)
+    length (no_code at count ++ back) ≡ length (no_code other count ++ other_back)
 length_idle_same at other count back other_back e =
-    length-append (idle at count) back
+    length-append (no_code at count) back
     ∙ ap (λ n. n + length back) (length-idle at count ∙ sym (length-idle other count))
-    ∙ ap (λ n. length (idle other count) + n) e
-    ∙ sym (length-append (idle other count) other_back)
+    ∙ ap (λ n. length (no_code other count) + n) e
+    ∙ sym (length-append (no_code other count) other_back)
 
 length_front_same : (front back other_back : List Instr) → length back ≡ length other_back →
     length (front ++ back) ≡ length (front ++ other_back)
@@ -58,10 +58,10 @@ length-masked layout at other depth body = by_depth (depth == 0)
   where
     by_depth : (t : Bool) → length (if t then body
         else own_load 0 (mask_cells layout depth) ∷ Jz 0 (at + 3) ∷ Jmp (at + 4 + length body)
-        ∷ (idle (at + 3) (length body) ++ Jmp (at + 4 + 2 * length body) ∷ body))
+        ∷ (no_code (at + 3) (length body) ++ Jmp (at + 4 + 2 * length body) ∷ body))
         ≡ length (if t then body
         else own_load 0 (mask_cells layout depth) ∷ Jz 0 (other + 3) ∷ Jmp (other + 4 + length body)
-        ∷ (idle (other + 3) (length body) ++ Jmp (other + 4 + 2 * length body) ∷ body))
+        ∷ (no_code (other + 3) (length body) ++ Jmp (other + 4 + 2 * length body) ∷ body))
     by_depth true = refl
     by_depth false = ap (λ n. suc (suc (suc n)))
         (length_idle_same (at + 3) (other + 3) (length body) (Jmp (at + 4 + 2 * length body) ∷ body)
@@ -73,24 +73,24 @@ unfolding choosing
 length-choosing layout at other depth body = length_back_same
     (if depth == 0 then body
     else own_load 0 (mask_cells layout depth) ∷ Jz 0 (at + 3 + length body)
-    ∷ (body ++ Jmp (at + 4 + 2 * length body) ∷ idle (at + 3 + length body) (length body + 1)))
+    ∷ (body ++ Jmp (at + 4 + 2 * length body) ∷ no_code (at + 3 + length body) (length body + 1)))
     (if depth == 0 then body
     else own_load 0 (mask_cells layout depth) ∷ Jz 0 (other + 3 + length body)
     ∷ (body ++ Jmp (other + 4 + 2 * length body) ∷
-    idle (other + 3 + length body) (length body + 1)))
+    no_code (other + 3 + length body) (length body + 1)))
     (own_store (mask_cells layout (depth + 1)) ∷ []) (by_depth (depth == 0))
   where
     by_depth : (t : Bool) → length (if t then body
         else own_load 0 (mask_cells layout depth) ∷ Jz 0 (at + 3 + length body)
-        ∷ (body ++ Jmp (at + 4 + 2 * length body) ∷ idle (at + 3 + length body) (length body + 1)))
+        ∷ (body ++ Jmp (at + 4 + 2 * length body) ∷ no_code (at + 3 + length body) (length body + 1)))
         ≡ length (if t then body
         else own_load 0 (mask_cells layout depth) ∷ Jz 0 (other + 3 + length body)
         ∷ (body ++ Jmp (other + 4 + 2 * length body) ∷
-        idle (other + 3 + length body) (length body + 1)))
+        no_code (other + 3 + length body) (length body + 1)))
     by_depth true = refl
     by_depth false = ap (λ n. suc (suc n)) (length_front_same body
-        (Jmp (at + 4 + 2 * length body) ∷ idle (at + 3 + length body) (length body + 1))
-        (Jmp (other + 4 + 2 * length body) ∷ idle (other + 3 + length body) (length body + 1))
+        (Jmp (at + 4 + 2 * length body) ∷ no_code (at + 3 + length body) (length body + 1))
+        (Jmp (other + 4 + 2 * length body) ∷ no_code (other + 3 + length body) (length body + 1))
         (ap suc (length-idle (at + 3 + length body) (length body + 1)
         ∙ sym (length-idle (other + 3 + length body) (length body + 1)))))
 

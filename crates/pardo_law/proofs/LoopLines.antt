@@ -11,7 +11,7 @@ use Rattle.pardo_program.specs.Expression.{Tree}
 use Rattle.pardo_program.specs.Lawful.{IsExpression, IsLine, IsProgram, IsStatement, bounds_of}
 use Rattle.pardo_program.specs.Program.{ProgramData}
 use Rattle.pardo_flat.specs.Statements.{statement_at}
-use Rattle.pardo_flat.specs.Flat.{bound_pieces, first_flat_of, fits, flat, is_common}
+use Rattle.pardo_flat.specs.Flat.{bound_pieces, first_flat_of, fits, flat, is_for_all}
 use Rattle.pardo_flat.specs.Flat.{last_pieces, moved_statement}
 use Rattle.pardo_flat.specs.Flat.{split, split_bounds, split_statement}
 use Rattle.pardo_flat.specs.Flat.{statement_parts}
@@ -19,7 +19,7 @@ use Rattle.pardo_flat.proofs.FlatLines.{some_at}
 use Rattle.pardo_job.specs.Meaning.{Source, after_statement}
 use Rattle.pardo_job.specs.Meaning.{common_value, has_none}
 use Rattle.pardo_job.specs.Meaning.{abandoned, by_common, loop_ended, next_turn, on_to}
-use Rattle.pardo_job.specs.Meaning.{turned}
+use Rattle.pardo_job.specs.Meaning.{loop_turned}
 use Rattle.pardo_job.specs.Carries.{Shares, StandsFor}
 use Rattle.pardo_law.proofs.Carrying.{all_at}
 use Rattle.pardo_law.proofs.LoopPieces.{Cut, Fails, Kept, Whole, bounds_fail, bounds_held}
@@ -65,7 +65,7 @@ module _ (program : ProgramData) (source flat_source now : Source)
       value_shared program source now 0 (shares_now pieces whole) tree is
 
   loop_level : (level : Bool) (statement : Statement) → IsStatement (bounds_of program) statement →
-      is_common statement ≡ true → (opens : IsOpening statement) →
+      is_for_all statement ≡ true → (opens : IsOpening statement) →
       LoopEnds statement (if level then ([], statement) else split_statement program statement)
   loop_level true (While tree end) is common opens whole =
       while_stands program source now (shares_now [] whole) (gone_now [] whole) text_line depth
@@ -94,7 +94,7 @@ module _ (program : ProgramData) (source flat_source now : Source)
   loop_level level (EndWhile begin) is common opens whole = absurd opens
   loop_level level (EndFor begin) is common opens whole = absurd opens
 
-  pub loop_line : (statement : Statement) → is_common statement ≡ true → IsProgram program →
+  pub loop_line : (statement : Statement) → is_for_all statement ≡ true → IsProgram program →
       IsStatement (bounds_of program) statement →
       LoopEnds statement (statement_parts program statement)
   loop_line (While tree end) common lawful is whole =
@@ -154,12 +154,12 @@ module _ (program : ProgramData) (source flat_source : Source)
       ap (λ o. by_common program text_line source o (λ a.
       by_common program text_line source (common_value program source last) (λ b.
       if has_none up a b then on_to (end + 1) source
-      else on_to (source.at + 1) (turned nest a source)))) none
+      else on_to (source.at + 1) (loop_turned nest a source)))) none
   for_over nest first last up end (inr none) =
       ap (λ o. by_common program text_line source (common_value program source first) (λ a.
       by_common program text_line source o (λ b.
       if has_none up a b then on_to (end + 1) source
-      else on_to (source.at + 1) (turned nest a source)))) none
+      else on_to (source.at + 1) (loop_turned nest a source)))) none
       ∙ either_way (common_value program source first)
     where
       either_way : (o : Option ℕ) →
@@ -179,7 +179,7 @@ module _ (program : ProgramData) (source flat_source : Source)
       ap (λ s. loop_ended program text_line begin s source) was
       ∙ ap (λ o. by_common program text_line source o (λ b.
       if source.loops nest == b then on_to (end + 1) source
-      else on_to (begin + 1) (turned nest (next_turn up (source.loops nest)) source))) none
+      else on_to (begin + 1) (loop_turned nest (next_turn up (source.loops nest)) source))) none
   turn_over begin (Assign target tree) was is false mid kept fails = absurd fails
   turn_over begin (If tree) was is false mid kept fails = absurd fails
   turn_over begin Else was is false mid kept fails = absurd fails
@@ -210,7 +210,7 @@ module _ (program : ProgramData) (source flat_source : Source)
   cut_level false (EndWhile begin) opens is mid kept fails = absurd opens
   cut_level false (EndFor begin) opens is mid kept fails = absurd opens
 
-  line_over : IsProgram program → (statement : Statement) → is_common statement ≡ true →
+  line_over : IsProgram program → (statement : Statement) → is_for_all statement ≡ true →
       IsStatement (bounds_of program) statement → (mid : Source) →
       Kept program.loops flat_source mid → Fails (flat program) mid program.loops
       (statement_parts program statement).0 → Over statement
@@ -230,7 +230,7 @@ module _ (program : ProgramData) (source flat_source : Source)
   line_over lawful (EndWhile begin) common is mid kept fails =
       absurd (let no : false ≡ true = common in cc)
 
-  pub loop_cut : IsProgram program → (statement : Statement) → is_common statement ≡ true →
+  pub loop_cut : IsProgram program → (statement : Statement) → is_for_all statement ≡ true →
       IsStatement (bounds_of program) statement → (now : Source) →
       Cut (flat program) text_line program.loops (statement_parts program statement).0 flat_source
       now →

@@ -11,7 +11,7 @@ use Rattle.pardo_program.specs.Program.{ProgramData}
 use Rattle.pardo_flat.specs.Flat.{beside, has_room, is_beside, shape_of, split, split_bounds}
 use Rattle.pardo_flat.specs.Flat.{split_last}
 use Rattle.pardo_job.specs.Meaning.{Source, abandoned, array_cell, by_common, common_value, on_to}
-use Rattle.pardo_job.specs.Meaning.{turned, value}
+use Rattle.pardo_job.specs.Meaning.{loop_turned, value}
 
 -- ---- what an expression reads
 
@@ -326,7 +326,7 @@ module _ (program : ProgramData) (text_line : ℕ) where
   after_lets t [] source = source
   after_lets t (piece ∷ pieces) source =
       by_common program text_line source (common_value program source piece) (λ v.
-      after_lets (t + 1) pieces (on_to (source.at + 1) (turned t v source)))
+      after_lets (t + 1) pieces (on_to (source.at + 1) (loop_turned t v source)))
 
   -- all of them have one
   pub record Whole (t : ℕ) (pieces : List Tree) (source now : Source) : Type 0 where
@@ -345,7 +345,7 @@ module _ (program : ProgramData) (text_line : ℕ) where
   Let t pieces source now = Whole t pieces source now ⊎ Cut t pieces source now
 
   one_kept : (t v : ℕ) (source : Source) →
-      Kept t source (on_to (source.at + 1) (turned t v source))
+      Kept t source (on_to (source.at + 1) (loop_turned t v source))
   one_kept t v source = record {
     cells = refl;
     masks = refl;
@@ -356,7 +356,7 @@ module _ (program : ProgramData) (text_line : ℕ) where
   }
 
   then_kept : (t v : ℕ) (source now : Source) →
-      Kept (t + 1) (on_to (source.at + 1) (turned t v source)) now → Kept t source now
+      Kept (t + 1) (on_to (source.at + 1) (loop_turned t v source)) now → Kept t source now
   then_kept t v source now rest =
       let one = one_kept t v source in record {
         cells = rest.cells;
@@ -368,7 +368,7 @@ module _ (program : ProgramData) (text_line : ℕ) where
 
   first_held : (t v : ℕ) (piece : Tree) (source now : Source) → LoopsBelow t piece →
       common_value program source piece ≡ Some v →
-      Kept (t + 1) (on_to (source.at + 1) (turned t v source)) now →
+      Kept (t + 1) (on_to (source.at + 1) (loop_turned t v source)) now →
       common_value program now (loop t) ≡ common_value program now piece
   first_held t v piece source now below e rest =
       ap Some (rest.loops t (omega arith)
@@ -377,11 +377,11 @@ module _ (program : ProgramData) (text_line : ℕ) where
       ∙ sym (value_kept program t source now 0 (then_kept t v source now rest) piece below)
 
   one_run : (t : ℕ) (piece : Tree) (pieces : List Tree) (source : Source) → LoopsBelow t piece →
-      ((v : ℕ) → Let (t + 1) pieces (on_to (source.at + 1) (turned t v source))
-      (after_lets (t + 1) pieces (on_to (source.at + 1) (turned t v source)))) →
+      ((v : ℕ) → Let (t + 1) pieces (on_to (source.at + 1) (loop_turned t v source))
+      (after_lets (t + 1) pieces (on_to (source.at + 1) (loop_turned t v source)))) →
       (o : Option ℕ) → common_value program source piece ≡ o → Let t (piece ∷ pieces) source
       (by_common program text_line source o (λ v.
-      after_lets (t + 1) pieces (on_to (source.at + 1) (turned t v source))))
+      after_lets (t + 1) pieces (on_to (source.at + 1) (loop_turned t v source))))
   one_run t piece pieces source below rest None e = inr (record {
     mid = source;
     kept = record {
@@ -395,7 +395,7 @@ module _ (program : ProgramData) (text_line : ℕ) where
     now_is = refl;
   })
   one_run t piece pieces source below rest (Some v) e =
-      let on = on_to (source.at + 1) (turned t v source) in
+      let on = on_to (source.at + 1) (loop_turned t v source) in
       let now = after_lets (t + 1) pieces on in ⊎_elim
       (λ (whole : Whole (t + 1) pieces on now).
       let at = whole.at in inl (record {
@@ -427,5 +427,5 @@ module _ (program : ProgramData) (text_line : ℕ) where
   })
   lets_run t (piece ∷ pieces) source below =
       one_run t piece pieces source below.0
-      (λ v. lets_run (t + 1) pieces (on_to (source.at + 1) (turned t v source)) below.1)
+      (λ v. lets_run (t + 1) pieces (on_to (source.at + 1) (loop_turned t v source)) below.1)
       (common_value program source piece) refl

@@ -22,7 +22,7 @@ use Rattle.pardo_job.specs.Straight.{Registers, put, after_all}
 use Rattle.pardo_job.specs.Values.{value_code, value_operand, own_place}
 use Rattle.pardo_job.proofs.Assigning.{HasIn}
 use Rattle.pardo_job.proofs.Straight.{put_same, put_other}
-use Rattle.pardo_law.specs.Locals.{Local, HasCodeAt, AreStraight, after_instr, store_by}
+use Rattle.pardo_law.specs.Locals.{Local, HasCodeAt, AreStraight, after_instr, local_store_by}
 use Rattle.pardo_law.specs.Locals.{NamesByArray}
 use Rattle.pardo_law.proofs.Bodies.{IsThere, ValueTo, there_at, own_body, own_last}
 use Rattle.pardo_law.proofs.Making.{Makes, Goes, makes_out, goes_out, makes_one, goes_one}
@@ -59,7 +59,7 @@ next_named : (up : Bool) → NamesByArray (next_value up)
 next_named true = tt
 next_named false = tt
 
-next_stores : (held : Registers) (up : Bool) → store_by held (next_value up) ≡ None
+next_stores : (held : Registers) (up : Bool) → local_store_by held (next_value up) ≡ None
 next_stores held true = refl
 next_stores held false = refl
 

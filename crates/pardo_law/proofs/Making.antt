@@ -5,7 +5,7 @@ use Rattle.std.specs.Prelude.{slice_get, unwrap_or}
 use Rattle.pram_job.specs.declared.instr.Instr.{Instr}
 use Rattle.pram_job.specs.Job.{JobData, IsJob}
 use Rattle.pardo_job.specs.Straight.{Registers, after_all}
-use Rattle.pardo_law.specs.Locals.{Local, after_instr, next_local, store_by, store_of}
+use Rattle.pardo_law.specs.Locals.{Local, after_instr, next_local, local_store_by, local_store}
 use Rattle.pardo_law.specs.Locals.{NamesByArray, IsNamedAt, AreStraight, HasCodeAt, StandsAfter}
 use Rattle.pardo_law.specs.Locals.{StoresAgree}
 use Rattle.pardo_law.specs.Locals.{after_stores}
@@ -23,7 +23,7 @@ pub record Makes (job : JobData) (memory : ℕ → ℕ) (i n : ℕ) (l : Local) 
   pub mid : Local
   pub runs : Runs job memory i n l mid
   pub named : IsNamedAt job mid
-  pub stores : store_of job mid ≡ store
+  pub stores : local_store job mid ≡ store
   pub goes : P (next_local job memory i mid)
 
 -- by n quiet steps alone
@@ -69,7 +69,7 @@ goes_then job memory i n m l x P runs c = record {
 -- one quiet instruction, and then others
 pub makes_one : (job : JobData) (memory : ℕ → ℕ) (i n at : ℕ) (held : Registers) (one : Instr)
     (store : Option (ℕ × ℕ)) (P : Local → Type 0) →
-    slice_get job.code at ≡ Some one → NamesByArray one → store_by held one ≡ None →
+    slice_get job.code at ≡ Some one → NamesByArray one → local_store_by held one ≡ None →
     Makes job memory i n (after_instr job memory i at held one) store P →
     Makes job memory i (suc n) (Some (at, held)) store P
 makes_one job memory i n at held one store P stands named none c = record {
@@ -82,7 +82,7 @@ makes_one job memory i n at held one store P stands named none c = record {
 
 pub goes_one : (job : JobData) (memory : ℕ → ℕ) (i n at : ℕ) (held : Registers) (one : Instr)
     (P : Local → Type 0) →
-    slice_get job.code at ≡ Some one → NamesByArray one → store_by held one ≡ None →
+    slice_get job.code at ≡ Some one → NamesByArray one → local_store_by held one ≡ None →
     Goes job memory i n (after_instr job memory i at held one) P →
     Goes job memory i (suc n) (Some (at, held)) P
 goes_one job memory i n at held one P stands named none c = record {
@@ -100,12 +100,12 @@ goes_here job memory i l P p = record { now = l; runs = refl; goes = p }
 pub makes_last : (job : JobData) (memory : ℕ → ℕ) (i at : ℕ) (held : Registers) (one : Instr)
     (P : Local → Type 0) →
     slice_get job.code at ≡ Some one → NamesByArray one → P (after_instr job memory i at held one) →
-    Makes job memory i 0 (Some (at, held)) (store_by held one) P
+    Makes job memory i 0 (Some (at, held)) (local_store_by held one) P
 makes_last job memory i at held one P stands named p = record {
   mid = Some (at, held);
   runs = refl;
   named = λ instr is. subst NamesByArray (same one instr (sym stands ∙ is)) named;
-  stores = ap (λ o. elim o [ None ↦ None | Some instr ↦ store_by held instr ]) stands;
+  stores = ap (λ o. elim o [ None ↦ None | Some instr ↦ local_store_by held instr ]) stands;
   goes = subst P (sym (next_at job memory i at held one stands)) p;
 }
   where
@@ -115,7 +115,7 @@ makes_last job memory i at held one P stands named p = record {
 -- what straight code and an instruction after it make, by what the code leaves
 abbrev pub stored_by : Option Registers → Instr → Option (ℕ × ℕ)
 stored_by None one = None
-stored_by (Some held) one = store_by held one
+stored_by (Some held) one = local_store_by held one
 
 abbrev pub ended_by : JobData → (ℕ → ℕ) → ℕ → ℕ → Option Registers → Instr → Local
 ended_by job memory i at None one = None
@@ -139,7 +139,7 @@ makes_body job memory i at held front one P None straight stands named leaves p 
       goes = p;
     }
 makes_body job memory i at held front one P (Some now) straight stands named leaves p =
-    let last : Makes job memory i 0 (Some (at + length front, now)) (store_by now one) P =
+    let last : Makes job memory i 0 (Some (at + length front, now)) (local_store_by now one) P =
     makes_last job memory i (at + length front) now one P
     (stands_back job at front (one ∷ []) stands).0 named p in
     record {
@@ -209,10 +209,10 @@ module _ (job : JobData) (is_job : IsJob job) (t n : ℕ) (memory : ℕ → ℕ)
     pub mids_named : (i : ℕ) → i < job.procs → IsNamedAt job (mids i)
     mids_named i lt = subst (IsNamedAt job) (sym (mid_is i lt)) (makes i lt).named
 
-    pub mids_store : (i : ℕ) → i < job.procs → store_of job (mids i) ≡ stores i
-    mids_store i lt = ap (store_of job) (mid_is i lt) ∙ (makes i lt).stores
+    pub mids_store : (i : ℕ) → i < job.procs → local_store job (mids i) ≡ stores i
+    mids_store i lt = ap (local_store job) (mid_is i lt) ∙ (makes i lt).stores
 
-    pub mids_agree : StoresAgree job stores → StoresAgree job (λ i. store_of job (mids i))
+    pub mids_agree : StoresAgree job stores → StoresAgree job (λ i. local_store job (mids i))
     mids_agree agree cell i j v w lt less is too =
         agree cell i j v w lt less (sym (mids_store i lt) ∙ is) (sym (mids_store j less) ∙ too)
 

@@ -17,7 +17,7 @@ use Rattle.pardo_program.specs.Lawful.{IsExpression, IsProgram, bounds_of}
 use Rattle.pardo_program.specs.Operations.{bit}
 use Rattle.pardo_program.specs.Program.{ProgramData}
 use Rattle.pardo_flat.specs.Layouts.{ProgramLayoutData, program_layout, mask_cells}
-use Rattle.pardo_job.specs.Lines.{idle, masked, choosing, others, own_store, place_of}
+use Rattle.pardo_job.specs.Lines.{no_code, masked, choosing, others, own_store, place_of}
 use Rattle.pardo_job.specs.Lines.{condition_code}
 use Rattle.pardo_job.specs.Meaning.{Source, value, is_active, losing}
 use Rattle.pardo_job.specs.Operations.{is_shallow}
@@ -60,7 +60,7 @@ makes_as job memory i n place l other store stored g other_gone e f h c =
 pub length-under : (layout : ProgramLayoutData) (at depth : ℕ) (body : List Instr) →
     length (under layout at depth body) ≡ 4 + 2 * length body
 length-under layout at depth body =
-    let e = length-append (idle (at + 3) (length body)) (Jmp (at + 4 + 2 * length body) ∷ body) in
+    let e = length-append (no_code (at + 3) (length body)) (Jmp (at + 4 + 2 * length body) ∷ body) in
     let f = length-idle (at + 3) (length body) in omega arith
 
 length_one_more : (front : List Instr) (st : Instr) → length (front ++ st ∷ []) ≡ suc (length front)
@@ -278,7 +278,7 @@ module _ (program : ProgramData) (job : JobData) (of : IsProgram program) (sourc
     length-between =
         let e = length-append choice_body
         (Jmp (at + 4 + 2 * length choice_body) ∷
-        idle (at + 3 + length choice_body) (length choice_body + 1)) in
+        no_code (at + 3 + length choice_body) (length choice_body + 1)) in
         let f = length-idle (at + 3 + length choice_body) (length choice_body + 1) in omega arith
 
     through : (now : Registers) → source.gone i ≡ None → now 3 ≡ i →

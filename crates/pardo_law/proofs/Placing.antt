@@ -10,7 +10,7 @@ use Rattle.pram_job.specs.declared.instr.Place.TheVariants.{Cell, Named}
 use Rattle.pram_job.specs.Job.{JobData}
 use Rattle.pardo_job.specs.Straight.{Registers, after_one, after_all}
 use Rattle.pardo_law.specs.Locals.{Local, standing_at, after_instr, after_fetched, next_local}
-use Rattle.pardo_law.specs.Locals.{store_by, store_by_instr, NamesByArray}
+use Rattle.pardo_law.specs.Locals.{local_store_by, store_by_instr, NamesByArray}
 use Rattle.pardo_law.specs.Locals.{IsStraight, AreStraight, HasCodeAt, StraightCodeRuns}
 use Rattle.pardo_law.proofs.Running.{IsQuiet, Runs, runs_out, quiet_run}
 
@@ -59,7 +59,7 @@ pub straight_append : (front back : List Instr) → AreStraight front → AreStr
 straight_append [] back a b = b
 straight_append (one ∷ front) back a b = (a.0, straight_append front back a.1 b)
 
-straight_stores : (held : Registers) (one : Instr) → IsStraight one → store_by held one ≡ None
+straight_stores : (held : Registers) (one : Instr) → IsStraight one → local_store_by held one ≡ None
 straight_stores held (Ld target (Named array index)) is = refl
 straight_stores held (Ld target (Cell index)) is = absurd is
 straight_stores held (St at value) is = absurd is
@@ -91,7 +91,7 @@ straight_instr job memory i at held _ is = refl
 -- an instruction that stands there
 pub quiet_at : (job : JobData) (at : ℕ) (held : Registers) (one : Instr) → slice_get job.code at ≡
     Some one →
-    NamesByArray one → store_by held one ≡ None → IsQuiet job (Some (at, held))
+    NamesByArray one → local_store_by held one ≡ None → IsQuiet job (Some (at, held))
 quiet_at job at held one stands named none = (
   λ instr is. subst NamesByArray (same_Some one instr (sym stands ∙ is)) named,
   ap (store_by_instr held) stands ∙ none,
@@ -105,7 +105,7 @@ next_at job memory i at held one stands = ap (after_fetched job memory i at held
 -- one quiet instruction, and then others
 pub runs_one : (job : JobData) (memory : ℕ → ℕ) (i n at : ℕ) (held : Registers) (one : Instr)
     (now : Local) →
-    slice_get job.code at ≡ Some one → NamesByArray one → store_by held one ≡ None →
+    slice_get job.code at ≡ Some one → NamesByArray one → local_store_by held one ≡ None →
     Runs job memory i n (after_instr job memory i at held one) now →
     Runs job memory i (suc n) (Some (at, held)) now
 runs_one job memory i n at held one now stands named none runs = (

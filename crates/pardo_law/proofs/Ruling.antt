@@ -19,7 +19,7 @@ use Rattle.pardo_program.specs.Program.{ProgramData}
 use Rattle.pram_step.proofs.Disputing.{one_least_clash}
 use Rattle.pram_step.specs.Disputes.{Forbids}
 use Rattle.pardo_flat.specs.Statements.{statement_at}
-use Rattle.pardo_job.specs.Conflicts.{LineAgrees, Assigns, asked}
+use Rattle.pardo_job.specs.Conflicts.{LineAgrees, Assigns, asked_for}
 use Rattle.pardo_job.specs.Laws.{by_rule, RuleChangesNoState, CrewIsAccepted, AnyWriterCounts}
 use Rattle.pardo_job.specs.Laws.{UnwrittenIsKept, OneLineDispute}
 use Rattle.pardo_job.specs.Meaning.{Source, after, next, after_statement, asked_in, first_below}
@@ -43,8 +43,8 @@ same_after program rule (suc n) = ap (next (by_rule rule program)) (same_after p
     ∙ rule_changes_no_state program rule (after program n)
 
 same_asked : (program : ProgramData) (rule : Rule) (source : Source) (i : ℕ) →
-    asked (by_rule rule program) source i ≡ asked program source i
-unfolding asked
+    asked_for (by_rule rule program) source i ≡ asked_for program source i
+unfolding asked_for
 same_asked program rule source i = refl
 
 writes_same : (program : ProgramData) (rule other : Rule) (source : Source) (cell i v : ℕ) →
@@ -58,7 +58,7 @@ apart : (rule : Rule) (program : ProgramData) (source : Source) (cell i j v w : 
     Forbids rule i v j w → i ≢ j
 apart Common program source cell i j v w a b forbidden same =
     forbidden (some_pair_parts cell cell v w
-    (sym a.1 ∙ ap (asked (by_rule Common program) source) same ∙ b.1)).1
+    (sym a.1 ∙ ap (asked_for (by_rule Common program) source) same ∙ b.1)).1
 apart Priority program source cell i j v w a b forbidden same = forbidden
 apart Crew program source cell i j v w a b forbidden same = forbidden same
 
@@ -227,8 +227,8 @@ module _ (program : ProgramData) (source : Source) (line : Line)
 
 no_line_asks : (program : ProgramData) (source : Source) (i cell v : ℕ) →
     slice_get program.lines source.at ≡ None →
-    asked program source i ≡ Some (cell, v) → ⊥
-unfolding asked
+    asked_for program source i ≡ Some (cell, v) → ⊥
+unfolding asked_for
 no_line_asks program source i cell v e is = none-some (cell, v)
     (sym (ap (λ (o : Option Line). elim o as (λ (x : Option Line). Option (ℕ × ℕ)) [
       | None ↦ None
@@ -261,7 +261,7 @@ same_value Common program source cell i j v w not_priority agree a b = ⊎_elim 
 same_value Priority program source cell i j v w not_priority agree a b = absurd (not_priority refl)
 same_value Crew program source cell i j v w not_priority agree a b = ⊎_elim
     (λ (same : j ≡ i). (some_pair_parts cell cell w v
-    (sym b.1 ∙ ap (asked program source) same ∙ a.1)).1)
+    (sym b.1 ∙ ap (asked_for program source) same ∙ a.1)).1)
     (λ ne. absurd (agree ne)) (cases_eq j i)
 
 pub any_writer_counts : AnyWriterCounts

@@ -19,7 +19,7 @@ use Rattle.pram_step.proofs.LawNext.{after_first, after_none}
 use Rattle.pram_step.proofs.RequestList.{put_of_written, written_of_put}
 use Rattle.pram_machine.proofs.Shapes.{asks}
 use Rattle.pardo_job.specs.Meaning.{first_below, given_to}
-use Rattle.pardo_law.specs.Locals.{Local, memory_of, IsLocal, next_local, store_of, IsNamedAt}
+use Rattle.pardo_law.specs.Locals.{Local, memory_of, IsLocal, next_local, local_store, IsNamedAt}
 use Rattle.pardo_law.specs.Locals.{FollowsByItself}
 use Rattle.pardo_law.specs.Locals.{StandsAfter, StoresAgree, after_stores, StoresAreMade}
 use Rattle.pardo_law.proofs.Stepping.{each_by_itself}
@@ -27,7 +27,7 @@ use Rattle.pardo_law.proofs.Stepping.{each_by_itself}
 -- ---- one processor, while nobody stores
 
 abbrev pub IsQuiet : JobData → Local → Type 0
-IsQuiet job l = IsNamedAt job l × (store_of job l ≡ None)
+IsQuiet job l = IsNamedAt job l × (local_store job l ≡ None)
 
 -- by so many quiet steps it comes there
 abbrev pub Runs : JobData → (ℕ → ℕ) → ℕ → ℕ → Local → Local → Type 0
@@ -104,7 +104,7 @@ module _ (job : JobData) (is_job : IsJob job) (t : ℕ) (memory : ℕ → ℕ) (
   s = state_after job t
 
   abbrev stores : ℕ → Option (ℕ × ℕ)
-  stores i = store_of job (locals i)
+  stores i = local_store job (locals i)
 
   follows : (i : ℕ) → i < job.procs →
       FollowsByItself job s i (next_local job (memory_of job s) i (locals i)) (stores i)
@@ -208,7 +208,7 @@ module _ (job : JobData) (is_job : IsJob job) where
       near cell low = memory_after job is_job t memory locals standing (λ i lt. (quiet i lt).0) cell
           low
           ∙ ap (λ o. unwrap_or o (memory cell))
-          (first_none job.procs (λ i. given_to cell (store_of job (locals i)))
+          (first_none job.procs (λ i. given_to cell (local_store job (locals i)))
           (λ i lt. ap (given_to cell) (quiet i lt).1))
 
       far : (cell : ℕ) → job.cells ≤ cell → memory_of job (next_state job (state_after job t)) cell

@@ -24,9 +24,9 @@ use Rattle.pram_machine.specs.Instructions.{registers_in}
 use Rattle.pram_machine.specs.Machine.{State, register, counter, out_of_range, halted, place_count}
 use Rattle.pram_machine.proofs.Shapes.{instr_is}
 use Rattle.pram_step.proofs.LawStopped.{stopped_request}
-use Rattle.pardo_job.specs.Straight.{Registers, put, operand_in}
+use Rattle.pardo_job.specs.Straight.{Registers, put, operand_value}
 use Rattle.pardo_law.specs.Locals.{memory_of, registers_of, standing_at, after_instr, after_fetched}
-use Rattle.pardo_law.specs.Locals.{local_after, stored_in, store_by, store_by_instr, NamesArrays}
+use Rattle.pardo_law.specs.Locals.{local_after, stored_in, local_store_by, store_by_instr, NamesArrays}
 use Rattle.pardo_law.specs.Locals.{NamesByArray}
 use Rattle.pardo_law.specs.Locals.{FollowsByItself, EachByItself}
 use Rattle.pardo_law.proofs.Owning.{follows_out, follows_goes, follows_gives, follows_stores}
@@ -45,13 +45,13 @@ same_cell job s cell low =
 
 same_second : (job : JobData) (s : State) (i a : ℕ) (b : Operand) → IsOperand b →
     value_of b (slice_index (map (register job s i) (a ∷ registers_in b)) 1)
-    ≡ operand_in (registers_of job s i) b
+    ≡ operand_value (registers_of job s i) b
 same_second job s i a (Register b) is = same_register job s i b is
 same_second job s i a (Number n) is = refl
 
 same_index : (job : JobData) (s : State) (i : ℕ) (b : Operand) → IsOperand b →
     value_of b (slice_index (map (register job s i) (registers_in b)) 0)
-    ≡ operand_in (registers_of job s i) b
+    ≡ operand_value (registers_of job s i) b
 same_index job s i (Register b) is = same_register job s i b is
 same_index job s i (Number n) is = refl
 
@@ -62,7 +62,7 @@ module _ (job : JobData) (is_job : IsJob job) (s : State) (len : length s ≡ pl
     (held_is : registers_of job s i ≡ held) where
   abbrev FollowsBy : Instr → Type 0
   FollowsBy one = FollowsByItself job s i (after_instr job (memory_of job s) i at held one)
-      (store_by held one)
+      (local_store_by held one)
 
   abbrev Asks : Instr → Type 0
   Asks one = request_in job s i ≡ decided_in job s i one
@@ -85,12 +85,12 @@ module _ (job : JobData) (is_job : IsJob job) (s : State) (len : length s ≡ pl
   here which few = same_register job s i which few ∙ ap (λ (f : Registers). f which) held_is
 
   there : (a : ℕ) (b : Operand) → IsOperand b →
-      value_of b (slice_index (map (register job s i) (a ∷ registers_in b)) 1) ≡ operand_in held b
-  there a b is = same_second job s i a b is ∙ ap (λ (f : Registers). operand_in f b) held_is
+      value_of b (slice_index (map (register job s i) (a ∷ registers_in b)) 1) ≡ operand_value held b
+  there a b is = same_second job s i a b is ∙ ap (λ (f : Registers). operand_value f b) held_is
 
   first : (b : Operand) → IsOperand b →
-      value_of b (slice_index (map (register job s i) (registers_in b)) 0) ≡ operand_in held b
-  first b is = same_index job s i b is ∙ ap (λ (f : Registers). operand_in f b) held_is
+      value_of b (slice_index (map (register job s i) (registers_in b)) 0) ≡ operand_value held b
+  first b is = same_index job s i b is ∙ ap (λ (f : Registers). operand_value f b) held_is
 
   -- a load, by whether the array has the place
   loaded : (target : ℕ) (array : Array) (k : ℕ) → target < 4 → array.base + array.len ≤ job.cells →
@@ -115,9 +115,9 @@ module _ (job : JobData) (is_job : IsJob job) (s : State) (len : length s ≡ pl
   unfolding decided
   load target array index few fits is asks =
       let e : value_of index (slice_index (map (register job s i) (registers_in index)) 0) ≡
-      operand_in held index = first index is in
-      loaded target array (operand_in held index) few fits.1
-      (nat_lt (operand_in held index) array.len) refl
+      operand_value held index = first index is in
+      loaded target array (operand_value held index) few fits.1
+      (nat_lt (operand_value held index) array.len) refl
       (asks ∙ ap (λ k. within (if nat_lt k array.len then Some (array.base + k) else None)
       (out_of_range job)
       (λ cell. gives job i (counter job s i) target
@@ -179,7 +179,7 @@ module _ (job : JobData) (is_job : IsJob job) (s : State) (len : length s ≡ pl
       given target number number is.0 refl asks
   follows_with computes (Target target) is named asks = given target i i is refl asks
   follows_with computes (TargetTwo target a b) is named asks =
-      computed_or_out target (computes (held a) (operand_in held b)) is.0
+      computed_or_out target (computes (held a) (operand_value held b)) is.0
       (asks ∙ (λ k. within (computes (here a is.1 k) (there a b is.2 k)) (out_of_range job)
       (gives job i (counter job s i) target)))
   follows_with computes (TargetPlace target (Named array index)) is named asks =

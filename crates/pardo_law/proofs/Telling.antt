@@ -10,7 +10,7 @@ use Rattle.pram_job.specs.Job.{JobData}
 use Rattle.pram_machine.specs.Machine.{AllStopped, counter, halted}
 use Rattle.pram_step.specs.declared.answer.Dispute.{Dispute}
 use Rattle.pram_step.specs.Runs.{IsReached, state_after}
-use Rattle.pram_cost.specs.Profiles.{executed_at, most_at, standing_at_index, steps_at}
+use Rattle.pram_cost.specs.Profiles.{executed_at, most_at, standing_at_index, instruction_steps}
 use Rattle.pardo_program.specs.declared.statement.Line.{Line}
 use Rattle.pardo_program.specs.Lawful.{IsProgram}
 use Rattle.pardo_program.specs.Nested.{IsNested}

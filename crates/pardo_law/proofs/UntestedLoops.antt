@@ -23,7 +23,7 @@ use Rattle.pardo_flat.specs.Statements.{statement_at}
 use Rattle.pardo_flat.proofs.FlatLines.{all_at, get_back, get_front}
 use Rattle.pardo_job.specs.Meaning.{Source, abandoned, after, after_statement, by_common}
 use Rattle.pardo_job.specs.Meaning.{common_value, has_none, loop_ended, next, next_turn, on_to}
-use Rattle.pardo_job.specs.Meaning.{turned, value}
+use Rattle.pardo_job.specs.Meaning.{loop_turned, value}
 use Rattle.pardo_job.proofs.Meanings.{next_at}
 use Rattle.pardo_job.proofs.Untested.{left_out_tests_pass}
 use Rattle.pardo_law.proofs.UntestedLines.{Each, Open, Opens, StandsAround, belongs_at, blocks_of}
@@ -360,13 +360,13 @@ module _ (program : ProgramData) (lawful : IsProgram program)
     -- a loop begins
     turned_held : (nest a b end : ℕ) (first last : Tree) (up : Bool) →
         line.statement ≡ For nest first last up end → IsHeld up first last a →
-        AreWithin program (turned nest a source).loops (open_here (source.at + 1))
+        AreWithin program (loop_turned nest a source).loops (open_here (source.at + 1))
     turned_held nest a b end first last up e held =
         let count : nest ≡ count_of (open_here source.at) =
         nest_is program nested source.at nest end line first last up is e in
-        subst (AreWithin program (turned nest a source).loops)
+        subst (AreWithin program (loop_turned nest a source).loops)
         (sym (after_here source.at line (For nest first last up end) is e)) (
-          subst (λ s. IsWithin s ((turned nest a source).loops (count_of (open_here source.at))))
+          subst (λ s. IsWithin s ((loop_turned nest a source).loops (count_of (open_here source.at))))
               (sym (line_at program source.at line is ∙ e))
               (subst (IsHeld up first last)
               (this_loop source.loops nest a (count_of (open_here source.at)) count) held),
@@ -385,7 +385,7 @@ module _ (program : ProgramData) (lawful : IsProgram program)
             common_value program source first ≡ Some a →
             common_value program source last ≡ Some b →
             Held (if t then on_to (end + 1) source
-            else on_to (source.at + 1) (turned nest a source))
+            else on_to (source.at + 1) (loop_turned nest a source))
         by_test true a b none few f g =
             λ next there. passes (For nest first last up end) end e refl
         by_test false a b some few f g = λ next there. turned_held nest a b end first last up e
@@ -395,7 +395,7 @@ module _ (program : ProgramData) (lawful : IsProgram program)
             (o : Option ℕ) → common_value program source last ≡ o →
             Held (by_common program text_line source o (λ b.
             if has_none up a b then on_to (end + 1) source
-            else on_to (source.at + 1) (turned nest a source)))
+            else on_to (source.at + 1) (loop_turned nest a source)))
         by_last a few f None g = held_end text_line source
         by_last a few f (Some b) g = by_test (has_none up a b) a b refl few f g
 
@@ -403,7 +403,7 @@ module _ (program : ProgramData) (lawful : IsProgram program)
             Held (by_common program text_line source o (λ a.
             by_common program text_line source (common_value program source last) (λ b.
             if has_none up a b then on_to (end + 1) source
-            else on_to (source.at + 1) (turned nest a source))))
+            else on_to (source.at + 1) (loop_turned nest a source))))
         by_first None f few = held_end text_line source
         by_first (Some a) f few = by_last a few f (common_value program source last) refl
 
@@ -419,7 +419,7 @@ module _ (program : ProgramData) (lawful : IsProgram program)
           slice_get program.lines begin ≡ Some opener →
           opener.statement ≡ For nest first last up end →
           common_value program source last ≡ Some b → source.loops nest ≢ b →
-          AreWithin program (turned nest (next_turn up (source.loops nest)) source).loops
+          AreWithin program (loop_turned nest (next_turn up (source.loops nest)) source).loops
           (open_here (begin + 1))
       again_held nest end b first last up opener there f g more =
           let v = next_turn up (source.loops nest) in
@@ -431,9 +431,9 @@ module _ (program : ProgramData) (lawful : IsProgram program)
           subst (λ s. IsWithin s (source.loops nest)) said
           (subst (λ n. IsWithin (statement_at program begin) (source.loops n))
           (ap (λ (o : List Open). count_of o) closed.around ∙ sym count) within_here) in
-          subst (AreWithin program (turned nest v source).loops)
+          subst (AreWithin program (loop_turned nest v source).loops)
           (sym (after_here begin opener (For nest first last up end) there f)) (
-            subst (λ s. IsWithin s ((turned nest v source).loops (count_of (open_here begin))))
+            subst (λ s. IsWithin s ((loop_turned nest v source).loops (count_of (open_here begin))))
                 (sym said)
                 (subst (IsHeld up first last)
                 (this_loop source.loops nest v (count_of (open_here begin)) count)
@@ -454,7 +454,7 @@ module _ (program : ProgramData) (lawful : IsProgram program)
           by_test : (t : Bool) (b : ℕ) → (source.loops nest == b) ≡ t →
               common_value program source last ≡ Some b →
               Held (if t then on_to (end + 1) source
-              else on_to (begin + 1) (turned nest (next_turn up (source.loops nest)) source))
+              else on_to (begin + 1) (loop_turned nest (next_turn up (source.loops nest)) source))
           by_test true b same g = λ next there. subst (AreWithin program source.loops)
               (sym (ended source.at begin line (EndFor begin) is e refl)
               ∙ ap (λ k. open_here (k + 1)) (sym (same_Some end source.at says)))
@@ -465,7 +465,7 @@ module _ (program : ProgramData) (lawful : IsProgram program)
           by_last : (o : Option ℕ) → common_value program source last ≡ o →
               Held (by_common program text_line source o (λ b.
               if source.loops nest == b then on_to (end + 1) source
-              else on_to (begin + 1) (turned nest (next_turn up (source.loops nest)) source)))
+              else on_to (begin + 1) (loop_turned nest (next_turn up (source.loops nest)) source)))
           by_last None g = held_end text_line source
           by_last (Some b) g = by_test (source.loops nest == b) b refl g
       ended_held opener (Assign target tree) there f says within = absurd within

@@ -20,8 +20,8 @@ use Rattle.pardo_flat.specs.Statements.{statement_at}
 use Rattle.pardo_job.specs.Meaning.{Source, abandoned, after_statement, array_cell, asked_in}
 use Rattle.pardo_job.specs.Meaning.{by_common, common_value, first_below, given_to}
 use Rattle.pardo_job.specs.Meaning.{has_none, is_active, is_true, loop_ended, losing, next_turn}
-use Rattle.pardo_job.specs.Meaning.{on_to, turned, value, write_of}
-use Rattle.pardo_law.specs.Untested.{AreSame}
+use Rattle.pardo_job.specs.Meaning.{on_to, loop_turned, value, write_of}
+use Rattle.pardo_law.specs.Untested.{AreAlike}
 use Rattle.pardo_law.proofs.UntestedLines.{as_many, known_at, untested_at, untested_past}
 
 first_same : (n : ℕ) (f g : ℕ → Option ℕ) → ((i : ℕ) → i < n → f i ≡ g i) →
@@ -36,7 +36,7 @@ module _ (program : ProgramData) where
   bare = program_untested program
 
   abbrev Same : Source → Source → Type 0
-  Same one two = AreSame program.procs one two
+  Same one two = AreAlike program.procs one two
 
   -- ---- states that are the same
 
@@ -57,7 +57,7 @@ module _ (program : ProgramData) where
       moved_same one two (one.at + 1) (two.at + 1) same (ap (λ k. k + 1) same.at)
 
   turned_same : (one two : Source) (nest v w : ℕ) → Same one two → v ≡ w →
-      Same (turned nest v one) (turned nest w two)
+      Same (loop_turned nest v one) (loop_turned nest w two)
   turned_same one two nest v w same e = record {
     at = same.at;
     cells = same.cells;
@@ -147,13 +147,13 @@ module _ (program : ProgramData) where
         common_same text_line one two (common_value bare one last) (common_value program two last)
         _ _ same (bare_common last) (λ b.
         if_same (one.loops nest == b) (two.loops nest == b) (on_to (end + 1) one)
-        (on_to (begin + 1) (turned nest (next_turn up (one.loops nest)) one))
+        (on_to (begin + 1) (loop_turned nest (next_turn up (one.loops nest)) one))
         (on_to (end + 1) two)
-        (on_to (begin + 1) (turned nest (next_turn up (two.loops nest)) two))
+        (on_to (begin + 1) (loop_turned nest (next_turn up (two.loops nest)) two))
         (ap (λ (f : ℕ → ℕ). f nest == b) same.loops)
         (moved_same one two (end + 1) (end + 1) same refl)
-        (moved_same (turned nest (next_turn up (one.loops nest)) one)
-        (turned nest (next_turn up (two.loops nest)) two) (begin + 1) (begin + 1)
+        (moved_same (loop_turned nest (next_turn up (one.loops nest)) one)
+        (loop_turned nest (next_turn up (two.loops nest)) two) (begin + 1) (begin + 1)
         (turned_same one two nest (next_turn up (one.loops nest))
         (next_turn up (two.loops nest)) same
         (ap (λ (f : ℕ → ℕ). next_turn up (f nest)) same.loops)) refl))
@@ -341,9 +341,9 @@ module _ (program : ProgramData) where
           common_same text_line one two (common_value bare one last)
           (common_value program two last) _ _ same (bare_common last) (λ b.
           if_same (has_none up a b) (has_none up a b) (on_to (end + 1) one)
-          (on_to (one.at + 1) (turned nest a one)) (on_to (end + 1) two)
-          (on_to (two.at + 1) (turned nest a two)) refl
+          (on_to (one.at + 1) (loop_turned nest a one)) (on_to (end + 1) two)
+          (on_to (two.at + 1) (loop_turned nest a two)) refl
           (moved_same one two (end + 1) (end + 1) same refl)
-          (moved_same (turned nest a one) (turned nest a two) (one.at + 1) (two.at + 1)
+          (moved_same (loop_turned nest a one) (loop_turned nest a two) (one.at + 1) (two.at + 1)
           (turned_same one two nest a a same refl) (ap (λ k. k + 1) same.at))))
       statement_bare text_line depth (EndFor begin) = end_same text_line begin

@@ -29,7 +29,7 @@ use Rattle.pardo_flat.proofs.FlatLines.{all_at}
 use Rattle.pardo_job.specs.Meaning.{Source, after_statement, array_cell, asked_in}
 use Rattle.pardo_job.specs.Meaning.{by_common, common_value, first_below, given_to, has_none}
 use Rattle.pardo_job.specs.Meaning.{is_active, loop_ended, next_turn, on_to, private_at_start}
-use Rattle.pardo_job.specs.Meaning.{program_start, turned, value, write_of}
+use Rattle.pardo_job.specs.Meaning.{program_start, loop_turned, value, write_of}
 use Rattle.pardo_job.proofs.Fits.{value_fits}
 
 -- ---- values that may be there
@@ -279,7 +279,7 @@ module _ (program : ProgramData) (lawful : IsProgram program) where
   fit_if false one other fit fits = fits
 
   fit_turned : (source : Source) (nest v : ℕ) → IsFit source → v < 2 ^ 32 →
-      IsFit (turned nest v source)
+      IsFit (loop_turned nest v source)
   fit_turned source nest v fit few = record {
     each_cell = fit.each_cell;
     each_loop = λ n. by_test (n == nest) n;
@@ -313,7 +313,7 @@ module _ (program : ProgramData) (lawful : IsProgram program) where
       fit_common text_line source (common_value program source last) _ fit
       (common_small source fit last is.2.0) (λ b few.
       fit_if (source.loops nest == b) (on_to (end + 1) source)
-      (on_to (begin + 1) (turned nest (next_turn up (source.loops nest)) source)) fit
+      (on_to (begin + 1) (loop_turned nest (next_turn up (source.loops nest)) source)) fit
       (fit_turned source nest (next_turn up (source.loops nest)) fit
       (turn_small up (source.loops nest) (fit.each_loop nest))))
   fit_ended text_line begin (Assign target tree) source is fit = fit
@@ -403,6 +403,6 @@ module _ (program : ProgramData) (lawful : IsProgram program) where
       fit_common text_line source (common_value program source last) _ fit
       (common_small source fit last is.2.0) (λ b few.
       fit_if (has_none up a b) (on_to (end + 1) source)
-      (on_to (source.at + 1) (turned nest a source)) fit (fit_turned source nest a fit less)))
+      (on_to (source.at + 1) (loop_turned nest a source)) fit (fit_turned source nest a fit less)))
   fit_after text_line depth (EndFor begin) source is wide opener fit =
       fit_ended text_line begin (statement_at program begin) source (opener begin refl) fit

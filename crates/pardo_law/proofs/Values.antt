@@ -23,7 +23,7 @@ use Rattle.pardo_job.specs.Lines.{condition_code, while_code, none_code, turn_co
 use Rattle.pardo_job.specs.Meaning.{Source, value, common_value, array_cell, write_of, has_none}
 use Rattle.pardo_job.specs.Operations.{is_shallow, register_or_spare}
 use Rattle.pardo_job.specs.Sees.{Sees}
-use Rattle.pardo_job.specs.Straight.{Registers, put, operand_in, after_one, after_all}
+use Rattle.pardo_job.specs.Straight.{Registers, put, operand_value, after_one, after_all}
 use Rattle.pardo_job.specs.Values.{value_code, value_operand, takes, own_load}
 use Rattle.pardo_job.proofs.Assigning.{both_code, BothTo, both_evaluate, HasIn}
 use Rattle.pardo_job.proofs.Assigning.{while_evaluates, none_evaluates}
@@ -34,7 +34,7 @@ use Rattle.pardo_job.proofs.Meanings.{loops_are_common}
 use Rattle.pardo_job.proofs.Shallow.{shallow_front, shallow_rest}
 use Rattle.pardo_job.proofs.Straight.{put_same, put_other, after_front}
 use Rattle.pardo_job.proofs.Trees.{lawful_tree}
-use Rattle.pardo_law.specs.Locals.{Local, after_instr, store_by, HasCodeAt, AreStraight}
+use Rattle.pardo_law.specs.Locals.{Local, after_instr, local_store_by, HasCodeAt, AreStraight}
 use Rattle.pardo_law.proofs.Bodies.{IsThere, Arrives, ValueTo, there_at, with_store}
 use Rattle.pardo_law.proofs.Making.{Makes, makes_body}
 use Rattle.pardo_law.proofs.Placing.{straight_append}
@@ -122,21 +122,21 @@ module _ (program : ProgramData) (job : JobData) (of : IsProgram program) (sourc
   -- by the place, if it is there
   by_cell : (at array a k : ℕ) (index tree : Tree) (now : Registers) (o : Option ℕ)
       (P : Local → Type 0) →
-      array_cell program array k ≡ o → operand_in now (value_operand 0 tree) ≡ a →
-      operand_in now (value_operand (takes tree) index) ≡ k →
+      array_cell program array k ≡ o → operand_value now (value_operand 0 tree) ≡ a →
+      operand_value now (value_operand (takes tree) index) ≡ k →
       now 3 ≡ i →
-      (store_by now (store_to array index tree) ≡ option_map (λ cell. (cell, a)) o)
+      (local_store_by now (store_to array index tree) ≡ option_map (λ cell. (cell, a)) o)
       × Arrives (at + 1) i (option_map {U = ℕ × ℕ} (λ cell. (cell, a)) o)
       (after_instr job memory i at now (store_to array index tree))
   by_cell at array a k index tree now None P e first second own_i =
       let cells : Array = array_cells (program_layout program) array in
       let high : cells.len ≤ k = place_outside program of.arrays array k e in
       let idx : Operand = value_operand (takes tree) index in
-      let no : nat_lt (operand_in now idx) cells.len ≡ false = ap (λ n. nat_lt n cells.len) second ∙
+      let no : nat_lt (operand_value now idx) cells.len ≡ false = ap (λ n. nat_lt n cells.len) second ∙
       le-ltb k cells.len high in (
         ap (λ b. if b then Some (
-          cells.base + operand_in now idx,
-          operand_in now (value_operand 0 tree),
+          cells.base + operand_value now idx,
+          operand_value now (value_operand 0 tree),
         ) else None) no,
         ap (λ b. if b then Some (at + 1, now) else None) no,
       )
@@ -145,11 +145,11 @@ module _ (program : ProgramData) (job : JobData) (of : IsProgram program) (sourc
       let p = place_is program of.arrays array k cell e in
       let low : k < cells.len = p.within in
       let idx : Operand = value_operand (takes tree) index in
-      let yes : nat_lt (operand_in now idx) cells.len ≡ true = ap (λ n. nat_lt n cells.len) second ∙
+      let yes : nat_lt (operand_value now idx) cells.len ≡ true = ap (λ n. nat_lt n cells.len) second ∙
       lt-ltb k cells.len low in (
         ap (λ b. if b then Some (
-          cells.base + operand_in now idx,
-          operand_in now (value_operand 0 tree),
+          cells.base + operand_value now idx,
+          operand_value now (value_operand 0 tree),
         ) else None) yes
             ∙ (λ j. Some ((ap (λ n. cells.base + n) second ∙ p.is) j, first j)),
         subst (IsThere (at + 1) i) (sym (ap (λ b. if b then Some (at + 1, now) else None) yes))
@@ -190,7 +190,7 @@ module _ (program : ProgramData) (job : JobData) (of : IsProgram program) (sourc
       let by = by_cell (at + n) array a b index tree c.now o (λ l. l ≡ None) refl c.first_is
       c.second_is (c.keeps ∙ own_i) in
       with_store job memory i n (Some (at, held)) (Arrives (at + n + 1) i w)
-      (store_by c.now (store_to array index tree)) w by.0
+      (local_store_by c.now (store_to array index tree)) w by.0
       (makes_body job memory i at held (front_of tree index) (store_to array index tree)
       (Arrives (at + n + 1) i w) (Some c.now)
       (both_straight tree index) stands tt c.runs by.1)
@@ -342,18 +342,18 @@ module _ (program : ProgramData) (job : JobData) (of : IsProgram program) (sourc
       common_to last 1 (Some b) first own_first is (turn_shallow nest last shallow) e in
       let variable : c.now 0 ≡ a = c.keeps 0 (inl (omega arith)) ∙ put_same 0 a held in
       let end : Registers = put 1
-      ((c.now 0 + (2 ^ 32 - operand_in c.now (value_operand 1 last))) % 2 ^
+      ((c.now 0 + (2 ^ 32 - operand_value c.now (value_operand 1 last))) % 2 ^
       32) c.now in record {
         now = end;
         runs = ap (option_and_then (after_all memory i (front ++ sub ∷ [])))
             (loop_loaded nest held own_i low)
             ∙ after_front memory i front (sub ∷ []) first c.now c.runs;
-        variable = put_other 1 ((c.now 0 + (2 ^ 32 - operand_in c.now (value_operand 1 last))) % 2 ^
+        variable = put_other 1 ((c.now 0 + (2 ^ 32 - operand_value c.now (value_operand 1 last))) % 2 ^
             32) 0 c.now (λ e. omega arith) ∙ variable;
-        rest = put_same 1 ((c.now 0 + (2 ^ 32 - operand_in c.now (value_operand 1 last))) % 2 ^ 32)
+        rest = put_same 1 ((c.now 0 + (2 ^ 32 - operand_value c.now (value_operand 1 last))) % 2 ^ 32)
             c.now
             ∙ (λ k. (variable k + (2 ^ 32 - c.gives k)) % 2 ^ 32);
-        own = put_other 1 ((c.now 0 + (2 ^ 32 - operand_in c.now (value_operand 1 last))) % 2 ^ 32)
+        own = put_other 1 ((c.now 0 + (2 ^ 32 - operand_value c.now (value_operand 1 last))) % 2 ^ 32)
             3
             c.now (λ e. omega arith)
             ∙ c.keeps 3 (inr refl) ∙ own_first;

@@ -1,7 +1,7 @@
 -- Time and operations of a program, told by the run of its job.
 use Rattle.std.specs.Prelude.{◌≡◌, ℕ, true, slice_get, sum_by, Some}
 use Rattle.pram_job.specs.Job.{JobData}
-use Rattle.pram_cost.specs.Profiles.{executed_at, most_at, steps_at}
+use Rattle.pram_cost.specs.Profiles.{executed_at, most_at, instruction_steps}
 use Rattle.pardo_program.specs.declared.statement.Line.{Line}
 use Rattle.pardo_program.specs.Lawful.{IsProgram}
 use Rattle.pardo_program.specs.Nested.{IsNested}
@@ -17,9 +17,10 @@ use Rattle.pardo_job.specs.Times.{operations_to, time_to}
 -- the lines made for it is executed as often as the line, and the one at their counted place by
 -- those that take part in it.
 pub record TellsLine (program : ProgramData) (job : JobData) (n j depth : ℕ) : Type 0 where
-  pub times : steps_at job (place_of (flat program) (first_flat_of program j)) job.steps
+  pub times : instruction_steps job (place_of (flat program) (first_flat_of program j)) job.steps
       ≡ line_times program j n
-  pub time : steps_at job (counted_place (flat program) (first_flat_of program j) depth) job.steps
+  pub time :
+      instruction_steps job (counted_place (flat program) (first_flat_of program j) depth) job.steps
       ≡ line_time program j n
   pub operations : executed_at job (counted_place (flat program) (first_flat_of program j) depth)
       job.steps ≡ line_operations program j n

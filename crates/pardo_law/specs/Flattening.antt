@@ -4,9 +4,9 @@ use Rattle.std.specs.Prelude.{Option, Some, None, IsTrue, is_some}
 use Rattle.pardo_program.specs.declared.statement.Line.{Line}
 use Rattle.pardo_program.specs.Lawful.{IsProgram}
 use Rattle.pardo_program.specs.Program.{ProgramData}
-use Rattle.pardo_flat.specs.Flat.{flat, first_flat_of, is_common, pieces_of, flat_size}
+use Rattle.pardo_flat.specs.Flat.{flat, first_flat_of, is_for_all, pieces_of, flat_size}
 use Rattle.pardo_job.specs.Carries.{Shares, StandsFor}
-use Rattle.pardo_job.specs.Conflicts.{asked}
+use Rattle.pardo_job.specs.Conflicts.{asked_for}
 use Rattle.pardo_job.specs.Meaning.{Source, after}
 
 -- how many flat lines are made for the line that is next
@@ -34,16 +34,16 @@ pub record KeepsLine (program : ProgramData) (n : ℕ) (line : Line) : Type 0 wh
   pub at : (k : ℕ) → k ≤ length (pieces_of program line) →
       ((after (flat program) (flat_count program n + k)).at
       ≡ first_flat_of program (after program n).at + k)
-      ⊎ (IsTrue (is_common line.statement)
+      ⊎ (IsTrue (is_for_all line.statement)
       × IsLeft (flat program) (after (flat program) (flat_count program n + k)))
   pub gone : (k i number : ℕ) → k ≤ length (pieces_of program line) →
       (after (flat program) (flat_count program n + k)).gone i ≡ Some number →
       (after program (n + 1)).gone i ≡ Some number
   pub hidden : (k i : ℕ) → k < length (pieces_of program line) →
-      asked (flat program) (after (flat program) (flat_count program n + k)) i ≡ None
-  pub asks : (i : ℕ) → asked (flat program)
+      asked_for (flat program) (after (flat program) (flat_count program n + k)) i ≡ None
+  pub asks : (i : ℕ) → asked_for (flat program)
       (after (flat program) (flat_count program n + length (pieces_of program line))) i
-      ≡ asked program (after program n) i
+      ≡ asked_for program (after program n) i
 
 pub record KeepsRun (program : ProgramData) (n : ℕ) : Type 0 where
   pub stands : StandsFor program (after program n) (after (flat program) (flat_count program n))

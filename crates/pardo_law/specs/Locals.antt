@@ -18,9 +18,9 @@ use Rattle.pram_step.specs.Disputes.{Forbids}
 use Rattle.pram_step.specs.Steps.{next_state}
 use Rattle.pardo_program.specs.Expression.{Tree}
 use Rattle.pardo_flat.specs.Layouts.{ProgramLayoutData}
-use Rattle.pardo_job.specs.Lines.{idle}
+use Rattle.pardo_job.specs.Lines.{no_code}
 use Rattle.pardo_job.specs.Meaning.{first_below, given_to}
-use Rattle.pardo_job.specs.Straight.{Registers, operand_in, registers_after, after_all}
+use Rattle.pardo_job.specs.Straight.{Registers, operand_value, registers_then, after_all}
 use Rattle.pardo_job.specs.Values.{value_code}
 
 -- ---- what a state holds
@@ -52,13 +52,13 @@ standing_at at (Some held) = Some (at, held)
 abbrev pub local_after : JobData → (ℕ → ℕ) → ℕ → ℕ → Registers → (ℕ → ℕ → Option ℕ) → Operands →
     Local
 local_after job memory i at held computes (PlaceValue (Named array index) value) =
-    if nat_lt (operand_in held index) array.len then Some (at + 1, held) else None
+    if nat_lt (operand_value held index) array.len then Some (at + 1, held) else None
 local_after job memory i at held computes (RegisterIndex register index) =
     Some (if held register == 0 then index else at + 1, held)
 local_after job memory i at held computes (Index index) = Some (index, held)
 local_after job memory i at held computes Bare = Some (halted job, held)
 local_after job memory i at held computes operands =
-    standing_at (at + 1) (registers_after memory i computes operands held)
+    standing_at (at + 1) (registers_then memory i computes operands held)
 
 abbrev pub after_instr : JobData → (ℕ → ℕ) → ℕ → ℕ → Registers → Instr → Local
 after_instr job memory i at held instr =
@@ -77,20 +77,20 @@ next_local job memory i (Some local) =
 -- the cell that an instruction with these operands stores to, and the value
 abbrev pub stored_in : Registers → Operands → Option (ℕ × ℕ)
 stored_in held (PlaceValue (Named array index) value) =
-    if nat_lt (operand_in held index) array.len
-    then Some (array.base + operand_in held index, operand_in held value) else None
+    if nat_lt (operand_value held index) array.len
+    then Some (array.base + operand_value held index, operand_value held value) else None
 stored_in held operands = None
 
-abbrev pub store_by : Registers → Instr → Option (ℕ × ℕ)
-store_by held instr = stored_in held (row_of instr).1
+abbrev pub local_store_by : Registers → Instr → Option (ℕ × ℕ)
+local_store_by held instr = stored_in held (row_of instr).1
 
 abbrev pub store_by_instr : Registers → Option Instr → Option (ℕ × ℕ)
 store_by_instr held None = None
-store_by_instr held (Some instr) = store_by held instr
+store_by_instr held (Some instr) = local_store_by held instr
 
-abbrev pub store_of : JobData → Local → Option (ℕ × ℕ)
-store_of job None = None
-store_of job (Some local) = store_by_instr local.1 (slice_get job.code local.0)
+abbrev pub local_store : JobData → Local → Option (ℕ × ℕ)
+local_store job None = None
+local_store job (Some local) = store_by_instr local.1 (slice_get job.code local.0)
 
 -- ---- in a step of all
 
@@ -124,7 +124,8 @@ abbrev pub EachByItself : Type 0
 EachByItself = (job : JobData) (state : State) (i : ℕ) (local : Local) → IsJob job →
     length state ≡ place_count job → i < job.procs → IsLocal job state i local →
     IsNamedAt job local →
-    FollowsByItself job state i (next_local job (memory_of job state) i local) (store_of job local)
+    FollowsByItself job state i (next_local job (memory_of job state) i local)
+    (local_store job local)
 
 -- After t steps, none of which is in conflict, memory is this, and each processor is there.
 pub record StandsAfter (job : JobData) (t : ℕ) (memory : ℕ → ℕ) (locals : ℕ → Local) : Type 0 where
@@ -175,7 +176,7 @@ ExpressionsAreStraight = (layout : ProgramLayoutData) (at : ℕ) (tree : Tree) �
 -- Steps that do nothing keep all that processors have.
 abbrev pub IdlingStays : Type 0
 IdlingStays = (job : JobData) (t at count : ℕ) (memory : ℕ → ℕ) (held : ℕ → Registers) →
-    IsJob job → HasCodeAt job at (idle at count) →
+    IsJob job → HasCodeAt job at (no_code at count) →
     StandsAfter job t memory (λ i. Some (at, held i)) →
     StandsAfter job (t + count) memory (λ i. Some (at + count, held i))
 
@@ -196,7 +197,7 @@ abbrev pub StoresAreMade : Type 0
 StoresAreMade = (job : JobData) (t : ℕ) (memory : ℕ → ℕ) (locals : ℕ → Local) → IsJob job →
     StandsAfter job t memory locals →
     ((i : ℕ) → i < job.procs → IsNamedAt job (locals i)) →
-    StoresAgree job (λ i. store_of job (locals i)) →
+    StoresAgree job (λ i. local_store job (locals i)) →
     (now : ℕ → ℕ) × StandsAfter job (suc t) now (λ i. next_local job memory i (locals i))
     × ((cell : ℕ) → cell < job.cells →
-    now cell ≡ after_stores job.procs (λ i. store_of job (locals i)) memory cell)
+    now cell ≡ after_stores job.procs (λ i. local_store job (locals i)) memory cell)

@@ -4,12 +4,12 @@ use Rattle.pardo_program.specs.Lawful.{IsProgram}
 use Rattle.pardo_program.specs.Nested.{IsNested}
 use Rattle.pardo_program.specs.Program.{ProgramData}
 use Rattle.pardo_program.specs.Tests.{program_untested}
-use Rattle.pardo_job.specs.Conflicts.{asked}
+use Rattle.pardo_job.specs.Conflicts.{asked_for}
 use Rattle.pardo_job.specs.Meaning.{Source, after}
 
 -- Two states are one for so many processors: the line that is next, shared cells, the variables of
 -- loops, and all that each of the processors has.
-pub record AreSame (procs : ℕ) (one other : Source) : Type 0 where
+pub record AreAlike (procs : ℕ) (one other : Source) : Type 0 where
   pub at : one.at ≡ other.at
   pub cells : one.cells ≡ other.cells
   pub loops : one.loops ≡ other.loops
@@ -20,10 +20,10 @@ pub record AreSame (procs : ℕ) (one other : Source) : Type 0 where
 -- Without the tests a program is in the same state after n lines as with them, and each processor
 -- asks for the same in the line that is next.
 pub record RunsUntested (program : ProgramData) (n : ℕ) : Type 0 where
-  pub same : AreSame program.procs (after (program_untested program) n) (after program n)
+  pub same : AreAlike program.procs (after (program_untested program) n) (after program n)
   pub asks : (i : ℕ) → i < program.procs →
-      asked (program_untested program) (after (program_untested program) n) i
-      ≡ asked program (after program n) i
+      asked_for (program_untested program) (after (program_untested program) n) i
+      ≡ asked_for program (after program n) i
 
 -- Without the tests that are left out a lawful program whose blocks are nested runs as with them.
 abbrev pub LeftOutTestsChangeNothing : Type 0

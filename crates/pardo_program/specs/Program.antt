@@ -22,10 +22,10 @@ abbrev pub shared_cells : List ArrayData → ℕ
 shared_cells arrays = sum_by (λ array. length array.start) arrays
 
 -- how many places there are
-abbrev pub places_in : Shape → ℕ
-places_in Scalar = 1
-places_in (OneIndex places) = places
-places_in (Table rows columns) = rows * columns
+abbrev pub places_of_shape : Shape → ℕ
+places_of_shape Scalar = 1
+places_of_shape (OneIndex places) = places
+places_of_shape (Table rows columns) = rows * columns
 
 abbrev pub is_scalar_shape : Shape → Bool
 is_scalar_shape Scalar = true

@@ -1,6 +1,6 @@
 //! Shared arrays.
 ghost use Rattle.std.specs.Prelude.{◌≡◌, ◌<◌, ◌^◌, IfOk};
-ghost use Rattle.pardo_program.specs.Program.{is_scalar_shape, places_in, width_of};
+ghost use Rattle.pardo_program.specs.Program.{is_scalar_shape, places_of_shape, width_of};
 
 use std::alloc::{AllocError, Global};
 use std::marker::Model;
@@ -19,8 +19,8 @@ pub enum Shape {
 impl Shape {
     /// How many places there are.
     pub fn places(self) -> u32
-        requires { places_in self < 2 ^ 32 }
-        ensures { result ≡ places_in self }
+        requires { places_of_shape self < 2 ^ 32 }
+        ensures { result ≡ places_of_shape self }
     {
         match self {
             Shape::Scalar => 1,

@@ -7,7 +7,7 @@ ghost use Rattle.std.specs.Prelude.{List};
 ghost use Rattle.pardo_program.specs.Expression.{Tree};
 ghost use Rattle.pardo_program.specs.Inner.Nodes.{IsLeaf, IsLastNumber};
 ghost use Rattle.pardo_program.specs.Inner.Postfixes.{postfixes};
-ghost use Rattle.pardo_program.specs.Inner.Untested.{CanTake, TakesUntested, is_test};
+ghost use Rattle.pardo_program.specs.Inner.Untested.{OperandsAreThere, TakesUntested, is_test};
 ghost use Rattle.std.specs.List.{list_any};
 ghost use Rattle.pardo_program.specs.Tests.{is_below, is_rest_below, untested, without_tests};
 ghost use Rattle.pardo_program.specs.Operations.{is_division};
@@ -239,7 +239,7 @@ impl Exprs {
 
     // One node more of an expression, which becomes one without tests that cannot fail.
     fn take_untested(&mut self, known: &Known, node: Node) -> Result<(), AllocError>
-        requires { CanTake known.now node self.old }
+        requires { OperandsAreThere known.now node self.old }
         ensures { IfOk result (λ _. TakesUntested known.now node self.old self.new) }
     {
         match node {

@@ -23,7 +23,7 @@ use Rattle.text_lines.specs.Lines.{Word}
 use Rattle.pardo_text.specs.Names.{Names}
 use Rattle.pardo_program.specs.declared.arrays.Shape.{Shape}
 use Rattle.pardo_program.specs.declared.arrays.Shape.TheVariants as shape
-use Rattle.pardo_program.specs.Program.{places_in, shared_cells}
+use Rattle.pardo_program.specs.Program.{places_of_shape, shared_cells}
 use Rattle.pardo_text.specs.Tokens.{Token, name, number as literal, symbol}
 use Rattle.pardo_program.specs.Operations.{greatest_value}
 use Rattle.pardo_text.specs.Values.{values_for, start_at}
@@ -129,7 +129,7 @@ abbrev IsShaped : Shape × List Token → Type 0
 IsShaped read = IsShape read.0
 
 -- a scalar has a place, and so has an array
-some_places : (form : Shape) → IsShape form → 0 < places_in form
+some_places : (form : Shape) → IsShape form → 0 < places_of_shape form
 some_places shape.Scalar is = omega arith
 some_places (shape.Line places) is = is
 some_places (shape.Table rows columns) is = is.0
@@ -176,9 +176,9 @@ shared_kept d tokens is =
     ok_after (new_name d.names tokens) _ IsLawful (λ word.
     ok_bind (shape_at d.names word.1 (indexed word.1)) _ IsShaped IsLawful
     (shape_kept d.names word.1 (indexed word.1)) (λ form is_form.
-    ok_bind (start_at d.names (places_in form.0) form.1) _
-    (AreSoMany (places_in form.0)) IsLawful
-    (starts_kept d.names (places_in form.0) form.1) (λ start p.
+    ok_bind (start_at d.names (places_of_shape form.0) form.1) _
+    (AreSoMany (places_of_shape form.0)) IsLawful
+    (starts_kept d.names (places_of_shape form.0) form.1) (λ start p.
     let some = some_places form.0 is_form in
     array_line d word.0 form.0 start is_form (omega (arith, some, p.0)) p.1 is)))
 

@@ -36,7 +36,7 @@ use Rattle.pardo_text.specs.Header.{header_line}
 use Rattle.pardo_text.specs.Laws.{NamesAreDistinct}
 use Rattle.pardo_text.specs.Names.{Names, named}
 use Rattle.pardo_program.specs.declared.arrays.Shape.{Shape}
-use Rattle.pardo_program.specs.Program.{ArrayData, PrivateData, ProgramData, places_in}
+use Rattle.pardo_program.specs.Program.{ArrayData, PrivateData, ProgramData, places_of_shape}
 use Rattle.pardo_text.specs.Reading.{line_in_stage, with_tokens, with_text_line, finished_draft}
 use Rattle.pardo_text.specs.Reading.{program_in, on_line, program_after, program_of}
 use Rattle.pardo_text.specs.Tokens.{Token, name, number as literal, symbol, tokens_of}
@@ -212,7 +212,7 @@ shared_names d tokens is =
     ok_bind (new_name d.names tokens) _ (IsNew d.names) HaveNames (new_is d.names tokens)
     (λ word new.
     ok_after (shape_at d.names word.1 (indexed word.1)) _ HaveNames (λ form.
-    ok_after (start_at d.names (places_in form.0) form.1) _ HaveNames (λ start.
+    ok_after (start_at d.names (places_of_shape form.0) form.1) _ HaveNames (λ start.
     fitting_names (with_array word.0 form.0 start d)
     (array_names d word.0 form.0 start new is))))
 

@@ -30,7 +30,7 @@ use Rattle.pardo_text.specs.Expressions.{new_name, rest_after_mark, indexed, end
 use Rattle.pardo_text.specs.Expressions.{expression_at, fixed_at}
 use Rattle.pardo_text.specs.Header.{version_line, rule_named, rule_line, const_line, procs_line}
 use Rattle.pardo_text.specs.Header.{shape_at, shared_line, private_start, private_line, code_line}
-use Rattle.pardo_program.specs.Program.{places_in}
+use Rattle.pardo_program.specs.Program.{places_of_shape}
 use Rattle.pardo_text.specs.Header.{header_line}
 use Rattle.pardo_text.specs.Laws.{ProgramsAreNested}
 use Rattle.text_lines.specs.Lines.{Word, lines_of, is_allowed, said_in}
@@ -116,7 +116,7 @@ unfolding shared_line
 shared_code d tokens is =
     ok_after (new_name d.names tokens) _ Code (λ word.
     ok_after (shape_at d.names word.1 (indexed word.1)) _ Code (λ form.
-    ok_after (start_at d.names (places_in form.0) form.1) _ Code (λ start.
+    ok_after (start_at d.names (places_of_shape form.0) form.1) _ Code (λ start.
     fitting_code (with_array word.0 form.0 start d) is)))
 
 private_code : (d : Draft) (tokens : List Token) → Code d → IfOk (private_line d tokens) Code

@@ -13,7 +13,7 @@ use Rattle.std.proofs.lemmas.List.Splits.{slice_split_at, slice_split_none, leng
 use Rattle.text_lines.specs.Lines.{lines_of, said_in}
 use Rattle.pardo_text.specs.Laws.{SetLinesStay}
 use Rattle.pardo_text.specs.Settings.{SettingData, declared_at, line_as_set, parted, put_by, set_in}
-use Rattle.pardo_text.specs.Settings.{settled, text_as_set, value_in}
+use Rattle.pardo_text.specs.Settings.{settled, text_as_set, settable_value}
 use Rattle.pardo_text.proofs.Fields.{by_test}
 
 abbrev pub is_feed : ℕ → Bool
@@ -92,7 +92,7 @@ set_clean : (settings : List SettingData) (line : List ℕ) → NoFeed line →
     IfSome (set_in false settings line) IsClean
 set_clean settings line clean =
     some_comes IsClean _ (declared_at line) (λ declared.
-    some_comes IsClean _ (value_in declared.0 declared.2) (λ rest.
+    some_comes IsClean _ (settable_value declared.0 declared.2) (λ rest.
     some_maps IsClean _ (put_by false settings declared.0 declared.1) (λ values.
     All-take (λ byte. is_feed byte ≡ false) (length line - length rest) line clean)))
 

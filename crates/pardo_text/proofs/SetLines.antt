@@ -7,7 +7,7 @@ use Rattle.std.proofs.lemmas.List.Splits.{join_with_byte-slice_split}
 use Rattle.text_lines.specs.Lines.{lines_of, said_in}
 use Rattle.pardo_text.specs.Laws.{NothingSetChangesNothing}
 use Rattle.pardo_text.specs.Settings.{declared_at, line_as_set, parted, set_in, settled}
-use Rattle.pardo_text.specs.Settings.{text_as_set, value_in}
+use Rattle.pardo_text.specs.Settings.{text_as_set, settable_value}
 
 none_comes : {A B : Type 0} (f : A → Option B) (o : Option A) → ((a : A) → f a ≡ None) →
     option_and_then f o ≡ None
@@ -17,7 +17,7 @@ none_comes f (Some a) never = never a
 none_set : (line : List ℕ) → set_in false [] line ≡ None
 none_set line =
     none_comes _ (declared_at line)
-    (λ declared. none_comes _ (value_in declared.0 declared.2) (λ rest. refl))
+    (λ declared. none_comes _ (settable_value declared.0 declared.2) (λ rest. refl))
 
 line_stays : (line : List ℕ) → line_as_set [] line ≡ line
 line_stays line =

@@ -19,7 +19,7 @@ use Rattle.pardo_text.specs.Expressions.{Read, rest_after_mark}
 use Rattle.pardo_text.specs.Expressions.{indexed, ended, new_name, expression_at, fixed_at}
 use Rattle.text_lines.specs.Lines.{Word}
 use Rattle.pardo_text.specs.Names.{Names}
-use Rattle.pardo_program.specs.Program.{places_in}
+use Rattle.pardo_program.specs.Program.{places_of_shape}
 use Rattle.text_lines.specs.Reads.{◌>>=◌}
 use Rattle.pardo_text.specs.Tokens.{Token, name, number as literal, symbol}
 use Rattle.pardo_program.specs.Operations.{greatest_value}
@@ -96,7 +96,7 @@ unfoldable pub shared_line : Draft → List Token → Result Draft PardoKind
 shared_line draft tokens = do
   word ← new_name draft.names tokens
   form ← shape_at draft.names word.1 (indexed word.1)
-  start ← start_at draft.names (places_in form.0) form.1
+  start ← start_at draft.names (places_of_shape form.0) form.1
   fitting (with_array word.0 form.0 start draft)
 
 -- the start value of a private variable, to the end of the line

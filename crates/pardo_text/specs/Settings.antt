@@ -93,10 +93,10 @@ after_index rest =
 
 -- what stands where the value does that may be set: after the name of a constant, and after the
 -- index of an array
-abbrev pub value_in : Symbol → List ℕ → Option (List ℕ)
-value_in the.Const rest = Some rest
-value_in the.Shared rest = after_index rest
-value_in _ rest = None
+abbrev pub settable_value : Symbol → List ℕ → Option (List ℕ)
+settable_value the.Const rest = Some rest
+settable_value the.Shared rest = after_index rest
+settable_value _ rest = None
 
 -- What a line is set to: what its name is; but the array of a line whose values do not count has
 -- none.
@@ -110,7 +110,7 @@ set_in bare settings line = option_and_then (λ declared.
     option_and_then (λ rest.
     option_map (λ values. (take (length line - length rest) line, values))
     (put_by bare settings declared.0 declared.1))
-    (value_in declared.0 declared.2))
+    (settable_value declared.0 declared.2))
     (declared_at line)
 
 -- numbers, each after what parts it from the one before

@@ -7,7 +7,7 @@ ghost use Rattle.pardo_text.specs.Settings.{exchanged, has_index, is_of_length, 
 ghost use Rattle.pardo_text.specs.Settings.{line_numbered, may_set};
 ghost use Rattle.pardo_text.specs.Settings.{misfit, parted, put_by, set_in, settable_by};
 ghost use Rattle.pardo_text.specs.Settings.{settable_in};
-ghost use Rattle.pardo_text.specs.Settings.{text_as_set, unmet, value_in};
+ghost use Rattle.pardo_text.specs.Settings.{text_as_set, unmet, settable_value};
 ghost use Rattle.text_lines.specs.Lines.{lines_of, said_in};
 
 use crate::fault::{PardoFault, PardoKind};
@@ -154,7 +154,7 @@ pub(crate) fn declared(line: &[u8]) -> Option<(Symbol, &[u8], &[u8])>
 
 // What stands where the value does that may be set.
 fn value_place(keyword: Symbol, rest: &[u8]) -> Option<&[u8]>
-    ensures { option_map (λ rest. rest.now) result ≡ value_in keyword rest.now }
+    ensures { option_map (λ rest. rest.now) result ≡ settable_value keyword rest.now }
 {
     match keyword {
         Symbol::Const => Some(rest),

@@ -3,7 +3,7 @@ ghost use Rattle.std.specs.Prelude.{◌≡◌, ◌<◌, ◌^◌, IfOk};
 ghost use Rattle.pardo_text.specs.Expressions.{indexed};
 ghost use Rattle.pardo_text.specs.Header.{after_comma, columns_at, rule_named, shape_at};
 ghost use Rattle.pardo_text.specs.Header.{private_start};
-ghost use Rattle.pardo_program.specs.Program.{places_in};
+ghost use Rattle.pardo_program.specs.Program.{places_of_shape};
 ghost use Rattle.pardo_text.specs.Inner.Names.{names_in};
 ghost use Rattle.pardo_text.specs.Inner.Tokens.{GivesAsRead};
 
@@ -163,7 +163,7 @@ fn rule_named(name: &[u8]) -> Result<Rule, PardoKind>
 fn shape(alloc: Global, names: &Names<'_>, tokens: &mut Cursor<'_>) -> Result<Shape, PardoKind>
     ensures read { GivesAsRead (λ form. (form, tokens.new)) result
         (shape_at (names_in names.now) tokens.old (indexed tokens.old)) }
-    ensures few { IfOk result (λ form. places_in form < 2 ^ 32) }
+    ensures few { IfOk result (λ form. places_of_shape form < 2 ^ 32) }
 {
     if !indexed(tokens) {
         return Ok(Shape::Scalar);
@@ -183,7 +183,7 @@ fn columns(
 ) -> Result<Shape, PardoKind>
     ensures read { GivesAsRead (λ form. (form, tokens.new)) result
         (columns_at (names_in names.now) rows tokens.old (after_comma tokens.old)) }
-    ensures few { IfOk result (λ form. places_in form < 2 ^ 32) }
+    ensures few { IfOk result (λ form. places_of_shape form < 2 ^ 32) }
 {
     if !comma(tokens) {
         return Ok(Shape::Line(rows));

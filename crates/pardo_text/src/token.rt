@@ -6,7 +6,7 @@ ghost use Rattle.std.specs.Option.{option_map};
 ghost use Rattle.text_lines.specs.Lines.{said_in};
 ghost use Rattle.pardo_text.specs.Tokens.{begins_name, is_of_name, run_len, keywords, marks};
 ghost use Rattle.pardo_text.specs.Tokens.{symbol, word_by, mark_by, token_at, tokens_of};
-ghost use Rattle.pardo_text.specs.Inner.Marks.{spelled_by, header_words, block_words};
+ghost use Rattle.pardo_text.specs.Inner.Marks.{spelled_by, header_words, words_of_blocks};
 ghost use Rattle.pardo_text.specs.Inner.Marks.{operation_words, long_marks, short_marks, byte_by};
 ghost use Rattle.pardo_text.specs.Inner.Marks.{operation_bytes, other_bytes};
 ghost use Rattle.pardo_text.specs.Inner.Tokens.{plain, after_blanks, tokens_cut, GivesAsRead};
@@ -92,7 +92,7 @@ fn header_word(word: &[u8]) -> Option<Symbol>
 
 // The keyword that a word is, if it begins or ends a block.
 fn block_word(word: &[u8]) -> Option<Symbol>
-    ensures { result ≡ spelled_by block_words word.now }
+    ensures { result ≡ spelled_by words_of_blocks word.now }
 {
     if is_word(word, "for") {
         Some(Symbol::For)

@@ -35,7 +35,7 @@ use Rattle.walkx.proofs.Turning.{wide_does}
 use Rattle.walkx.proofs.WideAsking.{wide_asks}
 use Rattle.lawful_walk.specs.Moments.{Sound}
 use Rattle.pram_board.specs.Inner.Plays.{DonePart, Drives, Driving, IsWalking, Led, Moved}
-use Rattle.pram_board.specs.Inner.Plays.{PlaysScript, in_block, task_at, turning_at}
+use Rattle.pram_board.specs.Inner.Plays.{PlaysScript, in_block, post_task, turning_at}
 use Rattle.pram_board.proofs.Stepping.{driver_starts}
 use Rattle.pram_board.proofs.Telling.{led}
 
@@ -118,14 +118,14 @@ module _ (at : PostData) (leaf : IsLeafPost at) (wide : IsWide at.layout.form)
           (sym is))
 
   -- it is there without an atomic step
-  module _ (p : Driving) (walks : IsWalking (task_at at) p here) where
+  module _ (p : Driving) (walks : IsWalking (post_task at) p here) where
     on : (m : Memo) → idle at memo ≡ Some m → (now : List Memo) →
         slice_set memory (processor_of at) m ≡ now →
-        Moved (task_at at) p here p (in_block at (suc at.rank) now)
+        Moved (post_task at) p here p (in_block at (suc at.rank) now)
     on m some now kept =
         let is : here ≡ in_block at (suc at.rank) now = past m some
         ∙ ap (in_block at (suc at.rank)) kept in record {
-          walks = subst (λ (v : Walking). IsWalking (task_at at) p v) is walks;
+          walks = subst (λ (v : Walking). IsWalking (post_task at) p v) is walks;
           went = record {
             ticks = 0;
             ran = record { answers = []; count = refl; seat = refl; worker = sym is };
@@ -161,17 +161,17 @@ module _ (at : PostData) (leaf : IsLeafPost at) (wide : IsWide at.layout.form)
   task_is (Some m) some late = sym (silent m some late script)
 
   -- so it is the next part
-  pub task_starts : (p : Driving) → IsWalking (task_at at) p here → (late : Script Then) →
-      Drives (task_at at) (p, script) p (does_wide at memo late (after_task (idle at memo)))
+  pub task_starts : (p : Driving) → IsWalking (post_task at) p here → (late : Script Then) →
+      Drives (post_task at) (p, script) p (does_wide at memo late (after_task (idle at memo)))
   task_starts p walks late =
-      subst (λ (s : Script Then). Drives (task_at at) (p, script) p s) (task_is (idle at memo) refl late)
-      (driver_starts (task_at at) p here walks refl tt)
+      subst (λ (s : Script Then). Drives (post_task at) (p, script) p s) (task_is (idle at memo) refl late)
+      (driver_starts (post_task at) p here walks refl tt)
 
   -- and the worker is at the next processor
-  module _ (p z : Driving) (walks : IsWalking (task_at at) p here)
+  module _ (p z : Driving) (walks : IsWalking (post_task at) p here)
       (sound : Sound at.job at.layout z.seat.record_of) (learned : Memo) where
     abbrev Moves : Type 0
-    Moves = Moved (task_at at) p here z
+    Moves = Moved (post_task at) p here z
         (in_block at (suc at.rank) (slice_set memory (processor_of at) learned))
 
     asks_some : (w : Walking) (end : Then) → here ≡ w → script_of at.job at.layout w ≡ ends end → ⊥
@@ -180,39 +180,39 @@ module _ (at : PostData) (leaf : IsLeafPost at) (wide : IsWide at.layout.form)
         let none : first_op (ends end) ≡ Some first.0 =
         sym (ap first_op (ap (script_of at.job at.layout) is ∙ e)) ∙ first.1 in cc
 
-    asked : idle at memo ≡ None → Drives (task_at at) (p, script) z (ends (has_worked at learned)) →
+    asked : idle at memo ≡ None → Drives (post_task at) (p, script) z (ends (has_worked at learned)) →
         Moves
     asked none drives =
         let w = stands_in at.worker at.node at.phase (at.rank, memory) in
         let is : here ≡ w = stops none in
         let now = in_block at (suc at.rank) (slice_set memory (processor_of at) learned) in
-        let walks_there = subst (λ (v : Walking). IsWalking (task_at at) p v) is walks in
-        let plays = subst (λ (s : Script Then). PlaysScript (task_at at) s p
+        let walks_there = subst (λ (v : Walking). IsWalking (post_task at) p v) is walks in
+        let plays = subst (λ (s : Script Then). PlaysScript (post_task at) s p
         (ends (has_worked at learned)) z) (ap (script_of at.job at.layout) is) drives.plays in
-        let by = led (task_at at) w p z (has_worked at learned) now refl tt drives.here
+        let by = led (post_task at) w p z (has_worked at learned) now refl tt drives.here
         walks_there.fits walks_there.knows sound (asks_some w (has_worked at learned) is)
         (λ found earlier. refl) plays in
-        subst (λ (v : Walking). Moved (task_at at) p v z now) (sym is)
+        subst (λ (v : Walking). Moved (post_task at) p v z now) (sym is)
         (record { walks = by.walks; went = by.went })
 
     passed : (m : Memo) → idle at memo ≡ Some m → learned ≡ m → z ≡ p → Moves
     passed m some known same =
         let now = slice_set memory (processor_of at) learned in
-        subst (λ (d : Driving). Moved (task_at at) p here d (in_block at (suc at.rank) now))
+        subst (λ (d : Driving). Moved (post_task at) p here d (in_block at (suc at.rank) now))
         (sym same) (on p walks m some now (ap (slice_set memory (processor_of at)) (sym known)))
 
     task_moves : Passes (idle at memo) p z learned →
-        Drives (task_at at) (p, script) z (after_task (idle at memo) learned) → Moves
+        Drives (post_task at) (p, script) z (after_task (idle at memo) learned) → Moves
     task_moves passes drives = by (idle at memo) refl passes drives
       where
         by : (o : Option Memo) → idle at memo ≡ o → Passes o p z learned →
-            Drives (task_at at) (p, script) z (after_task o learned) → Moves
+            Drives (post_task at) (p, script) z (after_task o learned) → Moves
         by None none passes drives = asked none drives
         by (Some m) some passes drives = passed m some passes.0 passes.1
 
     -- what is then known of the processor fits
     learned_fits : FitsMemory at.job memory → Passes (idle at memo) p z learned →
-        Drives (task_at at) (p, script) z (after_task (idle at memo) learned) →
+        Drives (post_task at) (p, script) z (after_task (idle at memo) learned) →
         FitsMemo at.job learned
     unfolding AllAsk
     learned_fits fits passes drives = by (idle at memo) refl passes drives
@@ -223,7 +223,7 @@ module _ (at : PostData) (leaf : IsLeafPost at) (wide : IsWide at.layout.form)
         ends_fit (ends x) m some all = let is : x ≡ m = cc in subst (FitsMemo at.job) is all
 
         by : (o : Option Memo) → idle at memo ≡ o → Passes o p z learned →
-            Drives (task_at at) (p, script) z (after_task o learned) → FitsMemo at.job learned
+            Drives (post_task at) (p, script) z (after_task o learned) → FitsMemo at.job learned
         by None none passes drives =
             subst (AllAsk at.job at.layout (FitsThen at.job)) drives.plays.comes
             (asks_after (FitsThen at.job) at.job at.layout script drives.plays.answers
@@ -236,7 +236,7 @@ module _ (at : PostData) (leaf : IsLeafPost at) (wide : IsWide at.layout.form)
 
     -- the task was done
     pub task_done : FitsMemory at.job memory → Passes (idle at memo) p z learned →
-        Drives (task_at at) (p, script) z (after_task (idle at memo) learned) →
+        Drives (post_task at) (p, script) z (after_task (idle at memo) learned) →
         DonePart at p memory z (slice_set memory (processor_of at) learned)
     task_done fits passes drives = record {
       fits = memory_set at.job memory (processor_of at) learned fits
@@ -288,30 +288,30 @@ module _ (at : PostData) (rank : ℕ) (memory : List Memo) (wide : IsWide at.lay
       ≡ marks_block at (gone at memory)
   mark_script = ap (script_of at.job at.layout) at_end ∙ rw last refl
 
-  pub mark_starts : (p : Driving) → IsWalking (task_at at) p (in_block at rank memory) →
-      Drives (task_at at) (p, marks_block at (gone at memory)) p (marks_block at (gone at memory))
+  pub mark_starts : (p : Driving) → IsWalking (post_task at) p (in_block at rank memory) →
+      Drives (post_task at) (p, marks_block at (gone at memory)) p (marks_block at (gone at memory))
   mark_starts p walks =
-      subst (λ (s : Script Then). Drives (task_at at) (p, s) p s) mark_script
-      (driver_starts (task_at at) p (in_block at rank memory) walks refl tt)
+      subst (λ (s : Script Then). Drives (post_task at) (p, s) p s) mark_script
+      (driver_starts (post_task at) p (in_block at rank memory) walks refl tt)
 
   pub mark_leads : (p z : Driving) (turned : Turned) →
-      IsWalking (task_at at) p (in_block at rank memory) →
+      IsWalking (post_task at) p (in_block at rank memory) →
       Sound at.job at.layout z.seat.record_of →
-      Drives (task_at at) (p, marks_block at (gone at memory)) z (ends (leads at turned)) →
-      Led (task_at at) p (in_block at rank memory) z (turning_at at (gone at memory))
+      Drives (post_task at) (p, marks_block at (gone at memory)) z (ends (leads at turned)) →
+      Led (post_task at) p (in_block at rank memory) z (turning_at at (gone at memory))
   mark_leads p z turned walks sound drives =
       let w = stands_in at.worker at.node at.phase (rank, gone at memory) in
       let end = turns at.node at.phase in
       let script : script_of at.job at.layout w ≡ marks_block at (gone at memory) = rw last refl in
-      let walks_there = subst (λ (v : Walking). IsWalking (task_at at) p v) at_end walks in
+      let walks_there = subst (λ (v : Walking). IsWalking (post_task at) p v) at_end walks in
       let is = one_end at (gone at memory) (leads at turned) drives.plays.answers
       drives.plays.comes in
-      let plays = subst (λ (s : Script Then). PlaysScript (task_at at) s p (ends end) z)
+      let plays = subst (λ (s : Script Then). PlaysScript (post_task at) s p (ends end) z)
       (sym script)
-      (subst (λ (e : Then). PlaysScript (task_at at) (marks_block at (gone at memory)) p (ends e) z)
+      (subst (λ (e : Then). PlaysScript (post_task at) (marks_block at (gone at memory)) p (ends e) z)
       is drives.plays) in
-      subst (λ (v : Walking). Led (task_at at) p v z (turning_at at (gone at memory))) (sym at_end)
-      (led (task_at at) w p z end (turning_at at (gone at memory)) refl tt drives.here
+      subst (λ (v : Walking). Led (post_task at) p v z (turning_at at (gone at memory))) (sym at_end)
+      (led (post_task at) w p z end (turning_at at (gone at memory)) refl tt drives.here
       walks_there.fits walks_there.knows sound
       (λ e. mark_asks at (gone at memory) end (sym script ∙ e))
       (λ found earlier. refl) plays)

@@ -20,7 +20,7 @@ use Rattle.lawful_walk.specs.Moments.{Sound}
 use Rattle.pram_board.specs.Inner.Doing.{AtAlike, DoneAlike}
 use Rattle.pram_board.specs.Inner.Plain.{AllBy, by_lanes}
 use Rattle.pram_board.specs.Inner.Plays.{AtPart, AtTask, DonePart, DoneTo, Drives, Driving, Moved}
-use Rattle.pram_board.specs.Inner.Plays.{in_block, task_at}
+use Rattle.pram_board.specs.Inner.Plays.{in_block, post_task}
 use Rattle.pram_board.proofs.Blocks.{after_task, task_done, task_starts}
 use Rattle.pram_board.proofs.Tasks.{at_next, done_from, is_within}
 
@@ -37,16 +37,16 @@ module _ (at : PostData) (held memory : List Memo)
   abbrev pub script_there : Script Then
   script_there = script_of at.job at.layout (in_block at at.rank held)
 
-  pub alike_starts : (late : Script Then) → Drives (task_at at) (p, script_there) p
+  pub alike_starts : (late : Script Then) → Drives (post_task at) (p, script_there) p
       (does_wide at (memo_of memory (processor_of at)) late follows)
   alike_starts late =
-      subst (λ (m : Memo). Drives (task_at at) (p, script_there) p (does_wide at m late follows))
+      subst (λ (m : Memo). Drives (post_task at) (p, script_there) p (does_wide at m late follows))
       same (task_starts at part.leaf part.walks.fits.block.2 held p part.walks late)
 
   pub alike_done : (z : Driving) (then : Memo) →
       idle at (memo_of memory (processor_of at)) ≡ None →
       Sound at.job at.layout z.seat.record_of →
-      Drives (task_at at) (p, script_there) z (follows then) →
+      Drives (post_task at) (p, script_there) z (follows then) →
       DonePart at p held z (slice_set held (processor_of at) then)
   alike_done z then asks sound drives =
       let none : idle at (memo_of held (processor_of at)) ≡ None =
@@ -146,7 +146,7 @@ module _ (does : PostData → ℕ → Memo → ℕ → Memo)
             same ∙ ranks from at.rank (processor_of at) v (memo_of memory (processor_of at))
 
     -- from the first one
-    module _ (p : Driving) (first : Moved (task_at from) p (in_block from from.rank memory) q
+    module _ (p : Driving) (first : Moved (post_task from) p (in_block from from.rank memory) q
         (in_block from at.rank done_before)) (z : Driving) (found : Option ℕ)
         (done : DoneAlike at q memory own found z) where
       abbrev then : List Memo

@@ -5,7 +5,7 @@ use Rattle.std.proofs.lemmas.List.{length-append}
 use Rattle.std.specs.List.{AllByRecursion}
 use Rattle.pram_words.specs.declared.words.Word.TheVariants.{Node}
 use Rattle.pram_words.specs.Words.{LayoutData, length_of, number_of}
-use Rattle.walkx.specs.Bound.{told_all, history_of, most_steps}
+use Rattle.walkx.specs.Bound.{told_all, history_of, own_step_bound}
 use Rattle.walkx.specs.declared.operation.Op.{Op}
 use Rattle.walkx.specs.declared.operation.Op.TheVariants.{Load}
 use Rattle.walkx.specs.Records.{Record, Has, Knows}
@@ -147,7 +147,7 @@ advanced_more t p w q mid z now first second = record {
 pub advanced_few : (t : Task) (p : SeatData) (w : Walking) (q : SeatData) (now : Walking) →
     IsBoard t.job t.layout → Fits t.job t.layout w → Knows t.job t.layout p.record_of w →
     (by : Advanced t p w q now) → Sound t.job t.layout q.record_of → end_of now.now ≡ None →
-    length by.answers < most_steps t.job
+    length by.answers < own_step_bound t.job
 advanced_few t p w q now board fits knows by sound none =
     let going : IsGoing (told_all t.job t.layout w by.answers).now =
     subst (λ (v : Walking). IsGoing v.now) by.worker (going_of now.now none) in

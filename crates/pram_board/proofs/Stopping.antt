@@ -22,7 +22,7 @@ use Rattle.pram_words.specs.Stamps.{newer_word, stamp_of}
 use Rattle.pram_words.specs.Words.{LayoutData, IsStamped, IsWord, most_stored, number_of, places_of}
 use Rattle.walk_memory.specs.Blocks.{IsWide}
 use Rattle.walk_memory.specs.declared.memo.Own.{Own}
-use Rattle.walk_memory.specs.Learned.{newest_of, told_by}
+use Rattle.walk_memory.specs.Learned.{newest_of, learned_own}
 use Rattle.walk_memory.specs.Memory.{asked, is_load, loads_next, own_after, own_at, settled_at}
 use Rattle.walk_memory.specs.Memory.{settles}
 use Rattle.walk_memory.proofs.Shaped.{register_of}
@@ -85,7 +85,7 @@ sound_word job y r p word a b knows place e f sound =
 
 pub record Tells (job : JobData) (i : ℕ) (words : List ℕ) : Type 0 where
   pub since : newest_of words ≡ settled_at job job.steps i
-  pub own : told_by words ≡ own_at job (settled_at job job.steps i) i
+  pub own : learned_own words ≡ own_at job (settled_at job job.steps i) i
 
 pub tells : (form : Form) (job : JobData) (i c r0 r1 r2 r3 : ℕ) → IsWide form → IsJob job →
     i < job.procs → c ≡ settled form job job.steps (counter_place job i) →

@@ -17,7 +17,7 @@ use Rattle.walk_memory.specs.Plain.{carried_in, done_all}
 use Rattle.walkx.specs.Driving.{IsNextPart, Plays, Standing, comes}
 use Rattle.walkx.specs.declared.left.Left.{Left}
 use Rattle.walkx.specs.declared.left.Left.TheVariants.{Held, Late}
-use Rattle.walkx.specs.Storing.{left_of}
+use Rattle.walkx.specs.Storing.{left_of_task}
 use Rattle.walkx.specs.Walk.{Then, script_of}
 use Rattle.walkx.specs.WideParts.{carried_until}
 use Rattle.walk_memory.proofs.Done.{done_other}
@@ -28,8 +28,8 @@ use Rattle.walkx.proofs.Storing.{carries_until, left_if, store_asks}
 use Rattle.lawful_walk.specs.Moments.{Sound}
 use Rattle.pram_board.specs.declared.driver.Driver.{Driver}
 use Rattle.pram_board.specs.Inner.Plays.{AtPart, AtTask, DonePart, DoneTo, Drives, Driving}
-use Rattle.pram_board.specs.Inner.Plays.{Moved, StoredIn, StoredTo, Swapped, drives, driving}
-use Rattle.pram_board.specs.Inner.Plays.{in_block, task_at}
+use Rattle.pram_board.specs.Inner.Plays.{Moved, StoredIn, StoredTo, WasSwapped, drives, driving}
+use Rattle.pram_board.specs.Inner.Plays.{in_block, post_task}
 use Rattle.pram_board.proofs.Blocks.{after_task, task_done, task_starts}
 use Rattle.pram_board.proofs.Tasks.{done_from, is_within}
 use Rattle.pram_board.proofs.Working.{sound_at}
@@ -40,16 +40,16 @@ module _ (at : PostData) (p : Driving) (memory : List Memo) (is : AtPart at p me
 
   -- the task asks something, and is the next part
   pub swap_starts : idle at (memo_of memory (processor_of at)) ≡ None → (late : Script Then) →
-      Drives (task_at at) (p, script) p
+      Drives (post_task at) (p, script) p
       (does_wide at (memo_of memory (processor_of at)) late (λ m. ends (has_worked at m)))
   swap_starts none late =
       let wide = is.walks.fits.block.2 in
-      subst (λ (o : Option Memo). Drives (task_at at) (p, script) p
+      subst (λ (o : Option Memo). Drives (post_task at) (p, script) p
       (does_wide at (memo_of memory (processor_of at)) late (after_task at is.leaf wide memory o)))
       none (task_starts at is.leaf wide memory p is.walks late)
 
   -- where no report is due, it was done
-  pub swap_done : (z : Driving) (now : List Memo) → Swapped at p memory None z now →
+  pub swap_done : (z : Driving) (now : List Memo) → WasSwapped at p memory None z now →
       DonePart at p memory z now
   swap_done z now swapped =
       let wide = is.walks.fits.block.2 in
@@ -57,7 +57,7 @@ module _ (at : PostData) (p : Driving) (memory : List Memo) (is : AtPart at p me
       subst (DonePart at p memory z) (sym swapped.kept)
       (task_done at is.leaf wide memory p z is.walks swapped.sound swapped.learned is.fits
       (rw none tt)
-      (subst (λ (o : Option Memo). Drives (task_at at) (p, script) z
+      (subst (λ (o : Option Memo). Drives (post_task at) (p, script) z
       (after_task at is.leaf wide memory o swapped.learned)) (sym none) swapped.drives))
 
 -- a driver that is this one, but for what contracts see of it
@@ -70,16 +70,16 @@ driver_of d before = record d {
 
 -- the report is made
 pub reported : (at : PostData) (p : Driving) (memory now : List Memo) (write : ℕ × ℕ)
-    (d z : Driving) (swapped : Swapped at p memory (Some write) d now) →
-    Drives (task_at at) (p, script_of at.job at.layout (in_block at at.rank memory)) z
+    (d z : Driving) (swapped : WasSwapped at p memory (Some write) d now) →
+    Drives (post_task at) (p, script_of at.job at.layout (in_block at at.rank memory)) z
     (ends (has_worked at swapped.learned)) → Sound z.seat.desk.task.job
-    z.seat.desk.task.layout z.seat.record_of → Swapped at p memory None z now
+    z.seat.desk.task.layout z.seat.record_of → WasSwapped at p memory None z now
 reported at p memory now write d z swapped drives sound = record {
   learned = swapped.learned;
   kept = swapped.kept;
   asks = swapped.asks;
   cell = tt;
-  sound = sound_at (task_at at) z drives.here sound;
+  sound = sound_at (post_task at) z drives.here sound;
   drives = drives;
 }
 
@@ -101,7 +101,7 @@ is_none None e = refl
 
 pub still_stores : (at : PostData) (len : ℕ) (p : Driving) (memory : List Memo)
     (due : Option (ℕ × ℕ)) (z : Driving) (now : List Memo) → AllStore at len memory →
-    Swapped at p memory due z now → AllStore (at_rank at (suc at.rank)) len now
+    WasSwapped at p memory due z now → AllStore (at_rank at (suc at.rank)) len now
 still_stores at len p memory due z now all swapped =
     subst (AllStore (at_rank at (suc at.rank)) len) (sym swapped.kept)
     (stores_left at len memory swapped.learned all)
@@ -118,7 +118,7 @@ stored_as at len p memory last due d now is stored =
 pub stored_reported : (at : PostData) (len : ℕ) (p : Driving) (memory : List Memo) (last : PostData)
     (due : Option (ℕ × ℕ)) (d : Driving) (z : Driving) (now : List Memo) →
     (is : StoredTo at len p memory (last, due) d now) →
-    Swapped last is.mid is.between None z now → StoredTo at len p memory (last, None) z now
+    WasSwapped last is.mid is.between None z now → StoredTo at len p memory (last, None) z now
 stored_reported at len p memory last due d z now is swapped = record {
   same = is.same;
   onward = is.onward;
@@ -133,7 +133,7 @@ stored_reported at len p memory last due d z now is swapped = record {
 -- where a driver stands
 abbrev pub stands_of : {G : Type 0} → PostData → Standing (Driver G)
 stands_of at from d script = (d.seat.ghost_name ≡ from.0.seat.ghost_name)
-    × drives (task_at at) (driving from.0, from.1) (driving d) script
+    × drives (post_task at) (driving from.0, from.1) (driving d) script
 
 -- the stores of those from a leaf up to another of its block were carried out, and are yet to be
 -- remembered so
@@ -202,11 +202,11 @@ module _ {G : Type 0} (from at : PostData) (same : at ≡ at_rank from at.rank)
   abbrev after : Bool → Script Then
   after other = left_if at.job.rule at write (ends (has_worked at (carried_in at memo))) other
 
-  starts : Drives (task_at at) (q, begun) q (carried_until at.job.rule at write late after)
-  starts = subst (λ (s : Script Then). Drives (task_at at) (q, begun) q s)
+  starts : Drives (post_task at) (q, begun) q (carried_until at.job.rule at write late after)
+  starts = subst (λ (s : Script Then). Drives (post_task at) (q, begun) q s)
       (carries_until at memo holds.has write.0 write.1 holds.write late
       (λ m. ends (has_worked at m)))
-      (subst (λ (m : Memo). Drives (task_at at) (q, begun) q
+      (subst (λ (m : Memo). Drives (post_task at) (q, begun) q
       (does_wide at m late (λ m. ends (has_worked at m)))) known
       (swap_starts at q between part store_idle late))
 
@@ -229,7 +229,7 @@ module _ {G : Type 0} (from at : PostData) (same : at ≡ at_rank from at.rank)
     pub store_cell : IsCellOf at w.0
     store_cell = rw reads cell
 
-    begins_by : Drives (task_at at) (q, begun) q (carried_until rule at w late after)
+    begins_by : Drives (post_task at) (q, begun) q (carried_until rule at w late after)
     begins_by = rw (reads, by) starts
 
     pub store_next : IsNextPart (stands_of at) d (carried_until rule at w)
@@ -252,23 +252,23 @@ module _ {G : Type 0} (from at : PostData) (same : at ≡ at_rank from at.rank)
         store_same = comes_there.0
 
         comes_by : (what : Result Bool Left) → done ≡ what →
-            drives (task_at at) (q, begun) (driving e) (comes late after what)
+            drives (post_task at) (q, begun) (driving e) (comes late after what)
         comes_by what e_is = subst (λ (r : Result Bool Left).
-            drives (task_at at) (q, begun) (driving e) (comes late after r)) e_is comes_there.1
+            drives (post_task at) (q, begun) (driving e) (comes late after r)) e_is comes_there.1
 
         pub store_held : done ≡ Err Held → ⊥
         store_held e_is = comes_by (Err Held) e_is
 
         swaps : (due : Option (ℕ × ℕ)) → IfSome due (λ v. IsCellOf at v.0) → (learned : Memo)
             (now : List Memo) → now ≡ slice_set between i learned →
-            Drives (task_at at) (q, begun) (driving e) (left_of at due (ends (has_worked at learned))) →
-            Swapped at q between due (driving e) now
+            Drives (post_task at) (q, begun) (driving e) (left_of_task at due (ends (has_worked at learned))) →
+            WasSwapped at q between due (driving e) now
         swaps due fits learned now kept plays_it = record {
           learned = learned;
           kept = kept;
           asks = store_idle;
           cell = fits;
-          sound = sound_at (task_at at) (driving e) plays_it.here sound;
+          sound = sound_at (post_task at) (driving e) plays_it.here sound;
           drives = plays_it;
         }
 
@@ -277,10 +277,10 @@ module _ {G : Type 0} (from at : PostData) (same : at ≡ at_rank from at.rank)
         store_done e_is = swap_done at q between part (driving e) _ (swaps None tt
             (carried_in at memo) _ next_carried (comes_by (Ok false) e_is))
 
-        module _ (p : Driving) (moved : Moved (task_at from) p (in_block from from.rank memory) q
+        module _ (p : Driving) (moved : Moved (post_task from) p (in_block from from.rank memory) q
             (in_block from at.rank between)) where
           ends_at : (due : Option (ℕ × ℕ)) (now : List Memo) →
-              Swapped at q between due (driving e) now →
+              WasSwapped at q between due (driving e) now →
               StoredTo from len p memory (at, due) (driving e) now
           ends_at due now swapped = record {
             same = same;

@@ -11,7 +11,7 @@ use Rattle.walk_memory.specs.Blocks.{has_rank}
 use Rattle.walk_memory.proofs.Ranks.{rank_parts, rank_there}
 use Rattle.pram_board.specs.declared.task.Task.{Task}
 use Rattle.pram_board.specs.Inner.Plays.{AtTask, DoneFrom, DoneMore, DoneTo, Driving, IsWalking}
-use Rattle.pram_board.specs.Inner.Plays.{Moved, PastTask, Tried, in_block, task_at}
+use Rattle.pram_board.specs.Inner.Plays.{Moved, PastTask, Tried, in_block, post_task}
 use Rattle.pram_board.proofs.Telling.{went_more}
 
 -- no tick
@@ -57,9 +57,9 @@ leaf_at at len rank leaf ranks within =
 module _ (start : ℕ) (from at : PostData) (same : at ≡ at_rank from at.rank)
     (later : from.rank ≤ at.rank) (len : ℕ) (p : Driving) (memory : List Memo) (q : Driving)
     (mid : List Memo) (is : AtTask at len q mid)
-    (first : Moved (task_at from) p (in_block from start memory) q (in_block from at.rank mid))
+    (first : Moved (post_task from) p (in_block from start memory) q (in_block from at.rank mid))
     (z : Driving) (now : List Memo)
-    (second : Moved (task_at at) q (in_block at at.rank mid) z (in_block at (suc at.rank) now))
+    (second : Moved (post_task at) q (in_block at at.rank mid) z (in_block at (suc at.rank) now))
     (fits : FitsMemory at.job now) where
   pub done_from : DoneFrom start from len p memory at.rank z now
   done_from = record {
@@ -67,7 +67,7 @@ module _ (start : ℕ) (from at : PostData) (same : at ≡ at_rank from at.rank)
     within = is_within at len q mid is;
     fits = subst (λ (a : PostData). FitsMemory a.job now) same fits;
     moved = moved_more _ _ _ q (in_block from at.rank mid) z _ first
-        (subst (λ (a : PostData). Moved (task_at a) q (in_block a at.rank mid) z
+        (subst (λ (a : PostData). Moved (post_task a) q (in_block a at.rank mid) z
         (in_block a (suc at.rank) now)) same second);
   }
 
@@ -87,7 +87,7 @@ module _ (start : ℕ) (from at : PostData) (same : at ≡ at_rank from at.rank)
 done_before : (start : ℕ) (from at : PostData) → at ≡ at_rank from at.rank → from.rank < at.rank →
     (len : ℕ) (p : Driving) (memory : List Memo) (q : Driving) (mid : List Memo) →
     AtTask at len q mid →
-    Moved (task_at from) p (in_block from start memory) q (in_block from at.rank mid) →
+    Moved (post_task from) p (in_block from start memory) q (in_block from at.rank mid) →
     DoneFrom start from len p memory (at.rank - 1) q mid
 done_before start from at same later len p memory q mid is first =
     let within = is_within at len q mid is in
@@ -95,7 +95,7 @@ done_before start from at same later len p memory q mid is first =
       onward = omega (arith, later);
       within = omega (arith, later, within);
       fits = subst (λ (a : PostData). FitsMemory a.job mid) same is.fits;
-      moved = subst (λ (r : ℕ). Moved (task_at from) p (in_block from start memory) q
+      moved = subst (λ (r : ℕ). Moved (post_task from) p (in_block from start memory) q
           (in_block from r mid)) rank first;
     }
 
@@ -103,7 +103,7 @@ done_before start from at same later len p memory q mid is first =
 pub done_untried : (start : ℕ) (from at : PostData) → at ≡ at_rank from at.rank →
     from.rank < at.rank → (len : ℕ) (p : Driving) (memory : List Memo) (q : Driving)
     (mid : List Memo) → AtTask at len q mid →
-    Moved (task_at from) p (in_block from start memory) q (in_block from at.rank mid) →
+    Moved (post_task from) p (in_block from start memory) q (in_block from at.rank mid) →
     (z : Driving) (now : List Memo) (tried : Bool) → tried ≡ false →
     Tried at q mid z now tried → DoneFrom start from len p memory (at.rank - 1) z now
 done_untried start from at same later len p memory q mid is first z now tried none tries =
@@ -112,7 +112,7 @@ done_untried start from at same later len p memory q mid is first z now tried no
 
 -- the task of a leaf, and more after it
 pub done_first : (at : PostData) (len : ℕ) (p : Driving) (memory : List Memo) (z : Driving)
-    (now : List Memo) → Moved (task_at at) p (in_block at at.rank memory) z
+    (now : List Memo) → Moved (post_task at) p (in_block at at.rank memory) z
     (in_block at (suc at.rank) now) → (last : ℕ) (y : Driving) (then : List Memo) →
     DoneMore at len z now last y then → DoneTo at len p memory last y then
 done_first at len p memory z now first last y then more = record {
@@ -125,13 +125,13 @@ done_first at len p memory z now first last y then more = record {
 -- from one leaf to a later rank of its block
 module _ (from at : PostData) (same : at ≡ at_rank from at.rank) (len : ℕ) (p : Driving)
     (memory : List Memo) (q : Driving) (mid : List Memo) (is : AtTask at len q mid)
-    (first : Moved (task_at from) p (in_block from from.rank memory) q
+    (first : Moved (post_task from) p (in_block from from.rank memory) q
     (in_block from at.rank mid)) (z : Driving) (now : List Memo) (last : ℕ)
     (done : DoneTo at len q mid last z now) where
-  pub went_on : Moved (task_at from) p (in_block from from.rank memory) z
+  pub went_on : Moved (post_task from) p (in_block from from.rank memory) z
       (in_block from (suc last) now)
   went_on = moved_more _ _ _ q (in_block from at.rank mid) z _ first
-      (subst (λ (a : PostData). Moved (task_at a) q (in_block a at.rank mid) z
+      (subst (λ (a : PostData). Moved (post_task a) q (in_block a at.rank mid) z
       (in_block a (suc last) now)) same done.moved)
 
   pub leaf_after : suc last < len → IsLeafPost (at_rank at (suc last))

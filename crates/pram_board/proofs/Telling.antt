@@ -29,7 +29,7 @@ use Rattle.pram_board.specs.Seats.{SeatData, hears_all}
 use Rattle.pram_board.specs.Inner.Plays.{Ran}
 use Rattle.pram_board.specs.Inner.Plays.{AllAnswer, Drives, Driving, IsAt, Led, PlaysScript}
 use Rattle.pram_board.specs.Inner.Plays.{IsWalking, Went}
-use Rattle.pram_board.specs.Inner.Plays.{in_block, led_to, task_at, turning_at}
+use Rattle.pram_board.specs.Inner.Plays.{in_block, led_to, post_task, turning_at}
 use Rattle.pram_board.proofs.Due.{hearing}
 use Rattle.pram_board.proofs.Playing.{afters_more, length_more}
 
@@ -164,23 +164,23 @@ asks_some op next end e =
 
 -- a turn leads to another one, to a begin, or into a block
 pub led_turn : (at : PostData) (memory : List Memo) (p z : Driving) (next : Turned) →
-    IsWalking (task_at at) p (turning_at at memory) →
+    IsWalking (post_task at) p (turning_at at memory) →
     Sound at.job at.layout z.seat.record_of →
-    Drives (task_at at) (p, turn_of at) z (ends (leads at next)) →
-    Led (task_at at) p (turning_at at memory) z (led_to at memory next)
+    Drives (post_task at) (p, turn_of at) z (ends (leads at next)) →
+    Led (post_task at) p (turning_at at memory) z (led_to at memory next)
 unfolding turn_script
 led_turn at memory p z next walks sound drives = by next drives.plays
   where
     goes : (end : Then) (now : Walking) →
         ((found : ℕ) (earlier : List ℕ) →
         goes_on at.job at.layout (hearing (turning_at at memory) earlier) found (ends end) ≡ now) →
-        PlaysScript (task_at at) (turn_of at) p (ends end) z →
-        Led (task_at at) p (turning_at at memory) z now
-    goes end now leads_to plays = led (task_at at) (turning_at at memory) p z end now refl tt
+        PlaysScript (post_task at) (turn_of at) p (ends end) z →
+        Led (post_task at) p (turning_at at memory) z now
+    goes end now leads_to plays = led (post_task at) (turning_at at memory) p z end now refl tt
         drives.here walks.fits walks.knows sound (λ e. asks_some _ _ end e) leads_to plays
 
-    by : (to : Turned) → PlaysScript (task_at at) (turn_of at) p (ends (leads at to)) z →
-        Led (task_at at) p (turning_at at memory) z (led_to at memory to)
+    by : (to : Turned) → PlaysScript (post_task at) (turn_of at) p (ends (leads at to)) z →
+        Led (post_task at) p (turning_at at memory) z (led_to at memory to)
     by turned.Finished plays =
         goes (begins 1) (beginning at.worker 1 memory) (λ found earlier. refl) plays
     by (turned.To m) plays =

@@ -5,7 +5,7 @@ use Rattle.std.proofs.Common.{true, false, true≢false, refl, sym, ap, subst, �
 use Rattle.std.proofs.lemmas.Bool.{eqb-false}
 use Rattle.std.proofs.lemmas.List.{length-append}
 use Rattle.std.specs.Option.{is_some, option_eq}
-use Rattle.walkx.specs.Bound.{most_steps}
+use Rattle.walkx.specs.Bound.{own_step_bound}
 use Rattle.walkx.specs.declared.operation.Op.{Op}
 use Rattle.walkx.specs.Inner.Workers.{WorkerData}
 use Rattle.walkx.specs.Records.{Knows}
@@ -46,7 +46,7 @@ pub record Begun (b : Desk) (p : SeatData) (w : Walking) : Type 0 where
 pub record Ranged (t : Task) (p : Driving × ℕ) (w : Walking) (d : Driving × Patience)
     (now : Walking) : Type 0 where
   pub roamed : Roamed t p w (d.0, d.1.looks) now
-  pub most : length roamed.by.answers ≤ most_steps t.job
+  pub most : length roamed.by.answers ≤ own_step_bound t.job
   pub few : 2 * d.1.looks + d.1.left ≤ d.0.made
   pub left : d.1.left ≤ 512
 
@@ -65,8 +65,8 @@ pub record Visited (t : Task) (p : Driving × ℕ) (w : Walking) (had : Driving 
     (z : Driving × Patience) (now : Walking) : Type 0 where
   pub ranged : Ranged t p w z now
   pub some : 1 ≤ length ranged.roamed.by.answers
-  pub nearer : p.0.made + most_steps t.job + z.1.looks - (p.1 + z.0.made)
-      < p.0.made + most_steps t.job + had.1.looks - (p.1 + had.0.made)
+  pub nearer : p.0.made + own_step_bound t.job + z.1.looks - (p.1 + z.0.made)
+      < p.0.made + own_step_bound t.job + had.1.looks - (p.1 + had.0.made)
 
 module _ (t : Task) (p : Driving × ℕ) (w : Walking) (q : Driving) (had : Patience) (v : Walking)
     (board : IsBoard t.job t.layout) (start : p.0.made < 2 ^ 60)
@@ -207,7 +207,7 @@ works_on p q w first led serves =
 pub record Sofar (b : Desk) (p : Driving) (w : Walking) (limit : Option ℕ) (d : Driving × ℕ)
     (now : Walking) : Type 0 where
   pub roamed : Roamed b.task (p, 0) w d now
-  pub most : length roamed.by.answers ≤ most_steps b.task.job
+  pub most : length roamed.by.answers ≤ own_step_bound b.task.job
   pub within : IfSome limit
       (λ bound. (roamed.by.looks ≡ []) × (length roamed.by.answers ≤ bound))
 
@@ -262,11 +262,11 @@ module _ (p : Driving) (w : Walking) (limit : Option ℕ) (d : Driving) (looks :
       both = roamed_more d.desk.task (p, 0) w (d, looks) mid.walking (e, looks_on) now.walking
           sofar.roamed goes.roamed
 
-      before : length sofar.roamed.by.answers < most_steps d.desk.task.job
+      before : length sofar.roamed.by.answers < own_step_bound d.desk.task.job
       before = advanced_few d.desk.task p.seat w d.seat mid.walking begun.board begun.fits
           begun.knows sofar.roamed.by sound going
 
-      few : length both.by.answers ≤ most_steps d.desk.task.job
+      few : length both.by.answers ≤ own_step_bound d.desk.task.job
       few = elim goes.single [
         | inl one ↦ (
             let more = length-append goes.roamed.by.answers sofar.roamed.by.answers in
@@ -291,11 +291,11 @@ module _ (p : Driving) (w : Walking) (limit : Option ℕ) (d : Driving) (looks :
                 goes.single;
           })
 
-      pub nearer : most_steps e.desk.task.job + looks_on - e.made
-          < most_steps d.desk.task.job + looks - d.made
+      pub nearer : own_step_bound e.desk.task.job + looks_on - e.made
+          < own_step_bound d.desk.task.job + looks - d.made
       nearer =
-          subst (λ (b : Desk). most_steps b.task.job + looks_on - e.made
-          < most_steps d.desk.task.job + looks - d.made) (sym goes.roamed.desk)
+          subst (λ (b : Desk). own_step_bound b.task.job + looks_on - e.made
+          < own_step_bound d.desk.task.job + looks - d.made) (sym goes.roamed.desk)
           (let more = length-append goes.roamed.by.answers sofar.roamed.by.answers in
           let some = goes.some in let h = before in let bound = few in let k = both.made in
           let l = both.looks in let m = sofar.roamed.made in let n = sofar.roamed.looks in

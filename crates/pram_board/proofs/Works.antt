@@ -3,7 +3,7 @@ use Rattle.std.proofs.Common.{◌≡◌, ℕ, ◌+◌, ◌*◌, ◌%◌, ◌^◌
 use Rattle.std.proofs.Common.{◌∙◌, arith, mul-le-mul}
 use Rattle.pram_words.specs.Tree.{leaves_of}
 use Rattle.pram_words.proofs.Halvings.{leaves_most}
-use Rattle.walkx.specs.Bound.{most_steps}
+use Rattle.walkx.specs.Bound.{own_step_bound}
 use Rattle.walkx.specs.Walk.{Walking, ask_of, told}
 use Rattle.walk_memory.specs.Blocks.{IsBoard}
 use Rattle.pram_board.specs.declared.task.Task.{Task}
@@ -30,7 +30,7 @@ pub exactly : (m n k : ℕ) → n % 2 ^ 64 ≡ (m + k) % 2 ^ 64 → n < 2 ^ 64 �
 exactly m n k count small few = omega arith
 
 -- the bound fits 64 bits
-pub bound_small : (t : Task) → IsBoard t.job t.layout → most_steps t.job < 2 ^ 58
+pub bound_small : (t : Task) → IsBoard t.job t.layout → own_step_bound t.job < 2 ^ 58
 bound_small t board =
     let l = leaves_most t.job.procs board.limits.procs.0 board.limits.procs.1 in
     let leaves : 300 * leaves_of t.job.procs ≤ 19660800 = (let h = l.1 in omega arith) in

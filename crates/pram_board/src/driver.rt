@@ -24,10 +24,10 @@ pub(crate) struct Driver<'a, G: Gate> {
 
 impl<'a, G: Gate> Steps for Driver<'a, G> {
     ghost use Rattle.std.specs.Prelude.{◌≡◌};
-    ghost use Rattle.pram_board.specs.Inner.Plays.{drives, driving, task_at};
+    ghost use Rattle.pram_board.specs.Inner.Plays.{drives, driving, post_task};
 
     ghost stands = { λ at from d where_to. (d.seat.ghost_name ≡ from.0.seat.ghost_name)
-        × drives (task_at at) (driving from.0, from.1) (driving d) where_to };
+        × drives (post_task at) (driving from.0, from.1) (driving d) where_to };
 
     #[inline(always)]
     fn make(&mut self, op: Op) -> Result<u64, Stopped> {
@@ -59,7 +59,7 @@ impl<'a, G: Gate> Driver<'a, G> {
     ghost use Rattle.pram_board.specs.Inner.Plays.{IsAt, IsWalking, Led, Moved, OnlyLooked};
     ghost use Rattle.pram_board.specs.Inner.Plays.{RoamedThrough, WorkerGoesOn, driving};
     ghost use Rattle.pram_board.specs.Inner.Plays.{AtPart, AtTask, DonePart, in_block, led_to};
-    ghost use Rattle.pram_board.specs.Inner.Plays.{next_turn, task_at, turning_at};
+    ghost use Rattle.pram_board.specs.Inner.Plays.{turn_after, post_task, turning_at};
 
     /// A driver that has made no step, where so many workers take part.
     #[inline(always)]
@@ -281,9 +281,9 @@ impl<'a, G: Gate> Driver<'a, G> {
         requires room { self.old.made < 2 ^ 62 }
         requires few { 2 * patience.old.looks + patience.old.left ≤ self.old.made }
         requires most { patience.old.left ≤ 512 }
-        requires here { IsAt (task_at post.now) (driving self.old) }
+        requires here { IsAt (post_task post.now) (driving self.old) }
         ensures same { self.new.seat.ghost_name ≡ self.old.seat.ghost_name }
-        ensures looked { OnlyLooked (task_at post.now) (driving self.old) patience.old
+        ensures looked { OnlyLooked (post_task post.now) (driving self.old) patience.old
             (driving self.new) patience.new }
     {
         let leaves = self.rest.leaves_to_another(post, memory);
@@ -298,9 +298,9 @@ impl<'a, G: Gate> Driver<'a, G> {
         requires room { self.old.made < 2 ^ 62 }
         requires few { 2 * patience.old.looks + patience.old.left ≤ self.old.made }
         requires most { patience.old.left ≤ 512 }
-        requires here { IsAt (task_at post.now) (driving self.old) }
+        requires here { IsAt (post_task post.now) (driving self.old) }
         ensures same { self.new.seat.ghost_name ≡ self.old.seat.ghost_name }
-        ensures looked { OnlyLooked (task_at post.now) (driving self.old) patience.old
+        ensures looked { OnlyLooked (post_task post.now) (driving self.old) patience.old
             (driving self.new) patience.new }
     {
         post.limits_hold();
@@ -318,11 +318,11 @@ impl<'a, G: Gate> Driver<'a, G> {
     #[inline(always)]
     fn visit(&mut self, post: &Post, memory: &mut Memory) -> Option<u32>
         requires first { post.now.rank ≡ 0 }
-        requires walks { IsWalking (task_at post.now) (driving self.old)
+        requires walks { IsWalking (post_task post.now) (driving self.old)
             (turning_at post.now memory.old) }
         ensures same { self.new.seat.ghost_name ≡ self.old.seat.ghost_name }
-        ensures led { Led (task_at post.now) (driving self.old) (turning_at post.now memory.old)
-            (driving self.new) (next_turn post.now memory.new result) }
+        ensures led { Led (post_task post.now) (driving self.old) (turning_at post.now memory.old)
+            (driving self.new) (turn_after post.now memory.new result) }
     {
         match self.turn(post, memory) {
             Turned::Finished => None,
@@ -338,10 +338,10 @@ impl<'a, G: Gate> Driver<'a, G> {
     #[inline(always)]
     fn turn(&mut self, post: &Post, memory: &Memory) -> Turned
         requires first { post.now.rank ≡ 0 }
-        requires walks { IsWalking (task_at post.now) (driving self.old)
+        requires walks { IsWalking (post_task post.now) (driving self.old)
             (turning_at post.now memory.now) }
         ensures same { self.new.seat.ghost_name ≡ self.old.seat.ghost_name }
-        ensures led { Led (task_at post.now) (driving self.old) (turning_at post.now memory.now)
+        ensures led { Led (post_task post.now) (driving self.old) (turning_at post.now memory.now)
             (driving self.new) (led_to post.now memory.now result) }
     {
         match turn(self, post) {
@@ -358,10 +358,10 @@ impl<'a, G: Gate> Driver<'a, G> {
     #[inline(always)]
     fn block(&mut self, post: &Post, memory: &mut Memory)
         requires fits { FitsMemory post.now.job memory.old }
-        requires walks { IsWalking (task_at post.now) (driving self.old)
+        requires walks { IsWalking (post_task post.now) (driving self.old)
             (in_block post.now 0 memory.old) }
         ensures same { self.new.seat.ghost_name ≡ self.old.seat.ghost_name }
-        ensures led { Led (task_at post.now) (driving self.old) (in_block post.now 0 memory.old)
+        ensures led { Led (post_task post.now) (driving self.old) (in_block post.now 0 memory.old)
             (driving self.new) (turning_at post.now memory.new) }
     {
         let len = post.block_len();
@@ -376,7 +376,7 @@ impl<'a, G: Gate> Driver<'a, G> {
     fn tasks(&mut self, leaf: Leaf<'_>, len: u32, memory: &mut Memory)
         requires at { AtTask leaf len (driving self.old) memory.old }
         ensures same { self.new.seat.ghost_name ≡ self.old.seat.ghost_name }
-        ensures moved { Moved (task_at leaf.entry) (driving self.old)
+        ensures moved { Moved (post_task leaf.entry) (driving self.old)
             (in_block leaf.entry leaf.entry.rank memory.old) (driving self.new)
             (in_block leaf.entry len memory.new) }
     {
@@ -405,11 +405,11 @@ impl<'a, G: Gate> Driver<'a, G> {
     #[inline(always)]
     fn mark(&mut self, post: &Post, rank: u32, memory: &mut Memory)
         requires last { has_rank post.now.layout post.now.node rank ≡ false }
-        requires walks { IsWalking (task_at post.now) (driving self.old)
+        requires walks { IsWalking (post_task post.now) (driving self.old)
             (in_block post.now rank memory.old) }
         ensures same { self.new.seat.ghost_name ≡ self.old.seat.ghost_name }
-        ensures led { Led (task_at post.now) (driving self.old) (in_block post.now rank memory.old)
-            (driving self.new) (turning_at post.now memory.new) }
+        ensures led { Led (post_task post.now) (driving self.old) (in_block post.now rank
+            memory.old) (driving self.new) (turning_at post.now memory.new) }
     {
         let reach = memory.go_on(post);
         match mark(self, post, reach) {

@@ -18,12 +18,12 @@ impl<'a, G: Gate> Driver<'a, G> {
     ghost use Rattle.pram_words.specs.Phases.{kind_at};
     ghost use Rattle.walk_memory.specs.Inner.Posts.{processor_of};
     ghost use Rattle.walk_memory.specs.Memory.{memo_of};
-    ghost use Rattle.walk_memory.specs.Stands.{IsStand, Spells};
+    ghost use Rattle.walk_memory.specs.Stands.{IsStand, GivesInstr};
     ghost use Rattle.pram_board.specs.Inner.Doing.{AtAlike, DoneAlike, done_up_to};
     ghost use Rattle.pram_board.specs.Inner.Plain.{AllBy, by_lanes};
     ghost use Rattle.pram_board.specs.Inner.Plays.{Moved, driving, AtPart, AtTask, DoneMore};
     ghost use Rattle.pram_board.specs.Inner.Plays.{DoneTo, PastTask, Tried, in_block};
-    ghost use Rattle.pram_board.specs.Inner.Plays.{task_at};
+    ghost use Rattle.pram_board.specs.Inner.Plays.{post_task};
 
     /// The tasks of a block of this length, from the leaf's processor on, in the first pass.
     #[inline(always)]
@@ -31,7 +31,7 @@ impl<'a, G: Gate> Driver<'a, G> {
         requires first { kind_at leaf.phase ≡ Kind.Compute }
         requires at { AtTask leaf len (driving self.old) memory.old }
         ensures same { self.new.seat.ghost_name ≡ self.old.seat.ghost_name }
-        ensures moved { Moved (task_at leaf.entry) (driving self.old)
+        ensures moved { Moved (post_task leaf.entry) (driving self.old)
             (in_block leaf.entry leaf.entry.rank memory.old) (driving self.new)
             (in_block leaf.entry len memory.new) }
     {
@@ -289,7 +289,7 @@ impl<'a, G: Gate> Driver<'a, G> {
     ) -> u32
         requires past { PastTask leaf.now len (driving self.old) memory.old }
         requires stand { IsStand leaf.now by.now.stand.counter by.now.stand.instr.now }
-        requires form { Spells F.Fn by.now.form by.now.stand.instr.now }
+        requires form { GivesInstr F.Fn by.now.form by.now.stand.instr.now }
         ensures same { self.new.seat.ghost_name ≡ self.old.seat.ghost_name }
         ensures done { DoneMore leaf.now len (driving self.old) memory.old result
             (driving self.new) memory.new }

@@ -12,15 +12,15 @@ impl<'a, G: Gate> Driver<'a, G> {
     ghost use Rattle.walk_memory.specs.Inner.Posts.{at_rank};
     ghost use Rattle.walk_memory.specs.Plain.{AllHoldStore, AllStore};
     ghost use Rattle.pram_board.specs.Inner.Plays.{Moved, driving, AtPart, AtTask, DonePart};
-    ghost use Rattle.pram_board.specs.Inner.Plays.{DoneTo, Driving, StoredIn, StoredTo, Swapped, in_block};
-    ghost use Rattle.pram_board.specs.Inner.Plays.{task_at};
+    ghost use Rattle.pram_board.specs.Inner.Plays.{DoneTo, Driving, StoredIn, StoredTo, WasSwapped, in_block};
+    ghost use Rattle.pram_board.specs.Inner.Plays.{post_task};
 
     /// The tasks of a block of this length, from the leaf's processor on, in another pass.
     #[inline(always)]
     pub(crate) fn second_tasks(&mut self, leaf: Leaf<'_>, len: u32, memory: &mut Memory)
         requires at { AtTask leaf len (driving self.old) memory.old }
         ensures same { self.new.seat.ghost_name ≡ self.old.seat.ghost_name }
-        ensures moved { Moved (task_at leaf.entry) (driving self.old)
+        ensures moved { Moved (post_task leaf.entry) (driving self.old)
             (in_block leaf.entry leaf.entry.rank memory.old) (driving self.new)
             (in_block leaf.entry len memory.new) }
     {
@@ -37,7 +37,7 @@ impl<'a, G: Gate> Driver<'a, G> {
         requires at { AtTask leaf len (driving self.old) memory.old }
         requires stores { AllStore leaf len memory.old }
         ensures same { self.new.seat.ghost_name ≡ self.old.seat.ghost_name }
-        ensures moved { Moved (task_at leaf.entry) (driving self.old)
+        ensures moved { Moved (post_task leaf.entry) (driving self.old)
             (in_block leaf.entry leaf.entry.rank memory.old) (driving self.new)
             (in_block leaf.entry len memory.new) }
     {
@@ -161,11 +161,11 @@ impl<'a, G: Gate> Driver<'a, G> {
     #[inline(never)]
     fn report(&mut self, leaf: &Leaf, write: (u32, u32))
         requires due { (before : Driving) × (memory : List Memo) × (now : List Memo)
-            × Swapped leaf.now before memory (Some write) (driving self.old) now }
+            × WasSwapped leaf.now before memory (Some write) (driving self.old) now }
         ensures same { self.new.seat.ghost_name ≡ self.old.seat.ghost_name }
         ensures reported { (before : Driving) (memory now : List Memo) →
-            Swapped leaf.now before memory (Some write) (driving self.old) now →
-            Swapped leaf.now before memory None (driving self.new) now }
+            WasSwapped leaf.now before memory (Some write) (driving self.old) now →
+            WasSwapped leaf.now before memory None (driving self.new) now }
     {
         match report_store(self, leaf, write) {
             Ok(()) => self.seat.facts(),
@@ -179,7 +179,7 @@ impl<'a, G: Gate> Driver<'a, G> {
     fn other_tasks(&mut self, leaf: Leaf<'_>, len: u32, memory: &mut Memory)
         requires at { AtTask leaf len (driving self.old) memory.old }
         ensures same { self.new.seat.ghost_name ≡ self.old.seat.ghost_name }
-        ensures moved { Moved (task_at leaf.entry) (driving self.old)
+        ensures moved { Moved (post_task leaf.entry) (driving self.old)
             (in_block leaf.entry leaf.entry.rank memory.old) (driving self.new)
             (in_block leaf.entry len memory.new) }
     {
@@ -198,7 +198,7 @@ impl<'a, G: Gate> Driver<'a, G> {
     fn parts(&mut self, leaf: Leaf<'_>, len: u32, memory: &mut Memory)
         requires at { AtTask leaf len (driving self.old) memory.old }
         ensures same { self.new.seat.ghost_name ≡ self.old.seat.ghost_name }
-        ensures moved { Moved (task_at leaf.entry) (driving self.old)
+        ensures moved { Moved (post_task leaf.entry) (driving self.old)
             (in_block leaf.entry leaf.entry.rank memory.old) (driving self.new)
             (in_block leaf.entry len memory.new) }
     {

@@ -4,7 +4,7 @@ ghost use Rattle.std.specs.Prelude.{IfSome, MatchOption, Some};
 ghost use Rattle.pram_job.specs.Job.{IsInstr};
 ghost use Rattle.pram_machine.specs.Machine.{counter, halted};
 ghost use Rattle.pram_step.specs.Runs.{state_after};
-ghost use Rattle.walk_memory.specs.Learned.{newest_of, told_by};
+ghost use Rattle.walk_memory.specs.Learned.{newest_of, learned_own};
 ghost use Rattle.walk_memory.specs.Memory.{asked, own_after, own_at, settled_at};
 ghost use Rattle.pram_board.specs.Inner.Ends.{EndsThere};
 
@@ -109,7 +109,7 @@ impl Board {
 // What these words tell, a counter's first, and the step after which it was so.
 fn told_by(counter: u64, first: u64, second: u64, third: u64, fourth: u64) -> (u32, Own)
     ensures since { result.0 ≡ newest_of (counter ∷ first ∷ second ∷ third ∷ fourth ∷ []) }
-    ensures own { result.1 ≡ told_by (counter ∷ first ∷ second ∷ third ∷ fourth ∷ []) }
+    ensures own { result.1 ≡ learned_own (counter ∷ first ∷ second ∷ third ∷ fourth ∷ []) }
 {
     let own = Own {
         counter: payload(counter),

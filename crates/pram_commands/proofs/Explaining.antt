@@ -6,9 +6,9 @@ use Rattle.pram_job.specs.Job.{JobData}
 use Rattle.pram_step.specs.Runs.{IsAnswer}
 use Rattle.pram_step.specs.declared.answer.RunAnswer.{RunAnswer}
 use Rattle.pram_step.specs.declared.answer.RunAnswer.TheVariants.{Final, Conflict, Unfinished}
-use Rattle.pram_fates.specs.Causes.{AreReasons}
-use Rattle.pram_fates.specs.Told.{why_text}
-use Rattle.pram_fates.specs.declared.causes.Why.{Why}
+use Rattle.pram_rows.specs.Causes.{AreReasons}
+use Rattle.pram_rows.specs.Told.{why_text}
+use Rattle.pram_rows.specs.declared.causes.Why.{Why}
 use Rattle.pram_commands.specs.Why.{Follows, told_steps}
 
 -- what is told by lines of a text is told by the same lines of a program

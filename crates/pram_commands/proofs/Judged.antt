@@ -17,8 +17,8 @@ use Rattle.pram_commands.specs.Did.{ends_with, tells_status}
 use Rattle.naming.specs.Costed.{IsCosted}
 use Rattle.pram_commands.specs.Inner.Puts.{PutsAnswer, with_status}
 use Rattle.pram_commands.specs.Under.{TellsBeyond, clash_at}
-use Rattle.pardo_costs.specs.declared.line_costs.Costs.{Costs}
-use Rattle.pardo_costs.specs.declared.line_costs.LineCost.{LineCost}
+use Rattle.pardo_answers.specs.declared.line_costs.Costs.{Costs}
+use Rattle.pardo_answers.specs.declared.line_costs.LineCost.{LineCost}
 use Rattle.naming.specs.declared.texts.Spelled.{Spelled}
 use Rattle.pram_commands.proofs.Doing.{err_as, ok_not_err, put_failed}
 

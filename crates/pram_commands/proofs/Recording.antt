@@ -7,8 +7,8 @@ use Rattle.pram_commands.specs.Costs.{conflict_of}
 use Rattle.naming.specs.Costed.{AreCosts}
 use Rattle.naming.specs.Names.{AreNames, NamingData}
 use Rattle.pram_commands.specs.Sweeps.{TellsRecord, end_word, fields_text, told_gone}
-use Rattle.pardo_costs.specs.declared.line_costs.Costs.{Costs}
-use Rattle.pardo_costs.specs.declared.line_costs.LineCost.{LineCost}
+use Rattle.pardo_answers.specs.declared.line_costs.Costs.{Costs}
+use Rattle.pardo_answers.specs.declared.line_costs.LineCost.{LineCost}
 
 pub told_record : (job_text : List ℕ) (job : JobData) (names : Option NamingData) (costs : Costs)
     (pram : Pram) (bytes : List ℕ) → AreNames job_text job names → AreCosts names job costs →

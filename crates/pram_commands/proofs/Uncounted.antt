@@ -15,7 +15,7 @@ use Rattle.naming.specs.Names.{AreNames, NamingData}
 use Rattle.naming.specs.Writing.{Writing}
 use Rattle.naming.specs.declared.texts.Spelled.{Spelled}
 use Rattle.pram_commands.specs.Did.{tells}
-use Rattle.pram_commands.specs.Inner.Drafted.{HasRunTo, HasToldDrafted, IsRunOf, IsToldOf}
+use Rattle.pram_commands.specs.Inner.Drafted.{HasRunTo, HasToldDrafted, IsLongerRunOf, WasTold}
 use Rattle.pram_commands.specs.Inner.Puts.{PutsAnswer, outcome}
 use Rattle.pram_commands.specs.Threads.{SomeRunEndsIn, IsNewBoard}
 use Rattle.pram_commands.specs.Why.{Explaining}
@@ -33,7 +33,7 @@ same_most job steps = refl
 pub is_run_of : (longer : JobData) (draft : Draft) (naming : NamingData) (spelled : Spelled) →
     longer ≡ record draft.job { steps = most_steps draft.job } →
     IsCounted spelled.text.items draft spelled.job naming → spelled.names ≡ Some naming →
-    spelled.job.steps ≤ longer.steps → IsRunOf spelled.text.items longer spelled
+    spelled.job.steps ≤ longer.steps → IsLongerRunOf spelled.text.items longer spelled
 is_run_of longer draft naming spelled long counted named within =
     let steps : longer.steps ≡ most_steps draft.job = ap (λ (j : JobData). j.steps) long in record {
       program = counted.names.is_one;
@@ -49,7 +49,7 @@ is_run_of longer draft naming spelled long counted named within =
 
 module _ (style : Style) (text : List ℕ) (longer : JobData) (plan : PlanData) (w : Writing)
     (answer : RunAnswer) (spelled : Spelled) (put : Result (Unit {0}) PrintFault)
-    (told : IsToldOf style text longer w answer spelled put) (run : RunOf longer plan answer) where
+    (told : WasTold style text longer w answer spelled put) (run : RunOf longer plan answer) where
   ends : SomeRunEndsIn text spelled.job plan answer
   ends = (
     run.later,

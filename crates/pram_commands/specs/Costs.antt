@@ -10,7 +10,7 @@ use Rattle.pram_cost.specs.Printed.{cost_text}
 use Rattle.pram_cost.specs.declared.cost.Cost.{Cost}
 use Rattle.pram_cost.specs.declared.pram.Pram.{Pram}
 use Rattle.pram_commands.specs.Did.{Command}
-use Rattle.naming.specs.Costs.{cost_words, line_costs}
+use Rattle.naming.specs.Costs.{cost_words, named_line_costs}
 use Rattle.naming.specs.Names.{AreNames, NamingData}
 use Rattle.pram_commands.specs.Plain.{on_job}
 
@@ -30,7 +30,7 @@ pub record TellsCost (job_text : List ℕ) (job : JobData) (text : List ℕ)
   pub costs : IsCost job cost
   pub needs : IsWeakestModel job cost.steps pram
   pub are_names : AreNames job_text job names
-  pub prints : text ≡ cost_text (cost_words names (line_costs names job)) cost pram
+  pub prints : text ≡ cost_text (cost_words names (named_line_costs names job)) cost pram
   pub gives : answer ≡ conflict_of cost
 
 -- it prints that text

@@ -5,7 +5,7 @@ use Rattle.pram_step.specs.declared.answer.RunAnswer.{RunAnswer}
 use Rattle.pram_cost.specs.Costs.{IsCost}
 use Rattle.pram_cost.specs.declared.cost.Cost.{Cost}
 use Rattle.pram_commands.specs.Costs.{conflict_of, costing}
-use Rattle.naming.specs.Costs.{line_costs}
+use Rattle.naming.specs.Costs.{named_line_costs}
 use Rattle.pram_commands.specs.Did.{Command}
 use Rattle.naming.specs.LineRecords.{records_text}
 use Rattle.naming.specs.Names.{AreNames, NamingData}
@@ -19,7 +19,7 @@ pub record TellsLines (job_text : List ℕ) (job : JobData) (text : List ℕ)
   pub names : Option NamingData
   pub costs : IsCost job cost
   pub are_names : AreNames job_text job names
-  pub prints : text ≡ records_text job_text (line_costs names job)
+  pub prints : text ≡ records_text job_text (named_line_costs names job)
   pub gives : answer ≡ conflict_of cost
 
 -- it prints what the run costs, or what its lines do

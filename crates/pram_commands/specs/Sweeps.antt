@@ -12,11 +12,11 @@ use Rattle.pram_cost.specs.declared.cost.Cost.{Cost}
 use Rattle.pram_cost.specs.declared.pram.Pram.{Pram}
 use Rattle.pardo_job.specs.Ends.{gone_in}
 use Rattle.pram_commands.specs.Costs.{conflict_of}
-use Rattle.naming.specs.Costs.{line_costs}
+use Rattle.naming.specs.Costs.{named_line_costs}
 use Rattle.pram_commands.specs.Did.{Command, ends_with}
 use Rattle.naming.specs.Names.{AreNames, NamingData}
 use Rattle.pram_commands.specs.Plain.{on_job}
-use Rattle.pardo_costs.specs.declared.line_costs.LineCost.{LineCost}
+use Rattle.pardo_answers.specs.declared.line_costs.LineCost.{LineCost}
 use Rattle.pram_commands.specs.declared.sweeps.RunRecord.{RunRecord}
 
 -- how a run ends: in a conflict; else with one of these processors gone, or done
@@ -47,7 +47,7 @@ pub record TellsRecord (job_text : List ℕ) (job : JobData) (text : List ℕ)
   pub costs : IsCost job cost
   pub needs : IsWeakestModel job cost.steps pram
   pub are_names : AreNames job_text job names
-  pub prints : text ≡ fields_text (line_costs names job) cost pram
+  pub prints : text ≡ fields_text (named_line_costs names job) cost pram
       (end_word job.procs (told_gone names) cost.conflict)
   pub gives : answer ≡ conflict_of cost
 

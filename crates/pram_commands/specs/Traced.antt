@@ -6,7 +6,7 @@ use Rattle.pram_step.specs.declared.answer.RunAnswer.{RunAnswer}
 use Rattle.pram_rows.specs.Shown.{steps_text}
 use Rattle.pram_rows.specs.StepRows.{StepRows}
 use Rattle.pram_rows.specs.declared.window.Window.{Window}
-use Rattle.pardo_trace.specs.Traces.{trace_header, trace_rows}
+use Rattle.pardo_answers.specs.Traces.{trace_header, trace_rows}
 use Rattle.pram_commands.specs.Did.{Command, Showing}
 use Rattle.naming.specs.Names.{AreNames, NamingData}
 

@@ -11,7 +11,7 @@ use Rattle.pram_cost.specs.declared.beyond.Beyond.{Beyond}
 use Rattle.pram_cost.specs.declared.cost.Cost.{Cost}
 use Rattle.pram_cost.specs.declared.meeting.Meeting.{Meeting}
 use Rattle.pram_cost.specs.declared.pram.Pram.{Pram}
-use Rattle.naming.specs.Costs.{cost_words, line_costs}
+use Rattle.naming.specs.Costs.{cost_words, named_line_costs}
 use Rattle.pram_commands.specs.Did.{Command}
 use Rattle.naming.specs.Names.{AreNames, NamingData}
 use Rattle.pram_commands.specs.Plain.{no_plan, on_job}
@@ -39,7 +39,7 @@ pub record TellsBeyond (pram : Pram) (job_text : List ℕ) (job : JobData) (text
   pub costs : IsCost job cost
   pub is : IsBeyond pram job cost.steps beyond
   pub are_names : AreNames job_text job names
-  pub prints : text ≡ beyond_line (cost_words names (line_costs names job)) pram beyond
+  pub prints : text ≡ beyond_line (cost_words names (named_line_costs names job)) pram beyond
   pub gives : answer ≡ Some (Conflict (clash_at beyond.meeting))
 
 -- what the command comes to where the model accepts the run, and else where that goes beyond it

@@ -4,9 +4,9 @@ use Rattle.pram_job.specs.declared.instr.Array.{Array}
 use Rattle.pram_job.specs.Job.{JobData}
 use Rattle.pram_step.specs.declared.answer.RunAnswer.{RunAnswer}
 use Rattle.pram_step.specs.declared.answer.RunAnswer.TheVariants.{Final, Conflict, Unfinished}
-use Rattle.pram_fates.specs.Causes.{AreReasons}
-use Rattle.pram_fates.specs.Told.{why_text}
-use Rattle.pram_fates.specs.declared.causes.Why.{Why}
+use Rattle.pram_rows.specs.Causes.{AreReasons}
+use Rattle.pram_rows.specs.Told.{why_text}
+use Rattle.pram_rows.specs.declared.causes.Why.{Why}
 use Rattle.command_data.specs.declared.line.Style.{Style}
 use Rattle.naming.specs.Names.{AreNames, NamingData, line_at, styled}
 use Rattle.naming.specs.RowNames.{row_words}

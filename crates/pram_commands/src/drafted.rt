@@ -7,7 +7,7 @@ ghost use Rattle.naming.specs.BadTexts.{IsBadOrMemory};
 ghost use Rattle.naming.specs.Drafted.{IsCounted, IsDrafted};
 ghost use Rattle.naming.specs.Writing.{writing};
 ghost use Rattle.pardo_job.specs.Refusals.{most_steps};
-ghost use Rattle.pram_commands.specs.Inner.Drafted.{HasToldDrafted, IsRunOf, RanDrafted};
+ghost use Rattle.pram_commands.specs.Inner.Drafted.{HasToldDrafted, IsLongerRunOf, RanDrafted};
 
 use crate::printing::{outcome, take_back};
 use crate::sources::{Drafted, Refused};
@@ -156,7 +156,7 @@ fn spelled_by(
     requires drafted { IsDrafted text.items draft }
     requires board { board.now.task.job ≡ longer.now }
     requires longer { longer.now ≡ record draft.job { steps = most_steps draft.job } }
-    ensures ok { IfOk result (IsRunOf text.items longer.now) }
+    ensures ok { IfOk result (IsLongerRunOf text.items longer.now) }
     ensures refused { IfErr result (λ refused. IsBadOrMemory text.items refused.fault) }
 {
     match counted_by(alloc, longer, board, text.as_slice(), draft) {

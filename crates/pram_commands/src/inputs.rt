@@ -14,7 +14,7 @@ ghost use Rattle.stop_plan.specs.Records.{FirstFault, SpellsPlan, no_memory, rec
 use crate::sources::{Inputs, Sources};
 use command_data::Workers;
 use naming::{Spelled, drafted, read_costed, read_text};
-use pardo_costs::Costs;
+use pardo_answers::Costs;
 use pardo_job::Draft;
 use pram_job::Job;
 use pram_streams::{Source, TakeFault, take};

@@ -7,7 +7,7 @@ ghost use Rattle.pram_commands.specs.Sweeps.{IsRunRecord, end_word, fields_text,
 
 use crate::commands::cost_status;
 use naming::{Naming, read_costed};
-use pardo_costs::{Costs, total_operations, total_time};
+use pardo_answers::{Costs, total_operations, total_time};
 use pram_cost::Pram;
 use pram_streams::push_labelled;
 use refusals::CommandFault;

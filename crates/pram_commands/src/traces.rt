@@ -3,7 +3,7 @@ ghost use Rattle.std.specs.Prelude.{◌≡◌};
 ghost use Rattle.pram_commands.specs.Traced.{traced};
 
 use naming::Spelled;
-use pardo_trace::{HEADER, Tracer};
+use pardo_answers::{HEADER, Tracer};
 use pram_rows::Rows;
 use pram_step::Moment;
 use std::alloc::{AllocError, Global};

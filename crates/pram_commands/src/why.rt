@@ -10,8 +10,8 @@ ghost use Rattle.pram_step.specs.Runs.{IsAnswer};
 
 use command_data::Style;
 use naming::{Spelled, origin_of, print_styled};
-use pram_fates::{answer_with_why, why_after, why_text};
 use pram_job::Job;
+use pram_rows::{answer_with_why, why_after, why_text};
 use pram_step::RunAnswer;
 use pram_streams::{PrintFault, Sink, put};
 use std::alloc::{AllocError, Global};

@@ -24,9 +24,9 @@ use Rattle.pram_cost.specs.declared.profile.Executed.{Executed}
 use Rattle.pram_cost.specs.declared.profile.Tallied.{Tallied}
 use Rattle.pram_cost.specs.declared.group.Group.{Group}
 use Rattle.pram_cost.specs.Inner.Groups.{IsGroup}
-use Rattle.pram_cost.specs.Inner.Tallied.{AreTallied, IsTallied, counted, standing_among}
-use Rattle.pram_cost.specs.Profiled.{HasProfiled, IsExecuted, row_at}
-use Rattle.pram_cost.specs.Profiles.{executed_at, most_at, standing_at_index, steps_at}
+use Rattle.pram_cost.specs.Inner.Tallied.{AreTallied, IsTallied, tallied_more, standing_among}
+use Rattle.pram_cost.specs.Profiled.{HasProfiled, IsExecuted, tally_at}
+use Rattle.pram_cost.specs.Profiles.{executed_at, most_at, standing_at_index, instruction_steps}
 use Rattle.pram_cost.proofs.Grouping.{bound_most, over_group}
 use Rattle.pram_cost.proofs.Runners.{range-more}
 
@@ -58,19 +58,19 @@ module _ (job : JobData) (index : ℕ) where
     next_of k = omega arith
 
     pub steps_more : (k : ℕ) → Repeats job n k s →
-        steps_at job index (n + k) ≡ steps_at job index n + one_of k (standing s)
-    unfolding steps_at
+        instruction_steps job index (n + k) ≡ instruction_steps job index n + one_of k (standing s)
+    unfolding instruction_steps
     steps_more zero same =
         let e : n + 0 ≡ n = omega arith in
         let f = none_of (standing s) in
-        let g = ap (steps_at job index) e in omega arith
+        let g = ap (instruction_steps job index) e in omega arith
     steps_more (suc k) same =
         let before = steps_more k (λ j lt. same j (omega arith)) in
         let here : state_after job (n + k) ≡ s = same k (omega arith) in
-        let last : steps_at job index (suc (n + k))
-        ≡ steps_at job index (n + k) + one_of 1 (standing s) =
-        ap (λ (r : State). steps_at job index (n + k) + one_of 1 (standing r)) here in
-        let e = ap (steps_at job index) (next_of k) in
+        let last : instruction_steps job index (suc (n + k))
+        ≡ instruction_steps job index (n + k) + one_of 1 (standing s) =
+        ap (λ (r : State). instruction_steps job index (n + k) + one_of 1 (standing r)) here in
+        let e = ap (instruction_steps job index) (next_of k) in
         let f = one_more_of k (standing s) in omega arith
 
     pub executed_more : (k : ℕ) → Repeats job n k s →
@@ -115,8 +115,8 @@ module _ (job : JobData) (index : ℕ) where
     length-range_with_len 0 n,
   )
 
-  pub steps_few : (n : ℕ) → steps_at job index n ≤ n
-  unfolding steps_at
+  pub steps_few : (n : ℕ) → instruction_steps job index n ≤ n
+  unfolding instruction_steps
   steps_few zero = omega arith
   steps_few (suc n) =
       let e = steps_few n in
@@ -173,7 +173,7 @@ module _ (job : JobData) (index : ℕ) where
   module _ (made times many d : ℕ) (row : Tallied) (is : IsTallied job index made times many row)
       (some_more : 0 < d) where
     abbrev more : Tallied
-    more = counted (made + 1) times d row
+    more = tallied_more (made + 1) times d row
 
     if_last : (b : Bool) → (row.last == made + 1) ≡ b → {A : Type 0} (x y : A) →
         (if row.last == made + 1 then x else y) ≡ (if b then x else y)
@@ -270,7 +270,7 @@ module _ (sight : Sight) (is : IsSight sight) where
   tallied_past n rows are past = record {
     count = are.count;
     each = λ index low.
-        subst (λ m. IsTallied job_of index sight.made sight.times m (row_at rows index))
+        subst (λ m. IsTallied job_of index sight.made sight.times m (tally_at rows index))
         (sym (among_other job_of index state_of n (λ e. omega arith))) (are.each index low);
   }
 
@@ -319,13 +319,13 @@ module _ (sight : Sight) (is : IsSight sight) where
 
     module _ (rows : List Tallied) (are : AreTallied sight from rows) where
       abbrev row : Tallied
-      row = row_at rows group.index
+      row = tally_at rows group.index
 
       abbrev grown : Tallied
-      grown = counted (sight.made + 1) sight.times size row
+      grown = tallied_more (sight.made + 1) sight.times size row
 
       same_row : (index : ℕ) (other : Tallied) → index < length job_of.code →
-          group.index ≢ index → other ≡ row_at rows index →
+          group.index ≢ index → other ≡ tally_at rows index →
           IsTallied job_of index sight.made sight.times
           (standing_among job_of index state_of end) other
       same_row index other low apart same =
@@ -338,7 +338,7 @@ module _ (sight : Sight) (is : IsSight sight) where
       pub tallied_stopped : halted job_of ≤ group.index → AreTallied sight end rows
       tallied_stopped past = record {
         count = are.count;
-        each = λ index low. same_row index (row_at rows index) low (λ e. omega arith) refl;
+        each = λ index low. same_row index (tally_at rows index) low (λ e. omega arith) refl;
       }
 
       module _ (inside : group.index < length rows) where
@@ -365,7 +365,7 @@ module _ (sight : Sight) (is : IsSight sight) where
           each = λ index low. ⊎_elim
               (λ (here : group.index ≡ index). subst
               (λ (k : ℕ). IsTallied job_of k sight.made sight.times
-              (standing_among job_of k state_of end) (row_at (set rows group.index grown) k)) here
+              (standing_among job_of k state_of end) (tally_at (set rows group.index grown) k)) here
               (subst (IsTallied job_of group.index sight.made sight.times
               (standing_among job_of group.index state_of end))
               (sym (get_or-set_same rows group.index grown _ inside)) grown_is))
@@ -458,7 +458,7 @@ module _ (sight : Sight) (is : IsSight sight) where
 
       each_all : (index : ℕ) → index < length job_of.code →
           IsExecuted job_of index (sight.made + sight.times)
-          (row_at rows index).executed
+          (tally_at rows index).executed
       each_all index low =
           let row = are.each index low in
           let less = before_some sight.times is.some in record {
@@ -472,16 +472,16 @@ module _ (sight : Sight) (is : IsSight sight) where
 -- ---- before all steps
 
 pub none_profiled : (job : JobData) (n : ℕ) → n ≡ length job.code →
-    HasProfiled job 0 (replicate n (row_at [] 0))
-unfolding executed_at most_at steps_at
+    HasProfiled job 0 (replicate n (tally_at [] 0))
+unfolding executed_at most_at instruction_steps
 none_profiled job n len = record {
-  count = length-replicate n (row_at [] 0) ∙ len;
+  count = length-replicate n (tally_at [] 0) ∙ len;
   each = λ index low. subst (λ (row : Tallied). IsExecuted job index 0 row.executed)
-      (sym (get_or-replicate n index (row_at [] 0) _ (omega arith)))
+      (sym (get_or-replicate n index (tally_at [] 0) _ (omega arith)))
       (record { steps_are = refl; times_are = refl; most_is = refl });
   last = λ index low.
-      let e : (row_at (replicate n (row_at [] 0)) index).last ≡ 0 =
-      ap (λ (row : Tallied). row.last) (get_or-replicate n index (row_at [] 0) _ (omega arith)) in
+      let e : (tally_at (replicate n (tally_at [] 0)) index).last ≡ 0 =
+      ap (λ (row : Tallied). row.last) (get_or-replicate n index (tally_at [] 0) _ (omega arith)) in
       omega arith;
 }
 
@@ -494,11 +494,11 @@ module _ (job : JobData) (n index : ℕ) where
   other_state : (t : ℕ) → state_after other t ≡ state_after job t
   other_state t = state_same job job.rule n t
 
-  steps_same : (t : ℕ) → steps_at other index t ≡ steps_at job index t
-  unfolding steps_at
+  steps_same : (t : ℕ) → instruction_steps other index t ≡ instruction_steps job index t
+  unfolding instruction_steps
   steps_same zero = refl
   steps_same (suc t) =
-      ap (λ (s : State). steps_at other index t
+      ap (λ (s : State). instruction_steps other index t
       + (if nat_lt 0 (standing_at_index job index s) then 1 else 0)) (other_state t)
       ∙ ap (λ m. m + (if nat_lt 0 (standing_at_index job index (state_after job t)) then 1 else 0))
       (steps_same t)
@@ -520,7 +520,7 @@ module _ (job : JobData) (n index : ℕ) where
 
   pub executed_is_same : (t : ℕ) (rows : List Tallied) (executed : Executed) →
       HasProfiled other t rows → index < length job.code →
-      executed ≡ (row_at rows index).executed → IsExecuted job index t executed
+      executed ≡ (tally_at rows index).executed → IsExecuted job index t executed
   executed_is_same t rows executed has low same =
       let is = has.each index low in record {
         steps_are = ap (λ (e : Executed). e.steps) same ∙ is.steps_are ∙ steps_same t;

@@ -19,9 +19,9 @@ executed_at job index (suc n) =
     executed_at job index n + standing_at_index job index (state_after job n)
 
 -- in how many of them some processor executes it
-unfoldable pub steps_at : JobData → ℕ → ℕ → ℕ
-steps_at job index zero = 0
-steps_at job index (suc n) = steps_at job index n
+unfoldable pub instruction_steps : JobData → ℕ → ℕ → ℕ
+instruction_steps job index zero = 0
+instruction_steps job index (suc n) = instruction_steps job index n
     + (if nat_lt 0 (standing_at_index job index (state_after job n)) then 1 else 0)
 
 -- the most that execute it in one of them

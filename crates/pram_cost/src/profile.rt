@@ -1,9 +1,9 @@
 //! How often each instruction of a job is executed.
 ghost use Rattle.std.specs.Prelude.{◌≡◌, ◌≢◌, ◌+◌, ◌*◌, ◌<◌, ◌^◌, IfOk};
-ghost use Rattle.pram_cost.specs.Profiled.{HasProfiled, row_at};
+ghost use Rattle.pram_cost.specs.Profiled.{HasProfiled, tally_at};
 ghost use Rattle.pram_cost.specs.Tallies.{HasCounted};
 ghost use Rattle.pram_cost.specs.Inner.Groups.{IsGroup};
-ghost use Rattle.pram_cost.specs.Inner.Tallied.{AreTallied, counted};
+ghost use Rattle.pram_cost.specs.Inner.Tallied.{AreTallied, tallied_more};
 ghost use Rattle.pram_step.specs.Inner.Passes.{bound};
 ghost use Rattle.pram_step.specs.Walks.{IsSight};
 
@@ -49,7 +49,7 @@ impl Tallied {
         requires steps { self.last ≢ step → self.executed.steps + times < 2 ^ 32 }
         requires executed { self.executed.times + times * more < 2 ^ 64 }
         requires now { self.last ≡ step → self.now + more < 2 ^ 32 }
-        ensures { result ≡ counted step times more self }
+        ensures { result ≡ tallied_more step times more self }
     {
         let Executed {
             steps,
@@ -90,7 +90,7 @@ impl Profile {
 
     /// How often the instruction with this index is executed.
     pub fn at(&self, index: usize) -> Executed
-        ensures { result ≡ (row_at self.now.rows.items index).executed }
+        ensures { result ≡ (tally_at self.now.rows.items index).executed }
     {
         match self.rows.get(index) {
             Some(row) => row.executed,

@@ -1,16 +1,16 @@
 //! Calls about exercises.
 ghost use Rattle.std.specs.Prelude.{◌≡◌};
-ghost use Rattle.exercise_page.specs.declared.codes.TheConstants.{FAILED, PASSED};
-ghost use Rattle.exercise_page.specs.Entries.{AreEntriesTold};
-ghost use Rattle.exercise_page.specs.Findings.{IsFailed, IsMet};
-ghost use Rattle.exercise_page.specs.Given.{IsGivenTold};
-ghost use Rattle.exercise_page.specs.Put.{IsKept, bytes_told, rows_told};
-ghost use Rattle.exercise_page.specs.Verdicts.{IsVerdictTold, words_told};
+ghost use Rattle.page_core.specs.declared.exercise_codes.TheConstants.{FAILED, PASSED};
+ghost use Rattle.page_core.specs.Entries.{AreEntriesTold};
+ghost use Rattle.page_core.specs.Submissions.{IsFailed, IsMet};
+ghost use Rattle.page_core.specs.Given.{IsGivenTold};
+ghost use Rattle.page_core.specs.Put.{IsTailKept, exercise_bytes_told, exercise_rows_told};
+ghost use Rattle.page_core.specs.Verdicts.{IsVerdictTold, verdict_bytes};
 
-use exercise_page::entries::{EntryRow, entries};
-use exercise_page::given::given;
-use exercise_page::put::ExerciseTold;
-use exercise_page::verdict::{VerdictTold, verdict};
+use page_core::entries::{EntryRow, entries};
+use page_core::given::given;
+use page_core::put::ExerciseTold;
+use page_core::verdict::{VerdictTold, verdict};
 use std::alloc::Global;
 
 /// Tells the entries of the exercise that a text spells: what each says, one after the other, and a
@@ -24,8 +24,8 @@ pub extern "C" fn pram_page_exercise(
     told: &mut ExerciseTold,
 )
     ensures told { AreEntriesTold text.now bytes.old rows.old bytes.new rows.new told.new }
-    ensures bytes { IsKept (bytes_told told.new) bytes.old bytes.new }
-    ensures rows { IsKept (rows_told told.new) rows.old rows.new }
+    ensures bytes { IsTailKept (exercise_bytes_told told.new) bytes.old bytes.new }
+    ensures rows { IsTailKept (exercise_rows_told told.new) rows.old rows.new }
 {
     *told = entries(alloc, text, bytes, rows);
 }
@@ -42,7 +42,7 @@ pub extern "C" fn pram_page_given(
     told: &mut ExerciseTold,
 )
     ensures told { IsGivenTold exercise.now submission.now line bytes.old bytes.new told.new }
-    ensures bytes { IsKept (bytes_told told.new) bytes.old bytes.new }
+    ensures bytes { IsTailKept (exercise_bytes_told told.new) bytes.old bytes.new }
 {
     *told = given(alloc, exercise, submission, line, bytes);
 }
@@ -61,7 +61,7 @@ pub extern "C" fn pram_page_verdict(
     ensures failed { told.new.code ≡ FAILED →
         IsFailed exercise.now submission.now told.new.input }
     ensures told { IsVerdictTold exercise.now submission.now words.old words.new told.new }
-    ensures words { IsKept (words_told told.new) words.old words.new }
+    ensures words { IsTailKept (verdict_bytes told.new) words.old words.new }
 {
     *told = verdict(alloc, exercise, submission, words);
 }

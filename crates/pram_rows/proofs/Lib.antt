@@ -2,3 +2,10 @@ pub mod Lines
 pub mod Plain
 pub mod Reaching
 pub mod Spans
+pub mod Counting
+pub mod Losing
+pub mod Ending
+pub mod LawOne
+pub mod AllRun
+pub mod Causing
+pub mod LawCauses

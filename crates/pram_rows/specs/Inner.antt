@@ -1,3 +1,4 @@
 -- For private contracts alone.
 pub mod Printing
 pub mod Spans
+pub mod Losses

@@ -5,3 +5,7 @@ pub mod Laws
 pub mod Rows
 pub mod Shown
 pub mod StepRows
+pub mod Fates
+pub mod Causes
+pub mod Told
+pub mod FateLaws

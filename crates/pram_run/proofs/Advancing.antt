@@ -9,7 +9,7 @@ use Rattle.stop_plan.specs.declared.plan.Act.TheVariants as act
 use Rattle.stop_plan.specs.declared.plan.Row.{Row}
 use Rattle.stop_plan.specs.Plan.{PlanData}
 use Rattle.stop_plan.specs.Schedule.{after_turns, events_of_act, events_of_rows}
-use Rattle.walkx.specs.Bound.{most_steps}
+use Rattle.walkx.specs.Bound.{own_step_bound}
 use Rattle.pram_world.specs.declared.event.Event.{Event}
 use Rattle.pram_world.specs.declared.event.Event.TheVariants.{Go}
 use Rattle.pram_world.specs.Worlds.{WorldData, run, start_compact, going}
@@ -65,7 +65,7 @@ module _ (job : JobData) (plan : PlanData) (now next : Replaying) (rows later : 
               ∙ ap (λ xs. come.made ++ xs) (sym is) ∙ are.1,
         );
         after = after;
-        rounds = subst (λ n. n ≤ most_steps job) (sym rounds) come.rounds;
+        rounds = subst (λ n. n ≤ own_step_bound job) (sym rounds) come.rounds;
       }
 
 -- ---- a part of a row
@@ -92,8 +92,8 @@ module _ (job : JobData) (plan : PlanData) (now next : Replaying) (rows later : 
     come = made_more job plan now next rows later come left workers rounds events is after;
     fewer = λ _.
         let alike : row_parts next.rows.now ≡ row_parts now.rows.now = ap row_parts same in
-        let still : most_steps job - next.rounds ≡ most_steps job - now.rounds =
-        ap (λ n. most_steps job - n) rounds in
+        let still : own_step_bound job - next.rounds ≡ own_step_bound job - now.rounds =
+        ap (λ n. own_step_bound job - n) rounds in
         omega (arith, less, alike, still);
     over = λ e. absurd (cc);
   }
@@ -144,8 +144,8 @@ module _ (job : JobData) (plan : PlanData) (now next : Replaying) (rows : List T
         let these : row_parts now.rows.now ≡ row.ticks + 1 + row_parts rest =
         ap row_parts begun in
         let those : row_parts next.rows.now ≡ row_parts rest = ap row_parts later in
-        let still : most_steps job - next.rounds ≡ most_steps job - now.rounds =
-        ap (λ n. most_steps job - n) rounds in
+        let still : own_step_bound job - next.rounds ≡ own_step_bound job - now.rounds =
+        ap (λ n. own_step_bound job - n) rounds in
         omega (arith, few, none, these, those, still);
     over = λ e. absurd (cc);
   }
@@ -183,7 +183,7 @@ module _ (job : JobData) (plan : PlanData) (now : Replaying) (rows : List TraceR
 
   -- in a round that is made some worker goes
   pub round_left : (b : ℕ) → b < now.workers → going now.world b ≡ true →
-      now.rounds < most_steps job
+      now.rounds < own_step_bound job
   round_left b below goes =
       let runs : still_runs job plan.workers (with_rounds job plan now.rounds) b ≡ true =
       ap (λ (es : List Event). going (run (start_compact job plan.workers) es) b) (sym made_all)
@@ -191,7 +191,7 @@ module _ (job : JobData) (plan : PlanData) (now : Replaying) (rows : List TraceR
       rounds_fewer job plan.workers b now.rounds (events_of_rows world_events plan.rows)
       come.limits come.some come.most (omega (arith, below, come.workers)) runs
 
-  pub round_made : (next : Replaying) (later : List TraceRow) → now.rounds < most_steps job →
+  pub round_made : (next : Replaying) (later : List TraceRow) → now.rounds < own_step_bound job →
       next.rounds ≡ now.rounds + 1 → next.ticks ≡ now.ticks → next.rows.now ≡ now.rows.now →
       next.workers ≡ now.workers →
       IsAfterEvents job plan.workers

@@ -38,30 +38,30 @@ use Rattle.walkx.specs.declared.operation.Ended.{Ended}
 use Rattle.walkx.specs.declared.operation.Ended.TheVariants as ended
 use Rattle.std.proofs.lemmas.Option.{none-some}
 use Rattle.pram_run.specs.Inner.Hearing.{HasTold}
-use Rattle.pram_run.specs.Inner.Obeying.{AllEndOrStop, AllWorked, EndsOrStops, GoesOn}
+use Rattle.pram_run.specs.Inner.Obeying.{AllEndOrStop, AllWorked, EndsOrStops, IsContinued}
 use Rattle.pram_run.proofs.Records.{HasAll, begins_self, begins_trans, begins_afters, begins_all}
 use Rattle.pram_run.proofs.Records.{left_all, right_all, heard_all, shows_all, shows_earlier}
 
 -- ---- a seat goes on
 
-pub goes_self : (p : SeatData) → GoesOn p p
+pub goes_self : (p : SeatData) → IsContinued p p
 goes_self p = record { desk = refl; begins = begins_self p.record_of }
 
-pub goes_trans : (p q r : SeatData) → GoesOn p q → GoesOn q r → GoesOn p r
+pub goes_trans : (p q r : SeatData) → IsContinued p q → IsContinued q r → IsContinued p r
 goes_trans p q r h k = record {
   desk = k.desk ∙ h.desk;
   begins = begins_trans p.record_of q.record_of r.record_of h.begins k.begins;
 }
 
-pub goes_all : (p q : SeatData) (steps : List (Op × ℕ)) → q ≡ hears_all p steps → GoesOn p q
+pub goes_all : (p q : SeatData) (steps : List (Op × ℕ)) → q ≡ hears_all p steps → IsContinued p q
 goes_all p q steps is = record {
   desk = ap (λ (s : SeatData). s.desk) is;
   begins = subst (λ (s : SeatData). BeginsWith p.record_of s.record_of)
       (sym is) (begins_afters p.record_of steps);
 }
 
-pub goes_united : (first p q later : SeatData) → later ≡ unites p q → GoesOn first p →
-    GoesOn first q → GoesOn first later
+pub goes_united : (first p q later : SeatData) → later ≡ unites p q → IsContinued first p →
+    IsContinued first q → IsContinued first later
 goes_united first p q later is h k = record {
   desk = ap (λ (s : SeatData). s.desk) is ∙ h.desk;
   begins = subst (λ (s : SeatData). BeginsWith first.record_of s.record_of)
@@ -169,7 +169,7 @@ progress_heard t p q progress h some =
     }
 
 pub progress_goes : (t : Task) (p q : SeatData) (progress : Progress) →
-    Progressed t p q progress → GoesOn p q
+    Progressed t p q progress → IsContinued p q
 progress_goes t p q progress h = goes_all p q ((Load (number_of t.layout Conflict), h.named)
     ∷ (Load (number_of t.layout (Node 1)), h.root) ∷ []) h.is
 
@@ -189,17 +189,17 @@ unended t p q progress h sound none low (inr s) =
 -- ---- seats that go on by their steps
 
 pub worked_goes : (t : Task) (p : SeatData) (w : Walking) (limit : Option ℕ) (q : SeatData)
-    (now : Walking) (stay : Stay) → Worked t p w limit q now stay → GoesOn p q
+    (now : Walking) (stay : Stay) → Worked t p w limit q now stay → IsContinued p q
 worked_goes t p w limit q now stay h =
     goes_all p q h.by.steps h.by.seat
 
-pub loads_go : (n : ℕ) (p q : SeatData) → HasLoaded n p q → GoesOn p q
+pub loads_go : (n : ℕ) (p q : SeatData) → HasLoaded n p q → IsContinued p q
 loads_go n p q h = goes_all p q h.steps h.is
 
-pub same_goes : (p q : SeatData) → q ≡ p → GoesOn p q
-same_goes p q is = subst (λ (x : SeatData). GoesOn p x) (sym is) (goes_self p)
+pub same_goes : (p q : SeatData) → q ≡ p → IsContinued p q
+same_goes p q is = subst (λ (x : SeatData). IsContinued p x) (sym is) (goes_self p)
 
-pub shows_goes : (y : LayoutData) (p q : SeatData) (t : ℕ) → GoesOn p q →
+pub shows_goes : (y : LayoutData) (p q : SeatData) (t : ℕ) → IsContinued p q →
     Shows y p.record_of t → Shows y q.record_of t
 shows_goes y p q t goes s =
     shows_all y p.record_of q.record_of t (begins_all p.record_of q.record_of goes.begins) s
@@ -233,7 +233,7 @@ looked_more p q r h k = (
 pub looked_same : (p q : SeatData) → q ≡ p → HasLooked p q
 looked_same p q is = (0, record { steps = []; is = is; loads = tt; count = refl })
 
-pub looked_goes : (p q : SeatData) → HasLooked p q → GoesOn p q
+pub looked_goes : (p q : SeatData) → HasLooked p q → IsContinued p q
 looked_goes p q h = loads_go h.0 p q h.1
 
 pub progress_looks : (t : Task) (p q : SeatData) (progress : Progress) →
@@ -283,7 +283,7 @@ last_shown t p q progress h le =
 -- the conflict that was heard is the one that is answered
 pub conflict_shown : (t : Task) (p q later : SeatData) (progress : Progress) (fault : Fault) →
     Progressed t p q progress → is_some progress.conflict ≡ true →
-    GoesOn q later → IsFault t.job fault → Heard t.layout later.record_of Conflict fault.step
+    IsContinued q later → IsFault t.job fault → Heard t.layout later.record_of Conflict fault.step
 conflict_shown t p q later progress fault h some goes is =
     let c = h.well.conflict (some_named h.named progress.conflict h.conflict some) in
     let same : h.named ≡ fault.step = sym c.step
@@ -365,7 +365,7 @@ ok_tells t p later (Err e) h = h
 -- ---- an act of a row
 
 pub acts_goes : (a : Act) (t : Task) (number ticks : ℕ) (p : SeatData) (w : Walking) (q : SeatData)
-    (now : Walking) → Acts a t number ticks p w q now → GoesOn p q
+    (now : Walking) → Acts a t number ticks p w q now → IsContinued p q
 acts_goes act.Go t number ticks p w q now h = worked_goes t p w (Some ticks) q now h.0 h.1
 acts_goes act.Sleep t number ticks p w q now h = same_goes p q h.0
 acts_goes act.Back t number ticks p w q now h = same_goes p q h.0

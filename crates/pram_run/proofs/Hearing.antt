@@ -12,7 +12,7 @@ use Rattle.pram_board.specs.declared.task.Task.{Task}
 use Rattle.pram_board.specs.Seats.{Desk, SeatData, unites}
 use Rattle.pram_run.specs.Heard.{Ended, HasRunWith}
 use Rattle.pram_run.specs.Inner.Hearing.{RunHasEnded, HasTold, IsJoined, TellsEnd, ToldEnd}
-use Rattle.pram_run.specs.Inner.Obeying.{GoesOn}
+use Rattle.pram_run.specs.Inner.Obeying.{IsContinued}
 use Rattle.pram_run.specs.Obeyed.{HasLooked, IsAnswered, LooksFor}
 use Rattle.pram_run.specs.Running.{IsRun, IsUnfinished, Tells}
 use Rattle.pram_run.proofs.Endings.{answered_at, looked_goes, looked_same, looks_looked}
@@ -173,7 +173,7 @@ any_all (Ok x) P A a = λ p. a
 any_all (Err e) P A a = tt
 
 -- it stays told
-pub end_later : (t : Task) (p q : SeatData) (A : Type 0) → GoesOn p q →
+pub end_later : (t : Task) (p q : SeatData) (A : Type 0) → IsContinued p q →
     A ⊎ ToldEnd t p.record_of → A ⊎ ToldEnd t q.record_of
 end_later t p q A goes (inl a) = inl a
 end_later t p q A goes (inr told) = inr (

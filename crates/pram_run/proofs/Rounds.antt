@@ -7,7 +7,7 @@ use Rattle.pram_job.specs.Job.{JobData, IsJob}
 use Rattle.pram_words.specs.declared.layout.Form.TheVariants.{Compact}
 use Rattle.pram_words.specs.Words.{layout_of}
 use Rattle.stop_plan.specs.Schedule.{after_turns, after_rounds}
-use Rattle.walkx.specs.Bound.{most_steps}
+use Rattle.walkx.specs.Bound.{own_step_bound}
 use Rattle.walkx.specs.Operations.{answer}
 use Rattle.walkx.specs.Records.{Record, empty}
 use Rattle.walkx.specs.Walk.{ask_of, told}
@@ -152,19 +152,19 @@ module _ (job : JobData) (workers : ℕ) where
       IsJob job → 1 ≤ workers → workers ≤ 64 → b < workers →
       still_runs job workers (after_rounds world_events (still_runs job workers) workers n es) b
       ≡ true →
-      n < most_steps job
+      n < own_step_bound job
   rounds_fewer b n es limits some most below runs =
       let h : Held (After es) = run_holds (start_compact job workers) es
       (record { made = empty; holds = holds_start job workers limits some most }) in
       let all = after_rounds world_events (still_runs job workers) workers n es in
       let t = rounds_track b n es below h in
       let board = run_board (start_compact job workers) all in
-      let less : n < most_steps (After all).job =
+      let less : n < own_step_bound (After all).job =
       fewer (After all) t.made b n t.holds (t.counted runs) (goer (After all) b runs) in
-      subst (λ (j : JobData). n < most_steps j) board.0 less
+      subst (λ (j : JobData). n < own_step_bound j) board.0 less
 
   -- the bound fits 64 bits
   pub rounds_small : IsJob job → 1 ≤ workers → workers ≤ 64 →
-      most_steps job < 2 ^ 63
+      own_step_bound job < 2 ^ 63
   rounds_small limits some most = bound_small job (layout_of job Compact workers)
       (start_compact job workers).words (holds_start job workers limits some most).stands

@@ -25,7 +25,7 @@ use Rattle.pram_run.specs.Heard.{Ended, HasRunBeside}
 use Rattle.pram_run.specs.Watching.{HasRead, IsTrueSight, IsWatch, HasWatched, HasWatchedWith}
 use Rattle.pram_run.specs.Watching.{ReadsAndHears, ReadsUnlessRefused}
 use Rattle.pram_run.specs.Inner.Hearing.{RunHasEnded}
-use Rattle.pram_run.specs.Inner.Obeying.{GoesOn, IsToWatch}
+use Rattle.pram_run.specs.Inner.Obeying.{IsContinued, IsToWatch}
 use Rattle.pram_run.specs.Inner.Reading.{IsWatchJoined}
 use Rattle.pram_run.proofs.Records.{begins_all, knows_all}
 use Rattle.pram_run.proofs.Endings.{goes_self, goes_trans, goes_all, looked_more}
@@ -40,11 +40,11 @@ pub has_read_more : (t : Task) (p q next : SeatData) (ss : List Sight) (s : Sigh
 has_read_more t p q next [] s h r = (next, subst (λ (x : SeatData). Read t x next s) h r, refl)
 has_read_more t p q next (first ∷ ss) s h r = (h.0, h.1, has_read_more t h.0 q next ss s h.2 r)
 
-read_goes : (t : Task) (p q : SeatData) (s : Sight) → Read t p q s → GoesOn p q
+read_goes : (t : Task) (p q : SeatData) (s : Sight) → Read t p q s → IsContinued p q
 read_goes t p q s r = goes_all p q (heard_in (reader_script t.layout s.cell) r.answers) r.is
 
-pub reads_go : (t : Task) (p q : SeatData) (ss : List Sight) → HasRead t p ss q → GoesOn p q
-reads_go t p q [] h = subst (λ (x : SeatData). GoesOn p x) (sym h) (goes_self p)
+pub reads_go : (t : Task) (p q : SeatData) (ss : List Sight) → HasRead t p ss q → IsContinued p q
+reads_go t p q [] h = subst (λ (x : SeatData). IsContinued p x) (sym h) (goes_self p)
 reads_go t p q (s ∷ ss) h = goes_trans p h.0 q (read_goes t p h.0 s h.1) (reads_go t h.0 q ss h.2)
 
 all_tell : (t : Task) (p q : SeatData) (ss : List Sight) →
@@ -61,7 +61,7 @@ all_least : (t : Task) (p q : SeatData) (ss : List Sight) (known : ℕ) → HasR
 all_least t p q [] known h k = All-nil (λ s. known ≤ s.step)
 all_least t p q (s ∷ ss) known h k =
     let next = h.0 in
-    let goes : GoesOn p next = read_goes t p next s h.1 in
+    let goes : IsContinued p next = read_goes t p next s h.1 in
     All-cons (λ (x : Sight). known ≤ x.step) s ss (h.1.lawful.lasts known k)
     (all_least t next q ss known h.2 (knows_all t.layout p.record_of next.record_of known
     (begins_all p.record_of next.record_of goes.begins) k))
@@ -133,7 +133,7 @@ room_more n rounds l room lt all =
 -- what the reader's thread kept, of the seat that it was given
 pub watch_of : (t : Task) (cells : List ℕ) (rounds : ℕ) (first : SeatData) (promise : Watched)
     (sights : List Sight) (p : SeatData) → IsToWatch cells rounds first promise →
-    first.desk.task ≡ t → GoesOn promise.before.value p
+    first.desk.task ≡ t → IsContinued promise.before.value p
     × IsWatch promise.before.value.desk.task promise.cells.now promise.rounds promise.before.value
     sights p → IsWatch t cells rounds first sights p
 watch_of t cells rounds first promise sights p promised task h =

@@ -12,7 +12,7 @@ use Rattle.pram_step.proofs.LawDisputes.{agrees_or_dispute}
 use Rattle.pram_words.specs.Words.{LayoutData}
 use Rattle.stop_plan.specs.Plan.{PlanData}
 use Rattle.stop_plan.specs.Schedule.{after_turns, after_rounds, events_of_rows}
-use Rattle.walkx.specs.Bound.{most_steps}
+use Rattle.walkx.specs.Bound.{own_step_bound}
 use Rattle.walkx.specs.Records.{empty}
 use Rattle.lawful_walk.specs.Board.{Stands, conflict, root}
 use Rattle.pram_world.specs.declared.event.Event.{Event}
@@ -168,14 +168,14 @@ module _ (job : JobData) (workers : ℕ) where
 module _ (job : JobData) (plan : PlanData) (limits : IsJob job) (some : 1 ≤ plan.workers)
     (most : plan.workers ≤ 64) where
   abbrev whole : List Event
-  whole = with_rounds job plan (most_steps job)
+  whole = with_rounds job plan (own_step_bound job)
 
   abbrev last : WorldData
   last = run (start_compact job plan.workers) whole
 
   none_goes : (b : ℕ) → b < plan.workers → going last b ≡ false
   none_goes b below = elim (cases_Bool (going last b)) [
-    | inl goes ↦ (let less = rounds_fewer job plan.workers b (most_steps job)
+    | inl goes ↦ (let less = rounds_fewer job plan.workers b (own_step_bound job)
         (events_of_rows world_events plan.rows) limits some most below goes in
         absurd (omega (arith, less)))
     | inr still ↦ still
@@ -192,19 +192,19 @@ module _ (job : JobData) (plan : PlanData) (limits : IsJob job) (some : 1 ≤ pl
   whole_replay =
       let told = outcome in (
         told.0,
-        replayed job plan plan.workers (most_steps job) last
+        replayed job plan plan.workers (own_step_bound job) last
             (trace_of (start_compact job plan.workers) whole) told.0 refl limits some most
             (record { world = refl; trace = refl }) none_goes told.1,
       )
 
-  whole_extends : (now : Replaying) (made : List Event) → now.rounds ≤ most_steps job →
+  whole_extends : (now : Replaying) (made : List Event) → now.rounds ≤ own_step_bound job →
       AreEventsMade job plan now made → Extends made whole
   whole_extends now made le (inl (none, is)) =
       extends_both made (events_of_rows world_events plan.rows) whole (ahead now, sym is)
-      (rounds_grow job plan.workers (most_steps job) (events_of_rows world_events plan.rows))
+      (rounds_grow job plan.workers (own_step_bound job) (events_of_rows world_events plan.rows))
   whole_extends now made le (inr (none, rows, is)) =
       subst (λ es. Extends es whole) (sym is)
-      (rounds_later job plan.workers now.rounds (most_steps job)
+      (rounds_later job plan.workers now.rounds (own_step_bound job)
       (events_of_rows world_events plan.rows) le)
 
 -- a replay whose first steps are these

@@ -32,8 +32,8 @@ pub record CellWords : Type 0 where
   pub word : ℕ → List ℕ
 
 -- by their numbers
-abbrev pub by_numbers : CellWords
-by_numbers = record { header = codes "step,cell,value\n"; word = λ cell. decimal cell }
+abbrev pub cells_by_number : CellWords
+cells_by_number = record { header = codes "step,cell,value\n"; word = λ cell. decimal cell }
 
 -- the line of a sight
 abbrev pub sight_line : CellWords → Sight → List ℕ

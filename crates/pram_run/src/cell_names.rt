@@ -1,6 +1,6 @@
 //! How the cells of sights are told.
 ghost use Rattle.std.specs.Prelude.{◌≡◌, ◌++◌, decimal, OnOk};
-ghost use Rattle.pram_run.specs.Printed.{CellWords, by_numbers};
+ghost use Rattle.pram_run.specs.Printed.{CellWords, cells_by_number};
 
 use itoa::Buffer;
 use std::alloc::AllocError;
@@ -23,7 +23,7 @@ pub trait CellNames {
 pub struct Numbers;
 
 impl CellNames for Numbers {
-    ghost words = { λ _. by_numbers };
+    ghost words = { λ _. cells_by_number };
 
     fn header(&self) -> &str {
         "step,cell,value\n"

@@ -3,7 +3,7 @@ ghost use Rattle.std.specs.Prelude.{◌≡◌, ◌⊎◌, ◌↔◌, ◌<◌, �
 ghost use Rattle.std.specs.Prelude.{vec_len};
 ghost use Rattle.lawful_walk.specs.Seen.{BeginsWith};
 ghost use Rattle.pram_run.specs.Inner.Hearing.{RunHasEnded, HasTold, IsJoined, TellsEnd, ToldEnd};
-ghost use Rattle.pram_run.specs.Inner.Obeying.{GoesOn};
+ghost use Rattle.pram_run.specs.Inner.Obeying.{IsContinued};
 ghost use Rattle.pram_run.specs.Inner.Sharing.{board_of, plan_of, shared_task};
 ghost use Rattle.pram_run.specs.Inner.Teams.{IsAtWork};
 ghost use Rattle.pram_run.specs.Obeyed.{HasLooked};
@@ -61,7 +61,7 @@ pub fn run_heard<R: Threads + Wait, G: Gate + Sync, H, P: Reads<Heard = H>>(
             ensures ran { ReadsUnlessRefused board.entry.now.task plan.entry.now seat reader
                 (P.reads reader board.entry.now.task cells.entry.now rounds)
                 P.hears result.0 result.1 result.2 }
-            ensures goes_on { GoesOn seat result.0 }
+            ensures goes_on { IsContinued seat result.0 }
         {
             let shared = Shared::new(alloc, job, board, plan, gate, bell);
             run_beside(
@@ -89,7 +89,7 @@ pub fn run_beside<'s, E, R: Threads + Wait, G: Gate + Sync, H, P: Reads<Heard = 
     ensures ran { let seen = shared.now in let task = seen.board.now.task in
         ReadsUnlessRefused task seen.plan.now seat reader
         (P.reads reader task seen.cells.now seen.rounds) P.hears result.0 result.1 result.2 }
-    ensures goes_on { GoesOn seat result.0 }
+    ensures goes_on { IsContinued seat result.0 }
 {
     let refused = Err(AllocError);
     let Ok(mut sights) = room_for_pieces(shared) else {
@@ -151,13 +151,13 @@ fn hear_end<'s, R: Threads + Wait, G: Gate + Sync, L: Listener>(
     requires listener { L.can_hear listener }
     requires team { IsAtWork (plan_of shared.now) team.seat team }
     requires desk { team.seat.desk ≡ board_of shared.now }
-    requires seat { GoesOn team.seat seat }
+    requires seat { IsContinued team.seat seat }
     requires answers { (vec_len team.threads ≡ (plan_of shared.now).workers)
         ⊎ ToldEnd (shared_task shared.now) seat.record_of }
     ensures ended { RunHasEnded (shared_task shared.now) (plan_of shared.now) team.entry.seat
         (vec_len team.entry.threads) seat result.0 result.1 }
     ensures heard { L.hears listener result.1 result.2 }
-    ensures goes_on { GoesOn team.entry.seat result.0 }
+    ensures goes_on { IsContinued team.entry.seat result.0 }
 {
     let (looker, early) = await_end(rt, shared, &team, seat);
     if tells_end(&early) {
@@ -220,7 +220,7 @@ fn join_beside<'s, R: Threads, G: Gate + Sync>(
 ) -> Seat
     requires team { IsAtWork (plan_of shared.now) team.seat team }
     requires desk { team.seat.desk ≡ board_of shared.now }
-    requires looker { GoesOn team.seat looker }
+    requires looker { IsContinued team.seat looker }
     ensures { IsJoined (shared_task shared.now) (plan_of shared.now) team.entry.seat looker
         (vec_len team.entry.threads) result }
 {

@@ -3,7 +3,7 @@ ghost use Rattle.std.specs.Prelude.{◌≡◌, ◌≤◌, ℕ, List, vec_capacit
 ghost use Rattle.pram_board.specs.declared.task.Task.{Task};
 ghost use Rattle.pram_board.specs.Seats.{SeatData};
 ghost use Rattle.pram_run.specs.Heard.{Ended};
-ghost use Rattle.pram_run.specs.Inner.Obeying.{GoesOn};
+ghost use Rattle.pram_run.specs.Inner.Obeying.{IsContinued};
 ghost use Rattle.pram_run.specs.Watching.{most_waiting};
 
 use crate::shared::Shared;
@@ -45,7 +45,7 @@ pub trait Reads: Listener {
         requires room { most_waiting shared.now ≤ vec_capacity sights.old }
         ensures reads { reads self shared.now.board.now.task
             shared.now.cells.now shared.now.rounds seat.old seat.new result }
-        ensures goes_on { GoesOn seat.old seat.new }
+        ensures goes_on { IsContinued seat.old seat.new }
         ensures can_hear { Self.can_hear result };
 }
 

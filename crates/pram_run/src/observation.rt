@@ -1,7 +1,7 @@
 //! Reads that go out while they are made.
 ghost use Rattle.std.specs.Prelude.{◌≡◌, ◌+◌, ◌≤◌, ◌↔◌, IsErrOf, IsTrue, false, length};
 ghost use Rattle.std.specs.Prelude.{vec_len, vec_capacity};
-ghost use Rattle.pram_run.specs.Inner.Obeying.{GoesOn};
+ghost use Rattle.pram_run.specs.Inner.Obeying.{IsContinued};
 ghost use Rattle.pram_run.specs.Inner.Reading.{PassedSights, PutAfter, ReadsRound};
 ghost use Rattle.pram_run.specs.PutReads.{PutReads};
 ghost use Rattle.pram_run.specs.Watching.{most_waiting};
@@ -33,7 +33,7 @@ pub fn print_reads<G: Gate, W: Sink, C: CellNames>(
     ensures reads { PutReads (C.words names.now) shared.now seat.old seat.new
         (W.taken sink.old) (W.taken sink.new) result }
     ensures failed { IsTrue (W.has_failed sink.new) ↔ IsErrOf result PrintFault.Device }
-    ensures goes_on { GoesOn seat.old seat.new }
+    ensures goes_on { IsContinued seat.old seat.new }
 {
     let mut printed = begin_sights(sink, names);
     let mut reads = 0u64;

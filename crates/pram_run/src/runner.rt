@@ -2,7 +2,7 @@
 ghost use Rattle.std.specs.Prelude.{◌≡◌, ℕ, ◌<◌, ◌↔◌, IfOk, IsTrue, OnOk, vec_len};
 ghost use Rattle.pram_board.specs.Worked.{Works};
 ghost use Rattle.lawful_walk.specs.Seen.{BeginsWith};
-ghost use Rattle.pram_run.specs.Inner.Obeying.{AllWorked, EndsOrStops, GoesOn, HasObeyed};
+ghost use Rattle.pram_run.specs.Inner.Obeying.{AllWorked, EndsOrStops, IsContinued, HasObeyed};
 ghost use Rattle.pram_run.specs.Inner.Sharing.{board_of, plan_of, shared_task};
 ghost use Rattle.pram_run.specs.Inner.Teams.{IsAtWork};
 ghost use Rattle.pram_run.specs.Obeyed.{AllObeyed, DoesRow, HasRun, ObeysAnew};
@@ -48,7 +48,7 @@ pub fn run<R: Threads + Wait, G: Gate + Sync>(
             requires given { IsBoardFor job.now plan.now board.now seat }
             ensures worked { OnOk result.1
                 (AllWorked board.entry.now.task plan.entry.now seat result.0) }
-            ensures goes_on { GoesOn seat result.0 }
+            ensures goes_on { IsContinued seat result.0 }
         {
             let shared = Shared::new(alloc, job, board, plan, gate, bell);
             work_in(scope, rt, &shared, seat)
@@ -71,7 +71,7 @@ pub(crate) fn work_in<'s, E, R: Threads, G: Gate + Sync>(
     requires { seat.desk ≡ board_of shared.now }
     ensures worked { OnOk result.1
         (AllWorked (shared_task shared.now) (plan_of shared.now) seat result.0) }
-    ensures goes_on { GoesOn seat result.0 }
+    ensures goes_on { IsContinued seat result.0 }
 {
     let team = start_all(scope, shared, seat);
     let whole = team.is_whole(shared);
@@ -175,7 +175,7 @@ pub(crate) fn start_to<'s, E, G: Gate + Sync>(
         let work = move || -> Seat
             requires worker { worker < board.now.task.layout.workers }
             requires given { IsBoardFor job.now plan.now board.now theirs }
-            ensures goes_on { GoesOn theirs result }
+            ensures goes_on { IsContinued theirs result }
             ensures ends { EndsOrStops rows.entry.now worker result }
             ensures obeys { ObeysAnew theirs.desk.task worker rows.entry.now theirs result }
         {
@@ -200,7 +200,7 @@ pub(crate) fn join_all<'s, R: Threads, G>(rt: &R, shared: &Shared<'s, G>, team: 
         EndsOrStops (plan_of shared.now).rows k result }
     ensures obeyed { AllObeyed (shared_task shared.now) (plan_of shared.now).rows team.entry.seat
         (vec_len team.entry.threads) result }
-    ensures goes_on { GoesOn team.entry.seat result }
+    ensures goes_on { IsContinued team.entry.seat result }
 {
     let board = shared.board;
     let Team { mut seat, threads } = team;
@@ -220,7 +220,7 @@ fn obey_rows<G: Gate>(
 ) -> Seat
     requires worker { number < (shared_task shared.now).layout.workers }
     requires seat { seat.desk ≡ board_of shared.now }
-    ensures goes_on { GoesOn seat result }
+    ensures goes_on { IsContinued seat result }
     ensures ends { EndsOrStops rows.now number result }
     ensures obeys { ObeysAnew seat.desk.task number rows.now seat result }
 {

@@ -3,7 +3,7 @@ ghost use Rattle.std.specs.Prelude.{◌≡◌, ◌≤◌, ◌<◌, ◌+◌, ◌*
 ghost use Rattle.std.specs.Prelude.{vec_capacity};
 ghost use Rattle.walkx.specs.declared.operation.Reading.TheVariants.{At};
 ghost use Rattle.lawful_walk.specs.Seen.{BeginsWith};
-ghost use Rattle.pram_run.specs.Inner.Obeying.{AllEndOrStop, GoesOn, IsToWatch};
+ghost use Rattle.pram_run.specs.Inner.Obeying.{AllEndOrStop, IsContinued, IsToWatch};
 ghost use Rattle.pram_run.specs.Inner.Reading.{IsWatchJoined, ReadsRound};
 ghost use Rattle.pram_run.specs.Inner.Sharing.{board_of, plan_of, shared_task};
 ghost use Rattle.pram_run.specs.Running.{IsBoardFor};
@@ -56,7 +56,7 @@ pub fn watch<R: Threads + Wait, G: Gate + Sync>(
             ensures ends { IfOk result.1 (λ sights. AllEndOrStop plan.entry.now result.0) }
             ensures sights { IfOk result.1 (λ sights. IsWatchJoined board.entry.now.task
                 plan.entry.now cells.entry.now rounds seat sights.items result.0) }
-            ensures goes_on { GoesOn seat result.0 }
+            ensures goes_on { IsContinued seat result.0 }
         {
             let shared = Shared::new(alloc, job, board, plan, gate, bell);
             watch_in(scope, rt, &shared.reading(cells, rounds, 0), seat)
@@ -81,7 +81,7 @@ struct Watched<'a> {
 }
 
 impl<'a> Promise<(Seat, Vec<Sight>)> for Watched<'a> {
-    ghost kept_by = { λ p r. GoesOn p.before.value r.0
+    ghost kept_by = { λ p r. IsContinued p.before.value r.0
         × IsWatch p.before.value.desk.task p.cells.now p.rounds p.before.value r.1.items r.0 };
 }
 
@@ -97,7 +97,7 @@ fn watch_in<'s, E, R: Threads, G: Gate + Sync>(
     ensures sights { IfOk result.1 (λ sights. let seen = shared.now in
         IsWatchJoined (shared_task seen) (plan_of seen) seen.cells.now seen.rounds seat sights.items
         result.0) }
-    ensures goes_on { GoesOn seat result.0 }
+    ensures goes_on { IsContinued seat result.0 }
 {
     let board = shared.board;
     let (seat, theirs) = board.split(seat);
@@ -137,7 +137,7 @@ fn start_reader<'s, E, G: Gate + Sync>(
         requires within { All (λ c. c < board.now.task.job.cells) cells.now }
         requires empty { vec_len sights ≡ 0 }
         requires room { rounds * length cells.now ≤ vec_capacity sights }
-        ensures goes_on { GoesOn seat result.0 }
+        ensures goes_on { IsContinued seat result.0 }
         ensures watch { IsWatch board.entry.now.task cells.entry.now rounds seat result.1.items
             result.0 }
     {
@@ -167,7 +167,7 @@ fn read_all<G: Gate>(
     requires seat { seat.desk ≡ board_of shared.now }
     requires empty { vec_len sights ≡ 0 }
     requires room { shared.now.rounds * length shared.now.cells.now ≤ vec_capacity sights }
-    ensures goes_on { GoesOn seat result.0 }
+    ensures goes_on { IsContinued seat result.0 }
     ensures watch { IsWatch (shared_task shared.now) shared.now.cells.now shared.now.rounds seat
         result.1.items result.0 }
 {

@@ -15,10 +15,10 @@ use Rattle.pram_machine.specs.Machine.{register_place, register, counter, halted
 use Rattle.pram_machine.specs.Instructions.{goes_to, request_in, requests_in}
 use Rattle.pram_step.specs.Steps.{Writes, written, Agrees, IsNext}
 use Rattle.pram_step.specs.Steps.{first_written, next_state}
-use Rattle.pram_step.specs.Inner.Marks.{Puts, AreAsked, AreStored}
+use Rattle.pram_step.specs.Inner.Marks.{PutsValue, AreAsked, AreStored}
 use Rattle.pram_step.specs.Inner.Marks.{AsksNext, store_at}
 use Rattle.pram_step.specs.Inner.Passes.{IsAdvance, SameCells}
-use Rattle.pram_step.specs.Inner.Passes.{HaveMoved, IsIdle, IsMove, IsOwnPlace}
+use Rattle.pram_step.specs.Inner.Passes.{HaveMoved, ChangesNothing, IsMove, IsOwnPlace}
 use Rattle.pram_step.specs.Running.{AreRunning}
 use Rattle.pram_step.specs.Inner.Passes.{IsPassed}
 use Rattle.pram_step.proofs.LawCounters.{next_counter}
@@ -221,7 +221,7 @@ module _ (job : JobData) (is_job : IsJob job) (s : State)
     }
 
     -- a request that changes nothing writes nothing
-    idle_move : IsIdle job s p → IsMove job p (request_in job s p) now now
+    idle_move : ChangesNothing job s p → IsMove job p (request_in job s p) now now
     idle_move idle = record {
       len = refl;
       cells = λ cell low. refl;
@@ -242,7 +242,7 @@ module _ (job : JobData) (is_job : IsJob job) (s : State)
 
     module _ (asked : List Store) (count : ℕ)
         (are : AreAsked job.cells (requests_in job s) p asked count) where
-      passed_idle : IsIdle job s p → IsPassed job s (p + 1) now asked count
+      passed_idle : ChangesNothing job s p → IsPassed job s (p + 1) now asked count
       passed_idle idle = record {
         own = moved_next now (idle_move idle);
         stores = AreAsked_quiet job.cells (requests_in job s) p asked count are
@@ -295,21 +295,21 @@ module _ (job : JobData) (is_job : IsJob job) (s : State)
 
     -- the processors below n ask for nothing
     idle_stopped : (i : ℕ) → i < job.procs → IsStopped job s i →
-        ((j : ℕ) → j < i → IsIdle job s j) → (j : ℕ) → j < i + 1 → IsIdle job s j
+        ((j : ℕ) → j < i → ChangesNothing job s j) → (j : ℕ) → j < i + 1 → ChangesNothing job s j
     idle_stopped i low stopped idle =
-        below_more (IsIdle job s) i idle (stopped_request job s i stopped)
+        below_more (ChangesNothing job s) i idle (stopped_request job s i stopped)
 
-    pub idle_first : (j : ℕ) → j < bound job running 0 → IsIdle job s j
-    idle_first = run_first job s running are (λ n. (j : ℕ) → j < n → IsIdle job s j) idle_stopped
+    pub idle_first : (j : ℕ) → j < bound job running 0 → ChangesNothing job s j
+    idle_first = run_first job s running are (λ n. (j : ℕ) → j < n → ChangesNothing job s j) idle_stopped
         (λ j low. absurd (omega arith))
 
     pub idle_next : (k : ℕ) → k < length running →
-        ((j : ℕ) → j < bound job running k → IsIdle job s j) → IsIdle job s (get_or running k 0) →
-        (j : ℕ) → j < bound job running (k + 1) → IsIdle job s j
+        ((j : ℕ) → j < bound job running k → ChangesNothing job s j) → ChangesNothing job s (get_or running k 0) →
+        (j : ℕ) → j < bound job running (k + 1) → ChangesNothing job s j
     idle_next k inside idle here =
         let e = bound_inside job s running are k inside in
-        run_next job s running are (λ n. (j : ℕ) → j < n → IsIdle job s j) idle_stopped k inside
-        (below_more (IsIdle job s) (get_or running k 0) (λ j low. idle j (omega arith)) here)
+        run_next job s running are (λ n. (j : ℕ) → j < n → ChangesNothing job s j) idle_stopped k inside
+        (below_more (ChangesNothing job s) (get_or running k 0) (λ j low. idle j (omega arith)) here)
 
 -- ---- at the end
 
@@ -365,7 +365,7 @@ module _ (job : JobData) (is_job : IsJob job) (s : State) (places : length s ≡
         (are.puts k inside))
 
     -- the first writer's store
-    at_first : (q i v : ℕ) → q < job.cells → Puts (requests_in job s) q i v →
+    at_first : (q i v : ℕ) → q < job.cells → PutsValue (requests_in job s) q i v →
         ((j w : ℕ) → Writes job (requests_in job s) q j w → i ≤ j) → get_or new q 0 ≡ v
     at_first q i v low puts least =
         let within : i < job.procs = omega (
@@ -376,8 +376,8 @@ module _ (job : JobData) (is_job : IsJob job) (s : State) (places : length s ≡
         let there = are.all q i v low within puts in
         let k = there.0 in
         let inside = there.1 in
-        let here : Puts (requests_in job s) (store_at asked k).cell i (store_at asked k).value =
-        subst (λ j. Puts (requests_in job s) (store_at asked k).cell j (store_at asked k).value)
+        let here : PutsValue (requests_in job s) (store_at asked k).cell i (store_at asked k).value =
+        subst (λ j. PutsValue (requests_in job s) (store_at asked k).cell j (store_at asked k).value)
         there.2 (are.puts k inside) in
         let same = some_pair_parts (store_at asked k).cell q (store_at asked k).value v
         (sym (Puts_at (requests_in job s) (store_at asked k).cell i (store_at asked k).value here)

@@ -9,7 +9,7 @@ use Rattle.pram_step.specs.declared.answer.Dispute.{Dispute}
 use Rattle.pram_machine.specs.declared.requests.Request.{Request}
 use Rattle.pram_step.specs.Steps.{written, Writes, WritesCell, Clashes, IsDispute, IsVerdict}
 use Rattle.pram_step.specs.Disputes.{Forbids}
-use Rattle.pram_step.specs.Inner.Marks.{Puts, PutsFirst, PutsNone}
+use Rattle.pram_step.specs.Inner.Marks.{PutsValue, PutsFirst, PutsNone}
 use Rattle.pram_step.proofs.RequestList.{request_at, slice_get_below, slice_get_last}
 use Rattle.pram_step.proofs.RequestList.{slice_get_earlier, slice_get_more, Puts-from_Writes}
 use Rattle.pram_step.proofs.RequestList.{Writes-from_Puts, put_of_written, written_of_put}
@@ -202,7 +202,7 @@ module _ (requests : List Request) (m : ℕ) (inside : m < length requests) (job
       let same = (some_pair_parts cell cell' v now.value
       (sym puts ∙ put_of_written job cell' m now.value (request_at requests m) low now.now)).0 in
       absurd (first now.beside now.other
-      (subst (λ c. Puts (take m requests) c now.beside now.other) (sym same)
+      (subst (λ c. PutsValue (take m requests) c now.beside now.other) (sym same)
       (Puts-from_Writes job (take m requests) cell' now.beside now.other low now.writes))))
 
   module _ (cell v first w : ℕ) (is_cell : cell < job.cells)

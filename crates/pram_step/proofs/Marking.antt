@@ -15,7 +15,7 @@ use Rattle.pram_job.specs.Job.{JobData}
 use Rattle.pram_step.specs.declared.answer.Dispute.{Dispute}
 use Rattle.pram_machine.specs.declared.requests.Request.{Request}
 use Rattle.pram_step.specs.declared.stores.Store.{Store}
-use Rattle.pram_step.specs.Inner.Marks.{Puts, PutsFirst, PutsNone, PutsStore, IsMark, AreMarked}
+use Rattle.pram_step.specs.Inner.Marks.{PutsValue, PutsFirst, PutsNone, PutsStore, MarksFirst, AreMarked}
 use Rattle.pram_step.specs.Inner.Marks.{AreJudged, AreStoredFrom, store_at}
 use Rattle.pram_machine.specs.Machine.{State}
 use Rattle.pram_step.specs.Inner.Marks.{JudgesStore}
@@ -34,8 +34,8 @@ abbrev no_store : Store
 no_store = record { processor = 0; cell = 0; value = 0 }
 
 module _ (requests : List Request) (m : ℕ) (inside : m < length requests) where
-  Puts_more : (place i v : ℕ) → Puts (take m requests) place i v →
-      Puts (take (m + 1) requests) place i v
+  Puts_more : (place i v : ℕ) → PutsValue (take m requests) place i v →
+      PutsValue (take (m + 1) requests) place i v
   Puts_more place i v p = record {
     request = p.request;
     request_is = slice_get_more requests m inside i p.request p.request_is;
@@ -43,13 +43,13 @@ module _ (requests : List Request) (m : ℕ) (inside : m < length requests) wher
   }
 
   Puts_last : (place v : ℕ) → (request_at requests m).put ≡ Some (place, v) →
-      Puts (take (m + 1) requests) place m v
+      PutsValue (take (m + 1) requests) place m v
   Puts_last place v h =
       record
       { request = request_at requests m; request_is = slice_get_last requests m inside; puts = h }
 
-  Puts_split : (place i v : ℕ) → Puts (take (m + 1) requests) place i v →
-      (Puts (take m requests) place i v)
+  Puts_split : (place i v : ℕ) → PutsValue (take (m + 1) requests) place i v →
+      (PutsValue (take m requests) place i v)
       ⊎ ((i ≡ m) × ((request_at requests m).put ≡ Some (place, v)))
   Puts_split place i v p =
       elim (slice_get_earlier requests m inside i p.request p.request_is) [
@@ -73,8 +73,8 @@ module _ (requests : List Request) (m : ℕ) (inside : m < length requests) wher
 
   -- what was marked stays so
   module _ (asked : List Store) (k : ℕ) where
-    IsMark_more : (cell mark : ℕ) → IsMark (take m requests) asked k cell mark →
-        IsMark (take (m + 1) requests) asked k cell mark
+    IsMark_more : (cell mark : ℕ) → MarksFirst (take m requests) asked k cell mark →
+        MarksFirst (take (m + 1) requests) asked k cell mark
     IsMark_more cell mark is = record {
       below = is.below;
       is_cell = is.is_cell;
@@ -127,7 +127,7 @@ module _ (job : JobData) (requests : List Request) (asked : List Store) (k : ℕ
   last_is_here cell v h = (some_pair_parts (store_at asked k).cell cell (store_at asked k).value v
       (sym next_puts ∙ h)).0
 
-  next_stored : Puts (take ((store_at asked k).processor + 1) requests) (store_at asked k).cell
+  next_stored : PutsValue (take ((store_at asked k).processor + 1) requests) (store_at asked k).cell
       (store_at asked k).processor (store_at asked k).value
   next_stored = Puts_last requests (store_at asked k).processor next_inside
       (store_at asked k).cell (store_at asked k).value next_puts
@@ -141,8 +141,8 @@ module _ (job : JobData) (requests : List Request) (asked : List Store) (k : ℕ
 
   -- a mark of an earlier store is one still
   old_mark : (cell mark : ℕ) →
-      IsMark (take (store_at asked k).processor requests) asked k cell mark →
-      IsMark (take ((store_at asked k).processor + 1) requests) asked (k + 1) cell mark
+      MarksFirst (take (store_at asked k).processor requests) asked k cell mark →
+      MarksFirst (take ((store_at asked k).processor + 1) requests) asked (k + 1) cell mark
   old_mark cell mark is =
       let below = is.below in record {
         below = omega arith;
@@ -164,7 +164,7 @@ module _ (job : JobData) (requests : List Request) (asked : List Store) (k : ℕ
           (elim (Puts_split requests (store_at asked k).processor next_inside cell i v p) [
             | inl old ↦ are.marked.marked cell i v is_cell old
             | inr new ↦ are.marked.marked cell first.processor first.value is_cell
-                (subst (λ c. Puts (take (store_at asked k).processor requests) c first.processor
+                (subst (λ c. PutsValue (take (store_at asked k).processor requests) c first.processor
                 first.value) (last_is_here cell v new.1) earlier.puts)
           ]);
     };
@@ -174,7 +174,7 @@ module _ (job : JobData) (requests : List Request) (asked : List Store) (k : ℕ
   -- it is the first to its cell
   module _ (none : PutsNone (take (store_at asked k).processor requests) (store_at asked k).cell)
     where
-      new_mark : IsMark (take ((store_at asked k).processor + 1) requests) asked (k + 1)
+      new_mark : MarksFirst (take ((store_at asked k).processor + 1) requests) asked (k + 1)
           (store_at asked k).cell k
       new_mark = record {
         below = omega arith;
@@ -191,18 +191,18 @@ module _ (job : JobData) (requests : List Request) (asked : List Store) (k : ℕ
       }
 
       marked_at : (store_at asked k).cell < length marks → (cell i v : ℕ) → cell < job.cells →
-          Puts (take ((store_at asked k).processor + 1) requests) cell i v →
-          IsMark (take ((store_at asked k).processor + 1) requests) asked (k + 1) cell
+          PutsValue (take ((store_at asked k).processor + 1) requests) cell i v →
+          MarksFirst (take ((store_at asked k).processor + 1) requests) asked (k + 1) cell
           (get_or (set marks (store_at asked k).cell k) cell 0)
       marked_at fits cell i v is_cell p =
           elim (Puts_split requests (store_at asked k).processor next_inside cell i v p) [
             | inl old ↦
                 let apart : cell ≢ (store_at asked k).cell = λ e. none i v
-                (subst (λ c. Puts (take (store_at asked k).processor requests) c i v) e old) in
+                (subst (λ c. PutsValue (take (store_at asked k).processor requests) c i v) e old) in
                 let mark : get_or (set marks (store_at asked k).cell k) cell 0
                 ≡ get_or marks cell 0 =
                 get_or-set_other marks (store_at asked k).cell cell k 0 apart in
-                subst (IsMark (take ((store_at asked k).processor + 1) requests) asked (k + 1) cell)
+                subst (MarksFirst (take ((store_at asked k).processor + 1) requests) asked (k + 1) cell)
                 (sym mark)
                 (old_mark cell (get_or marks cell 0) (are.marked.marked cell i v is_cell old))
             | inr new ↦
@@ -210,9 +210,9 @@ module _ (job : JobData) (requests : List Request) (asked : List Store) (k : ℕ
                 let mark : get_or (set marks (store_at asked k).cell k) cell 0 ≡ k =
                 subst (λ c. get_or (set marks (store_at asked k).cell k) c 0 ≡ k) e
                 (get_or-set_same marks (store_at asked k).cell k 0 fits) in
-                subst (IsMark (take ((store_at asked k).processor + 1) requests) asked (k + 1) cell)
+                subst (MarksFirst (take ((store_at asked k).processor + 1) requests) asked (k + 1) cell)
                 (sym mark)
-                (subst (λ c. IsMark (take ((store_at asked k).processor + 1) requests) asked (k + 1)
+                (subst (λ c. MarksFirst (take ((store_at asked k).processor + 1) requests) asked (k + 1)
                 c k) e new_mark)
           ]
 
@@ -227,7 +227,7 @@ module _ (job : JobData) (requests : List Request) (asked : List Store) (k : ℕ
 
 -- a store beside the first to its cell
 module _ (job : JobData) (requests : List Request) (store first : Store)
-    (low : store.cell < job.cells) (puts : Puts requests store.cell store.processor store.value)
+    (low : store.cell < job.cells) (puts : PutsValue requests store.cell store.processor store.value)
     (earlier : PutsFirst (take store.processor requests) store.cell first.processor first.value)
   where
     store_inside : store.processor < length requests
@@ -279,7 +279,7 @@ module _ (cells : ℕ) (requests : List Request) (asked : List Store) (marks : L
   PutsFirst_by_store below same =
       (are.marked cell (store_at asked (get_or marks cell 0)).processor
       (store_at asked (get_or marks cell 0)).value low
-      (subst (λ c. Puts requests c (store_at asked (get_or marks cell 0)).processor
+      (subst (λ c. PutsValue requests c (store_at asked (get_or marks cell 0)).processor
       (store_at asked (get_or marks cell 0)).value) same
       (are.puts (get_or marks cell 0) below))).first
 
@@ -333,7 +333,7 @@ AreAsked_none cells requests asked = record {
 module _ (cells : ℕ) (requests : List Request) (n : ℕ) (asked : List Store) (count : ℕ)
     (are : AreAsked cells requests n asked count) where
   -- the next one stores to no cell
-  pub AreAsked_quiet : ((cell v : ℕ) → cell < cells → Puts requests cell n v → ⊥) →
+  pub AreAsked_quiet : ((cell v : ℕ) → cell < cells → PutsValue requests cell n v → ⊥) →
       AreAsked cells requests (n + 1) asked count
   AreAsked_quiet none = record {
     within = λ k low. let below = are.within k low in omega arith;
@@ -344,12 +344,12 @@ module _ (cells : ℕ) (requests : List Request) (n : ℕ) (asked : List Store) 
       | inl below ↦ are.all cell i v is_cell below p
       | inr above ↦
           let same : i ≡ n = omega arith in
-          absurd (none cell v is_cell (subst (λ m. Puts requests cell m v) same p))
+          absurd (none cell v is_cell (subst (λ m. PutsValue requests cell m v) same p))
     ];
   }
 
   -- its store is taken up
-  module _ (here u : ℕ) (low : here < cells) (mine : Puts requests here n u)
+  module _ (here u : ℕ) (low : here < cells) (mine : PutsValue requests here n u)
       (room : count < length asked) where
     pub taken : Store
     taken = record { processor = n; cell = here; value = u }
@@ -380,7 +380,7 @@ module _ (cells : ℕ) (requests : List Request) (n : ℕ) (asked : List Store) 
       within = each (λ s. s.processor < n + 1)
           (λ k below. let under = are.within k below in omega arith) (omega arith);
       is_cell = each (λ s. s.cell < cells) are.is_cell low;
-      puts = each (λ s. Puts requests s.cell s.processor s.value) are.puts mine;
+      puts = each (λ s. PutsValue requests s.cell s.processor s.value) are.puts mine;
       rises = λ j k less below. elim (cases_eq k count) [
         | inl same ↦
             let before : j < count = omega arith in
@@ -432,7 +432,7 @@ AreAsked_take cells requests n asked count inside are =
       within = λ k low.
           subst (λ (s : Store). s.processor < n) (sym (at k low)) (are.within k low);
       is_cell = λ k low. subst (λ (s : Store). s.cell < cells) (sym (at k low)) (are.is_cell k low);
-      puts = λ k low. subst (λ (s : Store). Puts requests s.cell s.processor s.value)
+      puts = λ k low. subst (λ (s : Store). PutsValue requests s.cell s.processor s.value)
           (sym (at k low)) (are.puts k low);
       rises = λ j k less low.
           let one : (store_at (take count asked) j).processor ≡ (store_at asked j).processor =

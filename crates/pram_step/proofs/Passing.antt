@@ -16,7 +16,7 @@ use Rattle.pram_job.specs.Job.{JobData}
 use Rattle.pram_machine.specs.Instructions.{goes_to, request_in}
 use Rattle.pram_machine.specs.Machine.{State, counter, halted, IsStopped}
 use Rattle.pram_machine.proofs.Shapes.{decided_idle, request_by}
-use Rattle.pram_step.specs.Inner.Passes.{IsIdle, bound}
+use Rattle.pram_step.specs.Inner.Passes.{ChangesNothing, bound}
 use Rattle.pram_step.specs.Running.{AreRunning, AreRunningBelow}
 
 -- ---- from a number to a later one
@@ -217,7 +217,7 @@ AreRunningBelow_none job s list = record {
 -- ---- who stands still
 
 pub request_idle : (job : JobData) (s : State) (i : ℕ) →
-    (request_in job s i).next ≡ counter job s i → IsIdle job s i
+    (request_in job s i).next ≡ counter job s i → ChangesNothing job s i
 request_idle job s i =
     request_by (λ r. r.next ≡ counter job s i → r ≡ goes_to (counter job s i)) job s i
     (λ e. refl) (λ instr e. decided_idle job i _ _ _ _ instr)

@@ -12,7 +12,7 @@ use Rattle.pram_machine.specs.Instructions.{request_in, requests_in}
 use Rattle.pram_machine.specs.Machine.{State, counter_place}
 use Rattle.pram_machine.proofs.Shapes.{asks}
 use Rattle.pram_step.specs.Steps.{written, Writes}
-use Rattle.pram_step.specs.Inner.Marks.{Puts}
+use Rattle.pram_step.specs.Inner.Marks.{PutsValue}
 
 -- ---- the front of a list, and with one element more
 
@@ -101,7 +101,7 @@ put_of_written job cell i v r low writes = elim (written_cases job cell i v r wr
 
 -- each processor's write to a cell is its data
 pub Puts-from_Writes : (job : JobData) (requests : List Request) (cell i v : ℕ) → cell < job.cells →
-    Writes job requests cell i v → Puts requests cell i v
+    Writes job requests cell i v → PutsValue requests cell i v
 Puts-from_Writes job requests cell i v low w = record {
   request = w.request;
   request_is = w.request_is;
@@ -109,7 +109,7 @@ Puts-from_Writes job requests cell i v low w = record {
 }
 
 pub Writes-from_Puts : (job : JobData) (requests : List Request) (cell i v : ℕ) → cell < job.cells →
-    Puts requests cell i v → Writes job requests cell i v
+    PutsValue requests cell i v → Writes job requests cell i v
 Writes-from_Puts job requests cell i v low p = record {
   request = p.request;
   request_is = p.request_is;
@@ -118,11 +118,11 @@ Writes-from_Puts job requests cell i v low p = record {
 
 -- ---- what one processor puts
 
-pub Puts_inside : (requests : List Request) (place i v : ℕ) → Puts requests place i v →
+pub Puts_inside : (requests : List Request) (place i v : ℕ) → PutsValue requests place i v →
     i < length requests
 Puts_inside requests place i v p = slice_get_within requests i p.request p.request_is
 
-pub Puts_at : (requests : List Request) (place i v : ℕ) → Puts requests place i v →
+pub Puts_at : (requests : List Request) (place i v : ℕ) → PutsValue requests place i v →
     (request_at requests i).put ≡ Some (place, v)
 Puts_at requests place i v p =
     subst (λ (q : Request). q.put ≡ Some (place, v)) (sym (get_or_from_slice_get requests i
@@ -131,7 +131,7 @@ Puts_at requests place i v p =
 -- what processor i asks for is what it puts
 pub Puts_put : (requests : List Request) (place i v : ℕ) (request : Request)
     (put : Option (ℕ × ℕ)) → slice_get requests i ≡ Some request → request.put ≡ put →
-    Puts requests place i v → put ≡ Some (place, v)
+    PutsValue requests place i v → put ≡ Some (place, v)
 Puts_put requests place i v request put is e p =
     sym e ∙ ap (λ (r : Request). r.put) (same_Some request p.request (sym is ∙ p.request_is))
     ∙ p.puts

@@ -6,7 +6,7 @@ ghost use Rattle.pram_machine.specs.Machine.{IsDataPlace, counter, counter_place
 ghost use Rattle.pram_machine.specs.Turns.{put_of, request_of, IsSorted};
 ghost use Rattle.pram_step.specs.Inner.Passes.{TurnsGoOn, IsMove, IsPassed, IsUnderWay};
 ghost use Rattle.pram_step.specs.Running.{AreRunning};
-ghost use Rattle.pram_step.specs.Inner.Passes.{StandsAt};
+ghost use Rattle.pram_step.specs.Inner.Passes.{StandsNext};
 
 use crate::stores::{Store, take_up};
 use pram_job::{Instr, Job, Place};
@@ -142,7 +142,7 @@ struct Stand<'m> {
 /// here has a loop of its own, in which no other is looked at.
 #[inline(always)]
 fn take_form(stand: Stand<'_>, places: &mut [u32], running: &[u32], asked: &mut [Store]) -> Turns
-    requires { StandsAt stand.at.job.now running.now places.old asked.old stand.turns
+    requires { StandsNext stand.at.job.now running.now places.old asked.old stand.turns
         stand.at.counter }
     ensures { TurnsGoOn stand.entry.at.job.now running.now places.old asked.old stand.entry.turns
         places.new asked.new result }
@@ -202,7 +202,7 @@ fn take_as(
     asked: &mut [Store],
 ) -> Turns
     requires same { instr ≡ stand.at.instr.now }
-    requires stands { StandsAt stand.at.job.now running.now places.old asked.old stand.turns
+    requires stands { StandsNext stand.at.job.now running.now places.old asked.old stand.turns
         stand.at.counter }
     ensures { TurnsGoOn stand.entry.at.job.now running.now places.old asked.old stand.entry.turns
         places.new asked.new result }

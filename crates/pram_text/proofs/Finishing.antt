@@ -15,7 +15,7 @@ use Rattle.pram_text.specs.declared.program.Program.{Program}
 use Rattle.pram_text.specs.declared.reader.Reader.{Reader}
 use Rattle.text_lines.specs.Lines.{Line, is_filled}
 use Rattle.pram_text.specs.Judgement.{Scope, instr_of, unlabelled}
-use Rattle.pram_text.specs.Inner.Reading.{value_given, HoldsAt, HoldsCode, scope_by, index_at}
+use Rattle.pram_text.specs.Inner.Reading.{value_given, HoldsAt, HoldsCode, scope_by, label_at}
 use Rattle.pram_text.specs.Inner.Reading.{fault_of_index}
 use Rattle.pram_text.specs.Inner.Statement.{resolved}
 use Rattle.pram_text.specs.Text.{end_fault, has_code, label_index}
@@ -67,14 +67,14 @@ module _ (before : List Line) (reader : Reader) (h : HoldsAt Code before reader)
 outcomes-held : (scope : Scope) (body : List Line) (program : Program) →
     HoldsCode scope body program →
     map (λ line. instr_of scope (label_index body) (unlabelled line)) body
-    ≡ map (λ w. resolved (index_at program.indices) w.statement) program.written.items
+    ≡ map (λ w. resolved (label_at program.indices) w.statement) program.written.items
 outcomes-held scope body program h = h.said (label_index body)
     ∙ (λ i. map (λ w. resolved (λ name. sym (h.indices name) i) w.statement) program.written.items)
 
 -- the first statement that is wrong stands in the first line that is
 pub first_unknown : (scope : Scope) (body : List Line) (program : Program) (k : ℕ)
     (kind : TextKind) → HoldsCode scope body program → IsFirst (fault_of_index
-    (map (λ w. resolved (index_at program.indices) w.statement) program.written.items))
+    (map (λ w. resolved (label_at program.indices) w.statement) program.written.items))
     (length program.written.items) k kind →
     IsFirst (label_fault_at scope body) (length body) k kind
 first_unknown scope body program k kind h first =
@@ -96,7 +96,7 @@ module _ (before : List Line) (reader : Reader)
     (init : List ℕ) (code : List Instr) (h : HoldsAt Code before reader)
     (values : init ≡ map (λ c. unwrap_or (value_given reader.setup.values.items c) 0)
     (range_with_len 0 reader.head.cells))
-    (coded : map (λ w. resolved (index_at reader.program.indices) w.statement)
+    (coded : map (λ w. resolved (label_at reader.program.indices) w.statement)
     reader.program.written.items ≡ map (λ i. Ok i) code)
     (some : 1 ≤ length reader.program.written.items) where
   pub SpellsLines-held : SpellsLines (record {

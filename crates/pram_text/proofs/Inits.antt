@@ -23,7 +23,7 @@ use Rattle.pram_text.specs.Judgement.{Entry, names, gives, says_array, array_of,
 use Rattle.text_lines.specs.Reads.{◌>>=◌}
 use Rattle.pram_text.specs.Judgement.{init_of, entry_of}
 use Rattle.pram_text.specs.Inner.Reading.{HoldsStart, ReadsArray, ReadsInit, value_given}
-use Rattle.pram_text.specs.Inner.Statement.{array_named}
+use Rattle.pram_text.specs.Inner.Statement.{array_of_name}
 use Rattle.pram_text.specs.Text.{array_by, array_in, value_by, value_in, gives_values, is_taken}
 use Rattle.pram_text.specs.Text.{entry_fault, new_entry_fault, entries_in, SaysEntries, SpellsInit}
 use Rattle.pram_text.proofs.Lists.{split_of_append}
@@ -309,7 +309,7 @@ module _ (later : Bool) (cells : ℕ) (inits : List Line) (old : Setup) (w : Lin
         (fresh_cell none q)
 
     pub HoldsStart-given : (new : Setup) → has_given ≡ false →
-        ((name : Word) → array_named new.arrays name ≡ array_named old.arrays name) →
+        ((name : Word) → array_of_name new.arrays name ≡ array_of_name old.arrays name) →
         is_filled new.values.items ≡ true →
         ((q : ℕ) → value_given new.values.items q
         ≡ option_or (value_by (gives c vs) q) (value_given old.values.items q)) →
@@ -330,7 +330,7 @@ module _ (later : Bool) (cells : ℕ) (inits : List Line) (old : Setup) (w : Lin
   module _ (name : Word) (array : Array) (said : entry_of later cells w ≡ Ok (names name array)) where
     -- whether a value stands before it, or its name is taken
     abbrev pub is_late : Bool
-    is_late = is_filled old.values.items || is_some (array_named old.arrays name)
+    is_late = is_filled old.values.items || is_some (array_of_name old.arrays name)
 
     taken-late : is_taken h.entries (names name array) ≡ is_late
     unfolding is_taken
@@ -342,9 +342,9 @@ module _ (later : Bool) (cells : ℕ) (inits : List Line) (old : Setup) (w : Lin
         ∙ ap (λ b. if b then Some BadHeader else None) taken-late
 
     pub HoldsStart-named : (new : Setup) → is_filled old.values.items ≡ false →
-        array_named old.arrays name ≡ None → new.values.items ≡ old.values.items →
-        ((other : Word) → array_named new.arrays other
-        ≡ (if bytes_eq name other then Some array else array_named old.arrays other)) →
+        array_of_name old.arrays name ≡ None → new.values.items ≡ old.values.items →
+        ((other : Word) → array_of_name new.arrays other
+        ≡ (if bytes_eq name other then Some array else array_of_name old.arrays other)) →
         HoldsStart later cells (inits ++ w ∷ []) new
     HoldsStart-named new bare none same put = record {
       entries = h.entries ++ names name array ∷ [];
@@ -355,10 +355,10 @@ module _ (later : Bool) (cells : ℕ) (inits : List Line) (old : Setup) (w : Lin
           let is : name ≡ other = (bytes_eq-Decides name other).0 yes in
           let unnamed : array_in h.entries other ≡ None =
           ap (array_in h.entries) (sym is) ∙ sym (h.arrays name) ∙ none in
-          ap (λ b. if b then Some array else array_named old.arrays other) yes
+          ap (λ b. if b then Some array else array_of_name old.arrays other) yes
           ∙ sym (array_in-push h.entries (names name array) other
           ∙ ap₂ (λ o b. option_or o (if b then Some array else None)) unnamed yes))
-          (λ no. ap (λ b. if b then Some array else array_named old.arrays other) no
+          (λ no. ap (λ b. if b then Some array else array_of_name old.arrays other) no
           ∙ h.arrays other ∙ sym (array_in-push h.entries (names name array) other
           ∙ ap (λ b. option_or (array_in h.entries other) (if b then Some array else None)) no
           ∙ or_none (array_in h.entries other)))

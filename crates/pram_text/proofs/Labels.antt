@@ -22,7 +22,7 @@ use Rattle.text_lines.specs.Lines.{Line, Word}
 use Rattle.pram_text.specs.Judgement.{label_of, unlabelled, is_name, Scope, instr_of}
 use Rattle.pram_text.specs.Judgement.{index_in}
 use Rattle.text_lines.specs.Reads.{◌>>=◌}
-use Rattle.pram_text.specs.Inner.Reading.{HoldsCode, HoldsIndices, index_at, define_fault}
+use Rattle.pram_text.specs.Inner.Reading.{HoldsCode, HoldsIndices, label_at, define_fault}
 use Rattle.pram_text.specs.Inner.Statement.{resolved, aimed, ReadsLine}
 use Rattle.pram_job.specs.declared.limits.TheConstants.{MAX_CODE}
 use Rattle.pram_text.specs.Text.{instr_fault, new_label_fault, label_fault}
@@ -126,16 +126,16 @@ named_label None name e = cc
 named_label (Some label) name e = ap Some ((bytes_eq-Decides label name).0 e)
 
 pub HoldsIndices-push : (body : List Line) (old new : BTreeMap (Bor (List ℕ)) ℕ) (line : Line) →
-    HoldsIndices body old → label_fault body line ≡ None → ((name : Word) → index_at new name
-    ≡ (if is_named (label_of line) name then Some (length body) else index_at old name)) →
+    HoldsIndices body old → label_fault body line ≡ None → ((name : Word) → label_at new name
+    ≡ (if is_named (label_of line) name then Some (length body) else label_at old name)) →
     HoldsIndices (body ++ line ∷ []) new
 HoldsIndices-push body old new line h fine put name = ⊎_elim (λ yes.
     let named = (label_is_new body line name fine (named_label (label_of line) name yes)).1 in
-    put name ∙ ap (λ b. if b then Some (length body) else index_at old name) yes
+    put name ∙ ap (λ b. if b then Some (length body) else label_at old name) yes
     ∙ sym (position-push_first (defines name) body line named
     ∙ ap (λ b. cond b (Some (length body)) None) yes))
     (λ no.
-    put name ∙ ap (λ b. if b then Some (length body) else index_at old name) no ∙ h name ∙ ⊎_elim
+    put name ∙ ap (λ b. if b then Some (length body) else label_at old name) no ∙ h name ∙ ⊎_elim
     (λ known. sym (position-push_later (defines name) body line known))
     (λ new. position-none (defines name) body new ∙ sym (position-push_first (defines name)
     body line new ∙ ap (λ b. cond b (Some (length body)) None) no))

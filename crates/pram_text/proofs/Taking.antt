@@ -19,7 +19,7 @@ use Rattle.pram_text.specs.Inner.Reading.{HoldsHead, HoldsAt, HoldsLines, HoldsN
 use Rattle.pram_text.specs.Inner.Reading.{HoldsCode, HoldsNoCode, Starts, scope_by, TakesHead}
 use Rattle.pram_text.specs.Inner.Reading.{TakesStart, TakesCode, TakesWords, TakesInLine}
 use Rattle.pram_text.specs.Inner.Reading.{numbers_of, number_if}
-use Rattle.pram_text.specs.Inner.Statement.{array_named}
+use Rattle.pram_text.specs.Inner.Statement.{array_of_name}
 use Rattle.pram_text.specs.Text.{words_fault, entries_in, entry_fault, instr_fault}
 use Rattle.pram_text.specs.Text.{line_fault, has_code, body_of, scope_in, code_heading}
 use Rattle.pram_text.proofs.Inits.{SaysEntries-none, entries_in-said}
@@ -182,7 +182,7 @@ module _ (before : List Line) (reader : Reader) (h : HoldsAt Code before reader)
 
 -- what code knows of names is what the lines before say
 abbrev pub scope_at : Bool → Reader → Scope
-scope_at later reader = record { later = later; arrays = array_named reader.setup.arrays }
+scope_at later reader = record { later = later; arrays = array_of_name reader.setup.arrays }
 
 scope_same : (later : Bool) (old : Reader) (inits : List Line) (starts : Starts inits old) →
     later ≡ is_later old.head.version → scope_at later old ≡ scope_by old starts.entries

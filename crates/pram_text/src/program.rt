@@ -4,7 +4,7 @@ ghost use Rattle.std.specs.Option.{option_copied};
 ghost use Rattle.text_lines.specs.Lines.{Line, words_of};
 ghost use Rattle.pram_text.specs.Inner.Reading.{HoldsCode, HoldsNoCode, TakesCode, Defines};
 ghost use Rattle.pram_text.specs.Inner.Reading.{IsCoded};
-ghost use Rattle.pram_text.specs.Inner.Reading.{numbers_of, index_at};
+ghost use Rattle.pram_text.specs.Inner.Reading.{numbers_of, label_at};
 ghost use Rattle.pram_text.specs.Inner.Statement.{aimed, known, resolved};
 
 use crate::fault::{TextFault, TextKind};
@@ -68,7 +68,7 @@ impl<'t> Program<'t> {
     /// The instructions, each jump with the index of its label.
     /// The fault is that of the first jump to an unknown one.
     pub(crate) fn code(&self) -> Result<Vec<Instr>, TextFault>
-        ensures told { IsCoded (index_at self.now.indices) self.now.written.items result }
+        ensures told { IsCoded (label_at self.now.indices) self.now.written.items result }
         ensures memory { IfErr result (λ fault. fault.kind ≡ TextKind.Memory → fault.line ≡ 0) }
     {
         let mut code = Vec::with_capacity(*self.written.allocator(), self.written.len())?;
@@ -107,7 +107,7 @@ fn define<'t>(
 
 // The instruction of a statement, with the index of its label.
 fn resolve(indices: &BTreeMap<&[u8], u32>, statement: &Statement<'_>) -> Result<Instr, TextKind>
-    ensures { result ≡ resolved (index_at indices.now) statement.now }
+    ensures { result ≡ resolved (label_at indices.now) statement.now }
 {
     let Some(label) = statement.target else {
         return Ok(statement.instr);

@@ -14,7 +14,7 @@ use Rattle.pram_words.specs.Words.{LayoutData, IsLayout, IsWord, places_of}
 use Rattle.pram_words.specs.Words.{number_of, length_of, word_at}
 use Rattle.pram_words.specs.Ways.{first_leaf_in}
 use Rattle.pram_words.specs.Start.{start_of, start_words}
-use Rattle.pram_words.specs.Inner.Started.{HasStarted, started}
+use Rattle.pram_words.specs.Inner.Started.{HasStarted, word_started}
 use Rattle.pram_words.proofs.Numbering.{numbering}
 use Rattle.pram_words.proofs.Starts.{length-start_words}
 
@@ -34,7 +34,7 @@ set_at y words a b v expected limits is_a is_b len same other =
     ]
 
 -- zeros are a start without workers and values
-started_none : (y : LayoutData) (a : Word) → 0 ≡ started y 0 [] a
+started_none : (y : LayoutData) (a : Word) → 0 ≡ word_started y 0 [] a
 started_none y (Position w) = rw (le-ltb w 0 (omega arith)) refl
 started_none y (Stored p k) = sym (get_or_past [] p 0 (omega arith))
 started_none y a = refl
@@ -50,7 +50,7 @@ zeros_started y n words limits len zeros = record {
 
 -- one more worker
 other_worker : (y : LayoutData) (w : ℕ) (values : List ℕ) (a : Word) → a ≢ Position w →
-    started y w values a ≡ started y (w + 1) values a
+    word_started y w values a ≡ word_started y (w + 1) values a
 other_worker y w values (Position x) ne = elim (cases_lt x w) [
   | inl c ↦ rw (lt-ltb x w c, lt-ltb x (w + 1) (omega arith)) refl
   | inr c ↦ elim (cases_eq x w) [
@@ -61,7 +61,7 @@ other_worker y w values (Position x) ne = elim (cases_lt x w) [
 other_worker y w values a ne = refl
 
 this_worker : (y : LayoutData) (w : ℕ) (values : List ℕ) →
-    first_leaf_in y w ≡ started y (w + 1) values (Position w)
+    first_leaf_in y w ≡ word_started y (w + 1) values (Position w)
 this_worker y w values = rw (lt-ltb w (w + 1) (omega arith)) refl
 
 pub worker_started : (y : LayoutData) (w at v : ℕ) (values words : List ℕ) → IsLayout y →
@@ -70,7 +70,7 @@ pub worker_started : (y : LayoutData) (w at v : ℕ) (values words : List ℕ) �
 worker_started y w at v values words limits below is leaf so = record {
   len = length-set words at v ∙ so.len;
   each = λ b is_b. rw is (set_at y words (Position w) b v _ limits below is_b so.len
-      (λ e. leaf ∙ this_worker y w values ∙ ap (started y (w + 1) values) (sym e))
+      (λ e. leaf ∙ this_worker y w values ∙ ap (word_started y (w + 1) values) (sym e))
       (λ ne. so.each b is_b ∙ other_worker y w values b ne));
 }
 
@@ -87,7 +87,7 @@ other_value values p q ne = elim (cases_lt q p) [
 
 other_place : (y : LayoutData) (workers p : ℕ) (values : List ℕ) (a : Word) → IsWord y a →
     a ≢ Stored p 0 → a ≢ Stored p 1 →
-    started y workers (take p values) a ≡ started y workers (take (p + 1) values) a
+    word_started y workers (take p values) a ≡ word_started y workers (take (p + 1) values) a
 other_place y workers p values (Stored q zero) is first second =
     other_value values p q (λ e. first (ap (λ n. Stored n 0) e))
 other_place y workers p values (Stored q (suc zero)) is first second =
@@ -103,7 +103,7 @@ pub place_started : (y : LayoutData) (workers p first second v : ℕ) (values wo
 place_started y workers p first second v values words limits below at next is so =
     let value : v ≡ get_or (take (p + 1) values) p 0 =
     is ∙ sym (get_or-take (p + 1) values p 0 (omega arith)) in
-    let more = started y workers (take (p + 1) values) in
+    let more = word_started y workers (take (p + 1) values) in
     record {
       len = length-set (set words first v) second v ∙ length-set words first v ∙ so.len;
       each = λ b is_b. rw (at, next) (set_at y (set words (number_of y (Stored p 0)) v)
@@ -125,7 +125,7 @@ same_value values n places p least place = elim (cases_lt p n) [
 
 left_out : (y : LayoutData) (workers n : ℕ) (values : List ℕ) (a : Word) → IsWord y a →
     n ≡ min (length values) (places_of y) →
-    started y workers (take n values) a ≡ started y workers values a
+    word_started y workers (take n values) a ≡ word_started y workers values a
 left_out y workers n values (Stored p k) is least = same_value values n (places_of y) p least is.0
 left_out y workers n values a is least = refl
 
@@ -139,7 +139,7 @@ places_started y workers n values words least so = record {
 
 -- in the end all words have started
 started_all : (y : LayoutData) (job : JobData) (a : Word) → IsWord y a →
-    started y y.workers job.init a ≡ start_of y job a
+    word_started y y.workers job.init a ≡ start_of y job a
 started_all y job (Position w) is = rw (lt-ltb w y.workers is) refl
 started_all y job a is = refl
 

@@ -6,7 +6,7 @@ use Rattle.std.proofs.lemmas.Bool.{cases_Bool, cases_eq, eq-eqb, ne_eqb}
 use Rattle.std.specs.Option.{is_none}
 use Rattle.pram_job.specs.Job.{JobData}
 use Rattle.pram_words.specs.Words.{LayoutData, layout_of}
-use Rattle.walkx.specs.Bound.{most_steps}
+use Rattle.walkx.specs.Bound.{own_step_bound}
 use Rattle.walkx.specs.Operations.{answer}
 use Rattle.walkx.specs.Records.{Record}
 use Rattle.walkx.specs.Walk.{Walking, ask_of, told, end_of, started, come_back, remembering}
@@ -29,7 +29,7 @@ IsThere s b = (body : Body) × (slice_get s.bodies b ≡ Some body)
 -- it has made n steps, no more than the bound; while it is going the record has them
 record Bounded (s : WorldData) (made : Record) (b n : ℕ) : Type 0 where
   there : IsThere s b
-  most : n ≤ most_steps s.job
+  most : n ≤ own_step_bound s.job
   counted : going s b ≡ true → Counted s made b n
 
 -- ---- lists of bodies
@@ -94,7 +94,7 @@ own_bounded : (s : WorldData) (made : Record) (b n : ℕ) (w : Walking) →
 own_bounded s made b n w at runs holds h =
     let here : going s b ≡ true = ap body_goes at ∙ runs in
     let counted = h.counted here in
-    let less : n < most_steps s.job = fewer s made b n holds counted (goer s b here) in
+    let less : n < own_step_bound s.job = fewer s made b n holds counted (goer s b here) in
     let one : n + 1 ≡ 1 + n = omega arith in
     let new = walks (told s.job s.layout w (answer s.words (ask_of s.job s.layout w))) in
     record {
@@ -202,6 +202,6 @@ every_body_is_bounded job form workers acts later b w limits block some most fit
     } in
     let bounded = all_bounded job y before b 0 later also leaves h start in
     let count = bounded.most in
-    let all : steps_in before b later ≤ most_steps behind.world.job =
+    let all : steps_in before b later ≤ own_step_bound behind.world.job =
     omega arith in
-    subst (λ (j : JobData). steps_in before b later ≤ most_steps j) after.job_stays all
+    subst (λ (j : JobData). steps_in before b later ≤ own_step_bound j) after.job_stays all

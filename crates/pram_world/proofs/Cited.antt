@@ -14,7 +14,7 @@ use Rattle.walkx.specs.declared.operation.Op.{Op}
 use Rattle.walkx.specs.Doing.{Doing}
 use Rattle.walkx.specs.Doing as doing
 use Rattle.walkx.specs.Scripts.{rest_after}
-use Rattle.walkx.specs.Bound.{told_all, history_of, most_steps}
+use Rattle.walkx.specs.Bound.{told_all, history_of, own_step_bound}
 use Rattle.walkx.specs.Operations.{answer}
 use Rattle.walkx.specs.Records.{Record, after, Has, Knows}
 use Rattle.walkx.specs.Walk.{Walking, IsGoing, HearsAdmitted, ask_of, told, rest_of, end_of}
@@ -99,7 +99,7 @@ going_of (doing.Over x) e = absurd (cc)
 pub own_steps : (job : JobData) (y : LayoutData) (r : Record)
     (w : Walking) (answers words : List ℕ) → Stands job y words → Backed job y r words →
     Has r (history_of job y w answers) → Fitting job y w →
-    end_of (told_all job y w answers).now ≡ None → length answers < most_steps job
+    end_of (told_all job y w answers).now ≡ None → length answers < own_step_bound job
 own_steps job y r w answers words stands backed has fits going =
     sound_steps job y r w answers (board_of job y words stands) fits
     (sound_of job y r words stands backed) has

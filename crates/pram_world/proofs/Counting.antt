@@ -8,7 +8,7 @@ use Rattle.pram_job.specs.Job.{JobData}
 use Rattle.pram_words.specs.Words.{LayoutData}
 use Rattle.pram_words.specs.Tree.{leaves_of}
 use Rattle.pram_words.proofs.Halvings.{leaves_most}
-use Rattle.walkx.specs.Bound.{told_all, history_of, most_steps}
+use Rattle.walkx.specs.Bound.{told_all, history_of, own_step_bound}
 use Rattle.walkx.specs.Operations.{answer}
 use Rattle.walkx.specs.Records.{Record, after, Has}
 use Rattle.walkx.specs.Walk.{Walking, ask_of, told, end_of, come_back, remembering}
@@ -68,11 +68,11 @@ counted_none s made b h g =
 
 -- so it has made fewer than the bound
 pub fewer : (s : WorldData) (made : Record) (b n : ℕ) → WorldHolds s made → Counted s made b n →
-    IsGoing s b → n < most_steps s.job
+    IsGoing s b → n < own_step_bound s.job
 fewer s made b n h c g =
     let same : g.worker ≡ told_all s.job s.layout c.worker c.answers =
     same_some g.worker (told_all s.job s.layout c.worker c.answers) (sym g.walks ∙ c.at) in
-    subst (λ (k : ℕ). k < most_steps s.job) c.count
+    subst (λ (k : ℕ). k < own_step_bound s.job) c.count
     (own_steps s.job s.layout made c.worker c.answers s.words h.stands h.backed c.has c.fits
     (subst (λ (w : Walking). end_of w.now ≡ None) same g.going))
   where
@@ -208,19 +208,19 @@ chained s b (suc n) h all =
 
 -- a body that was going before each of its steps has made no more than the bound
 pub finish_bound : (s : WorldData) (b n : ℕ) → Held s →
-    ((k : ℕ) → k < n → going (after_own_steps s b k) b ≡ true) → n ≤ most_steps s.job
+    ((k : ℕ) → k < n → going (after_own_steps s b k) b ≡ true) → n ≤ own_step_bound s.job
 finish_bound s b zero h all = omega arith
 finish_bound s b (suc n) h all =
     let c = chained s b n h (λ k le. all k (omega arith)) in
-    let less : n < most_steps (after_own_steps s b n).job = fewer (after_own_steps s b n)
+    let less : n < own_step_bound (after_own_steps s b n).job = fewer (after_own_steps s b n)
     c.made b n c.holds c.counted (goer (after_own_steps s b n) b (all n (omega arith))) in
     let board = steps_board s b n in
-    let same : n < most_steps s.job = subst (λ (job : JobData). n < most_steps job) board.0 less in
+    let same : n < own_step_bound s.job = subst (λ (job : JobData). n < own_step_bound job) board.0 less in
     omega arith
 
 -- the bound fits 64 bits
 pub bound_small : (job : JobData) (y : LayoutData) (words : List ℕ) →
-    Stands job y words → most_steps job < 2 ^ 63
+    Stands job y words → own_step_bound job < 2 ^ 63
 bound_small job y words stands =
     let l = leaves_most job.procs stands.limits.procs.0 stands.limits.procs.1 in
     let leaves : 300 * leaves_of job.procs ≤ 19660800 = (let h = l.1 in omega arith) in

@@ -13,7 +13,7 @@ use Rattle.lawful_walk.specs.Lands.{IsLanded, phase_written}
 use Rattle.lawful_walk.proofs.Facts.{WordsShow, facts}
 use Rattle.lawful_walk.proofs.Places.{finished_held, last_held}
 use Rattle.lawful_walk.proofs.Values.{under_way}
-use Rattle.pram_world.specs.Interleavings.{ShowsMachine, Tells, newest_by, newest_upto}
+use Rattle.pram_world.specs.Interleavings.{ShowsMachine, TellsPlace, newest_by, newest_upto}
 
 -- ---- the newest of two words up to a step, by the cases of their stamps
 
@@ -39,7 +39,7 @@ module _ (job : JobData) (y : LayoutData) (words : List ℕ) (stands : Stands jo
 
   pub holds_now : (p : ℕ) → p < places_of y → (word : ℕ)
       × (newest_upto y words (finished y words) p ≡ Some word)
-      × Tells job y (finished y words) p word
+      × TellsPlace job y (finished y words) p word
   holds_now p place =
       let x = finished y words in
       let h = finished_held job y words x p stands place (omega arith) in
@@ -58,12 +58,12 @@ module _ (job : JobData) (y : LayoutData) (words : List ℕ) (stands : Stands jo
       ]
 
   pub holds_before : (x p : ℕ) → x ≤ finished y words → p < places_of y →
-      IfSome (newest_upto y words x p) (Tells job y x p)
+      IfSome (newest_upto y words x p) (TellsPlace job y x p)
   holds_before x p upto place =
       let h = finished_held job y words x p stands place upto in
       elim (cases_lt x (stamp_at y words p 0)) [
         | inl high ↦ elim (cases_lt x (stamp_at y words p 1)) [
-          | inl also ↦ newest_none x _ _ (Tells job y x p) high also
+          | inl also ↦ newest_none x _ _ (TellsPlace job y x p) high also
           | inr low ↦ rw (newest_second x _ _ high low) (h.1 low high)
         ]
         | inr low ↦ elim (cases_lt x (stamp_at y words p 1)) [

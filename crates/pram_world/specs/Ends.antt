@@ -1,6 +1,6 @@
 -- A body that is let go on until it is over.
 use Rattle.std.specs.Prelude.{◌≡◌, ℕ, ◌<◌, ◌≤◌, zero, suc, true, slice_get, Option, Some, None}
-use Rattle.walkx.specs.Bound.{most_steps}
+use Rattle.walkx.specs.Bound.{own_step_bound}
 use Rattle.walkx.specs.declared.operation.Ended.{Ended}
 use Rattle.walkx.specs.Walk.{end_of}
 use Rattle.pram_world.specs.declared.event.Event.TheVariants.{Go}
@@ -28,7 +28,7 @@ pub record Finished (world : WorldData) (body : ℕ) (now : WorldData) (ended : 
   pub going : (earlier : ℕ) → earlier < steps →
       going (after_own_steps world body earlier) body ≡ true
   pub over : end_in now body ≡ Some ended
-  pub most : steps ≤ most_steps world.job
+  pub most : steps ≤ own_step_bound world.job
 
 -- no body has the number, or it is stopped
 abbrev pub IsLost : Option Body → Type 0

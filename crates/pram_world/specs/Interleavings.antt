@@ -15,7 +15,7 @@ use Rattle.walkx.specs.Walk.{Walking, Fits}
 use Rattle.lawful_walk.specs.Board.{Grows, held, root, conflict, stamp_at, finished}
 use Rattle.lawful_walk.specs.Moments.{Backed}
 use Rattle.lawful_walk.specs.Walks.{IsConflict}
-use Rattle.lawful_walk.specs.Lands.{IsLanded, phase_written, told_at}
+use Rattle.lawful_walk.specs.Lands.{IsLanded, phase_written, landed_step}
 use Rattle.pram_world.specs.Worlds.{Act, WorldData, Walks, IsLawful, StaleChangesNothing}
 use Rattle.pram_world.specs.Worlds.{world_after}
 
@@ -34,9 +34,9 @@ newest_upto layout words step place =
 
 -- The word tells what the place holds after the step: of a processor's own place in the wide form
 -- what it held when the processor last settled.
-abbrev pub Tells : JobData → LayoutData → ℕ → ℕ → ℕ → Type 0
-Tells job layout step place word =
-    payload_of word ≡ slice_index (state_after job (told_at layout.form job step place)) place
+abbrev pub TellsPlace : JobData → LayoutData → ℕ → ℕ → ℕ → Type 0
+TellsPlace job layout step place word =
+    payload_of word ≡ slice_index (state_after job (landed_step layout.form job step place)) place
 
 -- The words show t steps to be finished: the root is 3t, 3t + 1 or 3t + 2, or it is 3t + 3 and word
 -- 0 names step t + 1. These steps are reached, and the words hold the machine's state after the
@@ -49,9 +49,10 @@ pub record ShowsMachine (job : JobData) (layout : LayoutData) (words : List ℕ)
   pub full : root layout words ≡ 3 * t + 3 → conflict layout words ≡ suc t
   pub reached : IsReached job t
   pub now : (place : ℕ) → place < places_of layout →
-      (word : ℕ) × (newest_upto layout words t place ≡ Some word) × Tells job layout t place word
+      (word : ℕ) × (newest_upto layout words t place ≡ Some word) ×
+      TellsPlace job layout t place word
   pub before : (step place : ℕ) → step ≤ t → place < places_of layout →
-      IfSome (newest_upto layout words step place) (Tells job layout step place)
+      IfSome (newest_upto layout words step place) (TellsPlace job layout step place)
   pub next : (place which : ℕ) → IsWord layout (Stored place which) →
       t < stamp_at layout words place which →
       (stamp_at layout words place which ≡ suc t) × IsLanded layout.form job t place

@@ -6,7 +6,7 @@ use Rattle.pram_words.specs.declared.layout.Form.{Form}
 use Rattle.pram_words.specs.declared.layout.Form.TheVariants.{Wide}
 use Rattle.pram_words.specs.Words.{IsGrain, grain_of, layout_of}
 use Rattle.walkx.specs.declared.operation.Reading.TheVariants.{At}
-use Rattle.walkx.specs.Bound.{most_steps}
+use Rattle.walkx.specs.Bound.{own_step_bound}
 use Rattle.walkx.specs.Reads.{reader_script}
 use Rattle.walkx.specs.Scripts.{ends, rest, heard_in}
 use Rattle.walkx.specs.Walk.{Walking}
@@ -59,7 +59,7 @@ EveryBodyIsBounded =
     let layout = layout_of job form workers in let before =
     all_acted (run_begun job form workers) acts in
     Walks before.world body walking → AllLeave body later →
-    steps_in before body later ≤ most_steps job
+    steps_in before body later ≤ own_step_bound job
 
 -- *What is said of memories is said of something*: in a run on a board with blocks of one
 -- processor a body remembers processor 0 after a step that is not finished yet, having let it go on

@@ -7,7 +7,7 @@ ghost use Rattle.pram_words.specs.declared.layout.Form.TheVariants.{Compact};
 ghost use Rattle.pram_words.specs.declared.words.Word.TheVariants.{Asked, Stored};
 ghost use Rattle.lawful_walk.specs.Board.{Stands, conflict as conflict_in, held, root};
 ghost use Rattle.lawful_walk.specs.Walks.{IsConflict};
-ghost use Rattle.pram_world.specs.Inner.Telling.{AreNamed, Says, last_cells, newest_of};
+ghost use Rattle.pram_world.specs.Inner.Telling.{AreNamed, Says, last_cells, newest_payload};
 ghost use Rattle.pram_world.specs.Outcomes.{IsTold};
 
 use pram_job::Job;
@@ -74,7 +74,7 @@ fn cells(alloc: Global, job: &Job, layout: &Layout, words: &[u64]) -> Result<Cel
 fn newest(layout: &Layout, words: &[u64], place: u32) -> u32
     requires words { length words.now ≡ length_of layout.now }
     requires place { place < places_of layout.now }
-    ensures { result ≡ newest_of layout.now words.now place }
+    ensures { result ≡ newest_payload layout.now words.now place }
 {
     let (first, second) = place_words(layout, words, place);
     newer_payload(first, second)

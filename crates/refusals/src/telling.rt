@@ -1,7 +1,7 @@
 //! What is told of a fault of a line.
 ghost use Rattle.std.specs.Prelude.{◌≡◌, ◌≢◌, ◌⊎◌, false};
 ghost use Rattle.refusals.specs.Faults.{fault_status};
-ghost use Rattle.refusals.specs.Inner.Named.{named_by, named_in};
+ghost use Rattle.refusals.specs.Inner.Named.{fault_names, named_in};
 ghost use Rattle.refusals.specs.Refusals.{refusal_status};
 ghost use Rattle.refusals.specs.declared.fault.CommandFault.TheVariants.{Memory};
 
@@ -58,7 +58,7 @@ fn told_of(fault: CommandFault, status: u8) -> CommandFault
 // What is told of a fault of a line.
 fn refusal_of<'a>(line: &Line<'a>, fault: CommandFault) -> Refusal<'a>
     ensures status { refusal_status result ≡ fault_status fault }
-    ensures names { named_in result ≡ named_by line.now fault }
+    ensures names { named_in result ≡ fault_names line.now fault }
 {
     match fault {
         CommandFault::Text { line, kind } => Refusal::Text { line, kind },

@@ -4,3 +4,6 @@ pub mod Rest
 pub mod Faults
 pub mod LawFacts
 pub mod RowFaults
+pub mod Living
+pub mod RandomRows
+pub mod Readable

@@ -4,3 +4,6 @@ pub mod Plan
 pub mod Records
 pub mod Rows
 pub mod Schedule
+pub mod Random
+pub mod Texts
+pub mod RandomLaws

@@ -32,7 +32,7 @@ use Rattle.walk_memory.specs.declared.span.Span.{Span}
 use Rattle.walk_memory.specs.Memory.{asked_by, goes_alone, gone_on, is_common, is_due, is_load, one_alone}
 use Rattle.walk_memory.specs.Memory.{own_after, registers_after}
 use Rattle.walk_memory.specs.OwnWrites.{cell_write}
-use Rattle.walk_memory.specs.AsOne.{Stands}
+use Rattle.walk_memory.specs.AsOne.{StandTogether}
 use Rattle.walk_memory.specs.Lanes.{entries, lane}
 use Rattle.walk_memory.specs.Standing.{StandThere}
 use Rattle.walk_memory.specs.Rows.{AllGo, AllGoBy, AllRest, AreSame, FarIn, GoesBy, Puts, SameLane}
@@ -371,7 +371,7 @@ module _ (old new : Block) (same : AreSame old new) (k : ℕ) where
   lane_next at next step settled = rw (acted_is, told_is, step, settled) refl
 
 pub all_go : (job : JobData) (lanes : Span) (instr : Instr) (at next : Together) (old new : Block) →
-    Stands job at instr → is_load (Some instr) ≡ false → is_due at.settled (at.step + 1) ≡ false →
+    StandTogether job at instr → is_load (Some instr) ≡ false → is_due at.settled (at.step + 1) ≡ false →
     AllGoBy job lanes instr at next old new → AllGo job lanes at next old new
 all_go job lanes instr at next old new stand load settles goes = record {
   step = goes.step;
@@ -417,7 +417,7 @@ far_start job lanes start block = record {
 }
 
 pub far_step : (job : JobData) (lanes : Span) (instr : Instr) (start at next : Together)
-    (old mid new : Block) → Stands job at instr → FarIn job lanes start at old mid →
+    (old mid new : Block) → StandTogether job at instr → FarIn job lanes start at old mid →
     AllGo job lanes at next mid new → FarIn job lanes start next old new
 far_step job lanes instr start at next old mid new stand far go = record {
   later = omega (arith, go.step, far.later);

@@ -20,7 +20,7 @@ use Rattle.walk_memory.specs.Memory.{goes_alone, goes_on_alone, gone_on, has_sto
 use Rattle.walk_memory.specs.Memory.{memo_of, one_alone, own_after, own_alone, own_at_start}
 use Rattle.walk_memory.specs.Memory.{registers_after, settles_in, steps_left}
 use Rattle.walk_memory.specs.OwnWrites.{cell_write}
-use Rattle.walk_memory.specs.Learned.{carried, loaded_memo, memo_after, newest_of, told_by}
+use Rattle.walk_memory.specs.Learned.{carried, loaded_memo, memo_after, newest_of, learned_own}
 use Rattle.walk_memory.specs.Blocks.{IsBoard, block_gone_on, has_rank, processor_at}
 use Rattle.walk_memory.proofs.Ranks.{rank_parts}
 use Rattle.walk_memory.proofs.Puts.{cell_put_is}
@@ -155,11 +155,11 @@ module _ (job : JobData) (i : ℕ) (is_job : IsJob job) (low : i < 2 ^ 32) where
       (own_fits job i own (asked job i own 0) fits (asked_shape own 0 fits (lit< tt)))
 
   -- as it is loaded, its words telling what fits
-  pub loaded_fits : (t : ℕ) (words : List ℕ) → FitsOwn job (told_by words) → t ≤ job.steps →
+  pub loaded_fits : (t : ℕ) (words : List ℕ) → FitsOwn job (learned_own words) → t ≤ job.steps →
       FitsMemo job (loaded_memo job t i words)
   loaded_fits t words fits last = record {
     step = omega arith;
-    own = alone_fits (t - 1 - newest_of words) (told_by words) fits;
+    own = alone_fits (t - 1 - newest_of words) (learned_own words) fits;
     told = fits;
     store = tt;
   }

@@ -21,7 +21,7 @@ use Rattle.walk_memory.specs.Memory.{cell_next, goes_alone, goes_on_alone, gone_
 use Rattle.walk_memory.specs.Memory.{has_store, one_alone, own_after, own_alone, own_at_start}
 use Rattle.walk_memory.specs.Memory.{registers_after, settles_in, steps_left}
 use Rattle.walk_memory.specs.OwnWrites.{cell_write}
-use Rattle.walk_memory.specs.Learned.{carried, loaded_memo, memo_after, newest_of, told_by}
+use Rattle.walk_memory.specs.Learned.{carried, loaded_memo, memo_after, newest_of, learned_own}
 
 -- ---- numbers below 2^32
 
@@ -223,13 +223,13 @@ module _ (job : JobData) (i : ℕ) (limits : IsJob job) (below : i < job.procs) 
       FitsMemo job (loaded_memo job t i (c ∷ a ∷ b ∷ d ∷ e ∷ []))
   loaded_fits t c a b d e time most =
       let words : List ℕ = c ∷ a ∷ b ∷ d ∷ e ∷ [] in
-      let told : FitsOwn job (told_by words) = record {
+      let told : FitsOwn job (learned_own words) = record {
         counter = most;
         registers = (omega arith, (omega arith, (omega arith, (omega arith, tt))));
         four = refl;
       } in record {
         step = omega arith;
-        own = own_alone_fits (t - 1 - newest_of words) (told_by words) told;
+        own = own_alone_fits (t - 1 - newest_of words) (learned_own words) told;
         told = told;
         store = tt;
       }

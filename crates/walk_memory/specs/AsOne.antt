@@ -13,8 +13,8 @@ abbrev pub memo_at : PostData → List Memo → ℕ → Memo
 memo_at post memory rank = memo_of memory (processor_at post.layout post.node rank)
 
 -- there this instruction is next, and they can go on
-abbrev pub Stands : JobData → Together → Instr → Type 0
-Stands job at instr = (slice_get job.code at.counter ≡ Some instr) × (at.step < job.steps)
+abbrev pub StandTogether : JobData → Together → Instr → Type 0
+StandTogether job at instr = (slice_get job.code at.counter ≡ Some instr) × (at.step < job.steps)
     × (at.stored ≡ false)
 
 -- it is no load, and they do not settle in the next step

@@ -28,9 +28,9 @@ carried t memo =
     if has_store t memo then record memo { acted = phase_of t Verify; store = None } else memo
 
 -- what its words tell, its counter's first, and the step after which it was so
-abbrev pub told_by : List ℕ → Own
-told_by [] = record { counter = 0; registers = [] }
-told_by (word ∷ words) = record { counter = payload_of word; registers = map payload_of words }
+abbrev pub learned_own : List ℕ → Own
+learned_own [] = record { counter = 0; registers = [] }
+learned_own (word ∷ words) = record { counter = payload_of word; registers = map payload_of words }
 
 abbrev pub newest_of : List ℕ → ℕ
 newest_of [] = 0
@@ -41,8 +41,8 @@ abbrev pub loaded_memo : JobData → ℕ → ℕ → List ℕ → Memo
 loaded_memo job t i words = record {
   acted = 3 * (t - 1);
   step = t - 1;
-  own = own_alone job i (t - 1 - newest_of words) (told_by words);
+  own = own_alone job i (t - 1 - newest_of words) (learned_own words);
   settled = newest_of words;
-  told = told_by words;
+  told = learned_own words;
   store = None;
 }

@@ -38,5 +38,5 @@ pub record LoadsKnown (at : PostData) (memo : Memo) (r cell : ℕ) : Type 0 wher
   pub below : cell < at.job.cells
 
 -- a closure that may always be called, and then gives this instruction
-abbrev pub Spells : {F : Type 0} → Shared F (Unit {0}) Instr → F → Instr → Type 0
-Spells calls form instr = always_fn calls form × AnyResult calls form tt (λ given. given ≡ instr)
+abbrev pub GivesInstr : {F : Type 0} → Shared F (Unit {0}) Instr → F → Instr → Type 0
+GivesInstr calls form instr = always_fn calls form × AnyResult calls form tt (λ given. given ≡ instr)

@@ -3,7 +3,7 @@ ghost use Rattle.std.specs.Prelude.{◌≡◌, ◌+◌, ◌-◌, ◌*◌, ◌/�
 ghost use Rattle.std.specs.Prelude.{IfSome, MatchOption, None, Some, nat_lt, slice_get};
 ghost use Rattle.std.specs.Prelude.{is_some, slice_index, slice_index_or};
 ghost use Rattle.pram_words.specs.Words.{grain};
-ghost use Rattle.walk_memory.specs.AsOne.{GoesUnsettled, Stands};
+ghost use Rattle.walk_memory.specs.AsOne.{GoesUnsettled, StandTogether};
 ghost use Rattle.walk_memory.specs.Inner.Posts.{processor_of};
 ghost use Rattle.walk_memory.specs.Lanes.{lane};
 ghost use Rattle.walk_memory.specs.Memory.{gone_on};
@@ -308,7 +308,7 @@ fn reach_at(at: Together) -> u64
 // but under common, at a store of their own. Else it is no load, and no such step.
 #[inline(always)]
 fn rests_at(job: &Job, lanes: Span, block: &Block, at: Together, instr: &Instr) -> bool
-    requires stand { Stands job.now at instr.now }
+    requires stand { StandTogether job.now at instr.now }
     ensures rest { result ≡ true → AllIn lanes.start lanes.end (λ k.
         gone_on job.now (lanes.first + k) (lane_as at block.now k) ≡ lane_as at block.now k) }
     ensures goes { result ≡ false → GoesUnsettled at instr.now }
@@ -326,7 +326,7 @@ fn rests_at(job: &Job, lanes: Span, block: &Block, at: Together, instr: &Instr) 
 // Under crew and priority, each stands at a store of its own, if so.
 #[inline(always)]
 fn all_store(job: &Job, lanes: Span, block: &Block, at: Together, instr: &Instr) -> bool
-    requires stand { Stands job.now at instr.now }
+    requires stand { StandTogether job.now at instr.now }
     ensures { result ≡ true → AllIn lanes.start lanes.end (λ k.
         gone_on job.now (lanes.first + k) (lane_as at block.now k) ≡ lane_as at block.now k) }
 {

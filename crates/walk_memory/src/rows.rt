@@ -6,10 +6,10 @@ ghost use Rattle.pram_job.specs.declared.instr.Operands.TheVariants.{TargetTwo};
 ghost use Rattle.pram_job.specs.Instructions.{IsOperand, IsPlace, row_of};
 ghost use Rattle.pram_job.specs.Job.{IsInstr};
 ghost use Rattle.pram_machine.specs.Instructions.{computed, index_of, reached};
-ghost use Rattle.walk_memory.specs.AsOne.{GoesUnsettled, Stands};
+ghost use Rattle.walk_memory.specs.AsOne.{GoesUnsettled, StandTogether};
 ghost use Rattle.walk_memory.specs.Lanes.{entries};
 ghost use Rattle.walk_memory.specs.Memory.{is_common};
-ghost use Rattle.walk_memory.specs.Stands.{Spells};
+ghost use Rattle.walk_memory.specs.Stands.{GivesInstr};
 ghost use Rattle.walk_memory.specs.Rows.{AllGo, AllGoBy, AllIn, Puts, Stores, Written, divides};
 ghost use Rattle.walk_memory.specs.Rows.{held_in};
 
@@ -427,7 +427,7 @@ pub(crate) fn go_by_form(
     block: &mut Block,
     instr: &Instr,
 ) -> Option<Together>
-    requires stand { Stands job.now at instr.now }
+    requires stand { StandTogether job.now at instr.now }
     requires alone { GoesUnsettled at instr.now }
     ensures all { IfSome result (λ next. AllGo job.now lanes at next block.old block.new) }
     ensures none { IfNone result (block.new ≡ block.old) }
@@ -470,7 +470,7 @@ fn go_by_sum(
     block: &mut Block,
     stand: Stand<'_>,
 ) -> Option<Together>
-    requires stand { Stands job.now at stand.instr.now }
+    requires stand { StandTogether job.now at stand.instr.now }
     requires alone { GoesUnsettled at stand.instr.now }
     ensures all { IfSome result (λ next. AllGo job.now lanes at next block.old block.new) }
     ensures none { IfNone result (block.new ≡ block.old) }
@@ -494,7 +494,7 @@ fn go_by_bits(
     block: &mut Block,
     stand: Stand<'_>,
 ) -> Option<Together>
-    requires stand { Stands job.now at stand.instr.now }
+    requires stand { StandTogether job.now at stand.instr.now }
     requires alone { GoesUnsettled at stand.instr.now }
     ensures all { IfSome result (λ next. AllGo job.now lanes at next block.old block.new) }
     ensures none { IfNone result (block.new ≡ block.old) }
@@ -518,8 +518,8 @@ fn go_all<F: Fn() -> Instr>(
     block: &mut Block,
     by: &Formed<'_, F>,
 ) -> Option<Together>
-    requires stand { Stands job.now at by.now.stand.instr.now }
-    requires form { Spells F.Fn by.now.form by.now.stand.instr.now }
+    requires stand { StandTogether job.now at by.now.stand.instr.now }
+    requires form { GivesInstr F.Fn by.now.form by.now.stand.instr.now }
     requires alone { GoesUnsettled at by.now.stand.instr.now }
     ensures all { IfSome result (λ next. AllGo job.now lanes at next block.old block.new) }
     ensures none { IfNone result (block.new ≡ block.old) }

@@ -3,7 +3,7 @@ ghost use Rattle.std.specs.Prelude.{◌≡◌, ◌+◌, ◌<◌, ◌≤◌, ℕ,
 ghost use Rattle.walk_memory.specs.Apart.{GetAsFar};
 ghost use Rattle.walk_memory.specs.Lanes.{lane};
 ghost use Rattle.walk_memory.specs.Memory.{gone_on, is_load};
-ghost use Rattle.walk_memory.specs.Stands.{Spells};
+ghost use Rattle.walk_memory.specs.Stands.{GivesInstr};
 ghost use Rattle.walk_memory.specs.Rows.{AllIn};
 
 use crate::alone::{go_on, go_one_at, rests};
@@ -163,7 +163,7 @@ fn go_by_bits(job: &Job, lanes: Span, block: &mut Block, stand: Stand<'_>)
 fn go_each<F: Fn() -> Instr>(job: &Job, lanes: Span, block: &mut Block, by: &Formed<'_, F>)
     requires procs { AllIn lanes.start lanes.end (λ k. lanes.first + k < job.now.procs) }
     requires stand { slice_get job.now.code by.now.stand.counter ≡ Some by.now.stand.instr.now }
-    requires form { Spells F.Fn by.now.form by.now.stand.instr.now }
+    requires form { GivesInstr F.Fn by.now.form by.now.stand.instr.now }
     ensures { GetAsFar job.now lanes block.old block.new }
 {
     let instr = (by.form)();

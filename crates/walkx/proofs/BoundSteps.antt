@@ -13,7 +13,7 @@ use Rattle.walkx.specs.Walk.{IsGoing, IsInBlock, node_of, script_by, script_of, 
 use Rattle.walkx.specs.Walk.{phase_begun, heard_of, ask_of, goes_on, told_by, told}
 use Rattle.walk_memory.specs.declared.memo.Memo.{Memo}
 use Rattle.walk_memory.specs.Blocks.{IsBoard}
-use Rattle.walkx.specs.Bound.{told_all, history_of, MayHear, IsHeard, most_steps}
+use Rattle.walkx.specs.Bound.{told_all, history_of, MayHear, IsHeard, own_step_bound}
 use Rattle.walkx.specs.Laws.{OwnStepsAreBounded}
 use Rattle.walkx.proofs.BoundWeight.{low_of, longest, later_weight, weight}
 use Rattle.walk_memory.proofs.Boards.{same_procs}
@@ -234,12 +234,12 @@ unfolding weight
 starts job y w limits fits = start_weight job y (drop (length w.heard) (heard_of job y w))
     (node_of y w) (length w.heard) w.now limits fits.phase fits.block
 
-within : (job : JobData) → 288 * leaves_of job.procs * job.steps + 5 < most_steps job
+within : (job : JobData) → 288 * leaves_of job.procs * job.steps + 5 < own_step_bound job
 within job = omega arith
 
 steps_bounded : (job : JobData) (y : LayoutData) (w : Walking) →
     IsBoard job y → Fits job y w → (answers : List ℕ) → IsGoing (told_all job y w answers).now →
-    IsHeard job y w.number (history_of job y w answers) → length answers < most_steps job
+    IsHeard job y w.number (history_of job y w answers) → length answers < own_step_bound job
 steps_bounded job y w board fits answers going may =
     let same : leaves_of y.procs ≡ leaves_of job.procs = ap leaves_of (same_procs job y board) in
     let all : length answers < 288 * leaves_of y.procs * job.steps + 6 = omega (

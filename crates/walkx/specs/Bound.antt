@@ -62,5 +62,5 @@ IsHeard job layout worker (step ∷ earlier) =
 -- ---- the bound
 
 -- 300 L T + 8, L being the least power of two that is at least the number of processors
-abbrev pub most_steps : JobData → ℕ
-most_steps job = 300 * leaves_of job.procs * job.steps + 8
+abbrev pub own_step_bound : JobData → ℕ
+own_step_bound job = 300 * leaves_of job.procs * job.steps + 8

@@ -2,7 +2,7 @@
 use Rattle.std.specs.Prelude.{◌≡◌, ℕ, ◌<◌, List, length, None}
 use Rattle.pram_job.specs.Job.{JobData}
 use Rattle.pram_words.specs.Words.{LayoutData}
-use Rattle.walkx.specs.Bound.{told_all, history_of, IsHeard, most_steps}
+use Rattle.walkx.specs.Bound.{told_all, history_of, IsHeard, own_step_bound}
 use Rattle.walk_memory.specs.Memory.{IsTrueMemory}
 use Rattle.walkx.specs.Records.{Record, after, Knows}
 use Rattle.walkx.specs.Walk.{Walking, Fits, IsGoing, HearsAdmitted, HearsPhase, AsksAdmitted}
@@ -51,5 +51,5 @@ OwnStepsAreBounded =
     Fits job layout worker →
     (answers : List ℕ) → IsGoing (told_all job layout worker answers).now →
     IsHeard job layout worker.number (history_of job layout worker answers) →
-    length answers < most_steps job)
+    length answers < own_step_bound job)
     × NewWorkersFit

@@ -6,6 +6,6 @@ use Rattle.walkx.specs.Walk.{Then}
 use Rattle.walkx.specs.WideParts.{store_left}
 
 -- what is left of a task, where a report may be due
-abbrev pub left_of : PostData → Option (ℕ × ℕ) → Script Then → Script Then
-left_of at None last = last
-left_of at (Some write) last = store_left at.job.rule at write last
+abbrev pub left_of_task : PostData → Option (ℕ × ℕ) → Script Then → Script Then
+left_of_task at None last = last
+left_of_task at (Some write) last = store_left at.job.rule at write last

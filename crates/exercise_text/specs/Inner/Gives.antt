@@ -4,6 +4,7 @@ use Rattle.exercise_text.specs.declared.fault.ExerciseKind.{ExerciseKind}
 use Rattle.exercise_text.specs.declared.fault.ExerciseKind.TheVariants.{Memory}
 
 -- seen by view, unless memory ran out
-abbrev pub Gives : {X Y : Type 0} → (X → Y) → Result X ExerciseKind → Result Y ExerciseKind → Type 0
-Gives view (Ok value) read = read ≡ Ok (view value)
-Gives view (Err kind) read = kind ≢ Memory → read ≡ Err kind
+abbrev pub GivesSeen : {X Y : Type 0} → (X → Y) → Result X ExerciseKind →
+    Result Y ExerciseKind → Type 0
+GivesSeen view (Ok value) read = read ≡ Ok (view value)
+GivesSeen view (Err kind) read = kind ≢ Memory → read ≡ Err kind

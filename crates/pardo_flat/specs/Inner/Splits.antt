@@ -51,8 +51,8 @@ pub record CanSplit (common : Bool) (t : ℕ) (node : Node) (pieces : List Tree)
   pub ready : HasOperands trees node
 
 -- an operation of two parts: the second one is the last piece where it has no room beside the first
-abbrev pub joined : Bool → ℕ → Op → Bool → Part → Part → List Tree → List Tree × Part
-joined common t op room first second pieces =
+abbrev pub joined_splits : Bool → ℕ → Op → Bool → Part → Part → List Tree → List Tree × Part
+joined_splits common t op room first second pieces =
     if room then (
       pieces,
       record {
@@ -73,7 +73,8 @@ joined common t op room first second pieces =
 abbrev pub JoinsTo : Bool → ℕ → Op → Part → Part → List Tree → List Part → List Tree →
     List Part → Type 0
 JoinsTo common t op first second pieces parts new_pieces new_parts =
-    let to = joined common t op (is_beside op first.shape second.whole) first second pieces in
+    let beside = is_beside op first.shape second.whole in
+    let to = joined_splits common t op beside first second pieces in
     (new_pieces ≡ to.0) × (new_parts ≡ parts ++ to.1 ∷ [])
 
 -- ---- shapes alone

@@ -14,7 +14,7 @@ use Rattle.pardo_flat.specs.Layouts.{ProgramLayoutData, mask_cells}
 use Rattle.pardo_job.specs.declared.fault.JobKind.{JobKind}
 use Rattle.pardo_job.specs.declared.fault.JobKind.TheVariants.{TooDeep, TooLong, Memory}
 use Rattle.pardo_job.specs.Lawful.{IsLawfulTree}
-use Rattle.pardo_job.specs.Lines.{idle}
+use Rattle.pardo_job.specs.Lines.{no_code}
 use Rattle.pardo_job.specs.Operations.{is_shallow}
 use Rattle.pardo_job.specs.Values.{own_load, value_operand, takes, value_code}
 
@@ -36,13 +36,13 @@ bounds_operands first last = (value_operand 0 first, value_operand (takes first)
 abbrev pub under : ProgramLayoutData → ℕ → ℕ → List Instr → List Instr
 under layout at depth body = own_load 0 (mask_cells layout depth) ∷ Jz 0 (at + 3)
     ∷ Jmp (at + 4 + length body)
-    ∷ (idle (at + 3) (length body) ++ Jmp (at + 4 + 2 * length body) ∷ body)
+    ∷ (no_code (at + 3) (length body) ++ Jmp (at + 4 + 2 * length body) ∷ body)
 
 -- the condition of active processors, and 0 of the others
 abbrev pub choice_code : ProgramLayoutData → ℕ → ℕ → List Instr → List Instr
 choice_code layout at depth body = if depth == 0 then body
     else own_load 0 (mask_cells layout depth) ∷ Jz 0 (at + 3 + length body)
-    ∷ (body ++ Jmp (at + 4 + 2 * length body) ∷ idle (at + 3 + length body) (length body + 1))
+    ∷ (body ++ Jmp (at + 4 + 2 * length body) ∷ no_code (at + 3 + length body) (length body + 1))
 
 -- register 0 becomes 1 for those of the mask around that it is 0 for
 abbrev pub rest_code : ProgramLayoutData → ℕ → List Instr

@@ -14,7 +14,7 @@ TakesUntested known node before after = (trees : List Tree) →
     after ≡ map (without_tests known) (with_node trees node)
 
 -- the operands of the node are there
-pub record CanTake (known : Known) (node : Node) (before : List Tree) : Type 0 where
+pub record OperandsAreThere (known : Known) (node : Node) (before : List Tree) : Type 0 where
   pub trees : List Tree
   pub are : before ≡ map (without_tests known) trees
   pub ready : HasOperands trees node

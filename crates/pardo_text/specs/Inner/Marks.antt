@@ -24,8 +24,8 @@ header_words =
     ∷ (codes "code", the.Code) ∷ []
 
 -- the words that begin or end blocks
-abbrev pub block_words : List (List ℕ × Symbol)
-block_words =
+abbrev pub words_of_blocks : List (List ℕ × Symbol)
+words_of_blocks =
     (codes "for", the.For) ∷ (codes "to", the.To) ∷ (codes "downto", the.Downto)
     ∷ (codes "while", the.While) ∷ (codes "if", the.If) ∷ (codes "else", the.Else)
     ∷ (codes "end", the.End) ∷ []

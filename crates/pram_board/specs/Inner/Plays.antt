@@ -9,7 +9,7 @@ use Rattle.walk_memory.specs.Memory.{FitsMemory, memo_of}
 use Rattle.walkx.specs.Passing.{idle}
 use Rattle.walkx.specs.Rests.{has_worked}
 use Rattle.walk_memory.specs.Plain.{AllStore, carried_all}
-use Rattle.walkx.specs.Storing.{left_of}
+use Rattle.walkx.specs.Storing.{left_of_task}
 use Rattle.walkx.specs.Bound.{told_all}
 use Rattle.walkx.specs.Inner.Workers.{WorkerData}
 use Rattle.walkx.specs.Records.{Knows}
@@ -39,8 +39,8 @@ abbrev pub driving : {G : Type 0} → Driver G → Driving
 driving driver = record { desk = driver.board.now; seat = driver.seat.now; made = driver.made }
 
 -- the task of a post
-abbrev pub task_at : PostData → Task
-task_at at = record { job = at.job; layout = at.layout }
+abbrev pub post_task : PostData → Task
+post_task at = record { job = at.job; layout = at.layout }
 
 -- the seat is of the board, whose task this is
 pub record IsAt (given : Task) (driver : Driving) : Type 0 where
@@ -173,7 +173,7 @@ pub record AtTask (at : PostData) (len : ℕ) (driver : Driving) (memory : List 
   pub leaf : IsLeafPost at
   pub ranks : (rank : ℕ) → has_rank at.layout at.node rank ≡ nat_lt rank len
   pub fits : FitsMemory at.job memory
-  pub walks : IsWalking (task_at at) driver (in_block at at.rank memory)
+  pub walks : IsWalking (post_task at) driver (in_block at at.rank memory)
 
 -- the worker is past it
 pub record PastTask (at : PostData) (len : ℕ) (driver : Driving) (memory : List Memo)
@@ -181,7 +181,7 @@ pub record PastTask (at : PostData) (len : ℕ) (driver : Driving) (memory : Lis
   pub leaf : IsLeafPost at
   pub ranks : (rank : ℕ) → has_rank at.layout at.node rank ≡ nat_lt rank len
   pub fits : FitsMemory at.job memory
-  pub walks : IsWalking (task_at at) driver (in_block at (suc at.rank) memory)
+  pub walks : IsWalking (post_task at) driver (in_block at (suc at.rank) memory)
 
 -- the tasks of a block of this length were done, from one rank up to another, which is the leaf's
 -- or a later one
@@ -190,7 +190,8 @@ pub record DoneFrom (from : ℕ) (at : PostData) (len : ℕ) (before : Driving) 
   pub onward : at.rank ≤ last
   pub within : last < len
   pub fits : FitsMemory at.job now
-  pub moved : Moved (task_at at) before (in_block at from memory) later (in_block at (suc last) now)
+  pub moved : Moved (post_task at) before (in_block at from memory) later
+      (in_block at (suc last) now)
 
 -- from the leaf's on
 abbrev pub DoneTo : PostData → ℕ → Driving → List Memo → ℕ → Driving → List Memo → Type 0
@@ -205,13 +206,13 @@ DoneMore at len before memory last later now =
 pub record AtPart (at : PostData) (driver : Driving) (memory : List Memo) : Type 0 where
   pub leaf : IsLeafPost at
   pub fits : FitsMemory at.job memory
-  pub walks : IsWalking (task_at at) driver (in_block at at.rank memory)
+  pub walks : IsWalking (post_task at) driver (in_block at at.rank memory)
 
 pub record DonePart (at : PostData) (before : Driving) (memory : List Memo) (later : Driving)
     (now : List Memo) : Type 0 where
   pub fits : FitsMemory at.job now
   pub moved :
-      Moved (task_at at) before (in_block at at.rank memory) later (in_block at (suc at.rank) now)
+      Moved (post_task at) before (in_block at at.rank memory) later (in_block at (suc at.rank) now)
 
 -- it was, or nothing was done
 abbrev pub Tried : PostData → Driving → List Memo → Driving → List Memo → Bool → Type 0
@@ -219,16 +220,16 @@ Tried at before memory later now true = DonePart at before memory later now
 Tried at before memory later now false = (later ≡ before) × (now ≡ memory)
 
 -- The task of the leaf's processor was done by its store, up to the report, which may be due.
-pub record Swapped (at : PostData) (before : Driving) (memory : List Memo)
+pub record WasSwapped (at : PostData) (before : Driving) (memory : List Memo)
     (due : Option (ℕ × ℕ)) (later : Driving) (now : List Memo) : Type 0 where
   pub learned : Memo
   pub kept : now ≡ slice_set memory (processor_of at) learned
   pub asks : idle at (memo_of memory (processor_of at)) ≡ None
   pub cell : IfSome due (λ write. IsCellOf at write.0)
   pub sound : Sound at.job at.layout later.seat.record_of
-  pub drives : Drives (task_at at)
+  pub drives : Drives (post_task at)
       (before, script_of at.job at.layout (in_block at at.rank memory)) later
-      (left_of at due (ends (has_worked at learned)))
+      (left_of_task at due (ends (has_worked at learned)))
 
 -- So it was for the processors of a block of this length from this leaf's to the last one: only of
 -- that one a report may be due.
@@ -238,11 +239,11 @@ pub record StoredTo (at : PostData) (len : ℕ) (before : Driving) (memory : Lis
   pub onward : at.rank ≤ last.0.rank
   pub mid : Driving
   pub between : List Memo
-  pub moved : Moved (task_at at) before (in_block at at.rank memory) mid
+  pub moved : Moved (post_task at) before (in_block at at.rank memory) mid
       (in_block at last.0.rank between)
   pub there : AtTask last.0 len mid between
   pub stores : AllStore last.0 len between
-  pub swapped : Swapped last.0 mid between last.1 later now
+  pub swapped : WasSwapped last.0 mid between last.1 later now
 
 -- And so it was where the stores of those up to this rank are yet to be remembered as carried out.
 pub record StoredIn (at : PostData) (len : ℕ) (before : Driving) (memory : List Memo)
@@ -259,6 +260,6 @@ led_to at memory (turned.To node) = turning at.worker node at.phase memory
 led_to at memory turned.Enters = in_block at 0 memory
 
 -- at the start of the next turn, at this node; or the root is finished
-abbrev pub next_turn : PostData → List Memo → Option ℕ → Walking
-next_turn at memory None = beginning at.worker 1 memory
-next_turn at memory (Some node) = turning at.worker node at.phase memory
+abbrev pub turn_after : PostData → List Memo → Option ℕ → Walking
+turn_after at memory None = beginning at.worker 1 memory
+turn_after at memory (Some node) = turning at.worker node at.phase memory

@@ -21,7 +21,7 @@ use Rattle.pram_commands.specs.declared.sources.Drafted.{Drafted}
 use Rattle.pram_commands.specs.declared.sources.Refused.{Refused}
 
 -- The text with its job, which needs no more steps than this longer one.
-pub record IsRunOf (text : List ℕ) (longer : JobData) (spelled : Spelled) : Type 0 where
+pub record IsLongerRunOf (text : List ℕ) (longer : JobData) (spelled : Spelled) : Type 0 where
   pub program : is_program text ≡ true
   pub same_text : spelled.text.items ≡ text
   pub names : AreNames text spelled.job spelled.names
@@ -31,14 +31,14 @@ pub record IsRunOf (text : List ℕ) (longer : JobData) (spelled : Spelled) : Ty
   pub whole : IsWhole spelled.job
 
 -- Nothing was printed, for a fault of the text or for want of memory.
-pub record IsRefused (text : List ℕ) (writes : Writing) (refused : Refused) : Type 0 where
+pub record WasRefused (text : List ℕ) (writes : Writing) (refused : Refused) : Type 0 where
   pub bad : IsBadOrMemory text refused.fault
   pub unwritten : writes.Unwritten
 
 -- The answer was printed in a style, and is the end of the job.
-pub record IsToldOf (style : Style) (text : List ℕ) (longer : JobData) (writes : Writing)
+pub record WasTold (style : Style) (text : List ℕ) (longer : JobData) (writes : Writing)
     (answer : RunAnswer) (spelled : Spelled) (put : Result (Unit {0}) PrintFault) : Type 0 where
-  pub run : IsRunOf text longer spelled
+  pub run : IsLongerRunOf text longer spelled
   pub ends : IsUnfinished answer → ⊥
   pub answered : HasAnswered style text spelled.job writes answer put
 
@@ -46,9 +46,9 @@ pub record IsToldOf (style : Style) (text : List ℕ) (longer : JobData) (writes
 abbrev pub HasToldDrafted : Style → List ℕ → JobData → Writing → Ended →
     Result (Spelled × Result (Unit {0}) PrintFault) Refused → Type 0
 HasToldDrafted style text longer writes (Ok answer) (Ok told) =
-    IsToldOf style text longer writes answer told.0 told.1
+    WasTold style text longer writes answer told.0 told.1
 HasToldDrafted style text longer writes (Err none) (Ok told) = ⊥
-HasToldDrafted style text longer writes ended (Err refused) = IsRefused text writes refused
+HasToldDrafted style text longer writes ended (Err refused) = WasRefused text writes refused
 
 -- A run of the job that was found came to an answer, which was printed.
 pub record HasRunTo (style : Style) (drafted : Drafted) (writes : Writing) (spelled : Spelled)
@@ -62,4 +62,4 @@ pub record HasRunTo (style : Style) (drafted : Drafted) (writes : Writing) (spel
 abbrev pub RanDrafted : Style → Drafted → Writing →
     Result (Spelled × Result RunAnswer PrintFault) Refused → Type 0
 RanDrafted style drafted writes (Ok told) = HasRunTo style drafted writes told.0 told.1
-RanDrafted style drafted writes (Err refused) = IsRefused drafted.text.items writes refused
+RanDrafted style drafted writes (Err refused) = WasRefused drafted.text.items writes refused

@@ -30,7 +30,7 @@ use crate::why::{put_explained, put_told};
 use command_data::{Style, Workers};
 use job_text::print_text;
 use naming::{Costed, Spelled, records_of};
-use pardo_costs::Costs;
+use pardo_answers::Costs;
 use pram_cost::{Cost, print_cost};
 use pram_job::Job;
 use pram_rows::{Requests, Window, print_steps};

@@ -17,7 +17,7 @@ use crate::inputs::take_costed;
 use crate::sources::Sources;
 use command_data::Style;
 use naming::{Costed, Spelled};
-use pardo_costs::Costs;
+use pardo_answers::Costs;
 use pram_cost::{Beyond, Cost, Pram, print_beyond};
 use pram_step::RunAnswer;
 use pram_streams::{PrintFault, Sink, Source};

@@ -5,13 +5,13 @@ use Rattle.std.specs.List.{range_with_len}
 use Rattle.pram_job.specs.Job.{JobData}
 use Rattle.pram_machine.specs.Machine.{State, counter}
 use Rattle.pram_step.specs.declared.walks.Sight.{Sight}
-use Rattle.pram_cost.specs.Profiled.{row_at}
-use Rattle.pram_cost.specs.Profiles.{executed_at, most_at, steps_at}
+use Rattle.pram_cost.specs.Profiled.{tally_at}
+use Rattle.pram_cost.specs.Profiles.{executed_at, most_at, instruction_steps}
 use Rattle.pram_cost.specs.declared.profile.Tallied.{Tallied}
 
 -- so many processors more execute it in a step, and in all that follow it in the same state
-abbrev pub counted : ℕ → ℕ → ℕ → Tallied → Tallied
-counted step times more row =
+abbrev pub tallied_more : ℕ → ℕ → ℕ → Tallied → Tallied
+tallied_more step times more row =
     let now = if row.last == step then row.now + more else more in
     record {
       executed = record {
@@ -32,7 +32,7 @@ standing_among job index state n =
 -- next, this many in one state, in which so many of these n stand at it.
 pub record IsTallied (job : JobData) (index made times many : ℕ) (row : Tallied) : Type 0 where
   pub steps_are : row.executed.steps
-      ≡ steps_at job index made + (if nat_lt 0 many then times else 0)
+      ≡ instruction_steps job index made + (if nat_lt 0 many then times else 0)
   pub times_are : row.executed.times ≡ executed_at job index made + times * many
   pub most_is : row.executed.most ≡ max (most_at job index made) many
   pub last_none : many ≡ 0 → row.last ≤ made
@@ -43,4 +43,4 @@ pub record AreTallied (sight : Sight) (n : ℕ) (rows : List Tallied) : Type 0 w
   pub count : length rows ≡ length sight.job.now.code
   pub each : (index : ℕ) → index < length sight.job.now.code →
       IsTallied sight.job.now index sight.made sight.times
-      (standing_among sight.job.now index sight.state.now n) (row_at rows index)
+      (standing_among sight.job.now index sight.state.now n) (tally_at rows index)

@@ -7,7 +7,7 @@ use Rattle.stop_plan.specs.Plan.{PlanData}
 use Rattle.pram_board.specs.declared.task.Task.{Task}
 use Rattle.pram_board.specs.Seats.{SeatData, unites}
 use Rattle.pram_run.specs.Heard.{Ended, HasRunWith}
-use Rattle.pram_run.specs.Inner.Obeying.{EndsOrStops, GoesOn}
+use Rattle.pram_run.specs.Inner.Obeying.{EndsOrStops, IsContinued}
 use Rattle.walkx.specs.Records.{Record}
 use Rattle.pram_run.specs.Obeyed.{AllObeyed, HasLooked, LooksFor}
 use Rattle.pram_run.specs.Running.{IsUnfinished, Tells}
@@ -37,7 +37,7 @@ pub record IsJoined (task : Task) (plan : PlanData) (given looker : SeatData) (c
   pub obeyed : AllObeyed task plan.rows given count seat
   pub ends : (worker : ℕ) → worker < count → EndsOrStops plan.rows worker later
   pub is : later ≡ unites seat looker
-  pub goes_on : GoesOn given later
+  pub goes_on : IsContinued given later
   pub sound : Sound task.job task.layout later.record_of
 
 -- A number of workers obeyed the plan from the given seat, while another seat looked on from this

@@ -11,7 +11,7 @@ use Rattle.pram_run.specs.declared.runner.Obeyed.{Obeyed}
 use Rattle.pram_run.specs.declared.watcher.Watched.{Watched}
 
 -- a seat of the same board, each part of whose record begins with that of the earlier one
-pub record GoesOn (before after : SeatData) : Type 0 where
+pub record IsContinued (before after : SeatData) : Type 0 where
   pub desk : after.desk ≡ before.desk
   pub begins : BeginsWith before.record_of after.record_of
 
@@ -31,7 +31,7 @@ pub record AllWorked (task : Task) (plan : PlanData) (given later : SeatData) : 
 -- What a thread has to keep of the seat that it was given: the seat goes on, shows the end unless
 -- the rows stop the worker, and came about by obeying them.
 abbrev pub HasObeyed : List Row → ℕ → SeatData → SeatData → Type 0
-HasObeyed rows worker given seat = GoesOn given seat × EndsOrStops rows worker seat
+HasObeyed rows worker given seat = IsContinued given seat × EndsOrStops rows worker seat
     × ObeysAnew given.desk.task worker rows given seat
 
 -- what a thread has to keep: it was given this seat, to obey these rows as this worker

@@ -6,7 +6,7 @@ use Rattle.pram_job.specs.Job.{JobData, IsJob}
 use Rattle.stop_plan.specs.declared.plan.Row.{Row}
 use Rattle.stop_plan.specs.Plan.{PlanData}
 use Rattle.stop_plan.specs.Schedule.{after_rounds, events_of_rows}
-use Rattle.walkx.specs.Bound.{most_steps}
+use Rattle.walkx.specs.Bound.{own_step_bound}
 use Rattle.pram_world.specs.declared.event.Event.{Event}
 use Rattle.pram_world.specs.declared.event.Event.TheVariants.{Go}
 use Rattle.pram_world.specs.Worlds.{going}
@@ -42,7 +42,7 @@ pub record HasCome (job : JobData) (plan : PlanData) (now : Replaying) (rows : L
   pub made : List Event
   pub are : AreEventsMade job plan now made
   pub after : IsAfterEvents job plan.workers made now.world rows
-  pub rounds : now.rounds ≤ most_steps job
+  pub rounds : now.rounds ≤ own_step_bound job
 
 -- a replay of some job and plan has come there, by some steps
 abbrev pub IsReplayUnderWay : Replaying → Type 0
@@ -55,7 +55,7 @@ row_parts [] = 0
 row_parts (row ∷ rows) = row.ticks + 1 + row_parts rows
 
 abbrev pub parts : JobData → Replaying → ℕ
-parts job now = now.ticks + row_parts now.rows.now + (most_steps job - now.rounds)
+parts job now = now.ticks + row_parts now.rows.now + (own_step_bound job - now.rounds)
 
 -- nothing is left to be done
 pub record IsOver (now : Replaying) : Type 0 where

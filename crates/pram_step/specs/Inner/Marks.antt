@@ -10,19 +10,19 @@ use Rattle.pram_machine.specs.Machine.{State}
 use Rattle.pram_step.specs.Steps.{IsVerdict}
 
 -- processor i's data goes to the place, and is the value
-pub record Puts (requests : List Request) (place i value : ℕ) : Type 0 where
+pub record PutsValue (requests : List Request) (place i value : ℕ) : Type 0 where
   pub request : Request
   pub request_is : slice_get requests i ≡ Some request
   pub puts : request.put ≡ Some (place, value)
 
 -- processor i is the least whose data goes to the place, and this is its value
 pub record PutsFirst (requests : List Request) (place i value : ℕ) : Type 0 where
-  pub puts : Puts requests place i value
-  pub least : (j other : ℕ) → Puts requests place j other → i ≤ j
+  pub puts : PutsValue requests place i value
+  pub least : (j other : ℕ) → PutsValue requests place j other → i ≤ j
 
 -- no data goes to the place
 abbrev pub PutsNone : List Request → ℕ → Type 0
-PutsNone requests place = (i value : ℕ) → Puts requests place i value → ⊥
+PutsNone requests place = (i value : ℕ) → PutsValue requests place i value → ⊥
 
 -- ---- what is kept of the stores
 
@@ -38,7 +38,7 @@ store_at asked k = slice_index_or asked k (record { processor = 0; cell = 0; val
 -- store k is what these requests put
 abbrev pub PutsStore : List Request → List Store → ℕ → Type 0
 PutsStore requests asked k =
-    Puts requests (store_at asked k).cell (store_at asked k).processor (store_at asked k).value
+    PutsValue requests (store_at asked k).cell (store_at asked k).processor (store_at asked k).value
 
 -- ---- the stores that are asked for
 
@@ -51,7 +51,7 @@ pub record AreAsked (cells : ℕ) (requests : List Request) (n : ℕ) (asked : L
   pub puts : (k : ℕ) → k < count → PutsStore requests asked k
   pub rises : (j k : ℕ) → j < k → k < count →
       (store_at asked j).processor < (store_at asked k).processor
-  pub all : (cell i value : ℕ) → cell < cells → i < n → Puts requests cell i value →
+  pub all : (cell i value : ℕ) → cell < cells → i < n → PutsValue requests cell i value →
       (k : ℕ) × (k < count) × ((store_at asked k).processor ≡ i)
 
 -- Where those of the processors before this one are taken up, its store is taken up too.
@@ -64,7 +64,8 @@ AsksNext job i put asked count asked' count' =
 -- ---- they are judged
 
 -- The mark names the first store to the cell, which is one of the first k.
-pub record IsMark (requests : List Request) (asked : List Store) (k cell mark : ℕ) : Type 0 where
+pub record MarksFirst (requests : List Request) (asked : List Store) (k cell mark : ℕ) :
+    Type 0 where
   pub below : mark < k
   pub is_cell : (store_at asked mark).cell ≡ cell
   pub first : PutsFirst requests cell (store_at asked mark).processor (store_at asked mark).value
@@ -74,8 +75,8 @@ pub record IsMark (requests : List Request) (asked : List Store) (k cell mark : 
 pub record AreMarked (cells : ℕ) (requests : List Request) (asked : List Store) (marks : List ℕ)
     (k : ℕ) : Type 0 where
   pub puts : (j : ℕ) → j < k → PutsStore requests asked j
-  pub marked : (cell i value : ℕ) → cell < cells → Puts requests cell i value →
-      IsMark requests asked k cell (slice_index marks cell)
+  pub marked : (cell i value : ℕ) → cell < cells → PutsValue requests cell i value →
+      MarksFirst requests asked k cell (slice_index marks cell)
 
 -- they are marked so, and this is what they dispute
 pub record AreJudged (job : JobData) (requests : List Request) (asked : List Store)
@@ -95,7 +96,7 @@ TellsFirst asked marks k cell found =
 -- its cell.
 abbrev pub JudgesStore : JobData → Option Dispute → Store → Store → Option Dispute → Type 0
 JudgesStore job before first store found =
-    (requests : List Request) → Puts requests store.cell store.processor store.value
+    (requests : List Request) → PutsValue requests store.cell store.processor store.value
     → PutsFirst (take store.processor requests) store.cell first.processor first.value
     → IsVerdict job (take store.processor requests) before
     → IsVerdict job (take (store.processor + 1) requests) found

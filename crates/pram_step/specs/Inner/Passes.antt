@@ -16,11 +16,11 @@ use Rattle.pram_step.specs.Running.{AreRunning, SameCounters}
 -- ---- who stands still
 
 -- processor i's request changes nothing
-abbrev pub IsIdle : JobData → State → ℕ → Type 0
-IsIdle job state i = request_in job state i ≡ goes_to (counter job state i)
+abbrev pub ChangesNothing : JobData → State → ℕ → Type 0
+ChangesNothing job state i = request_in job state i ≡ goes_to (counter job state i)
 
 abbrev pub AllIdle : JobData → State → Type 0
-AllIdle job state = (i : ℕ) → i < job.procs → IsIdle job state i
+AllIdle job state = (i : ℕ) → i < job.procs → ChangesNothing job state i
 
 -- ---- a turn, and all turns
 
@@ -68,7 +68,7 @@ pub record IsUnderWay (job : JobData) (running : List ℕ) (now : State) (asked 
   pub few : turns.stores ≤ bound job running turns.taken
 
 -- the next processor stands at the instruction with this index
-pub record StandsAt (job : JobData) (running : List ℕ) (now : State) (asked : List Store)
+pub record StandsNext (job : JobData) (running : List ℕ) (now : State) (asked : List Store)
     (turns : Turns) (index : ℕ) : Type 0 where
   pub left : turns.taken < length running
   pub begun : IsUnderWay job running now asked turns

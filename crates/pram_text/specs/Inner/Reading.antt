@@ -30,7 +30,7 @@ use Rattle.pram_text.specs.Judgement.{version_of, cells_of, procs_of}
 use Rattle.pram_text.specs.Judgement.{steps_of, is_later, Entry, names, gives, array_of}
 use Rattle.text_lines.specs.Reads.{◌>>=◌}
 use Rattle.pram_text.specs.Judgement.{values_of, init_of, unlabelled, Scope, instr_of}
-use Rattle.pram_text.specs.Inner.Statement.{resolved, array_named}
+use Rattle.pram_text.specs.Inner.Statement.{resolved, array_of_name}
 use Rattle.pram_text.specs.Text.{label_index, is_named, new_label_fault, SaysEntries, IsLabelled}
 use Rattle.pram_text.specs.Text.{array_in, value_in, gives_values, scope_of, scope_in}
 use Rattle.pram_text.specs.Text.{SpellsHeader, code_heading, SpellsLines, words_fault, line_fault}
@@ -86,12 +86,12 @@ value_given start cell = slice_index_or start cell None
 -- nothing is said so far
 abbrev pub HoldsNothing : Setup → Type 0
 HoldsNothing start = (start.values.items ≡ []) × ((name : Word) →
-    array_named start.arrays name ≡ None)
+    array_of_name start.arrays name ≡ None)
 
 pub record HoldsStart (later : Bool) (cells : ℕ) (inits : List Line) (start : Setup) : Type 0 where
   pub entries : List Entry
   pub said : SaysEntries later cells inits entries
-  pub arrays : (name : Word) → array_named start.arrays name ≡ array_in entries name
+  pub arrays : (name : Word) → array_of_name start.arrays name ≡ array_in entries name
   pub values : (cell : ℕ) → value_given start.values.items cell ≡ value_in entries cell
   pub filled : is_filled start.values.items ≡ list_any gives_values entries
 
@@ -119,12 +119,12 @@ ReadsValues room words (Err kind) = kind ≢ Memory → values_of room words ≡
 -- ---- instructions
 
 -- the index of a label, if it has one
-abbrev pub index_at : BTreeMap (Bor (List ℕ)) ℕ → Word → Option ℕ
-index_at indices name = get_by (λ key. slice_cmp nat_cmp name key.now) indices
+abbrev pub label_at : BTreeMap (Bor (List ℕ)) ℕ → Word → Option ℕ
+label_at indices name = get_by (λ key. slice_cmp nat_cmp name key.now) indices
 
 -- what is wrong with one label more
 abbrev pub define_fault : BTreeMap (Bor (List ℕ)) ℕ → Option Word → Option TextKind
-define_fault indices label = new_label_fault (λ name. is_some (index_at indices name)) label
+define_fault indices label = new_label_fault (λ name. is_some (label_at indices name)) label
 
 -- one label more
 abbrev pub Defines : BTreeMap (Bor (List ℕ)) ℕ → Option Word → ℕ → Result (Unit {0}) TextKind →
@@ -132,12 +132,12 @@ abbrev pub Defines : BTreeMap (Bor (List ℕ)) ℕ → Option Word → ℕ → R
 Defines old label index (Ok _) new =
     (define_fault old label ≡ None)
     × ((name : Word) →
-    index_at new name ≡ (if is_named label name then Some index else index_at old name))
+    label_at new name ≡ (if is_named label name then Some index else label_at old name))
 Defines old label index (Err kind) new = kind ≢ Memory → define_fault old label ≡ Some kind
 
 -- each label's index
 abbrev pub HoldsIndices : List Line → BTreeMap (Bor (List ℕ)) ℕ → Type 0
-HoldsIndices body indices = (name : Word) → index_at indices name ≡ label_index body name
+HoldsIndices body indices = (name : Word) → label_at indices name ≡ label_index body name
 
 pub record HoldsCode (scope : Scope) (body : List Line) (program : Program) : Type 0 where
   pub labelled : IsLabelled body

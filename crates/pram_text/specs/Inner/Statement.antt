@@ -90,9 +90,9 @@ ReadsRows rows scope name operands result = (find : Word → Option ℕ) →
 -- ---- what is known of a text
 
 -- the array of a name, if there is one
-abbrev pub array_named : BTreeMap (Bor (List ℕ)) Array → Word → Option Array
-array_named arrays name = get_by (λ key. slice_cmp nat_cmp name key.now) arrays
+abbrev pub array_of_name : BTreeMap (Bor (List ℕ)) Array → Word → Option Array
+array_of_name arrays name = get_by (λ key. slice_cmp nat_cmp name key.now) arrays
 
 -- what the words of instruction lines may be
 abbrev pub known : Names → Scope
-known names = record { later = names.later; arrays = array_named names.arrays.now }
+known names = record { later = names.later; arrays = array_of_name names.arrays.now }

@@ -11,8 +11,8 @@ use Rattle.pram_world.specs.declared.outcome.Progress.{Progress}
 use Rattle.pram_world.specs.declared.outcome.Progress.TheVariants.{Disputed, Finished, Going}
 
 -- the payload of the newer of the two words of a place
-abbrev pub newest_of : LayoutData → List ℕ → ℕ → ℕ
-newest_of layout words place =
+abbrev pub newest_payload : LayoutData → List ℕ → ℕ → ℕ
+newest_payload layout words place =
     newer_payload (held layout words (Stored place 0)) (held layout words (Stored place 1))
 
 -- word 0 is read first, and then the root

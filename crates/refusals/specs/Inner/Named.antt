@@ -34,15 +34,15 @@ named_in (refusal.Step step) = a_step step
 named_in _ = nothing
 
 -- what a fault of a line is about
-abbrev pub named_by : Line → CommandFault → Named
-named_by line (fault.Text number kind) = a_line number kind
-named_by line (fault.Program found) = a_program found
-named_by line (fault.Plan row kind) = a_row row kind
-named_by line fault.JobDevice = a_file line.file.now
-named_by line fault.JobTooLarge = a_file line.file.now
-named_by line fault.PlanDevice = a_file (unwrap_or (text_now line.plan) [])
-named_by line fault.PlanTooLarge = a_file (unwrap_or (text_now line.plan) [])
-named_by line (fault.OutsideCell cell) = a_cell cell
-named_by line (fault.OutsidePlace at) = a_place (watched_place line.ask at)
-named_by line (fault.OutsideStep step) = a_step step
-named_by line _ = nothing
+abbrev pub fault_names : Line → CommandFault → Named
+fault_names line (fault.Text number kind) = a_line number kind
+fault_names line (fault.Program found) = a_program found
+fault_names line (fault.Plan row kind) = a_row row kind
+fault_names line fault.JobDevice = a_file line.file.now
+fault_names line fault.JobTooLarge = a_file line.file.now
+fault_names line fault.PlanDevice = a_file (unwrap_or (text_now line.plan) [])
+fault_names line fault.PlanTooLarge = a_file (unwrap_or (text_now line.plan) [])
+fault_names line (fault.OutsideCell cell) = a_cell cell
+fault_names line (fault.OutsidePlace at) = a_place (watched_place line.ask at)
+fault_names line (fault.OutsideStep step) = a_step step
+fault_names line _ = nothing

@@ -6,7 +6,7 @@ use Rattle.clap.specs.Words.{IsAmong, Text, kind_of, subcommand_of}
 use Rattle.clap.specs.declared.error.Error.{Error}
 use Rattle.clap.specs.declared.error.kind.ErrorKind.{ErrorKind}
 use Rattle.clap.specs.declared.error.kind.ErrorKind.TheVariants.{OutOfMemory}
-use Rattle.command_line.specs.CommandLine.{FailsByWords, HasSettings, IsGiven, MeanNoLine, pramx}
+use Rattle.command_line.specs.CommandLine.{FailsByWords, HasSettings, IsLineGiven, MeanNoLine, pramx}
 use Rattle.command_line.specs.declared.line.Given.TheVariants as given
 use Rattle.command_line.specs.declared.line.Given.{Given}
 use Rattle.command_answers.proofs.Texts.{texts_of}
@@ -61,9 +61,9 @@ returns-in-Ok-Line-clause-answers g c = IfOk-weaker c.answer_asked.result _ _
       | inl asked ↦
           let is : c.in-Ok-Line.field-0 ≡ given.Line c.in-Ok-Line.asked c.in-Ok-Line.settings =
           c.in-Ok-Line.field-0-is in
-          let met : IsGiven c.args.console.now.is_terminal (subcommand_of pramx
+          let met : IsLineGiven c.args.console.now.is_terminal (subcommand_of pramx
           (texts_of c.args.words.now)) (given.Line c.in-Ok-Line.asked c.in-Ok-Line.settings) =
-          subst (IsGiven c.args.console.now.is_terminal (subcommand_of pramx
+          subst (IsLineGiven c.args.console.now.is_terminal (subcommand_of pramx
           (texts_of c.args.words.now))) is c.in-Ok-Line.ensures.given in
           inl (record {
             asked = c.in-Ok-Line.asked;
@@ -81,9 +81,9 @@ returns-in-Ok-Line-clause-line g c = IfErr-weaker c.answer_asked.result _ _
     (λ waiting waits.
     let is : c.in-Ok-Line.field-0 ≡ given.Line c.in-Ok-Line.asked c.in-Ok-Line.settings =
     c.in-Ok-Line.field-0-is in
-    let met : IsGiven c.args.console.now.is_terminal (subcommand_of pramx
+    let met : IsLineGiven c.args.console.now.is_terminal (subcommand_of pramx
     (texts_of c.args.words.now)) (given.Line c.in-Ok-Line.asked c.in-Ok-Line.settings) =
-    subst (IsGiven c.args.console.now.is_terminal (subcommand_of pramx
+    subst (IsLineGiven c.args.console.now.is_terminal (subcommand_of pramx
     (texts_of c.args.words.now))) is c.in-Ok-Line.ensures.given in
     record {
       asked = c.in-Ok-Line.asked;
@@ -107,7 +107,7 @@ returns-in-Ok-Judge-clause-answers g c =
     let is : c.in-Ok-Judge.field-0 ≡ given.Judge c.in-Ok-Judge.judging = c.in-Ok-Judge.field-0-is in
     inr (inl (record {
       judging = c.in-Ok-Judge.judging;
-      met = subst (IsGiven c.args.console.now.is_terminal (subcommand_of pramx
+      met = subst (IsLineGiven c.args.console.now.is_terminal (subcommand_of pramx
           (texts_of c.args.words.now))) is c.in-Ok-Judge.ensures.given;
       judges = c.answer_judging.ensures;
     }))

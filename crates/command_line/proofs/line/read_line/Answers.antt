@@ -9,7 +9,7 @@ use Rattle.clap.specs.declared.ArgMatches.{ArgMatches}
 use Rattle.clap.specs.declared.error.Error.{Error}
 use Rattle.clap.specs.declared.error.kind.ErrorKind.{ErrorKind}
 use Rattle.clap.specs.declared.error.kind.ErrorKind.TheVariants.{OutOfMemory}
-use Rattle.command_line.specs.CommandLine.{HasBadValue, IsGiven, pramx}
+use Rattle.command_line.specs.CommandLine.{HasBadValue, IsLineGiven, pramx}
 use Rattle.command_line.proofs.line.read_line.Goals as goal
 
 err_from : {T E : Type 0} (r : Result T E) (P Q : E → Type 0) → IsErrAnd r P →
@@ -83,7 +83,7 @@ returns-in_err-matches-clause-kinds c =
 
 pub returns-in-Some-given_of-clause-given : goal.returns-in-Some-given_of-clause-given
 returns-in-Some-given_of-clause-given c =
-    subst (λ met. IsGiven c.args.on_terminal met c.in-Some-given_of.given)
+    subst (λ met. IsLineGiven c.args.on_terminal met c.in-Some-given_of.given)
     (same_subcommand _ pramx _ _ c.in_ok-command.ensures is_simple_pramx
     c.in_ok-matches.ensures.matches) c.in-Some-given_of.ensures
 

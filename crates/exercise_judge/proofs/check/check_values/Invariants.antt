@@ -1,6 +1,6 @@
 use Rattle.std.proofs.Common.{◌≡◌, All, take}
 use Rattle.std.specs.Prelude.{slice_index}
-use Rattle.exercise_header.specs.Values.{held_by}
+use Rattle.exercise_text.specs.Values.{held_by}
 use Rattle.exercise_judge.proofs.check.check_values.Given as goal
 
 -- the names so far hold what is wanted

@@ -1,8 +1,8 @@
 use Rattle.std.proofs.Common.{rules}
 use Rattle.std.specs.Prelude.{IfSome, slice_index}
 use Rattle.pram_cost.specs.Models.{AcceptsSteps}
-use Rattle.exercise_given.specs.Submissions.{code_lines}
-use Rattle.exercise_judge.specs.Trials.{AreHeld, IsWithin, Meets}
+use Rattle.exercise_text.specs.Submissions.{code_lines}
+use Rattle.exercise_judge.specs.Trials.{AreHeld, KeepsBar, Meets}
 use Rattle.exercise_judge.specs.Verdicts.{IsCertain, Judges}
 use Rattle.exercise_judge.proofs.Judged.{judged_too}
 use Rattle.exercise_judge.proofs.Meeting.{met}
@@ -40,7 +40,7 @@ pub returns-in_err-check_bar : goal.returns-in_err-check_bar
 returns-in_err-check_bar c =
     let unmet : IsCertain c.in_err-check_bar.field-0.0 →
     Meets c.args.trial.now c.args.submission.now → ⊥ = λ certain meets.
-    let steps : IsWithin c.args.trial.now.steps c.args.run.now.job.steps =
+    let steps : KeepsBar c.args.trial.now.steps c.args.run.now.job.steps =
     steps_too c.args.trial.now c.args.submission.now c.args.run.now c.requires.run meets in
     c.in_err-check_bar.ensures certain (search rules) in
     search rules
@@ -51,8 +51,8 @@ returns c =
     let run = c.args.run.now in
     let cells = c.in_ok-cells.cells.now in
     let values : AreHeld trial.wanted run.program (slice_index cells) = search rules in
-    let steps : IsWithin trial.steps run.job.steps = search rules in
-    let lines : IsWithin trial.lines (code_lines c.args.submission.now) = search rules in
+    let steps : KeepsBar trial.steps run.job.steps = search rules in
+    let lines : KeepsBar trial.lines (code_lines c.args.submission.now) = search rules in
     let given = c.check_model.ensures run.job c.requires.run.1.cost in
     let told : Judges c.check_model.result
     (IfSome trial.model (λ allowed. AcceptsSteps allowed run.job run.costs.cost.steps)) =

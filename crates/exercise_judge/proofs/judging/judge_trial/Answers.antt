@@ -1,6 +1,6 @@
 use Rattle.std.proofs.Common.{◌≡◌, List, ℕ, rules, subst}
 use Rattle.pardo_job.specs.Refusals.{IsProgramRefusal}
-use Rattle.exercise_given.specs.Submissions.{judged_text}
+use Rattle.exercise_text.specs.Submissions.{judged_text}
 use Rattle.exercise_judge.specs.Verdicts.{IsCertain}
 use Rattle.exercise_judge.proofs.Refused.{refused}
 use Rattle.exercise_judge.proofs.judging.judge_trial.Goals as goal

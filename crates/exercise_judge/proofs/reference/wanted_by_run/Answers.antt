@@ -3,7 +3,7 @@ use Rattle.std.specs.Prelude.{slice_index}
 use Rattle.pram_step.specs.Runs.{IsAnswer}
 use Rattle.pardo_program.specs.Program.{ArrayData}
 use Rattle.text_lines.specs.Lines.{words_of}
-use Rattle.exercise_header.specs.Values.{held_by, wanted_by}
+use Rattle.exercise_text.specs.Values.{held_by, wanted_by}
 use Rattle.exercise_judge.proofs.Ends.{same_answer}
 use Rattle.exercise_judge.proofs.reference.wanted_by_run.Goals as goal
 

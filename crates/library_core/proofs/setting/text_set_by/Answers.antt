@@ -3,7 +3,7 @@ use Rattle.text_lines.specs.Reads.{◌>>=◌}
 use Rattle.pardo_text.specs.Settings.{SettingData, text_as_set}
 use Rattle.pardo_text.specs.declared.settings.SetFault.{SetFault}
 use Rattle.library_core.specs.declared.fault.Misset.{Misset}
-use Rattle.library_core.specs.Settings.{TellsWhy, fitting, if_fit, settings_in, text_set_by}
+use Rattle.library_core.specs.Settings.{TellsWhy, set_fitting, if_fit, settings_in, text_set_by}
 use Rattle.library_core.specs.Settings.{unfit_in}
 use Rattle.library_core.proofs.setting.text_set_by.Goals as goal
 
@@ -15,8 +15,8 @@ unfit : (text others set : List ℕ) (settings : List SettingData) (found : Opti
 unfolding text_set_by
 unfit text others set settings found fault reads is finds some =
     ap (λ (read : Result (List SettingData) Misset).
-    read >>= (λ given. fitting given text (text_as_set given text))) reads
-    ∙ ap (λ (given : List ℕ). fitting settings text given) (sym is)
+    read >>= (λ given. set_fitting given text (text_as_set given text))) reads
+    ∙ ap (λ (given : List ℕ). set_fitting settings text given) (sym is)
     ∙ ap (λ (it : Option SetFault). if_fit it set) (sym finds ∙ some)
 
 pub returns-in-Ok-Some-clause-refused : goal.returns-in-Ok-Some-clause-refused

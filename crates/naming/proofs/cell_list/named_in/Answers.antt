@@ -4,7 +4,7 @@ use Rattle.std.proofs.Common.{append-nil, append_assoc, arith, length, refl}
 use Rattle.std.proofs.lemmas.List.Elements.{All-nil, All-push}
 use Rattle.std.specs.Borrow.{Bor}
 use Rattle.command_data.specs.CellLists.{SpellsCell, cell_listed, parts_left, parts_of}
-use Rattle.naming.specs.CellLists.{AreNamed}
+use Rattle.naming.specs.CellLists.{AreStretches}
 use Rattle.naming.specs.declared.places.Stretch.{Stretch}
 use Rattle.refusals.specs.declared.fault.CommandFault.TheVariants.{OutsideCell, OutsidePlace}
 use Rattle.naming.proofs.Cells.{as_many, named_more, first_without, found_none, found_some}
@@ -22,7 +22,7 @@ loop-left-init c =
     let none = sym c.new-named.ensures.items in (
       [],
       refl,
-      subst (λ (l : List Stretch). AreNamed names [] l) none tt,
+      subst (λ (l : List Stretch). AreStretches names [] l) none tt,
       subst (λ (l : List Stretch). All (λ cells. cells.end ≤ c.args.spelled.now.job.cells) l) none
           (All-nil (λ (cells : Stretch). cells.end ≤ c.args.spelled.now.job.cells)),
     )
@@ -62,7 +62,7 @@ loop-left-preserved c =
       c.loop-left.invariant.1 ∙ ap (λ left. done ++ parts_left left) c.in-Some.is
           ∙ ap (λ (l : List (List ℕ)). done ++ l) c.first_part.ensures
           ∙ sym (append_assoc done (part ∷ []) tail),
-      subst (λ (l : List Stretch). AreNamed names (done ++ part ∷ []) l) (sym kept)
+      subst (λ (l : List Stretch). AreStretches names (done ++ part ∷ []) l) (sym kept)
           (named_more names done c.loop-left.named.items part c.in-Some-2.cells
           c.loop-left.invariant.2 found.0),
       subst (λ (l : List Stretch). All (λ cells. cells.end ≤ c.args.spelled.now.job.cells) l)
@@ -78,5 +78,5 @@ returns-clause-named c =
     c.loop-left.invariant.1
     ∙ ap (λ (l : List (List ℕ)). done ++ l) (no_parts c.loop-left.left c.in_default.not-Some)
     ∙ append-nil done in
-    subst (λ (ps : List (List ℕ)). AreNamed c.args.spelled.now.names ps c.loop-left.named.items)
+    subst (λ (ps : List (List ℕ)). AreStretches c.args.spelled.now.names ps c.loop-left.named.items)
     (sym whole) c.loop-left.invariant.2

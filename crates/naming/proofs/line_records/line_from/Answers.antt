@@ -1,7 +1,7 @@
 use Rattle.std.proofs.Common.{◌≡◌, ◌∙◌, ◌+◌, ◌∷◌, [], ℕ, List, Bor, drop, sym, ap, subst, arith}
 use Rattle.text_lines.specs.Lines.{lines_of}
 use Rattle.text_lines.specs.TextLines.{left_of, taken_of}
-use Rattle.naming.specs.LineRecords.{line_numbered}
+use Rattle.naming.specs.LineRecords.{numbered_line}
 use Rattle.naming.proofs.LineFinding.{line_past, line_taken}
 use Rattle.naming.proofs.line_records.line_from.Goals as goal
 
@@ -21,7 +21,7 @@ loop-line-preserved c =
       few = omega arith;
       is = record {
         left = both.1 ∙ ap (λ (n : ℕ). drop n (lines_of text)) (sym more);
-        here = both.0 ∙ ap (λ (n : ℕ). line_numbered text n) (sym more);
+        here = both.0 ∙ ap (λ (n : ℕ). numbered_line text n) (sym more);
       };
     }
 
@@ -33,7 +33,7 @@ returns-in_default-clause-line c =
     × (taken_of c.take_line.new.self ≡ taken_of c.loop-line.lines) = c.in_default.ensures in
     let test = c.loop-line-test.true in
     let at = c.number.ensures in
-    subst (λ (bytes : Bor (List ℕ)). [] ≡ line_numbered bytes.now c.args.number)
+    subst (λ (bytes : Bor (List ℕ)). [] ≡ numbered_line bytes.now c.args.number)
     c.before-start.ensures.text
     (line_past text (taken_of c.loop-line.lines) c.args.number (sym none.0 ∙ was.left)
     (omega arith))
@@ -47,6 +47,6 @@ returns-clause-line c =
     let at = c.number.ensures in
     let all : taken_of c.loop-line.lines ≡ c.args.number = omega arith in
     was.is.here
-    ∙ ap (λ (n : ℕ). line_numbered text n) all
-    ∙ ap (λ (bytes : Bor (List ℕ)). line_numbered bytes.now c.args.number)
+    ∙ ap (λ (n : ℕ). numbered_line text n) all
+    ∙ ap (λ (bytes : Bor (List ℕ)). numbered_line bytes.now c.args.number)
     c.before-start.ensures.text

@@ -2,8 +2,8 @@ use Rattle.std.proofs.Common.{◌∙◌, ◌++◌, List, [], ℕ, Bor, get_or, a
 use Rattle.std.specs.Prelude.{codes}
 use Rattle.std.specs.List.{flat_map}
 use Rattle.std.proofs.lemmas.List.{take_all}
-use Rattle.naming.specs.LineRecords.{line_numbered, line_record}
-use Rattle.pardo_costs.specs.declared.line_costs.LineCost.{LineCost}
+use Rattle.naming.specs.LineRecords.{numbered_line, line_record}
+use Rattle.pardo_answers.specs.declared.line_costs.LineCost.{LineCost}
 use Rattle.naming.proofs.LineFinding.{no_cost, record_more}
 use Rattle.naming.proofs.line_records.records_of.Goals as goal
 
@@ -29,7 +29,7 @@ loop-cost-preserved c =
       text = record_more (codes "line,times,time,operations,most,text\n") c.args.text.now costs i
           _ _ c.line_from.result.0.now c.loop-cost-test.true c.in_ok-write_record.ensures.text
           (c.line_from.ensures.line
-          ∙ ap (λ (bytes : List ℕ). line_numbered bytes (get_or costs i no_cost).line) was.same)
+          ∙ ap (λ (bytes : List ℕ). numbered_line bytes (get_or costs i no_cost).line) was.same)
           was.text;
       same = ap (λ (bytes : Bor (List ℕ)). bytes.now) c.line_from.ensures.text ∙ was.same;
     }
@@ -40,5 +40,5 @@ returns-in-Ok c =
     c.in-Ok.ensures.ok
     ∙ c.loop-cost.invariant.text
     ∙ ap (λ (all : List LineCost). codes "line,times,time,operations,most,text\n"
-    ++ flat_map (λ cost. line_record cost (line_numbered c.args.text.now cost.line)) all)
+    ++ flat_map (λ cost. line_record cost (numbered_line c.args.text.now cost.line)) all)
     (take_all c.loop-cost.cost-index costs (omega arith))

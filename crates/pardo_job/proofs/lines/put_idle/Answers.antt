@@ -1,5 +1,5 @@
 use Rattle.std.proofs.Common.{◌≡◌, ◌++◌, arith, length, subst}
-use Rattle.pardo_job.specs.Lines.{idle}
+use Rattle.pardo_job.specs.Lines.{no_code}
 use Rattle.pardo_job.proofs.LineParts.{idle_count, idle_shallow, idle_step}
 use Rattle.pardo_job.proofs.lines.put_idle.Goals as goal
 
@@ -28,7 +28,7 @@ returns c =
     let e : c.loop-pad._pad ≡ c.args.count = omega arith in
     record {
       all = subst (λ n. c.loop-pad.code.items ≡ c.args.code.now.items ++
-          idle (length c.args.code.now.items) n) e c.loop-pad.invariant;
+          no_code (length c.args.code.now.items) n) e c.loop-pad.invariant;
       shallow = idle_shallow (length c.args.code.now.items) c.args.count;
       fault = tt;
     }

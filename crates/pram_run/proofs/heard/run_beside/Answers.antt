@@ -1,7 +1,7 @@
 use Rattle.std.proofs.Common.{◌≡◌, ◌∙◌, ap, inl, inr, subst, sym, vec_len}
 use Rattle.pram_board.specs.Seats.{SeatData}
 use Rattle.pram_run.specs.Inner.Hearing.{RunHasEnded}
-use Rattle.pram_run.specs.Inner.Obeying.{GoesOn}
+use Rattle.pram_run.specs.Inner.Obeying.{IsContinued}
 use Rattle.pram_run.specs.Inner.Sharing.{plan_of, shared_task}
 use Rattle.pram_run.specs.Obeyed.{HasLooked}
 use Rattle.pram_run.proofs.Endings.{goes_self, goes_trans, looked_goes}
@@ -24,13 +24,13 @@ returns-then-not-answers-clause-ran g c = inl (tt, c.hear-heard-then-not-answers
 
 pub join_beside-seat-requires-clause-looker : goal.join_beside-seat-requires-clause-looker
 join_beside-seat-requires-clause-looker g c κs within =
-    subst (λ (s : SeatData). GoesOn s c.await_missing-theirs.result.0)
+    subst (λ (s : SeatData). IsContinued s c.await_missing-theirs.result.0)
     (c.split-seat.ensures.second ∙ sym c.split-seat.ensures.first
     ∙ sym c.start_few-team.ensures.seat) (looked_goes _ _ c.await_missing-theirs.ensures.looked)
 
 pub hear_end-requires-clause-seat : goal.hear_end-requires-clause-seat
 hear_end-requires-clause-seat g c κs within =
-    subst (λ (s : SeatData). GoesOn s c.read-reader.new.seat)
+    subst (λ (s : SeatData). IsContinued s c.read-reader.new.seat)
     (c.split-seat.ensures.second ∙ sym c.split-seat.ensures.first
     ∙ sym c.start_few-team.ensures.seat)
     (goes_trans _ _ _ (looked_goes _ _ c.await_missing-theirs.ensures.looked)

@@ -1,6 +1,6 @@
 use Rattle.std.proofs.Common.{◌≡◌, ℕ, subst, sym, arith, vec_len}
 use Rattle.pram_board.specs.Seats.{SeatData}
-use Rattle.pram_run.specs.Inner.Obeying.{GoesOn}
+use Rattle.pram_run.specs.Inner.Obeying.{IsContinued}
 use Rattle.pram_run.specs.Inner.Sharing.{board_of, plan_of, shared_task}
 use Rattle.pram_run.specs.Inner.Teams.{IsAtWork}
 use Rattle.pram_run.specs.Obeyed.{AllObeyed}
@@ -29,9 +29,9 @@ returns-then-whole-clause-worked g c =
     }
 
 pub returns-then-whole-clause-goes_on : goal.returns-then-whole-clause-goes_on
-returns-then-whole-clause-goes_on g c = subst (λ (p : SeatData). GoesOn p c.join_all-seat.result)
+returns-then-whole-clause-goes_on g c = subst (λ (p : SeatData). IsContinued p c.join_all-seat.result)
     c.start_all-team.ensures.seat c.join_all-seat.ensures.goes_on
 
 pub returns-else-whole-clause-goes_on : goal.returns-else-whole-clause-goes_on
-returns-else-whole-clause-goes_on g c = subst (λ (p : SeatData). GoesOn p c.join_all-seat.result)
+returns-else-whole-clause-goes_on g c = subst (λ (p : SeatData). IsContinued p c.join_all-seat.result)
     c.start_all-team.ensures.seat c.join_all-seat.ensures.goes_on

@@ -1,7 +1,7 @@
 use Rattle.std.proofs.Common.{◌≡◌, ◌<◌, ℕ, refl, subst, ◌∙◌, arith}
 use Rattle.std.proofs.lemmas.Bool.{lt-ltb}
 use Rattle.walk_memory.proofs.Ranks.{rank_parts}
-use Rattle.pram_board.specs.Inner.Plays.{IsWalking, driving, in_block, task_at}
+use Rattle.pram_board.specs.Inner.Plays.{IsWalking, driving, in_block, post_task}
 use Rattle.pram_board.proofs.Working.{led_more}
 use Rattle.pram_board.proofs.driver.Driver.block.Goals as goal
 use Rattle.pram_board.proofs.driver.Driver.block.Goals.{then-len-gt0, else-len-gt0}
@@ -48,7 +48,7 @@ mark-requires-clause-walks g c = elim c.if-len-gt0.branch [
       (rw (w.leaf.ensures, w.at.ensures) at w.tasks.ensures.moved.walks)
   | else-len-gt0 w ↦ rw (w.self-is, w.memory-is) (
       let none : 0 ≡ c.block_len-len.result = omega (arith, w.if-len-gt0.false) in
-      subst (λ (rank : ℕ). IsWalking (task_at c.args.post.now) (driving c.args.self.now)
+      subst (λ (rank : ℕ). IsWalking (post_task c.args.post.now) (driving c.args.self.now)
       (in_block c.args.post.now rank c.args.memory.now)) none c.requires.walks)
 ]
 

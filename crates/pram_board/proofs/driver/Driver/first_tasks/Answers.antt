@@ -1,7 +1,7 @@
 use Rattle.std.proofs.Common.{◌≡◌, ◌<◌, suc, ℕ, refl, ap, subst, ◌∙◌, arith}
 use Rattle.pram_words.specs.Phases.{kind_at}
 use Rattle.walk_memory.specs.Inner.Posts.{PostData}
-use Rattle.pram_board.specs.Inner.Plays.{Moved, driving, in_block, task_at}
+use Rattle.pram_board.specs.Inner.Plays.{Moved, driving, in_block, post_task}
 use Rattle.pram_board.proofs.Tasks.{leaf_after, not_moved, same_after, task_after, went_on}
 use Rattle.pram_board.proofs.driver.Driver.first_tasks.Goals as goal
 
@@ -18,7 +18,7 @@ returns-then-last-len-clause-moved g c =
     let i = c.loop-leaf.invariant in
     let last : suc c.task-last.result ≡ c.args.len =
     omega (arith, c.if-last-len.true) in
-    subst (λ (rank : ℕ). Moved (task_at c.args.leaf) (driving c.args.self.now)
+    subst (λ (rank : ℕ). Moved (post_task c.args.leaf) (driving c.args.self.now)
     (in_block c.args.leaf c.args.leaf.rank c.args.memory.now) (driving c.task-last.new.self)
     (in_block c.args.leaf rank c.task-last.new.memory)) last
     (went_on c.args.leaf c.loop-leaf.leaf i.same c.args.len

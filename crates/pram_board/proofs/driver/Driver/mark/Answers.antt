@@ -1,5 +1,5 @@
 use Rattle.std.proofs.Common.{refl}
-use Rattle.pram_board.specs.Inner.Plays.{driving, task_at}
+use Rattle.pram_board.specs.Inner.Plays.{driving, post_task}
 use Rattle.pram_board.proofs.Blocks.{gone, mark_leads, mark_starts, marks_block}
 use Rattle.pram_board.proofs.Working.{sound_at}
 use Rattle.pram_board.proofs.driver.Driver.mark.Goals as goal
@@ -51,5 +51,5 @@ returns-clause-led g c =
     )).1 in
     rw c.go_on-reach.ensures.gone (mark_leads at c.args.rank c.args.memory.now c.requires.walks.fits.block.2
     c.requires.last (driving c.args.self.now) (driving c.mark.new.steps) c.in-Ok.turned
-    c.requires.walks (sound_at (task_at at) (driving c.mark.new.steps) done.here c.facts.ensures)
+    c.requires.walks (sound_at (post_task at) (driving c.mark.new.steps) done.here c.facts.ensures)
     done)

@@ -2,7 +2,7 @@ use Rattle.std.proofs.Common.{◌≡◌, Bool, true, Ok, refl, ap, ◌∙◌}
 use Rattle.walkx.specs.Passing.{idle}
 use Rattle.walkx.specs.Scripts.{ends}
 use Rattle.walkx.specs.Walk.{begins, script_of}
-use Rattle.pram_board.specs.Inner.Plays.{driving, in_block, task_at}
+use Rattle.pram_board.specs.Inner.Plays.{driving, in_block, post_task}
 use Rattle.pram_board.proofs.Blocks.{after_task, memo, passes_driving, task_done, task_starts}
 use Rattle.pram_board.proofs.Working.{sound_at}
 use Rattle.pram_board.proofs.driver.Driver.part_at.Goals as goal
@@ -75,6 +75,6 @@ returns-in-Ok-true-clause-tried g c =
     )).1 in
     rw takes.kept (task_done at c.requires.at.leaf wide memory (driving c.args.self.now)
     (driving c.take_up_at.new.steps) c.requires.at.walks
-    (sound_at (task_at at) (driving c.take_up_at.new.steps) done.here c.facts.ensures) takes.learned
+    (sound_at (post_task at) (driving c.take_up_at.new.steps) done.here c.facts.ensures) takes.learned
     c.requires.at.fits (passes_driving (idle at (memo at c.requires.at.leaf wide memory))
     takes.learned (λ d. driving d) _ _ takes.idle) done)

@@ -1,6 +1,6 @@
 use Rattle.std.proofs.Common.{◌≡◌, ◌<◌, suc, ℕ, refl, ap, subst, ◌∙◌, arith}
 use Rattle.walk_memory.specs.Inner.Posts.{PostData}
-use Rattle.pram_board.specs.Inner.Plays.{Moved, driving, in_block, task_at}
+use Rattle.pram_board.specs.Inner.Plays.{Moved, driving, in_block, post_task}
 use Rattle.pram_board.proofs.Tasks.{at_next, done_from, is_within, leaf_at, not_moved, same_next}
 use Rattle.pram_board.proofs.driver.Driver.parts.Goals as goal
 
@@ -21,7 +21,7 @@ returns-then-rank-len-clause-moved g c =
     i.moved (driving c.second_part.new.self) c.second_part.new.memory c.second_part.ensures.done.moved c.second_part.ensures.done.fits in
     let last : suc c.loop-leaf.leaf.rank ≡ c.args.len =
     omega (arith, c.rank.ensures, c.if-rank-len.true) in
-    subst (λ (rank : ℕ). Moved (task_at c.args.leaf) (driving c.args.self.now)
+    subst (λ (rank : ℕ). Moved (post_task c.args.leaf) (driving c.args.self.now)
     (in_block c.args.leaf c.args.leaf.rank c.args.memory.now) (driving c.second_part.new.self)
     (in_block c.args.leaf rank c.second_part.new.memory)) last done.moved
 

@@ -6,7 +6,7 @@ use Rattle.walk_memory.specs.Inner.Posts.{PostData, at_rank, processor_of}
 use Rattle.walk_memory.specs.Memory.{at_start}
 use Rattle.walk_memory.specs.Plain.{done_all}
 use Rattle.pram_board.specs.Inner.Plain.{by_lanes}
-use Rattle.pram_board.specs.Inner.Plays.{AtTask, DoneTo, Moved, driving, in_block, task_at}
+use Rattle.pram_board.specs.Inner.Plays.{AtTask, DoneTo, Moved, driving, in_block, post_task}
 use Rattle.pram_board.proofs.Doing.{at_alike, by_there, done_none, late_done, more_done, more_next}
 use Rattle.pram_board.proofs.Tasks.{is_within, leaf_at, not_moved}
 use Rattle.pram_board.proofs.driver.Driver.plain_all.Goals as goal
@@ -22,7 +22,7 @@ loop-value-init g c =
       same = refl;
       later = omega arith;
       at = subst (λ (m : List Memo). AtTask at c.args.len p m) none c.requires.at;
-      moved = subst (λ (m : List Memo). Moved (task_at at) p (in_block at at.rank memory) p
+      moved = subst (λ (m : List Memo). Moved (post_task at) p (in_block at at.rank memory) p
           (in_block at at.rank m)) none (not_moved _ _ _ c.requires.at.walks);
     }
 

@@ -4,7 +4,7 @@ use Rattle.walk_memory.specs.Inner.Posts.{processor_of}
 use Rattle.walk_memory.specs.Memory.{memo_of}
 use Rattle.walkx.specs.Scripts.{ends}
 use Rattle.walkx.specs.Walk.{begins}
-use Rattle.pram_board.specs.Inner.Plays.{driving, task_at}
+use Rattle.pram_board.specs.Inner.Plays.{driving, post_task}
 use Rattle.pram_board.proofs.Doing.{follows, alike_done, alike_starts, script_there}
 use Rattle.pram_board.proofs.Working.{sound_at}
 use Rattle.pram_board.proofs.driver.Driver.plain_part.Goals as goal
@@ -54,4 +54,4 @@ returns-clause-done g c = λ held same part.
     (ends (begins 1)) (follows at held memory same p part)
     (refl, alike_starts at held memory same p part (ends (begins 1)))).1 in
     alike_done at held memory same p part z (done_or_late does c.in-Ok.value) c.in-Ok.ensures.asks
-    (sound_at (task_at at) z done.here c.facts.ensures) done
+    (sound_at (post_task at) z done.here c.facts.ensures) done

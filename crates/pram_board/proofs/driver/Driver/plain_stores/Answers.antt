@@ -2,7 +2,7 @@ use Rattle.std.proofs.Common.{◌≡◌, ◌<◌, suc, ℕ, refl, sym, ap, subst
 use Rattle.walk_memory.specs.Inner.Posts.{IsLeafPost, PostData, at_rank}
 use Rattle.walk_memory.specs.Plain.{AllStore}
 use Rattle.walk_memory.specs.Blocks.{IsWide}
-use Rattle.pram_board.specs.Inner.Plays.{Moved, driving, in_block, task_at}
+use Rattle.pram_board.specs.Inner.Plays.{Moved, driving, in_block, post_task}
 use Rattle.pram_board.proofs.Tasks.{leaf_after, not_moved, same_after, task_after, went_on}
 use Rattle.pram_board.proofs.driver.Driver.plain_stores.Goals as goal
 
@@ -29,7 +29,7 @@ returns-then-rank-len-clause-moved g c =
     let i = c.loop-last.invariant in
     let last : suc c.stores-last.result.rank ≡ c.args.len =
     omega (arith, c.rank.ensures, c.if-rank-len.true) in
-    subst (λ (rank : ℕ). Moved (task_at c.args.leaf) (driving c.args.self.now)
+    subst (λ (rank : ℕ). Moved (post_task c.args.leaf) (driving c.args.self.now)
     (in_block c.args.leaf c.args.leaf.rank c.args.memory.now) (driving c.stores-last.new.self)
     (in_block c.args.leaf rank c.stores-last.new.memory)) last
     (went_on c.args.leaf c.loop-last.leaf i.same c.args.len

@@ -1,7 +1,7 @@
 use Rattle.std.proofs.Common.{◌≡◌, ◌-◌}
 use Rattle.walk_memory.specs.Inner.Posts.{at_rank}
 use Rattle.walk_memory.specs.Plain.{AllStore}
-use Rattle.pram_board.specs.Inner.Plays.{AtTask, Moved, driving, in_block, task_at}
+use Rattle.pram_board.specs.Inner.Plays.{AtTask, Moved, driving, in_block, post_task}
 use Rattle.pram_board.proofs.driver.Driver.plain_stores.Given as goal
 
 abbrev pub invariant-loop-last : goal.invariant-loop-last
@@ -10,7 +10,7 @@ invariant-loop-last g l = record {
   same : l.leaf ≡ at_rank l.fn.leaf l.leaf.rank;
   at : AtTask l.leaf l.len (driving l.self) l.memory;
   stores : AllStore l.leaf l.len l.memory;
-  moved : Moved (task_at l.fn.leaf) (driving l.fn.self)
+  moved : Moved (post_task l.fn.leaf) (driving l.fn.self)
       (in_block l.fn.leaf l.fn.leaf.rank l.fn.memory) (driving l.self)
       (in_block l.fn.leaf l.leaf.rank l.memory);
 }

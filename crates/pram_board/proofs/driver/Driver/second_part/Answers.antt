@@ -3,7 +3,7 @@ use Rattle.walk_memory.specs.declared.memo.Memo.{Memo}
 use Rattle.walkx.specs.Passing.{idle}
 use Rattle.walkx.specs.Scripts.{ends}
 use Rattle.walkx.specs.Walk.{begins, script_of}
-use Rattle.pram_board.specs.Inner.Plays.{DonePart, driving, in_block, task_at}
+use Rattle.pram_board.specs.Inner.Plays.{DonePart, driving, in_block, post_task}
 use Rattle.pram_board.proofs.Blocks.{after_task, memo, passes_driving, task_done, task_starts}
 use Rattle.pram_board.proofs.Working.{sound_at}
 use Rattle.pram_board.proofs.driver.Driver.second_part.Goals as goal
@@ -78,7 +78,7 @@ returns-in-Ok-true-clause-done g c =
     (driving c.carry.new.steps) now) (sym takes.kept)
     (task_done at c.requires.at.leaf wide memory (driving c.args.self.now)
     (driving c.carry.new.steps) c.requires.at.walks
-    (sound_at (task_at at) (driving c.carry.new.steps) done.here c.facts.ensures) takes.learned
+    (sound_at (post_task at) (driving c.carry.new.steps) done.here c.facts.ensures) takes.learned
     c.requires.at.fits (passes_driving (idle at (memo at c.requires.at.leaf wide memory))
     takes.learned (λ d. driving d) _ _ takes.idle) done)
 

@@ -1,7 +1,7 @@
 use Rattle.std.proofs.Common.{◌≡◌, ◌≤◌, ◌-◌}
 use Rattle.walk_memory.specs.Inner.Posts.{at_rank}
 use Rattle.walk_memory.specs.Plain.{carried_all}
-use Rattle.pram_board.specs.Inner.Plays.{AtTask, Moved, driving, in_block, task_at}
+use Rattle.pram_board.specs.Inner.Plays.{AtTask, Moved, driving, in_block, post_task}
 use Rattle.pram_board.proofs.driver.Driver.store_on.Given as goal
 
 abbrev pub invariant-loop-stores : goal.invariant-loop-stores
@@ -11,7 +11,7 @@ invariant-loop-stores g l = record {
   later : l.fn.leaf.rank ≤ l.leaf.rank;
   at : AtTask l.leaf l.len (driving l.self)
       (carried_all l.fn.leaf (l.leaf.rank - l.fn.leaf.rank) l.fn.stores.memory.now);
-  moved : Moved (task_at l.fn.leaf) (driving l.fn.self)
+  moved : Moved (post_task l.fn.leaf) (driving l.fn.self)
       (in_block l.fn.leaf l.fn.leaf.rank l.fn.stores.memory.now) (driving l.self)
       (in_block l.fn.leaf l.leaf.rank
       (carried_all l.fn.leaf (l.leaf.rank - l.fn.leaf.rank) l.fn.stores.memory.now));

@@ -1,6 +1,6 @@
 use Rattle.std.proofs.Common.{refl}
 use Rattle.walkx.specs.Rests.{turn_of}
-use Rattle.pram_board.specs.Inner.Plays.{driving, task_at, turning_at}
+use Rattle.pram_board.specs.Inner.Plays.{driving, post_task, turning_at}
 use Rattle.pram_board.proofs.Stepping.{driver_starts}
 use Rattle.pram_board.proofs.Telling.{led_turn}
 use Rattle.pram_board.proofs.Working.{sound_at}
@@ -13,7 +13,7 @@ turn-requires-clause-here g c =
       from = (c.args.self.now, turn_of at);
       here = (
         refl,
-        driver_starts (task_at at) (driving c.args.self.now)
+        driver_starts (post_task at) (driving c.args.self.now)
             (turning_at at c.args.memory.now) c.requires.walks refl tt,
       );
     }
@@ -23,7 +23,7 @@ unreachable-requires g c =
     let at = c.args.post.now in
     (c.in-Err.ensures.reaches.on (c.args.self.now, turn_of at) (
       refl,
-      driver_starts (task_at at)
+      driver_starts (post_task at)
           (driving c.args.self.now) (turning_at at c.args.memory.now) c.requires.walks refl tt,
     )).1
 
@@ -32,7 +32,7 @@ returns-clause-same g c =
     let at = c.args.post.now in
     (c.in-Ok.ensures.reaches.on (c.args.self.now, turn_of at) (
       refl,
-      driver_starts (task_at at)
+      driver_starts (post_task at)
           (driving c.args.self.now) (turning_at at c.args.memory.now) c.requires.walks refl tt,
     )).0
 
@@ -41,9 +41,9 @@ returns-clause-led g c =
     let at = c.args.post.now in
     let done = (c.in-Ok.ensures.reaches.on (c.args.self.now, turn_of at) (
       refl,
-      driver_starts (task_at at) (driving c.args.self.now) (turning_at at c.args.memory.now)
+      driver_starts (post_task at) (driving c.args.self.now) (turning_at at c.args.memory.now)
           c.requires.walks refl tt,
     )).1 in
     led_turn at c.args.memory.now (driving c.args.self.now) (driving c.turn.new.steps)
-    c.in-Ok.turned c.requires.walks (sound_at (task_at at) (driving c.turn.new.steps) done.here
+    c.in-Ok.turned c.requires.walks (sound_at (post_task at) (driving c.turn.new.steps) done.here
     c.facts.ensures) done

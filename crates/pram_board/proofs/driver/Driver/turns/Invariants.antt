@@ -1,5 +1,5 @@
 use Rattle.std.proofs.Common.{◌≡◌, ◌+◌, ◌-◌}
-use Rattle.walkx.specs.Bound.{most_steps}
+use Rattle.walkx.specs.Bound.{own_step_bound}
 use Rattle.walkx.specs.Turns.{turning}
 use Rattle.pram_board.specs.Inner.Plays.{IsWalking, driving}
 use Rattle.pram_board.proofs.Working.{Ranged}
@@ -17,5 +17,5 @@ invariant-visits g l = record {
 
 abbrev pub decreases-visits : goal.decreases-visits
 decreases-visits g l =
-    l.fn.self.made + most_steps l.fn.self.board.now.task.job + l.patience.looks
+    l.fn.self.made + own_step_bound l.fn.self.board.now.task.job + l.patience.looks
     - (l.fn.patience.looks + l.self.made)

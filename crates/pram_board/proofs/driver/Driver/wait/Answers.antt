@@ -2,7 +2,7 @@ use Rattle.std.proofs.Common.{◌≡◌, ◌<◌, ◌*◌, refl, sym, subst, ◌
 use Rattle.pram_words.specs.declared.words.Word.TheVariants.{Node}
 use Rattle.pram_words.specs.Words.{length_of, number_of}
 use Rattle.pram_board.specs.declared.task.Task.{Task}
-use Rattle.pram_board.specs.Inner.Plays.{driving, task_at}
+use Rattle.pram_board.specs.Inner.Plays.{driving, post_task}
 use Rattle.pram_board.proofs.Roaming.{looked_more, looked_none, may_look, still_here}
 use Rattle.pram_board.proofs.driver.Driver.wait.Goals as goal
 
@@ -16,7 +16,7 @@ pub looks-init : goal.looks-init
 looks-init g c = record {
   same = refl;
   here = c.requires.here;
-  looked = looked_none (task_at c.args.post.now) (driving c.args.self.now) c.args.patience.now;
+  looked = looked_none (post_task c.args.post.now) (driving c.args.self.now) c.args.patience.now;
 }
 
 pub spend-requires-clause-room : goal.spend-requires-clause-room
@@ -31,7 +31,7 @@ look-requires-clause-desk g c = c.looks.invariant.here.desk
 
 pub look-requires-clause-allowed : goal.look-requires-clause-allowed
 look-requires-clause-allowed g c =
-    may_look (task_at c.args.post.now) (driving c.looks.self) c.node_word-word.result
+    may_look (post_task c.args.post.now) (driving c.looks.self) c.node_word-word.result
     c.looks.invariant.here
     (subst (λ (t : Task). c.node_word-word.result < length_of t.layout)
     (c.task.ensures.value ∙ c.requires.here.task) c.node_word-word.ensures.below)
@@ -39,7 +39,7 @@ look-requires-clause-allowed g c =
 pub looks-preserved : goal.looks-preserved
 looks-preserved g c =
     let i = c.looks.invariant in
-    let t = task_at c.args.post.now in
+    let t = post_task c.args.post.now in
     let word = c.node_word-word.result in
     let node = c.args.post.now.node in
     let is : word ≡ number_of t.layout (Node node) =

@@ -1,12 +1,12 @@
 use Rattle.std.proofs.Common.{◌≡◌}
-use Rattle.pram_board.specs.Inner.Plays.{IsAt, OnlyLooked, driving, task_at}
+use Rattle.pram_board.specs.Inner.Plays.{IsAt, OnlyLooked, driving, post_task}
 use Rattle.pram_board.proofs.driver.Driver.wait.Given as goal
 
 abbrev pub invariant-looks : goal.invariant-looks
 invariant-looks g l = record {
   same : l.self.seat.ghost_name ≡ l.fn.self.seat.ghost_name;
-  here : IsAt (task_at l.post) (driving l.self);
-  looked : OnlyLooked (task_at l.post) (driving l.fn.self) l.fn.patience (driving l.self)
+  here : IsAt (post_task l.post) (driving l.self);
+  looked : OnlyLooked (post_task l.post) (driving l.fn.self) l.fn.patience (driving l.self)
       l.patience;
 }
 

@@ -1,5 +1,5 @@
 use Rattle.std.proofs.Common.{◌≡◌, ◌+◌, ◌-◌}
-use Rattle.walkx.specs.Bound.{most_steps}
+use Rattle.walkx.specs.Bound.{own_step_bound}
 use Rattle.lawful_walk.specs.Moments.{Sound}
 use Rattle.pram_board.specs.Inner.Plays.{driving}
 use Rattle.pram_board.specs.Worked.{Works}
@@ -18,4 +18,4 @@ invariant-loop-ended g l = record {
 
 abbrev pub decreases-loop-ended : goal.decreases-loop-ended
 decreases-loop-ended g l =
-    most_steps l.self.board.now.task.job + l.patience.looks - l.self.made
+    own_step_bound l.self.board.now.task.job + l.patience.looks - l.self.made

@@ -6,8 +6,8 @@ use Rattle.pram_cost.specs.declared.pram.Pram.{Pram}
 use Rattle.pram_commands.specs.Costs.{TellsCost, conflict_of}
 use Rattle.naming.specs.Costs.{cost_words}
 use Rattle.naming.specs.Costed.{IsCosted}
-use Rattle.pardo_costs.specs.declared.line_costs.Costs.{Costs}
-use Rattle.pardo_costs.specs.declared.line_costs.LineCost.{LineCost}
+use Rattle.pardo_answers.specs.declared.line_costs.Costs.{Costs}
+use Rattle.pardo_answers.specs.declared.line_costs.LineCost.{LineCost}
 use Rattle.naming.specs.declared.texts.Spelled.{Spelled}
 use Rattle.pram_commands.proofs.Doing.{err_is, ok_not_err, put_failed}
 use Rattle.pram_commands.proofs.commands.alone.put_cost.Goals as goal

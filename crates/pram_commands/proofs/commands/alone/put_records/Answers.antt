@@ -4,8 +4,8 @@ use Rattle.pram_commands.specs.Costs.{conflict_of}
 use Rattle.naming.specs.Costed.{IsCosted}
 use Rattle.pram_commands.specs.LineRecords.{TellsLines}
 use Rattle.naming.specs.LineRecords.{records_text}
-use Rattle.pardo_costs.specs.declared.line_costs.Costs.{Costs}
-use Rattle.pardo_costs.specs.declared.line_costs.LineCost.{LineCost}
+use Rattle.pardo_answers.specs.declared.line_costs.Costs.{Costs}
+use Rattle.pardo_answers.specs.declared.line_costs.LineCost.{LineCost}
 use Rattle.naming.specs.declared.texts.Spelled.{Spelled}
 use Rattle.pram_commands.proofs.Doing.{err_is, ok_not_err, put_failed, well}
 use Rattle.pram_commands.proofs.commands.alone.put_records.Goals as goal

@@ -5,7 +5,7 @@ use Rattle.std.proofs.lemmas.Result.{err_from_is_err_and}
 use Rattle.pram_text.specs.Judgement.{instr_of}
 use Rattle.pram_job.specs.declared.limits.TheConstants.{MAX_CODE}
 use Rattle.text_lines.specs.Lines.{Word}
-use Rattle.pram_text.specs.Inner.Reading.{define_fault, index_at}
+use Rattle.pram_text.specs.Inner.Reading.{define_fault, label_at}
 use Rattle.pram_text.specs.Inner.Statement.{known}
 use Rattle.pram_text.specs.Text.{is_named}
 use Rattle.pram_text.proofs.Labels.{label_fault-held, instr_fault-long}
@@ -52,7 +52,7 @@ returns-clause-told c = λ body h.
     let index : c.len-index.result ≡ length body =
     omega (arith, len, c.args.self.now.written.ok.0) in
     let put = λ (name : Word). c.in_ok-define.ensures.1 name ∙ ap₂ (λ o n. if is_named o name
-    then Some n else index_at c.args.self.now.indices name) c.split_label.ensures.label index in (
+    then Some n else label_at c.args.self.now.indices name) c.split_label.ensures.label index in (
       instr_fault-rest _ body _ few fine
           ∙ ap result_err (said (λ label. Some 0)) ∙ resolved-known c.in_ok-statement.statement,
       HoldsCode-push _ body c.args.self.now _ _ _ h few fine

@@ -4,7 +4,7 @@ use Rattle.std.proofs.lemmas.Map.Text.{btree_map_updates_str}
 use Rattle.std.proofs.lemmas.Result.{err_from_is_err_and}
 use Rattle.pram_text.specs.declared.fault.TextKind.TheVariants.{BadHeader}
 use Rattle.text_lines.specs.Lines.{is_filled}
-use Rattle.pram_text.specs.Inner.Statement.{array_named}
+use Rattle.pram_text.specs.Inner.Statement.{array_of_name}
 use Rattle.pram_text.proofs.Inits.{array_read-err, array_read-ok, bare_if, filled_unless}
 use Rattle.pram_text.proofs.Inits.{entry_fault-err, entry_fault-late, HoldsStart-named}
 use Rattle.pram_text.proofs.start.Setup.take_array.Goals as goal
@@ -23,7 +23,7 @@ returns-then-not-is_empty c = λ inits h _.
     filled_unless _ _ (omega (arith, c.args.self.now.values.ok.0))
     (sym c.is_empty.ensures ∙ c.if-not-is_empty.true) in
     entry_fault-late true c.args.cells inits c.args.self.now _ h _ _ said
-    ∙ ap (λ b. if b || is_some (array_named c.args.self.now.arrays c.in_ok-name.name.now)
+    ∙ ap (λ b. if b || is_some (array_of_name c.args.self.now.arrays c.in_ok-name.name.now)
     then Some BadHeader else None) filled
 
 pub returns-in-None : goal.returns-in-None
@@ -33,7 +33,7 @@ returns-in-None c = λ inits h.
     let bare : is_filled c.args.self.now.values.items ≡ false =
     bare_if _ _ (omega (arith, c.args.self.now.values.ok.0))
     (sym c.is_empty.ensures ∙ c.if-not-is_empty.false) in
-    let none : array_named c.args.self.now.arrays c.in_ok-name.name.now ≡ None =
+    let none : array_of_name c.args.self.now.arrays c.in_ok-name.name.now ≡ None =
     sym c.in_ok-insert.ensures.old ∙ c.in-None.is in (
       entry_fault-late true c.args.cells inits c.args.self.now _ h _ _ said
           ∙ ap₂ (λ a o. if a || is_some o then Some BadHeader else None) bare none,

@@ -2,7 +2,7 @@ use Rattle.std.proofs.Common.{◌≡◌, ◌≤◌, ◌<◌, ◌+◌, ℕ, zero,
 use Rattle.std.proofs.Common.{slice_get, refl, sym, subst, ap, ◌∙◌, arith, rules}
 use Rattle.std.proofs.lemmas.Grind.{common_steps}
 use Rattle.walkx.specs.declared.operation.Ended.{Ended}
-use Rattle.walkx.specs.Bound.{most_steps}
+use Rattle.walkx.specs.Bound.{own_step_bound}
 use Rattle.pram_world.specs.declared.event.Event.TheVariants.{Go}
 use Rattle.pram_world.specs.Ends.{Finishes, end_in, after_own_steps}
 use Rattle.walkx.specs.Walk.{Walking}
@@ -22,7 +22,7 @@ all_going c =
     (subst (λ (x : WorldData). going x c.args.b ≡ true) c.loop-self.invariant.is now)
 
 most : (c : goal.After-go) →
-    c.loop-self.made + 1 ≤ most_steps c.args.self.now.job
+    c.loop-self.made + 1 ≤ own_step_bound c.args.self.now.job
 most c =
     finish_bound c.args.self.now c.args.b
     (c.loop-self.made + 1) c.invariant_holds.ensures (all_going c)
@@ -60,7 +60,7 @@ walks_on s b (Some (walks w)) at on = (_, get_set_same s.bodies b _ (walks w) at
 
 ends : (s now : WorldData) (b n : ℕ) (e : Option Ended) (w : Walking) →
     now ≡ after_own_steps s b n →
-    ((k : ℕ) → k < n → going (after_own_steps s b k) b ≡ true) → n ≤ most_steps s.job →
+    ((k : ℕ) → k < n → going (after_own_steps s b k) b ≡ true) → n ≤ own_step_bound s.job →
     slice_get now.bodies b ≡ Some (walks w) → going now b ≡ false → e ≡ end_in now b →
     Finishes s b now e
 ends s now b n None w is all few at over end = grind (arith, common_steps)
@@ -68,7 +68,7 @@ ends s now b n (Some e) w is all few at over end =
     record { steps = n; is = is; going = all; over = sym end; most = few }
 
 finishes : (s now : WorldData) (b n : ℕ) (e : Option Ended) → now ≡ after_own_steps s b n →
-    ((k : ℕ) → k < n → going (after_own_steps s b k) b ≡ true) → n ≤ most_steps s.job →
+    ((k : ℕ) → k < n → going (after_own_steps s b k) b ≡ true) → n ≤ own_step_bound s.job →
     going now b ≡ false → e ≡ end_in now b → Finishes s b now e
 finishes s now b zero e is all few over end = grind (arith, common_steps)
 finishes s now b (suc n) e is all few over end =

@@ -1,5 +1,0 @@
-use Rattle.exercise_law.proofs.Records.{what_passed_solves}
-use Rattle.exercise_law.proofs.laws.what_passed_solves.Goals as goal
-
-pub returns : goal.returns
-returns c = what_passed_solves

@@ -1,4 +1,0 @@
-//! What a submission that passes does, by its meaning.
-#![tactic(auto)]
-
-pub mod laws;

@@ -1,5 +1,0 @@
-pub mod Put
-pub mod Entries
-pub mod Given
-pub mod Findings
-pub mod Verdicts

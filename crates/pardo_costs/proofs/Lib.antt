@@ -1,2 +1,0 @@
-pub mod CostsMade
-pub mod Lined

@@ -1,3 +1,0 @@
-pub mod Costs
-pub mod Inner
-pub mod Runs

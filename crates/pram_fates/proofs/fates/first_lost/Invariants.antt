@@ -1,5 +1,0 @@
-use Rattle.pram_fates.proofs.Losing.{HasSearched}
-use Rattle.pram_fates.proofs.fates.first_lost.Given as goal
-
-abbrev pub invariant-loop-processor : goal.invariant-loop-processor
-invariant-loop-processor l = HasSearched l.standing.job.now l.standing.steps l.processor l.lost

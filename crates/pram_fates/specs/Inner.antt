@@ -1,2 +1,0 @@
--- What private contracts alone cite.
-pub mod Losses

@@ -1,3 +1,0 @@
-pub mod Living
-pub mod Rows
-pub mod Readable

@@ -1,5 +1,0 @@
-use Rattle.random_plan.proofs.Living.{random_is_plan}
-use Rattle.random_plan.proofs.laws.random_is_plan.Goals as goal
-
-pub returns : goal.returns
-returns c = random_is_plan

@@ -1,3 +1,0 @@
-pub mod Random
-pub mod Texts
-pub mod Laws
