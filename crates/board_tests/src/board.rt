@@ -198,6 +198,32 @@ fn looks_before_and_after_the_work(rt: HostRuntime) -> Result<(), Fail> {
     Ok(())
 }
 
+// Goes on by at least one step at a time, and tells how often the worker stopped.
+fn stops_by_turns(board: &Board, seat: &mut Seat, worker: &mut Worker) -> u32
+    requires works { Works board.now seat.old worker.old }
+    ensures works { Works board.now seat.new worker.new }
+{
+    for calls in 0..1000 {
+        if board.work_turns(seat, worker, &Open, 1) != Stay::Stopped {
+            return calls;
+        }
+    }
+    1000
+}
+
+// It ends as one without a limit.
+#[test]
+fn turns_go_on_where_they_stopped(rt: HostRuntime) -> Result<(), Fail> {
+    let (board, seat) = opened_for(&rt, BELOW_ZERO, 1)?;
+    let mut hand = starting(&board, seat, 0);
+    let stops = stops_by_turns(&board, &mut hand.seat, &mut hand.worker);
+    assert!(rt; 9 < stops && stops < 1000);
+    let stay = board.work_turns(&mut hand.seat, &mut hand.worker, &Open, 1);
+    assert!(rt; stay == Stay::Ended(Ended::Done));
+    assert!(rt; seen(&board, &mut hand.seat, 0) == at(3, None, 3, 4294967295));
+    Ok(())
+}
+
 #[test]
 fn a_job_without_steps(rt: HostRuntime) -> Result<(), Fail> {
     let text = b"pram 1\ncells 1\nprocs 1\nsteps 0\ninit 0 5\ncode\nhalt\n";
@@ -253,6 +279,21 @@ fn a_gate_is_passed_before_each_step(rt: HostRuntime) -> Result<(), Fail> {
     let stay = board.work(&mut seat, &mut worker, &Open, passes.checked_sub(1));
     assert!(rt; stay == Stay::Stopped);
     assert!(rt; board.tick(&mut seat, &mut worker) == Some(Ended::Conflict(5)));
+    Ok(())
+}
+
+// So it is by turns.
+#[test]
+fn a_gate_is_passed_before_each_step_of_turns(rt: HostRuntime) -> Result<(), Fail> {
+    let (board, mut seat) = opened_for(&rt, DISPUTED, 5)?;
+    let (_, passes) = passes(&board, &mut seat, None);
+    let (board, mut seat) = opened_for(&rt, DISPUTED, 5)?;
+    let gate = Counting {
+        passes: AtomicU64::new(0),
+    };
+    let stay = board.work_turns(&mut seat, &mut Worker::start(0), &gate, u64::MAX);
+    assert!(rt; stay == Stay::Ended(Ended::Conflict(5)));
+    assert!(rt; gate.passes.load(Ordering::SeqCst) == passes);
     Ok(())
 }
 

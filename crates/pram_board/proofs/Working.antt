@@ -2,10 +2,12 @@
 use Rattle.std.proofs.Common.{◌≡◌, ◌≢◌, ◌⊎◌, ℕ, ◌+◌, ◌-◌, ◌*◌, ◌%◌, ◌^◌, ◌<◌, ◌≤◌, Bool}
 use Rattle.std.proofs.Common.{List, [], ◌++◌, length, Option, Some, None, IfSome, eqb, eqb-true}
 use Rattle.std.proofs.Common.{true, false, true≢false, refl, sym, ap, subst, ◌∙◌, inl, inr, arith}
-use Rattle.std.proofs.lemmas.Bool.{eqb-false}
+use Rattle.std.proofs.lemmas.Bool.{eqb-false, leb-false, leb-true}
 use Rattle.std.proofs.lemmas.List.{length-append}
-use Rattle.std.specs.Option.{is_some, option_eq}
+use Rattle.std.proofs.lemmas.Option.{none-some}
+use Rattle.std.specs.Option.{is_some}
 use Rattle.walkx.specs.Bound.{own_step_bound}
+use Rattle.walkx.specs.declared.operation.Ended.{Ended}
 use Rattle.walkx.specs.declared.operation.Op.{Op}
 use Rattle.walkx.specs.Inner.Workers.{WorkerData}
 use Rattle.walkx.specs.Records.{Knows}
@@ -15,12 +17,15 @@ use Rattle.walk_memory.specs.Blocks.{IsBoard}
 use Rattle.lawful_walk.specs.Moments.{Sound}
 use Rattle.pram_board.specs.declared.rest.Patience.{Patience}
 use Rattle.pram_board.specs.declared.task.Task.{Task}
+use Rattle.pram_board.specs.declared.until.Until.{Until}
+use Rattle.pram_board.specs.declared.until.Until.TheVariants.{End, Most, Least}
 use Rattle.pram_board.specs.declared.work.Stay.{Stay}
 use Rattle.pram_board.specs.declared.work.Stay.TheVariants as stay
 use Rattle.pram_board.specs.Seats.{Desk, SeatData, IsLater}
-use Rattle.pram_board.specs.Worked.{Advanced, StaysAs, Ticked, Worked, Works}
+use Rattle.pram_board.specs.Worked.{Advanced, Ticked, WorkedAs, Works}
 use Rattle.pram_board.specs.Inner.Plays.{Driving, OnlyLooked, IsAt, IsWalking, Led, Roamed, Went}
 use Rattle.pram_board.specs.Inner.Plays.{RoamedThrough, WorkerGoesOn}
+use Rattle.pram_board.specs.Inner.Until.{EndsSoon, StaysUntil, is_reached, limit_in}
 use Rattle.pram_board.proofs.Roaming.{advanced_few, advanced_more, advanced_ran, later_advanced}
 use Rattle.pram_board.proofs.Roaming.{merges_length, roamed_looks, roamed_more, roamed_none}
 use Rattle.pram_board.proofs.Roaming.{roamed_went, steps_length}
@@ -204,48 +209,84 @@ works_on p q w first led serves =
 -- ---- all of `work`
 
 -- what was done since its start
-pub record Sofar (b : Desk) (p : Driving) (w : Walking) (limit : Option ℕ) (d : Driving × ℕ)
+pub record Sofar (b : Desk) (p : Driving) (w : Walking) (until : Until) (d : Driving × ℕ)
     (now : Walking) : Type 0 where
   pub roamed : Roamed b.task (p, 0) w d now
   pub most : length roamed.by.answers ≤ own_step_bound b.task.job
-  pub within : IfSome limit
+  pub within : IfSome (limit_in until)
       (λ bound. (roamed.by.looks ≡ []) × (length roamed.by.answers ≤ bound))
+  pub soon : EndsSoon until (length roamed.by.answers) now
 
-pub sofar_none : (b : Desk) (p : Driving) (w : Walking) (limit : Option ℕ) → p.made ≡ 0 →
-    Sofar b p w limit (p, 0) w
-sofar_none b p w limit none = record {
+pub sofar_none : (b : Desk) (p : Driving) (w : Walking) (until : Until) → p.made ≡ 0 →
+    Sofar b p w until (p, 0) w
+sofar_none b p w until none = record {
   roamed = roamed_none b.task (p, 0) w (omega (arith, none));
   most = omega arith;
-  within = by limit;
+  within = within_none (limit_in until);
+  soon = soon_none until;
 }
   where
-    by : (o : Option ℕ) →
+    within_none : (o : Option ℕ) →
         IfSome o (λ bound. (◌≡◌ {A = List (Op × ℕ)} [] []) × (0 ≤ bound))
-    by None = tt
-    by (Some k) = (refl, omega arith)
+    within_none None = tt
+    within_none (Some k) = (refl, omega arith)
+
+    soon_none : (until : Until) → EndsSoon until 0 w
+    soon_none End = tt
+    soon_none (Most most) = tt
+    soon_none (Least least) = inr (omega arith)
 
 -- a limit that is not reached leaves room for one tick
-within_more : (limit : Option ℕ) (limited : Bool) (n : ℕ) (looks looks_on : List (Op × ℕ))
-    (answers answers_on : List ℕ) (ended : Type 0) → limited ≡ is_some limit →
-    option_eq eqb limit (Some n) ≡ false → n ≡ length answers + length looks →
-    IfSome limit (λ k. (looks ≡ []) × (length answers ≤ k)) →
+within_more : (until : Until) (limited : Bool) (looks looks_on : List (Op × ℕ))
+    (answers answers_on : List ℕ) (ended : Type 0) → limited ≡ is_some (limit_in until) →
+    is_reached until (length answers) ≡ false →
+    IfSome (limit_in until) (λ k. (looks ≡ []) × (length answers ≤ k)) →
     ((length answers_on ≡ 1) × (looks_on ≡ [])) ⊎ ((limited ≡ false) × ended) →
-    IfSome limit (λ k. (looks_on ++ looks ≡ []) × (length (answers_on ++ answers) ≤ k))
-within_more None limited n looks looks_on answers answers_on ended some apart is within single = tt
-within_more (Some k) limited n looks looks_on answers answers_on ended some apart is within single =
+    IfSome (limit_in until)
+    (λ k. (looks_on ++ looks ≡ []) × (length (answers_on ++ answers) ≤ k))
+within_more End limited looks looks_on answers answers_on ended some apart within single = tt
+within_more (Least least) limited looks looks_on answers answers_on ended some apart within single =
+    tt
+within_more (Most k) limited looks looks_on answers answers_on ended some apart within single =
     elim single [
       | inl one ↦ (
           let more = length-append answers_on answers in
-          let none : length looks ≡ 0 = ap (λ (l : List (Op × ℕ)). length l) within.0 in
-          let unlike : k ≢ n = eqb-false k n apart in
+          let unlike : k ≢ length answers = eqb-false k (length answers) apart in
           let most = within.1 in
           (rw (one.1, within.0) refl, omega arith))
       | inr far ↦ absurd (true≢false (sym some ∙ far.0))
     ]
 
-module _ (p : Driving) (w : Walking) (limit : Option ℕ) (d : Driving) (looks : ℕ)
+-- one that is not reached lets a worker end by one tick, and no turns end it
+soon_more : (until : Until) (limited : Bool) (looks_on : List (Op × ℕ)) (answers answers_on : List ℕ)
+    (now : Walking) → is_reached until (length answers) ≡ false →
+    ((length answers_on ≡ 1) × (looks_on ≡ [])) ⊎ ((limited ≡ false) × (end_of now.now ≡ None)) →
+    EndsSoon until (length (answers_on ++ answers)) now
+soon_more End limited looks_on answers answers_on now apart single = tt
+soon_more (Most most) limited looks_on answers answers_on now apart single = tt
+soon_more (Least least) limited looks_on answers answers_on now apart single = elim single [
+  | inl one ↦ inr (
+      let more = length-append answers_on answers in
+      let few = leb-false least (length answers) apart in
+      let single = one.0 in omega arith)
+  | inr far ↦ inl far.1
+]
+
+-- the ticks are what was made, looks apart
+pub reached_there : (b : Desk) (p : Driving) (w : Walking) (until : Until) (d : Driving) (looks : ℕ)
+    (now : Walking) → p.made ≡ 0 → (sofar : Sofar b p w until (d, looks) now) → (reached : Bool) →
+    is_reached until (d.made - looks) ≡ reached →
+    is_reached until (length sofar.roamed.by.answers) ≡ reached
+reached_there b p w until d looks now none sofar reached is =
+    let made = sofar.roamed.made in let count = sofar.roamed.looks in
+    let same : d.made - looks ≡ length sofar.roamed.by.answers =
+    omega (arith, made, count, none) in
+    subst (λ (n : ℕ). is_reached until n ≡ reached) same is
+
+module _ (p : Driving) (w : Walking) (until : Until) (d : Driving) (looks : ℕ)
     (mid : WorkerData) (e : Driving) (looks_on : ℕ) (now : WorkerData) (none : p.made ≡ 0)
-    (begun : Begun d.desk p.seat w) (sofar : Sofar d.desk p w limit (d, looks) mid.walking)
+    (begun : Begun d.desk p.seat w)
+    (sofar : Sofar d.desk p w until (d, looks) mid.walking)
   where
     -- there is room for more
     pub room_far : d.made < 2 ^ 60
@@ -278,17 +319,19 @@ module _ (p : Driving) (w : Walking) (limit : Option ℕ) (d : Driving) (looks :
             goes.roamed.desk sound_too) far.1 in omega arith)
       ]
 
-      pub sofar_on : limited ≡ is_some limit → option_eq eqb limit (Some d.made) ≡ false →
-          Sofar e.desk p w limit (e, looks_on) now.walking
+      pub sofar_on : limited ≡ is_some (limit_in until) →
+          is_reached until (d.made - looks) ≡ false →
+          Sofar e.desk p w until (e, looks_on) now.walking
       sofar_on some apart =
-          subst (λ (b : Desk). Sofar b p w limit (e, looks_on) now.walking) (sym goes.roamed.desk)
+          let far = reached_there d.desk p w until d looks mid.walking none sofar false apart in
+          subst (λ (b : Desk). Sofar b p w until (e, looks_on) now.walking) (sym goes.roamed.desk)
           (record {
             roamed = both;
             most = few;
-            within = within_more limit limited d.made sofar.roamed.by.looks goes.roamed.by.looks
-                sofar.roamed.by.answers goes.roamed.by.answers _ some apart
-                (let made = sofar.roamed.made in omega (arith, made, none)) sofar.within
-                goes.single;
+            within = within_more until limited sofar.roamed.by.looks goes.roamed.by.looks
+                sofar.roamed.by.answers goes.roamed.by.answers _ some far sofar.within goes.single;
+            soon = soon_more until limited goes.roamed.by.looks sofar.roamed.by.answers
+                goes.roamed.by.answers now.walking far goes.single;
           })
 
       pub nearer : own_step_bound e.desk.task.job + looks_on - e.made
@@ -301,52 +344,51 @@ module _ (p : Driving) (w : Walking) (limit : Option ℕ) (d : Driving) (looks :
           let l = both.looks in let m = sofar.roamed.made in let n = sofar.roamed.looks in
           omega arith)
 
-pub is_limit : (limit : Option ℕ) (n : ℕ) → option_eq eqb limit (Some n) ≡ true → limit ≡ Some n
-is_limit None n is = absurd (true≢false (sym is))
-is_limit (Some k) n is = ap (λ (m : ℕ). Some m) (eqb-true k n is)
+-- it stops where it goes no further
+pub stays_there : (until : Until) (ticks : ℕ) (now : Walking) → is_reached until ticks ≡ true →
+    end_of now.now ≡ None → StaysUntil until ticks now stay.Stopped
+stays_there End ticks now is going = absurd (true≢false (sym is))
+stays_there (Most most) ticks now is going = (ap (λ (n : ℕ). Some n) (eqb-true most ticks is), going)
+stays_there (Least least) ticks now is going = (leb-true least ticks is, going)
 
-pub record Finished (b : Desk) (p : SeatData) (w : Walking) (limit : Option ℕ) (q : SeatData)
+pub ends_there : (until : Until) (ticks : ℕ) (now : Walking) (ended : Ended) →
+    EndsSoon until ticks now → end_of now.now ≡ Some ended →
+    StaysUntil until ticks now (stay.Ended ended)
+ends_there End ticks now ended soon is = is
+ends_there (Most most) ticks now ended soon is = is
+ends_there (Least least) ticks now ended soon is =
+    elim soon [ inl going ↦ absurd (none-some ended (sym going ∙ is)) | inr few ↦ (few, is) ]
+
+pub record Finished (b : Desk) (p : SeatData) (w : Walking) (until : Until) (q : SeatData)
     (now : WorkerData) (stay : Stay) : Type 0 where
-  pub worked : Worked b.task p w limit q now.walking stay
+  pub worked : WorkedAs (StaysUntil until) b.task p w (limit_in until) q now.walking stay
   pub later : IsLater b p q
   pub works : Works b q now
 
-pub finished : (b : Desk) (p : Driving) (w : Walking) (limit : Option ℕ) (d : Driving) (looks : ℕ)
+pub finished : (b : Desk) (p : Driving) (w : Walking) (until : Until) (d : Driving) (looks : ℕ)
     (now : WorkerData) (stays_as : Stay) → p.made ≡ 0 → d.desk ≡ b → Works d.desk d.seat now →
     Sound d.desk.task.job d.desk.task.layout d.seat.record_of →
-    Sofar d.desk p w limit (d, looks) now.walking → StaysAs limit d.made now.walking stays_as →
-    Finished b p.seat w limit d.seat now stays_as
-finished b p w limit d looks now stays_as none same works sound sofar stays =
+    (sofar : Sofar d.desk p w until (d, looks) now.walking) →
+    StaysUntil until (length sofar.roamed.by.answers) now.walking stays_as →
+    Finished b p.seat w until d.seat now stays_as
+finished b p w until d looks now stays_as none same works sound sofar stays =
     let by = sofar.roamed.by in
     let made = sofar.roamed.made in let count = sofar.roamed.looks in let few = sofar.roamed.few in
     let most = sofar.most in
     let more : length by.looks ≤ length by.answers = omega arith in
     let all = merges_length _ by.looks by.steps by.all in
     let own = steps_length d.desk.task w by.answers in
-    subst (λ (x : Desk). Finished x p.seat w limit d.seat now stays_as) same (record {
+    subst (λ (x : Desk). Finished x p.seat w until d.seat now stays_as) same (record {
       worked = record {
         by = by;
         all = omega arith;
         most = most;
         looks = more;
         within = sofar.within;
-        stays = stays_own limit by.looks (length by.answers) d.made now.walking stays_as
-            (omega arith) sofar.within stays;
+        stays = stays;
         shows = shows_end d.desk.task d.seat.record_of now.walking (end_of now.walking.now) refl
             sound works.serves.fits works.knows;
       };
       later = later_advanced d.desk p.seat w d.seat now.walking works.desk by;
       works = works;
     })
-  where
-    -- all that was made were ticks, where there is a limit
-    stays_own : (limit : Option ℕ) (looks : List (Op × ℕ)) (n made : ℕ) (now : Walking)
-        (ended_as : Stay) → made ≡ n + length looks →
-        IfSome limit (λ k. (looks ≡ []) × (n ≤ k)) → StaysAs limit made now ended_as →
-        StaysAs limit n now ended_as
-    stays_own limit looks n made now (stay.Ended ended) is within stays = stays
-    stays_own None looks n made now stay.Stopped is within stays = absurd (cc)
-    stays_own (Some k) looks n made now stay.Stopped is within stays =
-        let none : length looks ≡ 0 = ap (λ (l : List (Op × ℕ)). length l) within.0 in
-        let same : made ≡ n = omega arith in
-        (stays.0 ∙ ap (λ (m : ℕ). Some m) same, stays.1)

@@ -4,3 +4,4 @@ pub mod Ends
 pub mod Next
 pub mod Plain
 pub mod Plays
+pub mod Until

@@ -55,6 +55,12 @@ abbrev pub StaysAs : Option ℕ → ℕ → Walking → Stay → Type 0
 StaysAs limit ticks now (stay.Ended ended) = end_of now.now ≡ Some ended
 StaysAs limit ticks now stay.Stopped = (limit ≡ Some ticks) × (end_of now.now ≡ None)
 
+-- ended with the worker by at most so many ticks; or stopped after so many or more, the worker being
+-- not over
+abbrev pub StaysAfter : ℕ → ℕ → Walking → Stay → Type 0
+StaysAfter least ticks now (stay.Ended ended) = (ticks ≤ least) × (end_of now.now ≡ Some ended)
+StaysAfter least ticks now stay.Stopped = (least ≤ ticks) × (end_of now.now ≡ None)
+
 -- ---- the worker's own steps, and looks between them
 
 -- these are the steps of the one list and those of the other, each in its order
@@ -84,12 +90,23 @@ pub record Advanced (task : Task) (before : SeatData) (walking : Walking) (later
 -- Such ticks and looks, at most 600 L T + 16 in all: at most 300 L T + 8 ticks and no more looks
 -- than ticks. With a limit there are no looks, and at most so many ticks. It says how they ended,
 -- and what the record shows of a worker that is over.
-pub record Worked (task : Task) (before : SeatData) (walking : Walking) (limit : Option ℕ)
-    (later : SeatData) (now : Walking) (stay : Stay) : Type 0 where
+pub record WorkedAs (Stays : ℕ → Walking → Stay → Type 0) (task : Task) (before : SeatData)
+    (walking : Walking) (limit : Option ℕ) (later : SeatData) (now : Walking) (stay : Stay)
+    : Type 0 where
   pub by : Advanced task before walking later now
   pub all : length by.steps ≤ 2 * (300 * leaves_of task.job.procs * task.job.steps + 8)
   pub most : length by.answers ≤ 300 * leaves_of task.job.procs * task.job.steps + 8
   pub looks : length by.looks ≤ length by.answers
   pub within : IfSome limit (λ bound. (by.looks ≡ []) × (length by.answers ≤ bound))
-  pub stays : StaysAs limit (length by.answers) now stay
+  pub stays : Stays (length by.answers) now stay
   pub shows : EndShows task later.record_of (end_of now.now)
+
+-- to the worker's end, or to the limit
+abbrev pub Worked : Task → SeatData → Walking → Option ℕ → SeatData → Walking → Stay → Type 0
+Worked task before walking limit later now stay =
+    WorkedAs (StaysAs limit) task before walking limit later now stay
+
+-- to the worker's end if so many ticks lead there, and else by at least so many
+abbrev pub WorkedTurns : Task → SeatData → Walking → ℕ → SeatData → Walking → Stay → Type 0
+WorkedTurns task before walking least later now stay =
+    WorkedAs (StaysAfter least) task before walking None later now stay

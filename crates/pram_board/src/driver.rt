@@ -4,6 +4,7 @@ ghost use Rattle.std.specs.Prelude.{◌≡◌};
 use crate::board::Board;
 use crate::rest::{Patience, Rest, pause_between};
 use crate::seat::Seat;
+use crate::until::Until;
 use crate::work::Stay;
 use pram_words::Kind;
 use stop_plan::Gate;
@@ -52,7 +53,7 @@ impl<'a, G: Gate> Driver<'a, G> {
     ghost use Rattle.walkx.specs.Turns.{beginning, turning};
     ghost use Rattle.walkx.specs.Walk.{end_of};
     ghost use Rattle.walk_memory.specs.Blocks.{has_rank};
-    ghost use Rattle.pram_board.specs.Worked.{Worked, Works};
+    ghost use Rattle.pram_board.specs.Worked.{WorkedAs, Works};
     ghost use Rattle.lawful_walk.specs.Moments.{Sound};
     ghost use Rattle.pram_board.specs.Rules.{May};
     ghost use Rattle.pram_board.specs.Seats.{IsLater, hears};
@@ -60,6 +61,7 @@ impl<'a, G: Gate> Driver<'a, G> {
     ghost use Rattle.pram_board.specs.Inner.Plays.{RoamedThrough, WorkerGoesOn, driving};
     ghost use Rattle.pram_board.specs.Inner.Plays.{AtPart, AtTask, DonePart, in_block, led_to};
     ghost use Rattle.pram_board.specs.Inner.Plays.{turn_after, post_task, turning_at};
+    ghost use Rattle.pram_board.specs.Inner.Until.{StaysUntil, limit_in};
 
     /// A driver that has made no step, where so many workers take part.
     #[inline(always)]
@@ -149,14 +151,14 @@ impl<'a, G: Gate> Driver<'a, G> {
         (self.made, self.rest)
     }
 
-    /// Ticks until the worker is over or has made as many atomic steps as the limit.
+    /// Ticks until the worker is over or has come so far.
     #[inline(always)]
-    pub(crate) fn work(&mut self, worker: &mut Worker, limit: Option<u64>) -> Stay
+    pub(crate) fn work(&mut self, worker: &mut Worker, until: Until) -> Stay
         requires none { self.old.made ≡ 0 }
         requires works { Works self.old.board.now self.old.seat.now worker.old }
         ensures same { self.new.seat.ghost_name ≡ self.old.seat.ghost_name }
-        ensures worked { Worked self.old.board.now.task self.old.seat.now worker.old.walking limit
-            self.new.seat.now worker.new.walking result }
+        ensures worked { WorkedAs (StaysUntil until) self.old.board.now.task self.old.seat.now
+            worker.old.walking (limit_in until) self.new.seat.now worker.new.walking result }
         ensures later { IsLater self.old.board.now self.old.seat.now self.new.seat.now }
         ensures works { Works self.old.board.now self.new.seat.now worker.new }
     {
@@ -167,10 +169,10 @@ impl<'a, G: Gate> Driver<'a, G> {
             if let Some(ended) = worker.ended() {
                 return Stay::Ended(ended);
             }
-            if limit == Some(self.made) {
+            if until.is_reached(self.made - patience.looks) {
                 return Stay::Stopped;
             }
-            self.go_on(worker, limit.is_some(), &mut patience);
+            self.go_on(worker, until.is_limited(), &mut patience);
             self.seat.facts();
         }
     }

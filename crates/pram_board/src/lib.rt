@@ -14,6 +14,7 @@ mod seat;
 mod second_pass;
 mod stops;
 mod task;
+mod until;
 mod work;
 
 pub use board::Board;

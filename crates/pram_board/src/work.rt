@@ -4,6 +4,7 @@ ghost use Rattle.std.specs.Prelude.{◌≡◌};
 use crate::board::Board;
 use crate::driver::Driver;
 use crate::seat::Seat;
+use crate::until::Until;
 use pram_words::Form;
 use std::alloc::Global;
 use stop_plan::Gate;
@@ -23,8 +24,10 @@ impl Board {
     ghost use Rattle.walk_memory.specs.Memory.{blank};
     ghost use Rattle.walkx.specs.Walk.{end_of};
     ghost use Rattle.pram_board.specs.Inner.Next.{IsNextOperation};
+    ghost use Rattle.pram_board.specs.Inner.Until.{StaysUntil, limit_in};
     ghost use Rattle.pram_board.specs.Seats.{IsLater};
-    ghost use Rattle.pram_board.specs.Worked.{EndShows, IsTick, Ticked, Worked, Works};
+    ghost use Rattle.pram_board.specs.Worked.{EndShows, IsTick, Ticked, Worked, WorkedAs};
+    ghost use Rattle.pram_board.specs.Worked.{WorkedTurns, Works};
 
     /// One atomic step of a worker, or none where it is over. The seat is to know the worker: it
     /// knows one that is newly started or come back, one that was moved on through it, and those
@@ -67,11 +70,8 @@ impl Board {
         ensures later { IsLater self.now seat.old seat.new }
         ensures works { Works self.now seat.new worker.new }
     {
-        let fellows = self.task.layout.workers();
-        let mut driver = Driver::new(self, seat, gate, worker.number(), fellows);
-        let stay = driver.work(worker, limit);
-        driver.end();
-        stay
+        let workers = self.task.layout.workers();
+        self.go(seat, worker, gate, workers, Until::of(limit))
     }
 
     /// As `work` without a limit, where only so many workers take part so far: this one leaves to
@@ -90,8 +90,46 @@ impl Board {
         ensures later { IsLater self.now seat.old seat.new }
         ensures works { Works self.now seat.new worker.new }
     {
+        self.go(seat, worker, gate, fellows, Until::End)
+    }
+
+    /// As `work` without a limit, and as fast, to the end of the worker if so many atomic steps of
+    /// its walk, looks apart, lead there. Else it stops after so many or more, at the end of a
+    /// phase, of which a step of the job has three. Any call may go on with the worker.
+    pub fn work_turns<G: Gate>(
+        &self,
+        seat: &mut Seat,
+        worker: &mut Worker,
+        gate: &G,
+        least: u64,
+    ) -> Stay
+        requires works { Works self.now seat.old worker.old }
+        ensures worked { WorkedTurns self.now.task seat.old worker.old.walking least seat.new
+            worker.new.walking result }
+        ensures later { IsLater self.now seat.old seat.new }
+        ensures works { Works self.now seat.new worker.new }
+    {
+        let workers = self.task.layout.workers();
+        self.go(seat, worker, gate, workers, Until::Least(least))
+    }
+
+    // The worker goes on so far, where so many take part.
+    fn go<G: Gate>(
+        &self,
+        seat: &mut Seat,
+        worker: &mut Worker,
+        gate: &G,
+        fellows: u32,
+        until: Until,
+    ) -> Stay
+        requires works { Works self.now seat.old worker.old }
+        ensures worked { WorkedAs (StaysUntil until) self.now.task seat.old worker.old.walking
+            (limit_in until) seat.new worker.new.walking result }
+        ensures later { IsLater self.now seat.old seat.new }
+        ensures works { Works self.now seat.new worker.new }
+    {
         let mut driver = Driver::new(self, seat, gate, worker.number(), fellows);
-        let stay = driver.work(worker, None);
+        let stay = driver.work(worker, until);
         driver.end();
         stay
     }

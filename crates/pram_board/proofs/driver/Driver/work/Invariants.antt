@@ -12,7 +12,7 @@ invariant-loop-ended g l = record {
   board : l.self.board.now ≡ l.fn.self.board.now;
   works : Works l.self.board.now l.self.seat.now l.worker;
   sound : Sound l.self.board.now.task.job l.self.board.now.task.layout l.self.seat.now.record_of;
-  sofar : Sofar l.self.board.now (driving l.fn.self) l.fn.worker.walking l.limit
+  sofar : Sofar l.self.board.now (driving l.fn.self) l.fn.worker.walking l.until
       (driving l.self, l.patience.looks) l.worker.walking;
 }
 

@@ -1,7 +1,7 @@
 use Rattle.std.proofs.Common.{ap, rules}
 use Rattle.pram_board.specs.Inner.Plays.{Driving}
 use Rattle.pram_board.proofs.Handing.{worked_for}
-use Rattle.pram_board.proofs.board.Board.work_among.Goals as goal
+use Rattle.pram_board.proofs.board.Board.go.Goals as goal
 
 pub returns-clause-worked : goal.returns-clause-worked
 returns-clause-worked g c =
