@@ -39,6 +39,9 @@ const SLIPS: &str = "\
 $ slip spot: pardo 1~rule common~const n = 4~procs i < n~shared A[n]~shared B[n]~shared total~\
     private x~code~
 an assignment is `:=` : x = 1 -> 10:3
+an assignment is `:=` : x = 1 ; é -> 10:3
+but for its comments : x := é ; é -> 10:6
+a comment is UTF-8, without control characters : x := 1 ; éé\x07 -> 10:12
 an assignment is `:=` : A[i] = x -> 10:6
 compares with `=` : if x := 1~end -> 10:6
 compares with `=` : while total := 1~end -> 10:13
@@ -67,6 +70,7 @@ write `A[i] := A[i] - 1` : A[i]-- -> 10:5
 here it is `=` : for k := 0 to 3~end -> 10:7
 there is `total` : totl := 1 -> 10:1
 there is `total` : x := Total -> 10:6
+one line says one thing : x := 1 x := 2 -> 10:8
 nothing is named `qqqq` : x := qqqq -> 10:6
 the same for all processors : for k = 0 to x~end -> 10:14
 let an `if` within the loop : while x > 0~end -> 10:7
@@ -108,7 +112,7 @@ stands alone : end if -> 10:5
 no line of code :  -> 10:1
 all processors : forall i~end -> 10:1
 names are declared before `code` : private y -> 10:1
-a new line : x := i x := 2 -> 10:8
+a new line : x := i A[2] := 2 -> 10:8
 $ slip spot: pardo 1~rule crew~procs i < 4~shared A[4]~shared B[min(2, 3), 4]~private x~code~
 has two indices : x := B[i] -> 8:9
 its two indices stand in `[ ]` : x := B -> 8:6
@@ -149,6 +153,16 @@ $ note: pardo 1~rule common~procs i < 4~shared A[4]~private x~code~
 `A[i]` is shifted by `(x + 1)` : x := A[i] >> (x + 1) | 1 -> 7:11
 `i` is shifted by `x` : if x = min(i << x * 2, 3) ; << ~end -> 7:14
 x := (i << x) + 1~A[i - (1 << x)] := 2 * i << x~if i + 1 < 1 << x~end -> nothing
+`i & 4` stands together : x := i & 4 - 1 -> 7:8
+`i & (1 << x)` stands together : x := i & (1 << x) - 1 -> 7:8
+`1 & i` stands together : x := 4 - 1 & i -> 7:12
+x := i & (4 - 1)~x := i * 2 & 3~if i & 1 = 0~end -> nothing
+never true : if x - 4 < 0~end -> 7:10
+always true : if x >= 0 and i = 1~end -> 7:6
+never true : x := min(1, (0 > x) + 2) -> 7:16
+always true : while 0 <= 2~end -> 7:9
+if x < 0 + 1~end~x := A[0] > 0~x := 10 > x -> nothing
+for k = lg(2) - 1 to 3~end -> nothing
 ";
 
 #[test]
@@ -157,21 +171,21 @@ fn slips_are_told_where_they_are(rt: HostRuntime) -> Result<(), Fail> {
 }
 
 const TEXT: &[u8] =
-    b"pardo 1\nrule crew\nprocs i < 3\nprivate x\ncode\n\tx = \x1b1 ; a comment \r\n";
+    b"pardo 1\nrule crew\nprocs i < 3\nprivate x\ncode\n\tx = \x1b1 ; \xc3\xa9t\xc3\xa9 \r\n";
 
 const TOLD: [(Look, &str); 2] = [
     (
         Look::Plain,
-        "prog.pardo:6:6: a character that is not allowed: texts are ASCII, in comments too
-    \tx = ?1 ; a comment
+        "prog.pardo:6:6: a character that is not allowed: a program is ASCII, but for its comments
+    \tx = ?1 ; été
     \t    ^
 ",
     ),
     (
         Look::Coloured,
-        "\x1b[1mprog.pardo:6:6: \x1b[0ma character that is not allowed: texts are ASCII, in \
-        comments too
-    \tx = ?1 ; a comment
+        "\x1b[1mprog.pardo:6:6: \x1b[0ma character that is not allowed: a program is ASCII, but \
+        for its comments
+    \tx = ?1 ; été
     \t    \x1b[31m^\x1b[0m
 ",
     ),

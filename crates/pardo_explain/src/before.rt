@@ -158,8 +158,7 @@ impl<'t> Before<'t> {
             self.part = Part::Code;
             return Ok(());
         };
-        self.known.push(Known { name, sort, line })?;
-        Ok(())
+        self.learn(name, sort, line)
     }
 
     fn take_code(&mut self, line: u64, word: &'t [u8], name: &'t [u8]) -> Result<(), AllocError> {
@@ -177,15 +176,20 @@ impl<'t> Before<'t> {
     // A block begins, with this name if it is a loop `for`.
     fn begin(&mut self, line: u64, word: &'t [u8], name: &'t [u8]) -> Result<(), AllocError> {
         let otherwise = 0;
-        self.open.push(Open {
+        let open = Open {
             word,
             line,
             otherwise,
-        })?;
+        };
+        self.open.push(open)?;
         if is_word(word, "for") {
-            let sort = Sort::Loop;
-            self.known.push(Known { name, sort, line })?;
+            return self.learn(name, Sort::Loop, line);
         }
+        Ok(())
+    }
+
+    fn learn(&mut self, name: &'t [u8], sort: Sort, line: u64) -> Result<(), AllocError> {
+        self.known.push(Known { name, sort, line })?;
         Ok(())
     }
 

@@ -1,5 +1,5 @@
 //! A diagnosis, and how it is printed.
-ghost use Rattle.std.specs.Prelude.{◌≡◌, ◌++◌, OnOk};
+ghost use Rattle.std.specs.Prelude.{◌≡◌, ◌++◌, codes, decimal, OnOk};
 ghost use Rattle.pardo_explain.specs.Diagnoses.{diagnosis_text, indented, mark, spot};
 
 use crate::look::{Look, push_sign};
@@ -45,12 +45,17 @@ fn push_spot(
 {
     push_sign(text, look, b"1")?;
     text.extend_from_slice(file)?;
-    text.extend_from_slice(b":")?;
-    push_number(text, found.line)?;
-    text.extend_from_slice(b":")?;
-    push_number(text, found.column)?;
+    push_position(text, found.line)?;
+    push_position(text, found.column)?;
     text.extend_from_slice(b": ")?;
     push_sign(text, look, b"0")
+}
+
+fn push_position(text: &mut Vec<u8>, number: u64) -> Result<(), AllocError>
+    ensures { OnOk result (text.new.items ≡ text.old.items ++ codes ":" ++ decimal number) }
+{
+    text.extend_from_slice(b":")?;
+    push_number(text, number)
 }
 
 fn push_mark(text: &mut Vec<u8>, look: Look) -> Result<(), AllocError>

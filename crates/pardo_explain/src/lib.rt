@@ -4,6 +4,7 @@
 #![tactic(auto)]
 
 mod before;
+mod compared;
 mod diagnosis;
 mod fill;
 mod look;
@@ -19,6 +20,7 @@ mod slip;
 mod slips;
 mod wanted;
 mod words;
+mod wrapped;
 
 pub use before::{Before, lines_before};
 pub use diagnosis::{Diagnosis, push_diagnosis};
@@ -30,3 +32,4 @@ pub use point::{Point, point_of};
 pub use second_look::{diagnose, line_at, point_at};
 pub use sentence::push_sentence;
 pub use words::{is_among, is_comparison};
+pub use wrapped::{Wrapped, wrapped_bound};

@@ -1,13 +1,16 @@
-//! How a program was read where people could read it otherwise: at a shift beside another operator,
-//! without brackets.
+//! How a program was read where people could read it otherwise: at a shift or an `&` beside another
+//! operator, without brackets; at a comparison with 0 that has one value; at a bound that wraps.
+use crate::compared::always;
 use crate::diagnosis::Diagnosis;
 use crate::second_look::pointing;
+use crate::wrapped::push_wrapped;
 use crate::{Piece, Pieces, is_among, is_comparison, trimmed};
 use pardo_text::said;
 use std::alloc::{AllocError, Global};
 use text_lines::{TextLines, is_word};
 
-/// How the first shift of each line was read that stands beside another operator without brackets.
+/// How the first shift or `&` of each line was read that stands beside another operator without
+/// brackets, which comparison with 0 has one value, and which bounds of loops wrap.
 pub fn notes(alloc: Global, text: &[u8]) -> Result<Vec<Diagnosis>, AllocError> {
     let mut notes = Vec::new(alloc);
     let mut lines = TextLines::new(text);
@@ -15,45 +18,67 @@ pub fn notes(alloc: Global, text: &[u8]) -> Result<Vec<Diagnosis>, AllocError> {
         let Some(line) = lines.take_line() else {
             break;
         };
-        if let Some(shift) = unclear_shift(alloc, said(line))? {
-            let sentence = sentence_on(alloc, &shift)?;
-            notes.push(pointing(alloc, lines.number(), line, shift.start, sentence)?)?;
+        if let Some((start, sentence)) = note_on(alloc, said(line))? {
+            notes.push(pointing(alloc, lines.number(), line, start, sentence)?)?;
         }
     }
+    push_wrapped(alloc, text, &mut notes)?;
     Ok(notes)
 }
 
-/// A shift: what is shifted, how many bytes of the line stand before its operator, and by what.
+// The sentence on a line without a comment, if there is one, and how many of its bytes stand before
+// what it is about.
+fn note_on(alloc: Global, line: &[u8]) -> Result<Option<(usize, Vec<u8>)>, AllocError> {
+    if let Some(unclear) = first_unclear(alloc, line)? {
+        return Ok(Some((unclear.start, sentence_on(alloc, &unclear)?)));
+    }
+    match always(line) {
+        Some((start, sentence)) => {
+            Ok(Some((start, Vec::from_slice(alloc, sentence.as_bytes())?)))
+        }
+        None => Ok(None),
+    }
+}
+
+/// A shift, or an `&`: what stands on its left, how many bytes of the line stand before its
+/// operator, and what stands on its right.
 #[derive(Clone, Copy, Debug)]
-struct Shift<'t> {
+struct Unclear<'t> {
+    is_shift: bool,
     left: &'t [u8],
     start: usize,
     right: &'t [u8],
 }
 
-fn sentence_on(alloc: Global, shift: &Shift<'_>) -> Result<Vec<u8>, AllocError> {
+fn sentence_on(alloc: Global, unclear: &Unclear<'_>) -> Result<Vec<u8>, AllocError> {
     let mut text = Vec::new(alloc);
     text.extend_from_slice(b"note: here `")?;
-    text.extend_from_slice(shift.left)?;
-    text.extend_from_slice(b"` is shifted by `")?;
-    text.extend_from_slice(shift.right)?;
-    text.extend_from_slice(b"`: a shift binds as `*` does")?;
+    text.extend_from_slice(unclear.left)?;
+    if unclear.is_shift {
+        text.extend_from_slice(b"` is shifted by `")?;
+        text.extend_from_slice(unclear.right)?;
+        text.extend_from_slice(b"`: a shift binds as `*` does")?;
+    } else {
+        text.extend_from_slice(b" & ")?;
+        text.extend_from_slice(unclear.right)?;
+        text.extend_from_slice(b"` stands together: `&` binds as `*` does")?;
+    }
     Ok(text)
 }
 
-// The first shift of a line without a comment that stands beside another operator.
-fn unclear_shift(alloc: Global, line: &[u8]) -> Result<Option<Shift<'_>>, AllocError> {
+// The first shift or `&` of a line without a comment that stands beside another operator.
+fn first_unclear(alloc: Global, line: &[u8]) -> Result<Option<Unclear<'_>>, AllocError> {
     let mut reading = Reading::new(alloc, line);
     let mut pieces = Pieces::new(line);
     for _turn in 0..line.len() {
         let Some(piece) = pieces.take() else {
             break;
         };
-        if let Some(shift) = reading.take(&piece)? {
-            return Ok(Some(shift));
+        if let Some(unclear) = reading.take(&piece)? {
+            return Ok(Some(unclear));
         }
     }
-    Ok(reading.shift_before(line.len(), false))
+    Ok(reading.unclear_before(line.len(), false))
 }
 
 /// Operands between which no operator binds less than a product's.
@@ -66,6 +91,10 @@ struct Chain {
     /// The bytes before the operator of a shift that only one operand follows so far, and those up
     /// to its end.
     shift: Option<(usize, usize)>,
+    /// The same of the last `&`, which others of its row may follow.
+    and: Option<(usize, usize)>,
+    /// Whether `+`, `-`, `|` or `xor` stands before the chain.
+    is_added: bool,
 }
 
 impl Chain {
@@ -74,6 +103,8 @@ impl Chain {
             start,
             is_beside,
             shift: None,
+            and: None,
+            is_added: is_beside,
         }
     }
 }
@@ -95,8 +126,8 @@ impl<'t> Reading<'t> {
         }
     }
 
-    // The next token; it may tell that the shift before it is unclear.
-    fn take(&mut self, piece: &Piece<'t>) -> Result<Option<Shift<'t>>, AllocError> {
+    // The next token; it may tell that the shift or `&` before it is unclear.
+    fn take(&mut self, piece: &Piece<'t>) -> Result<Option<Unclear<'t>>, AllocError> {
         let end = piece.start.saturating_add(piece.spelled.len());
         match piece.spelled {
             b"(" | b"[" => {
@@ -105,7 +136,7 @@ impl<'t> Reading<'t> {
                 Ok(None)
             }
             b")" | b"]" => {
-                let found = self.shift_before(piece.start, false);
+                let found = self.unclear_before(piece.start, false);
                 self.chain = self.around.pop().unwrap_or(Chain::new(end, false));
                 Ok(found)
             }
@@ -122,28 +153,59 @@ impl<'t> Reading<'t> {
     }
 
     // An operator after which the chain goes on.
-    fn pass_factor(&mut self, piece: &Piece<'t>) -> Option<Shift<'t>> {
+    fn pass_factor(&mut self, piece: &Piece<'t>) -> Option<Unclear<'t>> {
         let found = self.shift_before(piece.start, true);
-        self.chain.is_beside |= is_word(piece.spelled, "&");
+        if is_word(piece.spelled, "&") {
+            self.chain.is_beside = true;
+            let end = piece.start.saturating_add(piece.spelled.len());
+            self.chain.and = Some((piece.start, end));
+        }
         self.chain.shift = None;
         found
     }
 
     // A token from this byte on, after which another chain begins.
-    fn pass(&mut self, start: usize, end: usize, is_beside: bool) -> Option<Shift<'t>> {
-        let found = self.shift_before(start, is_beside);
+    fn pass(&mut self, start: usize, end: usize, is_beside: bool) -> Option<Unclear<'t>> {
+        let found = self.unclear_before(start, is_beside);
         self.chain = Chain::new(end, is_beside);
         found
     }
 
+    // The shift or `&` that is unclear in the chain that ends before this byte.
+    fn unclear_before(&self, end: usize, is_beside: bool) -> Option<Unclear<'t>> {
+        let shift = self.shift_before(end, is_beside);
+        if shift.is_some() {
+            return shift;
+        }
+        self.and_before(end, is_beside)
+    }
+
     // The shift that ends before this byte, if an operator is beside it: this one after it, or one
     // before it.
-    fn shift_before(&self, end: usize, is_beside: bool) -> Option<Shift<'t>> {
-        let (start, after) = self.chain.shift?;
+    fn shift_before(&self, end: usize, is_beside: bool) -> Option<Unclear<'t>> {
         if !is_beside && !self.chain.is_beside {
             return None;
         }
-        Some(Shift {
+        self.parted(true, self.chain.shift?, end)
+    }
+
+    // The last `&` of the chain that ends before this byte, if a looser operator is beside that.
+    fn and_before(&self, end: usize, is_beside: bool) -> Option<Unclear<'t>> {
+        if !is_beside && !self.chain.is_added {
+            return None;
+        }
+        self.parted(false, self.chain.and?, end)
+    }
+
+    // An operator of the chain, with what stands before it, and after it up to this byte.
+    fn parted(
+        &self,
+        is_shift: bool,
+        (start, after): (usize, usize),
+        end: usize,
+    ) -> Option<Unclear<'t>> {
+        Some(Unclear {
+            is_shift,
             left: trimmed(self.line.get(self.chain.start..start)?),
             start,
             right: trimmed(self.line.get(after..end)?),

@@ -148,10 +148,25 @@ fn first_bad(line: &[u8]) -> usize {
     line.len()
 }
 
+// How many bytes stand before the first character that may not stand in a line: only a comment has
+// others than those of ASCII.
 fn first_unlawful(line: &[u8]) -> usize {
-    line.iter()
-        .position(|&byte| byte > b'~' || (byte < b' ' && byte != b'\t' && byte != b'\r'))
-        .unwrap_or(line.len())
+    let len = said(line).len();
+    let text_end = match str::from_utf8(line.get(len..).unwrap_or(b"")) {
+        Ok(_) => line.len(),
+        Err(error) => len.saturating_add(error.valid_up_to()),
+    };
+    for (at, &byte) in line.iter().enumerate() {
+        let is_lawful = match byte {
+            b'\t' | b'\r' | b' '..=b'~' => true,
+            128..=255 => at >= len && at < text_end,
+            _ => false,
+        };
+        if !is_lawful {
+            return at;
+        }
+    }
+    line.len()
 }
 
 // A point, and the tokens around it.

@@ -53,7 +53,7 @@ fn gaps<'t>(before: &Before<'t>, point: &Point<'t>) -> Gaps<'t> {
 
 fn sentence_on(before: &Before<'_>, point: &Point<'_>, gaps: &Gaps<'_>) -> Sentence {
     match point.kind {
-        PardoKind::NotAscii => not_ascii(before.line),
+        PardoKind::NotAscii => not_ascii(before.line, point),
         PardoKind::BadSymbol => bad_symbol(before.part, point),
         PardoKind::BadHeader => bad_header(before.part, point),
         PardoKind::UnknownName => unknown_name(point, gaps),
@@ -81,10 +81,12 @@ fn fitting(slips: &'static str, point: &Point<'_>) -> Sentence {
     Sentence(first_fit(slips, point).unwrap_or(general), "")
 }
 
-fn not_ascii(line: &[u8]) -> Sentence {
+fn not_ascii(line: &[u8], point: &Point<'_>) -> Sentence {
     let sentence = match line {
         [0xef, 0xbb, 0xbf, ..] => "the text begins with a byte order mark: save it without one",
-        _ => "a character that is not allowed: texts are ASCII, in comments too",
+        _ if point.start < point.line.len() =>
+            "a character that is not allowed: a program is ASCII, but for its comments",
+        _ => "a character that is not allowed: a comment is UTF-8, without control characters",
     };
     Sentence(sentence, "")
 }

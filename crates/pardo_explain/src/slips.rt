@@ -52,6 +52,7 @@ for; WAY; ; ; `to` or `downto` is missing: a loop is `for k = first to last`
 ; WHOLE; ); ; this `)` closes nothing
 ; WHOLE; ]; ; this `]` closes nothing
 ; NAME; (; ; `{before}` has no arguments: an index stands in `[ ]`
+; OPERATOR; NAME; :=; one line says one thing: what begins at `{here}` stands on a line of its own
 ; OPERATOR; NAME; ; an operator is missing between `{before}` and `{here}`, or a new line
 ; WHOLE; if while for else end const procs shared private code rule pardo to downto; ; `{here}` \
     cannot stand here: one line says one thing

@@ -1,7 +1,7 @@
 -- Programs are lawful.
 use Rattle.std.proofs.Common.{◌≡◌, ℕ, ◌+◌, not, List, [], ◌∷◌, Result, Ok, Err}
 use Rattle.std.proofs.Common.{IfOk, Some, None, refl, sym, subst, ap, arith, length}
-use Rattle.std.specs.List.{All, list_all}
+use Rattle.std.specs.List.{All}
 use Rattle.std.proofs.lemmas.List.Elements.{All-nil}
 use Rattle.pardo_program.specs.declared.block.Block.{Block}
 use Rattle.pardo_text.specs.declared.draft.Stage.{Stage}
@@ -12,8 +12,8 @@ use Rattle.pardo_program.specs.declared.statement.Line.{Line}
 use Rattle.pardo_text.specs.Drafts.{Draft, empty}
 use Rattle.pardo_text.specs.Laws.{ProgramsAreLawful}
 use Rattle.pardo_program.specs.Lawful.{IsProgram, IsPrivate, IsLine}
-use Rattle.text_lines.specs.Lines.{lines_of, is_allowed, said_in}
-use Rattle.pardo_text.specs.Reading.{line_in_stage, with_tokens, with_text_line, finished_draft}
+use Rattle.text_lines.specs.Lines.{lines_of, said_in}
+use Rattle.pardo_text.specs.Reading.{is_readable, line_in_stage, with_tokens, with_text_line, finished_draft}
 use Rattle.pardo_text.specs.Reading.{program_in, said_so_far}
 use Rattle.pardo_text.specs.Reading.{on_line, and_then, program_after, program_of}
 use Rattle.pardo_text.specs.Tokens.{Token, tokens_of}
@@ -40,7 +40,7 @@ text_line_kept : (n : ℕ) (d : Draft) (line : List ℕ) → IsLawful d →
     IfOk (with_text_line n d line) IsLawful
 unfolding with_text_line
 text_line_kept n d line is =
-    ok_if (not (list_all is_allowed line)) _ _ IsLawful (λ _. tt)
+    ok_if (not (is_readable line)) _ _ IsLawful (λ _. tt)
     (λ _. ok_after (tokens_of (said_in line)) _ IsLawful (λ tokens. tokens_kept n d tokens is))
 
 -- ---- the end

@@ -1,11 +1,11 @@
 -- The variables of programs have distinct names.
 use Rattle.std.proofs.Common.{◌≡◌, ◌≢◌, ℕ, ◌+◌, Bool, Result, Ok, Err, true, false, ◌==◌, not, nat_le, List, [], ◌∷◌}
-use Rattle.std.proofs.Common.{◌++◌, length, map, Option, Some, None, IfOk, refl, sym, ap, ap₂}
+use Rattle.std.proofs.Common.{◌++◌, length, map, Option, Some, IfOk, refl, sym, ap, ap₂}
 use Rattle.std.proofs.Common.{subst, ◌∙◌, is_some, bytes_eq, append_assoc}
-use Rattle.std.proofs.Common.{append-nil, if◌then◌else◌, ⊎_elim, ◌&&◌, max}
-use Rattle.std.specs.List.{AllByRecursion, list_all}
+use Rattle.std.proofs.Common.{append-nil, if◌then◌else◌}
+use Rattle.std.specs.List.{AllByRecursion}
 use Rattle.std.specs.Prelude.{codes}
-use Rattle.std.proofs.lemmas.Bool.{cases_Bool, both_ways}
+use Rattle.std.proofs.lemmas.Bool.{both_ways}
 use Rattle.std.proofs.lemmas.List.{map-append}
 use Rattle.std.proofs.lemmas.Slice.Eq.{bytes_eq-Decides}
 use Rattle.pardo_text.specs.declared.fault.PardoKind.{PardoKind}
@@ -23,10 +23,10 @@ use Rattle.pardo_program.specs.declared.statement.Statement.TheVariants as state
 use Rattle.pardo_text.specs.declared.symbol.Symbol.TheVariants as the
 use Rattle.pardo_text.specs.Code.{whole_at, assignment_at, if_line, while_line, way_at, for_line}
 use Rattle.pardo_text.specs.Code.{else_of, elsif_line, elsifs_ended, end_block, quotient_at}
-use Rattle.pardo_text.specs.Code.{asserted, assert_line, has_form, assignment_line, named_line}
+use Rattle.pardo_text.specs.Code.{asserted, assert_line, has_form, named_line}
 use Rattle.pardo_text.specs.Code.{statement_line}
 use Rattle.pardo_text.specs.Drafts.{Draft, empty, cells_needed, fitting, with_line, with_block}
-use Rattle.pardo_text.specs.Drafts.{with_loop, without, with_end, with_name, with_array}
+use Rattle.pardo_text.specs.Drafts.{with_loop, without, with_name, with_array}
 use Rattle.pardo_text.specs.Drafts.{with_private, thing_of}
 use Rattle.pardo_text.specs.Expressions.{new_name, rest_after_mark, indexed, ended}
 use Rattle.pardo_text.specs.Expressions.{expression_at, fixed_at}
@@ -37,7 +37,7 @@ use Rattle.pardo_text.specs.Laws.{NamesAreDistinct}
 use Rattle.pardo_text.specs.Names.{Names, named}
 use Rattle.pardo_program.specs.declared.arrays.Shape.{Shape}
 use Rattle.pardo_program.specs.Program.{ArrayData, PrivateData, ProgramData, places_of_shape}
-use Rattle.pardo_text.specs.Reading.{line_in_stage, with_tokens, with_text_line, finished_draft}
+use Rattle.pardo_text.specs.Reading.{is_readable, line_in_stage, with_tokens, with_text_line, finished_draft}
 use Rattle.pardo_text.specs.Reading.{program_in, on_line, program_after, program_of}
 use Rattle.pardo_text.specs.Tokens.{Token, name, number as literal, symbol, tokens_of}
 use Rattle.pardo_program.specs.Operations.{greatest_value}
@@ -46,7 +46,7 @@ use Rattle.pardo_program.specs.Variables.{AreDistinct, names_among, variable_nam
 use Rattle.pardo_text.proofs.Ifs.{ok_bind, ok_after, ok_if}
 use Rattle.pardo_text.proofs.LawHeader.{ended_kept}
 use Rattle.pardo_text.proofs.LawLawful.{on_line_kept, and_then_kept}
-use Rattle.text_lines.specs.Lines.{Word, lines_of, is_allowed, said_in}
+use Rattle.text_lines.specs.Lines.{Word, lines_of, said_in}
 
 -- ---- one name more
 
@@ -419,7 +419,7 @@ text_line_named : (n : ℕ) (d : Draft) (line : List ℕ) → AreTold d →
     IfOk (with_text_line n d line) AreTold
 unfolding with_text_line
 text_line_named n d line is =
-    ok_if (not (list_all is_allowed line)) _ _ AreTold (λ _. tt)
+    ok_if (not (is_readable line)) _ _ AreTold (λ _. tt)
     (λ _. ok_after (tokens_of (said_in line)) _ AreTold (λ tokens. tokens_named n d tokens is))
 
 abbrev HasDistinct : ProgramData → Type 0

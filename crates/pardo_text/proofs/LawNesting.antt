@@ -2,7 +2,6 @@
 use Rattle.std.proofs.Common.{◌≡◌, ℕ, ◌+◌, ◌<◌, ◌==◌, true, not, nat_le, List, [], ◌∷◌, ◌++◌}
 use Rattle.std.proofs.Common.{inl, inr, length, Some, None, IfOk, refl, sym, ap}
 use Rattle.std.proofs.Common.{subst, ◌∙◌, arith}
-use Rattle.std.specs.List.{list_all}
 use Rattle.std.specs.Prelude.{codes}
 use Rattle.std.proofs.lemmas.List.{length-append}
 use Rattle.pardo_program.specs.declared.block.Block.{Block}
@@ -33,13 +32,13 @@ use Rattle.pardo_text.specs.Header.{shape_at, shared_line, private_start, privat
 use Rattle.pardo_program.specs.Program.{places_of_shape}
 use Rattle.pardo_text.specs.Header.{header_line}
 use Rattle.pardo_text.specs.Laws.{ProgramsAreNested}
-use Rattle.text_lines.specs.Lines.{Word, lines_of, is_allowed, said_in}
+use Rattle.text_lines.specs.Lines.{Word, lines_of, said_in}
 use Rattle.pardo_text.specs.Names.{Names}
 use Rattle.pardo_program.specs.Nested.{IsNested, StandsInBlocks, opened_by, around, loop_begin}
 use Rattle.pardo_program.specs.Nested.{loop_end_told}
 use Rattle.pardo_program.specs.Nested.{loops_of, EndsAreTied, LinesLead}
 use Rattle.pardo_program.specs.Program.{ProgramData}
-use Rattle.pardo_text.specs.Reading.{line_in_stage, with_tokens, with_text_line, finished_draft}
+use Rattle.pardo_text.specs.Reading.{is_readable, line_in_stage, with_tokens, with_text_line, finished_draft}
 use Rattle.pardo_text.specs.Reading.{program_in, said_so_far}
 use Rattle.pardo_program.specs.Tests.{known_of}
 use Rattle.pardo_text.specs.Reading.{on_line, program_after, program_of}
@@ -487,7 +486,7 @@ tokens_code n d (token ∷ tokens) is = at_code d.stage n d (token ∷ tokens) i
 text_line_code : (n : ℕ) (d : Draft) (line : List ℕ) → Code d → IfOk (with_text_line n d line) Code
 unfolding with_text_line
 text_line_code n d line is =
-    ok_if (not (list_all is_allowed line)) _ _ Code (λ _. tt)
+    ok_if (not (is_readable line)) _ _ Code (λ _. tt)
     (λ _. ok_after (tokens_of (said_in line)) _ Code (λ tokens. tokens_code n d tokens is))
 
 abbrev Nested : ProgramData → Type 0

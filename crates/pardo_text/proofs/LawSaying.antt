@@ -1,17 +1,17 @@
 -- What says nothing in a line.
-use Rattle.std.proofs.Common.{◌≡◌, ℕ, Bool, true, false, ◌&&◌, ◌==◌, List, [], ◌∷◌, ◌++◌}
+use Rattle.std.proofs.Common.{◌≡◌, ℕ, true, false, ◌&&◌, ◌==◌, List, [], ◌∷◌, ◌++◌}
 use Rattle.std.proofs.Common.{refl, sym, ap, ◌∙◌, arith, one-add, ⊎_elim}
 use Rattle.std.specs.List.{list_all}
 use Rattle.std.proofs.lemmas.Bool.{cases_Bool, and_parts}
-use Rattle.std.proofs.lemmas.List.Folds.{list_all-append}
 use Rattle.pardo_text.specs.Laws.{SayTheSame, ProgramCommentsSayNothing, IndentationSaysNothing}
 use Rattle.pardo_text.specs.Laws.{EmptyLinesSayNothing}
 use Rattle.text_lines.specs.Lines.{is_allowed, is_blank, said_in}
-use Rattle.pardo_text.specs.Reading.{with_text_line}
+use Rattle.pardo_text.specs.Reading.{comment_of, is_comment, is_readable, with_text_line}
+use Rattle.pardo_text.proofs.Comments.{comment_on}
 use Rattle.pardo_text.specs.Tokens.{tokens_of}
 
--- a line with the same tokens, whose bytes are allowed as those of the other are
-says_the_same : (line other : List ℕ) → list_all is_allowed line ≡ list_all is_allowed other →
+-- a line with the same tokens, that is readable as the other is
+says_the_same : (line other : List ℕ) → is_readable line ≡ is_readable other →
     tokens_of (said_in line) ≡ tokens_of (said_in other) → SayTheSame line other
 unfolding with_text_line
 says_the_same line other e f n draft = rw (e, f) refl
@@ -33,20 +33,36 @@ said-comment (byte ∷ line) comment = ⊎_elim
     ∙ ap (λ said. byte ∷ said) (said-comment line comment) ∙ sym (said-other byte line e))
     (cases_Bool (byte == 59))
 
-and_true : (test other : Bool) → other ≡ true → (test && other) ≡ test
-and_true true other e = e
-and_true false other e = refl
+comment-semicolon : (byte : ℕ) (bytes : List ℕ) → (byte == 59) ≡ true →
+    comment_of (byte ∷ bytes) ≡ byte ∷ bytes
+comment-semicolon byte bytes e = rw e refl
 
-semicolon_allowed : (comment : List ℕ) → list_all is_allowed comment ≡ true →
-    list_all is_allowed (59 ∷ comment) ≡ true
-unfolding is_allowed
-semicolon_allowed comment e = e
+comment-other : (byte : ℕ) (bytes : List ℕ) → (byte == 59) ≡ false →
+    comment_of (byte ∷ bytes) ≡ comment_of bytes
+comment-other byte bytes e = rw e (rw one-add refl)
+
+comment-comment : (line comment : List ℕ) →
+    comment_of (line ++ 59 ∷ comment) ≡ comment_of line ++ 59 ∷ comment
+comment-comment [] comment = refl
+comment-comment (byte ∷ line) comment = ⊎_elim
+    (λ e. comment-semicolon byte (line ++ 59 ∷ comment) e
+    ∙ sym (ap (λ front. front ++ 59 ∷ comment) (comment-semicolon byte line e)))
+    (λ e. comment-other byte (line ++ 59 ∷ comment) e ∙ comment-comment line comment
+    ∙ sym (ap (λ front. front ++ 59 ∷ comment) (comment-other byte line e)))
+    (cases_Bool (byte == 59))
+
+comment_is_readable : (line comment : List ℕ) → is_comment comment ≡ true →
+    is_readable (line ++ 59 ∷ comment) ≡ is_readable line
+unfolding is_readable
+comment_is_readable line comment all =
+    ap (λ said. list_all is_allowed said && is_comment (comment_of (line ++ 59 ∷ comment)))
+    (said-comment line comment)
+    ∙ ap (λ test. list_all is_allowed (said_in line) && test)
+    (ap is_comment (comment-comment line comment) ∙ comment_on (comment_of line) comment all)
 
 pub comments_say_nothing : ProgramCommentsSayNothing
 comments_say_nothing line comment all = says_the_same (line ++ 59 ∷ comment) line
-    (list_all-append is_allowed line (59 ∷ comment)
-    ∙ and_true (list_all is_allowed line) _ (semicolon_allowed comment all))
-    (ap tokens_of (said-comment line comment))
+    (comment_is_readable line comment all) (ap tokens_of (said-comment line comment))
 
 -- ---- blanks
 
@@ -62,9 +78,20 @@ tokens-blank : (byte : ℕ) (line : List ℕ) → is_blank byte ≡ true →
 unfolding tokens_of
 tokens-blank byte line e = rw e refl
 
+blank_is_readable : (byte : ℕ) (line : List ℕ) → is_blank byte ≡ true →
+    is_readable (byte ∷ line) ≡ is_readable line
+unfolding is_readable
+blank_is_readable byte line e =
+    let no = blank_is_no_semicolon byte e in
+    ap (λ said. list_all is_allowed said && is_comment (comment_of (byte ∷ line)))
+    (said-other byte line no)
+    ∙ ap (λ test. (test && list_all is_allowed (said_in line)) && is_comment (comment_of (byte ∷ line)))
+    (blank_is_allowed byte e)
+    ∙ ap (λ comment. list_all is_allowed (said_in line) && is_comment comment)
+    (comment-other byte line no)
+
 blank : (byte : ℕ) (line : List ℕ) → is_blank byte ≡ true → SayTheSame (byte ∷ line) line
-blank byte line e = says_the_same (byte ∷ line) line
-    (ap (λ test. test && list_all is_allowed line) (blank_is_allowed byte e))
+blank byte line e = says_the_same (byte ∷ line) line (blank_is_readable byte line e)
     (ap tokens_of (said-other byte line (blank_is_no_semicolon byte e))
     ∙ tokens-blank byte (said_in line) e)
 

@@ -9,6 +9,7 @@ pub mod Known
 pub mod Finished
 pub mod Judged
 pub mod Columns
+pub mod Comments
 pub mod Starts
 pub mod Throwing
 pub mod Refilling

@@ -1,7 +1,7 @@
 -- What the laws say of texts.
 use Rattle.std.specs.Prelude.{◌≡◌, ◌⊎◌, ℕ, ◌+◌, ◌≤◌, ◌<◌, ◌^◌, List, [], ◌∷◌, ◌++◌}
 use Rattle.std.specs.Prelude.{length, map, IsTrue, IfOk, Some, Result, Ok, Err}
-use Rattle.std.specs.List.{All, list_all}
+use Rattle.std.specs.List.{list_all}
 use Rattle.pardo_text.specs.declared.fault.PardoFault.{PardoFault}
 use Rattle.pardo_text.specs.declared.fault.PardoKind.{PardoKind}
 use Rattle.pardo_program.specs.declared.limits.TheConstants.{MAX_CELLS, MAX_PROCS, MAX_OPEN}
@@ -9,12 +9,13 @@ use Rattle.pardo_text.specs.declared.names.Scope.TheVariants.{Fixed}
 use Rattle.pardo_text.specs.Drafts.{Draft, empty}
 use Rattle.pardo_program.specs.Expression.{number}
 use Rattle.pardo_text.specs.Expressions.{expression_at, log_of}
-use Rattle.pardo_program.specs.Lawful.{AreNumbers, IsProgram}
+use Rattle.pardo_program.specs.Lawful.{IsProgram}
 use Rattle.text_lines.specs.Lines.{HasOtherLine}
-use Rattle.text_lines.specs.Lines.{lines_of, is_allowed, is_blank, said_in}
+use Rattle.text_lines.specs.Lines.{lines_of, is_blank, said_in}
 use Rattle.pardo_text.specs.Names.{Names}
 use Rattle.pardo_program.specs.Nested.{IsNested}
 use Rattle.pardo_program.specs.Program.{ProgramData}
+use Rattle.pardo_text.specs.Reading.{is_comment, is_readable}
 use Rattle.pardo_text.specs.Reading.{with_text_line, program_in, program_of}
 use Rattle.pardo_text.specs.Settings.{SettingData, line_as_set, settled, text_as_set}
 use Rattle.text_lines.specs.Reads.{◌>>=◌}
@@ -53,9 +54,9 @@ abbrev pub SayTheSame : List ℕ → List ℕ → Type 0
 SayTheSame line other = (n : ℕ) (draft : Draft) →
     with_text_line n draft line ≡ with_text_line n draft other
 
--- A comment goes from its `;` to the end of the line.
+-- A comment goes from its `;` to the end of the line, and is any text.
 abbrev pub ProgramCommentsSayNothing : Type 0
-ProgramCommentsSayNothing = (line comment : List ℕ) → IsTrue (list_all is_allowed comment) →
+ProgramCommentsSayNothing = (line comment : List ℕ) → IsTrue (is_comment comment) →
     SayTheSame (line ++ 59 ∷ comment) line
 
 -- blanks before the first token of a line
@@ -66,7 +67,7 @@ IndentationSaysNothing = (blanks line : List ℕ) → IsTrue (list_all is_blank 
 -- a line without a token
 abbrev pub EmptyLinesSayNothing : Type 0
 EmptyLinesSayNothing = (number : ℕ) (draft : Draft) (line : List ℕ) →
-    IsTrue (list_all is_allowed line) → tokens_of (said_in line) ≡ Ok [] →
+    IsTrue (is_readable line) → tokens_of (said_in line) ≡ Ok [] →
     with_text_line number draft line ≡ Ok draft
 
 -- Texts whose lines say the same are the same program, or have the same fault.

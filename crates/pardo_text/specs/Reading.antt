@@ -1,7 +1,8 @@
 -- Reading: the program of a text, or its first bad line and its fault.
-use Rattle.std.specs.Prelude.{◌≡◌, ◌≢◌, ℕ, ◌+◌, not, if◌then◌else◌, List, [], ◌∷◌}
-use Rattle.std.specs.Prelude.{Result, Ok, Err}
-use Rattle.std.specs.List.{list_all}
+use Rattle.std.specs.Prelude.{◌≡◌, ◌≢◌, ℕ, ◌+◌, ◌==◌, nat_le, if◌then◌else◌, List, [], ◌∷◌, drop}
+use Rattle.std.specs.Prelude.{Bool, not, ◌&&◌, ◌||◌, Result, Ok, Err}
+use Rattle.std.specs.List.{list_all, position_or_len}
+use Rattle.std.specs.Str.{is_utf8}
 use Rattle.pardo_text.specs.declared.fault.PardoFault.{PardoFault}
 use Rattle.pardo_text.specs.declared.fault.PardoKind.{PardoKind}
 use Rattle.pardo_text.specs.declared.fault.PardoKind.TheVariants.{NotAscii, BadHeader, OpenBlock}
@@ -19,6 +20,22 @@ use Rattle.pardo_program.specs.Tests.{program_untested}
 use Rattle.text_lines.specs.Reads.{◌>>=◌}
 use Rattle.pardo_text.specs.Tokens.{Token, tokens_of}
 
+-- what stands from the first semicolon on
+abbrev pub comment_of : List ℕ → List ℕ
+comment_of line = drop (position_or_len (λ byte. byte == 59) line) line
+
+-- tab, carriage return, and what is no control character of ASCII
+unfoldable pub is_no_control : ℕ → Bool
+is_no_control byte = (byte == 9) || (byte == 13) || (nat_le 32 byte && not (byte == 127))
+
+-- UTF-8 without control characters
+abbrev pub is_comment : List ℕ → Bool
+is_comment bytes = is_utf8 bytes && list_all is_no_control bytes
+
+-- Before its comment a line is printable ASCII.
+unfoldable pub is_readable : List ℕ → Bool
+is_readable line = list_all is_allowed (said_in line) && is_comment (comment_of line)
+
 -- one line more, by what comes next
 abbrev pub line_in_stage : Stage → ℕ → Draft → List Token → Result Draft PardoKind
 line_in_stage stage.Version number draft tokens = version_line draft tokens
@@ -34,7 +51,7 @@ with_tokens number draft (token ∷ tokens) = line_in_stage draft.stage number d
 -- the draft with the line of this number
 unfoldable pub with_text_line : ℕ → Draft → List ℕ → Result Draft PardoKind
 with_text_line number draft line =
-    if not (list_all is_allowed line) then Err NotAscii
+    if not (is_readable line) then Err NotAscii
     else (do
       tokens ← tokens_of (said_in line)
       with_tokens number draft tokens)

@@ -13,6 +13,7 @@ pub mod laws;
 mod names;
 mod parse;
 mod part;
+mod readable;
 mod reader;
 mod settings;
 mod settled;

@@ -9,11 +9,12 @@ ghost use Rattle.pardo_text.specs.Settings.{IsSetRefusal, laid, met, program_set
 use crate::cursor::Cursor;
 use crate::draft::{Draft, Stage};
 use crate::fault::{PardoFault, PardoKind};
+use crate::readable::is_readable;
 use crate::settings::{SetFault, SetRefusal, Settings};
 use crate::token::{count_tokens, said};
 use pardo_program::Program;
 use std::alloc::Global;
-use text_lines::{TextLines, is_lawful};
+use text_lines::TextLines;
 
 /// Where the reader stops: the fault, and how many tokens of the bad line were read before; or none
 /// where all lines were read, and something is missing at their end.
@@ -123,7 +124,7 @@ fn take_line<'t>(
         (with_text_line number (draft_of draft.old) line.now) }
 {
     *read = 0;
-    if !is_lawful(line) {
+    if !is_readable(line) {
         return Err(PardoKind::NotAscii);
     }
     let line = said(line);

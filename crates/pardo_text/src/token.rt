@@ -4,6 +4,7 @@ ghost use Rattle.std.specs.Char.{is_ascii_digit, is_ascii_alphabetic, is_ascii_a
 ghost use Rattle.std.specs.List.{position};
 ghost use Rattle.std.specs.Option.{option_map};
 ghost use Rattle.text_lines.specs.Lines.{said_in};
+ghost use Rattle.pardo_text.specs.Reading.{comment_of};
 ghost use Rattle.pardo_text.specs.Tokens.{begins_name, is_of_name, run_len, keywords, marks};
 ghost use Rattle.pardo_text.specs.Tokens.{symbol, word_by, mark_by, token_at, tokens_of};
 ghost use Rattle.pardo_text.specs.Inner.Marks.{spelled_by, header_words, words_of_blocks};
@@ -293,7 +294,15 @@ pub(crate) fn after_blanks(line: &[u8]) -> &[u8]
 pub fn said(line: &[u8]) -> &[u8]
     ensures { result.now ≡ said_in line.now }
 {
-    line.split_at(comment_start(line).unwrap_or(line.len())).0
+    parted(line).0
+}
+
+/// What stands before the comment of a line, and the comment.
+pub(crate) fn parted(line: &[u8]) -> (&[u8], &[u8])
+    ensures said { result.0.now ≡ said_in line.now }
+    ensures comment { result.1.now ≡ comment_of line.now }
+{
+    line.split_at(comment_start(line).unwrap_or(line.len()))
 }
 
 // Where the comment of a line begins.
