@@ -35,6 +35,7 @@ class Exercise:
     task: list = field(default_factory=list)
     want: list = field(default_factory=list)
     model: str = ""
+    may_leave: bool = False
     lines: int = 0
     bars: dict = field(default_factory=dict)
     parts: dict = field(default_factory=dict)
@@ -104,6 +105,8 @@ def take(found, told, line):
         found.want = only(rest.split(), not found.want)
     elif key == "title":
         found.title = only(rest, not found.title)
+    elif line == "gone allowed":
+        found.may_leave = only(True, not found.may_leave)
     elif key == "model" and rest in MODELS:
         found.model = only(rest, not found.model)
     else:
@@ -213,17 +216,30 @@ def ran(command, text, *words):
         raise Refused(f"not ended after {SECONDS} seconds") from None
 
 
-def answer_of(text):
-    """The values of a program's shared names at its end."""
+def end_of(text):
+    """The values of a program's shared names at its end, and who is gone in which line."""
     made = ran("plain", text, "--csv")
     if made.returncode:
         raise Refused((made.stdout + made.stderr).strip())
-    values = {}
+    values, gone = {}, []
     for row in made.stdout.split("\n")[1:]:
         name, *others = row.split(",")
-        if others and not name.startswith("gone"):
+        if name == "gone processor":
+            gone.append(others)
+        elif others:
             values.setdefault(name, []).append(int(others[-1]))
-    return values
+    return values, gone
+
+
+def answer_of(text):
+    """The values of a program's shared names at its end."""
+    return end_of(text)[0]
+
+
+def gone_on(exercise, text, given):
+    """Who is gone at the end of a program that is handed in, if that is not allowed."""
+    gone = [] if exercise.may_leave else end_of(program_for(exercise, text, given))[1]
+    return f"processor {gone[0][0]} is gone in line {gone[0][1]}" if gone else ""
 
 
 def costs_of(text):
@@ -241,6 +257,9 @@ def try_on(exercise, text, given):
         for place, (found, wanted) in enumerate(zip(answer[name], values)):
             if found != wanted:
                 raise Refused(f"{name}[{place}] holds {found}, wanted {wanted}")
+    fault = gone_on(exercise, text, given)
+    if fault:
+        raise Refused(fault)
     if not given.bars:
         return
     costs, model = costs_of(program)

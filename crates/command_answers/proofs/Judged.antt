@@ -6,7 +6,8 @@ use Rattle.std.proofs.lemmas.List.{append-nil, map-append, take_all, take_more}
 use Rattle.std.specs.Borrow.{Bor}
 use Rattle.clap.specs.Words.{Text}
 use Rattle.exercise_judge.specs.Trials.{TrialData}
-use Rattle.exercise_words.specs.Records.{AreRecords, IsSaidOf, header_and_records, file_record, passed_status}
+use Rattle.exercise_words.specs.Records.{AreRecords, IsSaidOf, header_and_records, file_record}
+use Rattle.exercise_words.specs.Records.{passed_status}
 use Rattle.exercise_words.specs.declared.said.Said.{Said}
 use Rattle.command_answers.proofs.Texts.{texts_of}
 

@@ -32,6 +32,10 @@ const RIGHT: &[u8] = b"pardo 1\nrule crew\nconst n = 4\nprocs i < n\nshared A[n]
 const WRONG: &[u8] = b"pardo 1\nrule crew\nconst n = 4\nprocs i < n\nshared A[n] = 0\ncode\n\
     A[i] := A[i] + 1\n";
 
+// Right with four processors alone.
+const LATE: &[u8] = b"pardo 1\nrule crew\nconst n = 4\nprocs i < n\nshared A[n] = 0\ncode\n\
+    A[i] := 2 * A[i] + n / 16\n";
+
 /// Files by their names.
 #[derive(Drop)]
 struct Desk;
@@ -46,6 +50,7 @@ impl Folder for Desk {
             "double" => DOUBLE,
             "right" => RIGHT,
             "wrong" => WRONG,
+            "late" => LATE,
             _ => b"",
         })
     }
@@ -56,6 +61,7 @@ const ROWS: &str = "\
 judge double right -> 0 file,passed,input,what~right,yes,,~;
 judge double right wrong -> 1 file,passed,input,what~right,yes,,~wrong,no,1,\"A[0] holds 1, wanted \
     0\"~;
+judge double late -> 1 file,passed,input,what~late,no,2,a value is not the one that is wanted~;
 judge nothing right -> 2 ;exercise line=1 kind=BadHeader~
 judge nothing right --explain -> 2 ;exercise line=1 kind=BadHeader~nothing: line 1: the first line \
     must be exercise 1~";

@@ -156,7 +156,7 @@ const REFUSED: &str = "\
 $ pramx check job --explain
 @x := 1 \x07~ \
     | 2 text line=8 kind=NotAscii~\
-    job:8:8: a character that is not allowed: texts are ASCII, in comments too~    x := 1 \
+    job:8:8: a character that is not allowed: a program is ASCII, but for its comments~    x := 1 \
     ?~           ^~
 @x := 1 # 2~ \
     | 2 text line=8 kind=BadSymbol~\

@@ -17,7 +17,8 @@ use Rattle.exercise_text.specs.Entries.{EntryData, answer_of}
 use Rattle.exercise_text.specs.declared.key.Key.TheVariants.{Reference}
 use Rattle.exercise_text.specs.Headers.{header_as_set, header_of}
 use Rattle.exercise_text.specs.Values.{WantedData, held_by, array_start, wanted_by}
-use Rattle.exercise_judge.specs.Trials.{AreEnds, AreSaid, AreWanted, EndsWith, wanted_names, part_in}
+use Rattle.exercise_judge.specs.Trials.{AreEnds, AreSaid, AreWanted, EndsWith, part_in}
+use Rattle.exercise_judge.specs.Trials.{wanted_names}
 use Rattle.exercise_judge.proofs.OneJob.{one_job}
 use Rattle.exercise_judge.proofs.Refused.{ok_same}
 
@@ -26,7 +27,8 @@ final_same a b same = cc
 
 -- ---- a run of the text
 
-module _ (text : List ℕ) (run : Run) (is : IsTextRun text run) (program : ProgramData) (job : JobData)
+module _ (text : List ℕ) (run : Run) (is : IsTextRun text run) (program : ProgramData)
+    (job : JobData)
     (line_of : ℕ → ℕ) (cells : List ℕ) (it : EndsWith text program job line_of cells) where
   pub same_program : run.program ≡ program
   same_program = ok_same run.program program (program_of text) is.0 it.reads
@@ -58,7 +60,7 @@ module _ (text : List ℕ) (names : Line) (a b : List WantedData) (x : AreEnds t
   cells_same = final_same x.cells y.cells (one_answer y.job (Final x.cells) (Final y.cells)
       (subst (λ (j : JobData). IsAnswer j (Final x.cells)) job_same x.ends.ends) y.ends.ends)
 
-  ends_same : a ≡ b
+  pub ends_same : a ≡ b
   ends_same = x.are ∙ ap₂ (λ (p : ProgramData) (cells : List ℕ).
       map (wanted_by (held_by p.arrays (slice_index cells))) names) program_same cells_same
       ∙ sym y.are

@@ -3,5 +3,9 @@ pub mod Ends
 pub mod Judged
 pub mod Meeting
 pub mod OneJob
+pub mod Referring
 pub mod Refused
+pub mod Staying
+pub mod Small
 pub mod Unmet
+pub mod Wronging

@@ -1,5 +1,5 @@
 -- What a submission that meets a trial says of its run.
-use Rattle.std.proofs.Common.{◌≡◌, ◌∙◌, ℕ, List, ap₂, subst, sym}
+use Rattle.std.proofs.Common.{◌≡◌, ◌∙◌, ◌<◌, ℕ, false, List, None, ap₂, subst, sym}
 use Rattle.std.specs.Prelude.{IfSome, slice_index}
 use Rattle.pram_job.specs.Job.{JobData}
 use Rattle.pram_step.specs.declared.answer.RunAnswer.TheVariants.{Final}
@@ -7,15 +7,17 @@ use Rattle.pram_step.specs.Runs.{IsAnswer}
 use Rattle.pram_cost.specs.Models.{AcceptsSteps}
 use Rattle.pram_cost.specs.declared.pram.Pram.{Pram}
 use Rattle.pardo_program.specs.Program.{ProgramData}
+use Rattle.pardo_job.specs.Ends.{gone_in}
 use Rattle.pardo_answers.specs.declared.line_costs.LineCost.{LineCost}
 use Rattle.pardo_answers.specs.declared.run.Run.{Run}
 use Rattle.pardo_answers.specs.Costs.{line_costs, operations_in, time_in}
 use Rattle.pardo_answers.specs.Runs.{IsTextRun}
 use Rattle.exercise_text.specs.Submissions.{judged_text}
-use Rattle.exercise_judge.specs.Trials.{AreHeld, KeepsBar, Meets, TrialData}
+use Rattle.exercise_judge.specs.Trials.{AreHeld, KeepsBar, Meets, NoneGone, TrialData}
 use Rattle.exercise_judge.proofs.Costs.{all_steps}
 use Rattle.exercise_judge.proofs.Ends.{final_same}
 use Rattle.exercise_judge.proofs.Ends as ends
+use Rattle.exercise_judge.proofs.Staying.{all_none}
 
 module _ (trial : TrialData) (submission : List ℕ) (run : Run)
     (is : IsTextRun (judged_text trial.header submission) run) (met : Meets trial submission) where
@@ -41,6 +43,12 @@ module _ (trial : TrialData) (submission : List ℕ) (run : Run)
       subst (λ (p : ProgramData). AreHeld trial.wanted p (slice_index cells)) (sym same_program)
       (subst (λ (c : List ℕ). AreHeld trial.wanted met.program (slice_index c)) same met.values)
 
+  pub there_too : trial.may_leave ≡ false → (i : ℕ) → i < run.job.procs →
+      gone_in run.ended.lines.gone.items i ≡ None
+  there_too stays = all_none run.job (slice_index run.numbers.items) is.1.compiled.job_is
+      (gone_in run.ended.lines.gone.items) (is.1.ended.ends_in.gone run_ends.1.reached)
+      (subst NoneGone (sym same_job) (met.there stays))
+
   lines_are : line_costs met.program met.job ≡ run.costs.lines.items
   lines_are = sym (is.1.lines ∙ ap₂ line_costs same_program same_job)
 
@@ -58,6 +66,7 @@ module _ (trial : TrialData) (submission : List ℕ) (run : Run)
   pub model_too : IfSome trial.model (λ (allowed : Pram).
       AcceptsSteps allowed run.job run.costs.cost.steps)
   model_too = subst (λ (n : ℕ). IfSome trial.model (λ (allowed : Pram).
-      AcceptsSteps allowed run.job n)) (sym (all_steps run.job run.costs.cost met.cells is.1.cost run_ends))
+      AcceptsSteps allowed run.job n))
+      (sym (all_steps run.job run.costs.cost met.cells is.1.cost run_ends))
       (subst (λ (j : JobData). IfSome trial.model (λ (allowed : Pram).
       AcceptsSteps allowed j j.steps)) (sym same_job) met.model)

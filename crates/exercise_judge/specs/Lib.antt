@@ -1,2 +1,3 @@
 pub mod Trials
 pub mod Verdicts
+pub mod Wrongs

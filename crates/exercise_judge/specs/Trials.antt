@@ -1,12 +1,14 @@
 -- What a submission has to do under one input, and that it does.
-use Rattle.std.specs.Prelude.{◌≡◌, ◌≢◌, ◌≤◌, ℕ, ◌++◌, List, [], ◌∷◌, All, IfSome, MatchBool}
+use Rattle.std.specs.Prelude.{◌≡◌, ◌≢◌, ◌≤◌, ◌<◌, ℕ, Bool, false, ◌++◌, List, [], ◌∷◌, All}
+use Rattle.std.specs.Prelude.{IfSome, MatchBool}
 use Rattle.std.specs.Prelude.{MatchOption, map}
 use Rattle.std.specs.Prelude.{codes, slice_index, unwrap_or, Option, Some, None, Ok}
 use Rattle.std.specs.Option.{option_and_then}
 use Rattle.text_lines.specs.Lines.{Line, words_of}
 use Rattle.pram_job.specs.Job.{JobData}
 use Rattle.pram_step.specs.declared.answer.RunAnswer.TheVariants.{Final}
-use Rattle.pram_step.specs.Runs.{IsAnswer}
+use Rattle.pram_machine.specs.Machine.{counter, out_of_range}
+use Rattle.pram_step.specs.Runs.{IsAnswer, state_after}
 use Rattle.pram_cost.specs.Models.{AcceptsSteps}
 use Rattle.pram_cost.specs.declared.pram.Pram.{Pram}
 use Rattle.pardo_program.specs.Program.{ProgramData}
@@ -15,16 +17,16 @@ use Rattle.pardo_job.specs.Compiled.{IsCompiled}
 use Rattle.pardo_answers.specs.Costs.{line_costs, operations_in, time_in}
 use Rattle.exercise_text.specs.declared.key.Key.{Key}
 use Rattle.exercise_text.specs.declared.key.Key.TheVariants as key
-use Rattle.exercise_text.specs.Entries.{EntryData, answer_of, bar_in, model_in, number_after}
-use Rattle.exercise_text.specs.Entries.{entry_text}
+use Rattle.exercise_text.specs.Entries.{EntryData, answer_of, bar_in, has_key, may_leave, model_in}
+use Rattle.exercise_text.specs.Entries.{number_after, entry_text}
 use Rattle.exercise_text.specs.Keys.{is_input}
 use Rattle.exercise_text.specs.Submissions.{code_lines, judged_text, missing_line}
 use Rattle.exercise_text.specs.Sets.{unknown_word}
 use Rattle.exercise_text.specs.Headers.{header_as_set, header_of, expression_value}
 use Rattle.exercise_text.specs.Values.{WantedData, held_by, array_start, wanted_by}
 
--- The header as the input sets it, what is wanted at the end, the bars, and the weakest model that
--- is allowed.
+-- The header as the input sets it, what is wanted at the end, the bars, the weakest model that is
+-- allowed, whether processors may leave, and whether the input is hidden.
 pub record TrialData : Type 0 where
   pub header : List ℕ
   pub wanted : List WantedData
@@ -33,6 +35,8 @@ pub record TrialData : Type 0 where
   pub steps : Option ℕ
   pub lines : Option ℕ
   pub model : Option Pram
+  pub may_leave : Bool
+  pub hidden : Bool
 
 -- ---- a program and its job
 
@@ -54,8 +58,14 @@ abbrev pub AreHeld : List WantedData → ProgramData → (ℕ → ℕ) → Type 
 AreHeld wanted program cells =
     All (λ want. held_by program.arrays cells want.name ≡ want.values) wanted
 
+-- no processor is gone at the end
+abbrev pub NoneGone : JobData → Type 0
+NoneGone job =
+    (i : ℕ) → i < job.procs → counter job (state_after job job.steps) i ≢ out_of_range job
+
 -- The submission has all given lines. With the header of the trial it is a program that ends with
--- the wanted values, within the bars, under the model.
+-- the wanted values, within the bars, under the model; and with all processors, unless they may
+-- leave.
 pub record Meets (trial : TrialData) (submission : List ℕ) : Type 0 where
   pub given : missing_line trial.header submission ≡ None
   pub program : ProgramData
@@ -64,6 +74,7 @@ pub record Meets (trial : TrialData) (submission : List ℕ) : Type 0 where
   pub cells : List ℕ
   pub ends : EndsWith (judged_text trial.header submission) program job line_of cells
   pub values : AreHeld trial.wanted program (slice_index cells)
+  pub there : trial.may_leave ≡ false → NoneGone job
   pub time : KeepsBar trial.time (time_in (line_costs program job))
   pub operations : KeepsBar trial.operations (operations_in (line_costs program job))
   pub steps : KeepsBar trial.steps job.steps
@@ -106,6 +117,11 @@ AreWanted exercise input header wanted = MatchOption (answer_of (words_of input.
     (AreEnds (header ++ part_in key.Reference exercise) (wanted_names exercise) wanted)
     (λ words. AreSaid header words (wanted_names exercise) wanted)
 
+-- if there is a reference, it ends with what is wanted
+abbrev pub IsReferenced : List EntryData → List ℕ → List WantedData → Type 0
+IsReferenced exercise header wanted = IfSome (entry_text key.Reference exercise)
+    (λ reference. AreEnds (header ++ reference) (wanted_names exercise) wanted)
+
 -- each wanted name has values
 abbrev pub HaveValues : List WantedData → Type 0
 HaveValues wanted = All (λ want. want.values ≢ []) wanted
@@ -122,11 +138,14 @@ pub record IsTrial (exercise : List EntryData) (input : EntryData) (trial : Tria
       ≡ Ok trial.header
   pub wanted : AreWanted exercise input trial.header trial.wanted
   pub known : HaveValues trial.wanted
+  pub referenced : IsReferenced exercise trial.header trial.wanted
   pub time : IsBar exercise trial.header key.Time trial.time
   pub operations : IsBar exercise trial.header key.Operations trial.operations
   pub steps : IsBar exercise trial.header key.Steps trial.steps
   pub lines : trial.lines ≡ option_and_then number_after (entry_text key.Lines exercise)
   pub model : trial.model ≡ model_of exercise
+  pub may_leave : trial.may_leave ≡ may_leave exercise
+  pub hidden : trial.hidden ≡ has_key key.Hidden input
 
 -- an entry that is an input adds its trial, and another one nothing
 abbrev pub AddsTrial : List EntryData → EntryData → List TrialData → List TrialData → Type 0

@@ -1,6 +1,6 @@
 -- What is said of a submission, and what that means.
-use Rattle.std.specs.Prelude.{◌≡◌, ◌≢◌, ⊤, ℕ, ◌+◌, List, All, take, slice_get, Some, Result, Ok}
-use Rattle.std.specs.Prelude.{Err, true}
+use Rattle.std.specs.Prelude.{◌≡◌, ◌≢◌, ⊤, ℕ, ◌+◌, Bool, List, All, take, slice_get, Some, true}
+use Rattle.std.specs.Prelude.{Result, Ok, Err}
 use Rattle.pardo_text.specs.declared.fault.PardoKind.TheVariants as text
 use Rattle.pardo_job.specs.declared.fault.JobKind.TheVariants as job
 use Rattle.pardo_job.specs.declared.fault.Refusal.{Refusal}
@@ -15,6 +15,7 @@ use Rattle.exercise_judge.specs.declared.verdict.Unfit.{Unfit}
 use Rattle.exercise_judge.specs.declared.verdict.UnfitKind.{UnfitKind}
 use Rattle.exercise_judge.specs.declared.verdict.UnfitKind.TheVariants as unfit
 use Rattle.exercise_judge.specs.Trials.{IsTrial, Meets, TrialData}
+use Rattle.exercise_judge.specs.Wrongs.{IsWrong}
 
 -- Memory did not run out, and the run was not cut off.
 abbrev pub IsOfSubmission : Refusal → Type 0
@@ -32,19 +33,23 @@ abbrev pub Judges : {X : Type 0} → Result X Wrong → Type 0 → Type 0
 Judges (Ok x) fact = fact
 Judges (Err wrong) fact = IsCertain wrong → ¬ fact
 
--- The trial of this number, counted from 1, is not met, if that is certain, and all before are.
-pub record FailsAt (trials : List TrialData) (submission : List ℕ) (input : ℕ) (wrong : Wrong)
-    : Type 0 where
+-- The trial of this number, counted from 1, is not met, if that is certain, and all before are; and
+-- what is said is wrong with it.
+pub record FailsAt (trials : List TrialData) (submission : List ℕ) (input : ℕ) (hidden : Bool)
+    (wrong : Wrong) : Type 0 where
   pub before : ℕ
   pub number : input ≡ before + 1
   pub trial : TrialData
   pub is_there : slice_get trials before ≡ Some trial
+  pub is_hidden : hidden ≡ trial.hidden
   pub met : All (λ trial. Meets trial submission) (take before trials)
   pub unmet : IsCertain wrong → ¬ Meets trial submission
+  pub is_wrong : IsWrong trial submission wrong
 
 abbrev pub IsVerdictOn : List TrialData → List ℕ → Verdict → Type 0
 IsVerdictOn trials submission Passed = All (λ trial. Meets trial submission) trials
-IsVerdictOn trials submission (Failed input wrong) = FailsAt trials submission input wrong
+IsVerdictOn trials submission (Failed input hidden wrong) =
+    FailsAt trials submission input hidden wrong
 
 -- ---- an exercise that nothing can be judged by
 

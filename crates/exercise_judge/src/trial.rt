@@ -3,8 +3,8 @@ use exercise_text::Wanted;
 use pram_cost::Pram;
 use std::marker::Model;
 
-/// The header as the input sets it, what is wanted at the end, the bars, and the weakest model that
-/// is allowed.
+/// The header as the input sets it, what is wanted at the end, the bars, the weakest model that is
+/// allowed, whether processors may leave, and whether the input is hidden.
 #[derive(Drop)]
 pub struct Trial {
     pub header: Vec<u8>,
@@ -14,6 +14,8 @@ pub struct Trial {
     pub steps: Option<u32>,
     pub lines: Option<u64>,
     pub model: Option<Pram>,
+    pub may_leave: bool,
+    pub hidden: bool,
 }
 
 impl Model for Trial {
@@ -29,5 +31,7 @@ impl Model for Trial {
       steps = t.steps;
       lines = t.lines;
       model = t.model;
+      may_leave = t.may_leave;
+      hidden = t.hidden;
     } };
 }

@@ -1,11 +1,11 @@
 //! The trials of an exercise.
-ghost use Rattle.std.specs.Prelude.{◌≡◌, ◌≢◌, ℕ, List, IfErr, IfOk, Ok, OnOk, true};
+ghost use Rattle.std.specs.Prelude.{◌≡◌, ◌≢◌, ℕ, List, IfErr, IfOk, Ok, OnOk, false, true};
 ghost use Rattle.text_lines.specs.Lines.{words_of};
 ghost use Rattle.exercise_text.specs.declared.key.Key.TheVariants.{Given as GivenKey};
 ghost use Rattle.exercise_text.specs.Headers.{header_as_set};
 ghost use Rattle.exercise_text.specs.Values.{WantedData};
 ghost use Rattle.exercise_judge.specs.Trials.{AddsTrial, HaveValues, AreSaid, AreTrials, AreWanted};
-ghost use Rattle.exercise_judge.specs.Trials.{IsBar, IsTrial, part_in};
+ghost use Rattle.exercise_judge.specs.Trials.{IsBar, IsReferenced, IsTrial, part_in};
 ghost use Rattle.exercise_judge.specs.Verdicts.{HasNone, IsOfExercise, IsUnfit};
 ghost use Rattle.exercise_text.specs.Keys.{is_input};
 ghost use Rattle.pardo_text.specs.declared.fault.PardoKind.TheVariants.{Memory};
@@ -20,8 +20,8 @@ use exercise_text::{
 use pardo_text::{PardoFault, PardoKind};
 use std::alloc::Global;
 
-/// The trials of the inputs of an exercise, in their order. Its reference is run once for each that
-/// does not say what is wanted.
+/// The trials of the inputs of an exercise, in their order. Its reference, if it has one, is run
+/// once for each.
 pub fn trials_of(alloc: Global, exercise: &Exercise) -> Result<Vec<Trial>, Unfit>
     ensures trials { IfOk result (λ trials. AreTrials exercise.now trials.items) }
     ensures unfit { IfErr result (IsUnfit exercise.now) }
@@ -74,6 +74,8 @@ pub fn trial_of(alloc: Global, exercise: &Exercise, input: &Entry) -> Result<Tri
         steps,
         lines: exercise.most_lines(),
         model: exercise.model(),
+        may_leave: exercise.may_leave(),
+        hidden: input.is_hidden(),
     })
 }
 
@@ -124,7 +126,7 @@ pub fn part_in(exercise: &Exercise, key: Key) -> &[u8]
     exercise.text(key).unwrap_or(b"")
 }
 
-// What is wanted, if each wanted name has values.
+// What is wanted, if each wanted name has values, and the reference ends with them.
 fn known_wanted(
     alloc: Global,
     exercise: &Exercise,
@@ -132,13 +134,62 @@ fn known_wanted(
     header: &[u8],
 ) -> Result<Vec<Wanted>, UnfitKind>
     ensures wanted { IfOk result (λ wanted. AreWanted exercise.now input.now header.now wanted.items
-        × HaveValues wanted.items) }
+        × HaveValues wanted.items × IsReferenced exercise.now header.now wanted.items) }
     ensures none { IfErr result (λ kind. HasNone kind (λ wanted.
-        AreWanted exercise.now input.now header.now wanted × HaveValues wanted)) }
+        AreWanted exercise.now input.now header.now wanted × HaveValues wanted
+        × IsReferenced exercise.now header.now wanted)) }
 {
     let wanted = wanted_of(alloc, exercise, input, header)?;
     check_known(alloc, wanted.as_slice())?;
+    if answer_in(input.text()).is_none() {
+        return Ok(wanted);
+    }
+    check_reference(alloc, exercise, header, wanted.as_slice())?;
     Ok(wanted)
+}
+
+// Whether the reference, if there is one, ends with what is wanted.
+fn check_reference(
+    alloc: Global,
+    exercise: &Exercise,
+    header: &[u8],
+    wanted: &[Wanted],
+) -> Result<(), UnfitKind>
+    ensures ends { OnOk result (IsReferenced exercise.now header.now wanted.now) }
+    ensures none { IfErr result (λ kind. IsOfExercise kind →
+        ¬ IsReferenced exercise.now header.now wanted.now) }
+{
+    let Some(reference) = exercise.text(Key::Reference) else {
+        return Ok(());
+    };
+    let ends = wanted_by_reference(alloc, header, reference, part_in(exercise, Key::Want))?;
+    if are_same(wanted, ends.as_slice()) {
+        Ok(())
+    } else {
+        Err(UnfitKind::Contradiction)
+    }
+}
+
+fn are_same(wanted: &[Wanted], ends: &[Wanted]) -> bool
+    ensures same { result ≡ true → wanted.now ≡ ends.now }
+    ensures other { result ≡ false → wanted.now ≢ ends.now }
+{
+    if wanted.len() != ends.len() {
+        return false;
+    }
+    for at in 0..wanted.len() {
+        if !is_same(&wanted[at], &ends[at]) {
+            return false;
+        }
+    }
+    true
+}
+
+fn is_same(want: &Wanted, end: &Wanted) -> bool
+    ensures same { result ≡ true → want.now ≡ end.now }
+    ensures other { result ≡ false → want.now ≢ end.now }
+{
+    want.name.as_slice() == end.name.as_slice() && want.values.as_slice() == end.values.as_slice()
 }
 
 fn wanted_of(

@@ -1,6 +1,7 @@
 //! What is said of a submission, and of an exercise that cannot be judged by.
-ghost use Rattle.std.specs.Prelude.{◌≡◌};
+ghost use Rattle.std.specs.Prelude.{◌≡◌, ◌⊎◌, false};
 ghost use Rattle.exercise_judge.specs.Verdicts.{IsCertain};
+ghost use Rattle.exercise_judge.specs.Wrongs.{IsNoMemory};
 ghost use Rattle.exercise_judge.specs.declared.verdict.Wrong.TheVariants.{Memory, Program};
 
 use pardo_job::{JobFault, JobKind, Refusal};
@@ -55,6 +56,17 @@ pub enum Wrong {
         first: u32,
         second: u32,
     },
+    /// A processor is gone: the least of those that are, and in which line it left.
+    Gone {
+        processor: u32,
+        line: u64,
+    },
+    /// A wanted name has another number of places at the end: none where nothing has this name.
+    Places {
+        name: Vec<u8>,
+        has: u64,
+        wanted: u64,
+    },
     /// Out of memory.
     Memory,
 }
@@ -63,8 +75,12 @@ pub enum Wrong {
 #[derive(Debug, Drop)]
 pub enum Verdict {
     Passed,
-    /// The input, counted from 1, and what is wrong.
-    Failed { input: usize, wrong: Wrong },
+    /// The input, counted from 1, whether it is hidden, and what is wrong.
+    Failed {
+        input: usize,
+        hidden: bool,
+        wrong: Wrong,
+    },
 }
 
 /// Why an exercise cannot be judged by: the line of the input, and what is wrong with it.
@@ -91,6 +107,8 @@ pub enum UnfitKind {
     /// A word of the input sets no name that the header declares, or no array or scalar has this
     /// wanted name.
     Unknown(Vec<u8>),
+    /// The reference ends with other values than the input says.
+    Contradiction,
     /// Out of memory.
     Memory,
 }
@@ -133,7 +151,8 @@ impl<T: Drop> From<AllocFailed<T>> for UnfitKind {
 
 /// What a refusal of a submission's text says: out of memory it says nothing of the text.
 pub(crate) fn wrong_of(refusal: Refusal) -> Wrong
-    ensures { IsCertain result → result ≡ Program refusal }
+    ensures certain { IsCertain result → result ≡ Program refusal }
+    ensures wrong { (result ≡ Memory) ⊎ ((result ≡ Program refusal) × IsNoMemory refusal) }
 {
     if is_memory(refusal) {
         Wrong::Memory
@@ -143,7 +162,9 @@ pub(crate) fn wrong_of(refusal: Refusal) -> Wrong
 }
 
 /// Whether a refusal says only that memory ran out.
-pub(crate) fn is_memory(refusal: Refusal) -> bool {
+pub(crate) fn is_memory(refusal: Refusal) -> bool
+    ensures { result ≡ false → IsNoMemory refusal }
+{
     match refusal {
         Refusal::Text(PardoFault { kind, .. }) => kind == PardoKind::Memory,
         Refusal::Job(JobFault { kind, .. }) => kind == JobKind::Memory,

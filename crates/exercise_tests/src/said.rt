@@ -37,7 +37,7 @@ pub fn submission_said(alloc: Global, text: &str, submission: &str) -> Result<St
     Ok(match trials_in(alloc, text)? {
         Ok(trials) => match judge(alloc, trials.as_slice(), submission.as_bytes()) {
             Verdict::Passed => format!(in alloc; "passed")?,
-            Verdict::Failed { input, wrong } => {
+            Verdict::Failed { input, wrong, .. } => {
                 let wrong = wrong_said(alloc, &wrong)?;
                 format!(in alloc; "{input} {wrong}")?
             }
@@ -77,6 +77,12 @@ fn wrong_said(alloc: Global, wrong: &Wrong) -> Result<String, AllocError> {
             "{needs:?} for {allowed:?} {sharing:?} line={line} place={} processors={first},{second}",
             told(place.as_slice())
         ),
+        Wrong::Gone { processor, line } => {
+            format!(in alloc; "processor {processor} gone line={line}")
+        }
+        Wrong::Places { name, has, wanted } => {
+            format!(in alloc; "{} length {has}, wanted {wanted}", told(name.as_slice()))
+        }
         Wrong::Memory => format!(in alloc; "memory"),
     }
 }

@@ -18,6 +18,9 @@ exercise 1~model SREW => 2 BadLine
 exercise 1~time n => 2 BadLine
 exercise 1~lines <= n => 2 BadLine
 exercise 1~given 4 => 2 BadLine
+exercise 1~gone allowed~gone allowed => 3 Duplicate
+exercise 1~gone => 2 BadLine
+exercise 1~gone allowed here => 2 BadLine
 exercise 1~want ; A => 2 BadLine
 exercise 1~title é => 2 NotAscii
 exercise 1~want A~given~start~input => 5 Missing(Title)

@@ -16,8 +16,19 @@ const n = 16 => ; => the line \"const n\" is missing
 procs i<n => ; => the line \"procs i < n\" is missing
 x := => x = => line 10: an assignment is `:=`; `=` compares
 A[i] := A[i] + x => A[0] := x => processors 1 and 2 write A[0] in line 13, against the rule
+A[i] + x~end~end => A[i] + x~end~end~x := A[i + 1] => processor 3 is gone in line 16
 A[i] + x => A[i] + x + k => A[2] holds 18, wanted 17
 (1 << k)] => (1 << k)] + A[0] - A[0] => it needs CREW, EREW is allowed: processors 1 and 2 read A[0] in line 10";
+
+// the same where the first input is hidden
+const HIDDEN: &str = "\
+const n = 16 => ; => the line \"const n\" is missing
+x := => x = => line 10: something is missing here, left over, or in the wrong place
+A[i] := A[i] + x => A[0] := x => two processors write one place in line 13, against the rule
+A[i] + x~end~end => A[i] + x~end~end~x := A[i + 1] => a processor is gone in line 16
+A[i] + x => A[i] + x + k => a value is not the one that is wanted
+code => code~; more~x := 1~x := 1 => it has too many lines of code
+(1 << k)] => (1 << k)] + A[0] - A[0] => it needs CREW, EREW is allowed: two processors read one place in line 10";
 
 // the same of the exercise
 const EXERCISES: &str = "\
@@ -72,6 +83,22 @@ fn submissions_are_told_in_words(rt: HostRuntime) -> Result<(), Fail> {
 }
 
 #[test]
+fn of_hidden_inputs_the_kind_is_told(rt: HostRuntime) -> Result<(), Fail> {
+    let alloc = rt.alloc();
+    let exercise = SUMS.replace(alloc, "input n=4", "hidden n=4")?;
+    for row in HIDDEN.lines() {
+        let (old, rest) = row.split_once(" => ").expect(&rt, row);
+        let (new, wanted) = rest.split_once(" => ").expect(&rt, row);
+        let submission = change(alloc, GOOD, old, new)?;
+        let found = said(alloc, exercise.as_bytes(), submission.as_bytes())?;
+        let found = from_utf8(found.as_slice())?;
+        let is_said = found == wanted;
+        assert!(rt; is_said, "{row} but {found}");
+    }
+    Ok(())
+}
+
+#[test]
 fn submissions_have_fields(rt: HostRuntime) -> Result<(), Fail> {
     let alloc = rt.alloc();
     let Ok(trials) = trials_in(alloc, SUMS.as_bytes()) else {
@@ -118,8 +145,14 @@ fn faults_of_a_run_are_told_in_words(rt: HostRuntime) -> Result<(), Fail> {
         kind: JobKind::Endless,
     });
     let mut text = Vec::new(alloc);
-    push_wrong(&mut text, &Wrong::Program(endless), trial, GOOD.as_bytes())?;
-    push_wrong(&mut text, &Wrong::Memory, trial, GOOD.as_bytes())?;
+    push_wrong(
+        &mut text,
+        &Wrong::Program(endless),
+        false,
+        trial,
+        GOOD.as_bytes(),
+    )?;
+    push_wrong(&mut text, &Wrong::Memory, false, trial, GOOD.as_bytes())?;
     let told = from_utf8(text.as_slice())?;
     let sentence = "line 8: the program is still here after 1,048,576 steps, or 2^30 in all";
     assert!(rt; told.strip_prefix(sentence) == Some("out of memory"));

@@ -1,6 +1,7 @@
 -- The entries of an exercise, and what stands in them.
 use Rattle.std.specs.Prelude.{ℕ, ◌==◌, ◌^◌, ◌-◌, min, Bool, not, List, [], ◌∷◌}
-use Rattle.std.specs.Prelude.{length, take, drop, codes, find, unwrap_or, if◌then◌else◌}
+use Rattle.std.specs.Prelude.{length, take, drop, codes, false, find, is_some, unwrap_or}
+use Rattle.std.specs.Prelude.{if◌then◌else◌}
 use Rattle.std.specs.Prelude.{Option, Some, None}
 use Rattle.std.specs.Char.{is_ascii_digit}
 use Rattle.std.specs.List.{list_all, position}
@@ -12,6 +13,7 @@ use Rattle.text_lines.specs.Words.{one_of}
 use Rattle.pram_cost.specs.declared.pram.Pram.{Pram}
 use Rattle.pram_cost.specs.Beyond.{model_named}
 use Rattle.exercise_text.specs.declared.key.Key.{Key}
+use Rattle.exercise_text.specs.declared.key.Key.TheVariants.{Gone}
 use Rattle.exercise_text.specs.Keys.{key_place}
 
 -- What a line says, the number of the line, and what follows its first word; of a part its lines,
@@ -58,6 +60,13 @@ abbrev pub number_after : List ℕ → Option ℕ
 number_after text = option_and_then (λ bar. option_and_then digits_in (one_of (words_of bar)))
     (bar_in text)
 
+-- it is the one word `allowed`
+abbrev pub says_allowed : List ℕ → Bool
+says_allowed text = elim (one_of (words_of text)) [
+  | None ↦ false
+  | Some word ↦ bytes_eq word (codes "allowed")
+]
+
 abbrev pub is_arrow : Word → Bool
 is_arrow word = bytes_eq word (codes "->")
 
@@ -77,3 +86,7 @@ first_entry key entries = find (has_key key) entries
 
 abbrev pub entry_text : Key → List EntryData → Option (List ℕ)
 entry_text key entries = option_map (λ entry. entry.text) (first_entry key entries)
+
+-- processors may leave in a run
+abbrev pub may_leave : List EntryData → Bool
+may_leave exercise = is_some (first_entry Gone exercise)

@@ -6,14 +6,15 @@ use Rattle.text_lines.specs.Lines.{Word}
 use Rattle.exercise_text.specs.declared.key.Key.{Key}
 use Rattle.exercise_text.specs.declared.key.Key.TheVariants.{Note, Title, Task, Model, Want, Time}
 use Rattle.exercise_text.specs.declared.key.Key.TheVariants.{Operations, Steps, Lines, Given}
-use Rattle.exercise_text.specs.declared.key.Key.TheVariants.{Start, Reference, Input, Hidden}
+use Rattle.exercise_text.specs.declared.key.Key.TheVariants.{Start, Reference, Input, Hidden, Gone}
 
 abbrev pub said_key : Word → Option Key
 said_key word =
     if bytes_eq word (codes "title") then Some Title
     else (if bytes_eq word (codes "task") then Some Task
     else (if bytes_eq word (codes "model") then Some Model
-    else (if bytes_eq word (codes "want") then Some Want else None)))
+    else (if bytes_eq word (codes "want") then Some Want
+    else (if bytes_eq word (codes "gone") then Some Gone else None))))
 
 abbrev pub bar_key : Word → Option Key
 bar_key word =
@@ -54,6 +55,7 @@ key_place Start = 10
 key_place Reference = 11
 key_place Input = 12
 key_place Hidden = 13
+key_place Gone = 14
 
 -- lines of a program follow
 abbrev pub is_part : Key → Bool

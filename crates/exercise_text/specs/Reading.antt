@@ -16,8 +16,8 @@ use Rattle.exercise_text.specs.declared.fault.ExerciseKind.TheVariants.{NoAnswer
 use Rattle.exercise_text.specs.declared.key.Key.{Key}
 use Rattle.exercise_text.specs.declared.key.Key.TheVariants as key
 use Rattle.exercise_text.specs.Entries.{EntryData, answer_of, bar_in, first_entry, has_key}
-use Rattle.exercise_text.specs.Entries.{model_in}
-use Rattle.exercise_text.specs.Entries.{number_after, rest_of_word, first_word}
+use Rattle.exercise_text.specs.Entries.{model_in, number_after, rest_of_word, says_allowed}
+use Rattle.exercise_text.specs.Entries.{first_word}
 use Rattle.exercise_text.specs.Keys.{is_input, is_once, is_part, key_named}
 
 -- ---- a line
@@ -30,6 +30,7 @@ is_lawful key.Operations text = is_some (bar_in text)
 is_lawful key.Steps text = is_some (bar_in text)
 is_lawful key.Lines text = is_some (number_after text)
 is_lawful key.Want text = is_filled (words_of text)
+is_lawful key.Gone text = says_allowed text
 is_lawful key.Given text = not (is_filled (words_of text))
 is_lawful key.Start text = not (is_filled (words_of text))
 is_lawful key.Reference text = not (is_filled (words_of text))

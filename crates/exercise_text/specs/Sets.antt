@@ -1,48 +1,26 @@
 -- The header of an exercise as the words of an input set it.
-use Rattle.std.specs.Prelude.{ℕ, zero, suc, ◌+◌, ◌*◌, ◌/◌, ◌%◌, ◌^◌, ◌==◌, Bool, false, not, ◌||◌}
-use Rattle.std.specs.Prelude.{◌&&◌}
-use Rattle.std.specs.Prelude.{nat_lt, List, [], ◌∷◌, ◌++◌, take, drop, codes, decimal, find}
+use Rattle.std.specs.Prelude.{ℕ, zero, suc, ◌==◌, Bool, false, not, ◌||◌, ◌&&◌}
+use Rattle.std.specs.Prelude.{List, [], ◌∷◌, ◌++◌, take, drop, codes, decimal, find}
 use Rattle.std.specs.Prelude.{if◌then◌else◌, Option, Some, None}
-use Rattle.std.specs.Char.{is_ascii_digit}
-use Rattle.std.specs.List.{flat_map, list_all, list_any}
+use Rattle.std.specs.List.{flat_map, list_any}
 use Rattle.std.specs.Str.{bytes_eq}
-use Rattle.std.specs.Str.Parse.{digits_value}
-use Rattle.text_lines.specs.Lines.{Line, Word, is_filled, lines_of}
+use Rattle.text_lines.specs.Lines.{Line, Word, lines_of}
 use Rattle.exercise_text.specs.Entries.{first_place, is_arrow}
 use Rattle.exercise_text.specs.LineKeys.{line_key}
+use Rattle.pardo_text.specs.Thrown.{seed_after, seed_with_bound, thrown_below}
 
 -- ---- values that are thrown
-
-abbrev pub next_seed : ℕ → ℕ
-next_seed seed = (1664525 * seed + 1013904223) % 2 ^ 32
 
 -- so many values below `below`, thrown from a seed, each with what parts it from the next one
 abbrev pub thrown_text : ℕ → ℕ → ℕ → List ℕ
 thrown_text zero seed below = []
 thrown_text (suc more) seed below =
-    decimal (next_seed seed * below / 2 ^ 32) ++ codes ", "
-    ++ thrown_text more (next_seed seed) below
+    decimal (thrown_below below (seed_after seed)) ++ codes ", "
+    ++ thrown_text more (seed_after seed) below
 
--- the number of 32 bits that a text is
-abbrev pub number_in_text : List ℕ → Option ℕ
-number_in_text text =
-    if is_filled text && list_all is_ascii_digit text && nat_lt (digits_value 10 text) (2 ^ 32)
-    then Some (digits_value 10 text) else None
-
-abbrev pub both : Option ℕ → Option ℕ → Option (ℕ × ℕ)
-both None other = None
-both (Some seed) None = None
-both (Some seed) (Some below) = Some (seed, below)
-
--- the seed and the bound of a text SEED:BELOW
-abbrev pub seed_and_bound : List ℕ → Option (ℕ × ℕ)
-seed_and_bound text =
-    let colon = first_place (λ byte. byte == 58) text in
-    both (number_in_text (take colon text)) (number_in_text (drop 1 (drop colon text)))
-
--- those of a text any:SEED:BELOW
+-- the seed and the bound of a text any:SEED:BELOW
 abbrev pub any_in : List ℕ → Option (ℕ × ℕ)
-any_in text = if bytes_eq (take 4 text) (codes "any:") then seed_and_bound (drop 4 text) else None
+any_in text = if bytes_eq (take 4 text) (codes "any:") then seed_with_bound (drop 4 text) else None
 
 -- ---- what names are set to
 

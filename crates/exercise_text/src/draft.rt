@@ -11,7 +11,7 @@ use crate::entry::Entry;
 use crate::exercise::Exercise;
 use crate::fault::ExerciseKind;
 use crate::key::Key;
-use crate::words::{bar_in, model_in, number_in, split_word};
+use crate::words::{bar_in, model_in, number_in, says_allowed, split_word};
 use std::alloc::{AllocError, Global};
 use std::marker::Model;
 use std::mem;
@@ -129,6 +129,7 @@ fn says_enough(key: Key, text: &[u8]) -> bool
         Key::Time | Key::Operations | Key::Steps => bar_in(text).is_some(),
         Key::Lines => number_in(text).is_some(),
         Key::Want => has_words(text),
+        Key::Gone => says_allowed(text),
         Key::Given | Key::Start | Key::Reference => !has_words(text),
         _ => true,
     }

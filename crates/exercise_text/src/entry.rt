@@ -2,6 +2,7 @@
 ghost use Rattle.std.specs.Prelude.{◌≡◌, ◌++◌, ◌∷◌, [], OnOk};
 ghost use Rattle.exercise_text.specs.Entries.{has_key};
 ghost use Rattle.exercise_text.specs.Reading.{is_unanswered};
+ghost use Rattle.exercise_text.specs.declared.key.Key.TheVariants.{Hidden};
 
 use crate::key::Key;
 use crate::words::answer_in;
@@ -68,6 +69,13 @@ impl Entry {
         ensures { result ≡ has_key key self.now }
     {
         self.key.place() == key.place()
+    }
+
+    /// Whether it is an input that learners are not shown.
+    pub fn is_hidden(&self) -> bool
+        ensures { result ≡ has_key Hidden self.now }
+    {
+        self.has_key(Key::Hidden)
     }
 
     /// Whether it is an input that does not say what is wanted.

@@ -1,8 +1,8 @@
 //! Exercises.
 ghost use Rattle.std.specs.Prelude.{◌≡◌, ◌≢◌, IfErr, find};
 ghost use Rattle.std.specs.Option.{option_and_then, option_map};
-ghost use Rattle.exercise_text.specs.Entries.{bar_in, first_entry, model_in, number_after};
-ghost use Rattle.exercise_text.specs.Entries.{entry_text};
+ghost use Rattle.exercise_text.specs.Entries.{bar_in, first_entry, may_leave, model_in};
+ghost use Rattle.exercise_text.specs.Entries.{entry_text, number_after};
 ghost use Rattle.exercise_text.specs.Reading.{read_to_end, is_unanswered, has_no};
 ghost use Rattle.exercise_text.specs.Reading.{needed};
 ghost use Rattle.exercise_text.specs.declared.key.Key.TheVariants.{Lines, Model as ModelKey};
@@ -78,6 +78,13 @@ impl Exercise {
         ensures { result ≡ option_and_then model_in (entry_text ModelKey self.now) }
     {
         model_in(self.text(Key::Model)?)
+    }
+
+    /// Whether processors may leave in a run.
+    pub fn may_leave(&self) -> bool
+        ensures { result ≡ may_leave self.now }
+    {
+        self.entry(Key::Gone).is_some()
     }
 
     fn lacks(&self, key: Key) -> bool

@@ -37,6 +37,8 @@ pub enum Key {
     Input,
     /// Settings of a run that learners are not shown.
     Hidden,
+    /// That processors may leave in a run.
+    Gone,
 }
 
 impl Key {
@@ -72,6 +74,7 @@ impl Key {
             Key::Reference => "reference",
             Key::Input => "input",
             Key::Hidden => "hidden",
+            Key::Gone => "gone",
         }
     }
 
@@ -94,6 +97,7 @@ impl Key {
             Key::Reference => 11,
             Key::Input => 12,
             Key::Hidden => 13,
+            Key::Gone => 14,
         }
     }
 
@@ -137,6 +141,8 @@ fn said_key(word: &[u8]) -> Option<Key>
         Some(Key::Model)
     } else if is_word(word, "want") {
         Some(Key::Want)
+    } else if is_word(word, "gone") {
+        Some(Key::Gone)
     } else {
         None
     }

@@ -6,7 +6,8 @@ ghost use Rattle.text_lines.specs.Lines.{is_blank, words_of};
 ghost use Rattle.std.specs.Char.{is_ascii_digit};
 ghost use Rattle.pram_cost.specs.Beyond.{model_named};
 ghost use Rattle.exercise_text.specs.Entries.{answer_of, bar_in, digits_in, is_arrow, model_in};
-ghost use Rattle.exercise_text.specs.Entries.{number_after, rest_of_word, trimmed, first_word};
+ghost use Rattle.exercise_text.specs.Entries.{number_after, rest_of_word, says_allowed, trimmed};
+ghost use Rattle.exercise_text.specs.Entries.{first_word};
 
 use pram_cost::Pram;
 use std::str::from_utf8;
@@ -91,6 +92,16 @@ fn are_digits(word: &[u8]) -> bool
     ensures { result ≡ list_all is_ascii_digit word.now }
 {
     word.iter().all(|byte| byte.is_ascii_digit())
+}
+
+/// Whether a text is the one word `allowed`.
+pub(crate) fn says_allowed(text: &[u8]) -> bool
+    ensures { result ≡ says_allowed text.now }
+{
+    match one_word(text) {
+        None => false,
+        Some(word) => is_word(word, "allowed"),
+    }
 }
 
 /// What the text of an input says behind `->`, if that stands there.

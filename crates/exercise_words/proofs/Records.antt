@@ -1,29 +1,30 @@
 -- What the records of submissions mean.
 use Rattle.std.proofs.Common.{◌≡◌, ◌∙◌, ℕ, Bool, true, false, List, [], ◌∷◌, All}
-use Rattle.std.proofs.Common.{ap, arith, decimal, get_or, inl, inr, max, refl, take}
+use Rattle.std.proofs.Common.{ap, arith, decimal, get_or, inl, inr, max, refl, subst, take}
 use Rattle.std.proofs.lemmas.List.Elements.{All-cons, All-nil}
 use Rattle.exercise_judge.specs.Trials.{TrialData}
 use Rattle.exercise_judge.specs.Verdicts.{IsVerdictOn}
 use Rattle.exercise_judge.specs.declared.verdict.Verdict.{Verdict}
 use Rattle.exercise_judge.specs.declared.verdict.Verdict.TheVariants.{Passed, Failed}
-use Rattle.exercise_words.specs.Records.{AreRecords, IsSaidOf, SaysVerdict, passed_status}
+use Rattle.exercise_words.specs.Records.{AreRecords, IsSaidOf, IsWhat, SaysVerdict, passed_status}
 use Rattle.exercise_words.specs.declared.said.Said.{Said}
 use Rattle.exercise_words.specs.Laws.{DoneWhereAllSolve, Fails, SolvesAll}
 use Rattle.exercise_words.specs.Laws.{WhatDidNotPassFails, WhatPassedSolves}
 use Rattle.exercise_words.proofs.Solving.{what_is_met_is_solved, what_is_solved_is_met}
 
 module _ (trials : List TrialData) (submission : List ℕ) (said : Said) where
-  passed_by : (verdict : Verdict) → IsVerdictOn trials submission verdict → SaysVerdict verdict said →
-      said.passed ≡ true → SolvesAll trials submission
+  passed_by : (verdict : Verdict) → IsVerdictOn trials submission verdict →
+      SaysVerdict verdict said → said.passed ≡ true → SolvesAll trials submission
   passed_by Passed met says passed = λ k trial lt.
       what_is_met_is_solved (get_or trials k trial) submission (met k trial lt)
-  passed_by (Failed input wrong) fails says passed =
+  passed_by (Failed input hidden wrong) fails says passed =
       let not : said.passed ≡ false = says.0 in absurd (cc)
 
-  failed_by : (verdict : Verdict) → IsVerdictOn trials submission verdict → SaysVerdict verdict said →
-      said.passed ≡ false → Fails trials submission said.input.items said.what.items
+  failed_by : (verdict : Verdict) → IsVerdictOn trials submission verdict →
+      SaysVerdict verdict said → said.passed ≡ false →
+      Fails trials submission said.input.items said.what.items
   failed_by Passed met says failed = let yes : said.passed ≡ true = says.0 in absurd (cc)
-  failed_by (Failed input wrong) fails says failed = record {
+  failed_by (Failed input hidden wrong) fails says failed = record {
     before = fails.before;
     counts = says.1 ∙ ap decimal fails.number;
     trial = fails.trial;
@@ -31,7 +32,8 @@ module _ (trials : List TrialData) (submission : List ℕ) (said : Said) where
     solves = λ k trial lt. what_is_met_is_solved (get_or (take fails.before trials) k trial)
         submission (fails.met k trial lt);
     wrong = wrong;
-    says = says.2;
+    says = subst (λ (b : Bool). IsWhat b wrong said.what.items) fails.is_hidden says.2;
+    is_wrong = fails.is_wrong;
     unsolved = λ certain solves. fails.unmet certain
         (what_is_solved_is_met fails.trial submission solves);
   }

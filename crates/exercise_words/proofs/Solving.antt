@@ -7,6 +7,7 @@ use Rattle.std.specs.Prelude.{find, slice_index, IfOk}
 use Rattle.std.specs.Str.{bytes_eq}
 use Rattle.std.proofs.lemmas.List.Sums.{sum_by-cons}
 use Rattle.text_lines.specs.Lines.{Word}
+use Rattle.pram_job.specs.Job.{JobData}
 use Rattle.pram_step.specs.declared.answer.Dispute.{Dispute}
 use Rattle.pram_step.specs.declared.answer.RunAnswer.{RunAnswer}
 use Rattle.pram_step.specs.declared.answer.RunAnswer.TheVariants.{Final, Conflict, Unfinished}
@@ -20,14 +21,21 @@ use Rattle.pardo_text.specs.declared.fault.PardoFault.{PardoFault}
 use Rattle.pardo_text.proofs.LawLawful.{programs_are_lawful}
 use Rattle.pardo_text.proofs.LawNesting.{programs_are_nested}
 use Rattle.pardo_flat.specs.Layouts.{program_layout}
+use Rattle.pardo_flat.specs.Flat.{flat}
+use Rattle.pardo_job.specs.Compiled.{IsCompiled}
+use Rattle.pardo_job.specs.Ends.{AreGone}
+use Rattle.pardo_job.specs.Lines.{job_of}
 use Rattle.pardo_job.specs.Meaning.{after}
+use Rattle.pardo_job.specs.Runs.{IsProgramEnd}
 use Rattle.pardo_job.specs.Times.{AreAllLines}
 use Rattle.pardo_law.specs.Theorem.{IsAnswerOf}
 use Rattle.pardo_law.proofs.Answering.{answers_are_the_programs, runs_end_once}
+use Rattle.pardo_law.proofs.FlatCarrying.{jobs_carry_programs}
 use Rattle.exercise_text.specs.Submissions.{judged_text}
 use Rattle.exercise_text.specs.Values.{held_by, array_values}
-use Rattle.exercise_judge.specs.Trials.{KeepsBar, Meets, TrialData}
-use Rattle.exercise_words.specs.Laws.{Solves, WhatIsMetIsSolved, WhatIsSolvedIsMet}
+use Rattle.exercise_judge.specs.Trials.{KeepsBar, Meets, NoneGone, TrialData}
+use Rattle.exercise_judge.proofs.Staying.{all_none, none_gone}
+use Rattle.exercise_words.specs.Laws.{KeepsAll, Solves, WhatIsMetIsSolved, WhatIsSolvedIsMet}
 use Rattle.exercise_words.proofs.Summing.{operations_are, time_is}
 
 -- ---- values by cells that hold the same
@@ -44,7 +52,8 @@ held cells None = []
 held cells (Some array) = array_values cells array
 
 held_same : (cells other : ℕ → ℕ) (name : Word) (arrays : List ArrayData) (base : ℕ) →
-    AreArrays arrays base → ((cell : ℕ) → cell < base + shared_cells arrays → cells cell ≡ other cell) →
+    AreArrays arrays base →
+    ((cell : ℕ) → cell < base + shared_cells arrays → cells cell ≡ other cell) →
     held_by arrays cells name ≡ held_by arrays other name
 held_same cells other name [] base are same = refl
 held_same cells other name (array ∷ arrays) base are same =
@@ -64,6 +73,35 @@ held_same cells other name (array ∷ arrays) base are same =
       | true ↦ here
       | false ↦ later
     ]
+
+-- ---- who is gone
+
+procs_are : (program : ProgramData) (job : JobData) → job ≡ job_of (flat program) job.steps →
+    job.procs ≡ program.procs
+unfolding job_of
+procs_are program job made = ap (λ (j : JobData). j.procs) made
+
+module _ (program : ProgramData) (job : JobData) (line_of : ℕ → ℕ) (is_lawful : IsProgram program)
+    (is_nested : IsNested program.lines) (compiled : IsCompiled program job line_of) (run : ℕ)
+    (over : IsProgramEnd program run) where
+  are_gone : AreGone job line_of job.steps (after program run).gone
+  are_gone i low =
+      let procs = procs_are program job compiled.made in
+      ((jobs_carry_programs program job line_of is_lawful is_nested compiled).ends run
+      over).0.gone i
+      (omega (arith, procs, low))
+
+  keeps_all : NoneGone job → KeepsAll program run
+  keeps_all none i low =
+      let procs = procs_are program job compiled.made in
+      all_none job line_of compiled.job_is (after program run).gone are_gone none i
+      (omega (arith, procs, low))
+
+  keeps_job : KeepsAll program run → NoneGone job
+  keeps_job keeps =
+      let procs = procs_are program job compiled.made in
+      none_gone job line_of compiled.job_is (after program run).gone are_gone
+      (λ i low. keeps i (omega (arith, procs, low)))
 
 -- ---- the submission
 
@@ -119,6 +157,8 @@ module _ (trial : TrialData) (submission : List ℕ) (met : Meets trial submissi
     ends = answer.1;
     values = λ k want lt. held_same (after program run).cells (slice_index met.cells) _
         program.arrays 0 is_lawful.arrays cells_same ∙ met.values k want lt;
+    there = λ stays. keeps_all program met.job met.line_of is_lawful is_nested met.ends.compiled run
+        answer.1 (met.there stays);
     time = within_same trial.time _ _ (time_is program met.job met.line_of is_lawful is_nested
         met.ends.compiled run all_lines) met.time;
     operations = within_same trial.operations _ _ (operations_are program met.job met.line_of
@@ -170,6 +210,8 @@ module _ (trial : TrialData) (submission : List ℕ) (it : Solves trial submissi
         };
         values = λ k want lt. held_same (slice_index cells) (after its it.run).cells _
             its.arrays 0 its_lawful.arrays held ∙ it.values k want lt;
+        there = λ stays. keeps_job its it.job it.line_of its_lawful its_nested it.compiled it.run
+            it.ends (it.there stays);
         time = within_same trial.time _ _ (sym (time_is its it.job it.line_of its_lawful its_nested
             it.compiled it.run its_lines)) it.time;
         operations = within_same trial.operations _ _ (sym (operations_are its it.job it.line_of

@@ -1,5 +1,5 @@
 -- What a submission that passes does, by its meaning.
-use Rattle.std.specs.Prelude.{◌≡◌, ◌+◌, ℕ, true, false, List, All, IfSome, Some, None, Ok}
+use Rattle.std.specs.Prelude.{◌≡◌, ◌+◌, ◌<◌, ℕ, true, false, List, All, IfSome, Some, None, Ok}
 use Rattle.std.specs.Prelude.{decimal, slice_get, take}
 use Rattle.pram_job.specs.Job.{JobData}
 use Rattle.pram_cost.specs.Models.{AcceptsSteps}
@@ -12,14 +12,20 @@ use Rattle.pardo_job.specs.Times.{operations_to, time_to}
 use Rattle.exercise_text.specs.Submissions.{code_lines, judged_text, missing_line}
 use Rattle.exercise_judge.specs.Trials.{AreHeld, KeepsBar, Meets, TrialData}
 use Rattle.exercise_judge.specs.Verdicts.{IsCertain}
+use Rattle.exercise_judge.specs.Wrongs.{IsWrong}
 use Rattle.exercise_judge.specs.declared.verdict.Wrong.{Wrong}
 use Rattle.exercise_words.specs.Records.{HasTrials, AreRecorded, IsSaid, IsWhat}
 use Rattle.exercise_words.specs.declared.said.Said.{Said}
 use Rattle.refusals.specs.declared.refusal.TheConstants.{DONE}
 
+-- nobody is gone after so many lines
+abbrev pub KeepsAll : ProgramData → ℕ → Type 0
+KeepsAll program n = (i : ℕ) → i < program.procs → (after program n).gone i ≡ None
+
 -- The submission has all given lines, and with the header of the trial it is a program. Its run
--- ends; the names then hold what is wanted, and its time, its operations and its lines are within
--- the bars. So are the steps of its job, which the model accepts.
+-- ends; the names then hold what is wanted, nobody is gone, unless processors may leave, and its
+-- time, its operations and its lines are within the bars. So are the steps of its job, which the
+-- model accepts.
 pub record Solves (trial : TrialData) (submission : List ℕ) : Type 0 where
   pub given : missing_line trial.header submission ≡ None
   pub program : ProgramData
@@ -27,6 +33,7 @@ pub record Solves (trial : TrialData) (submission : List ℕ) : Type 0 where
   pub run : ℕ
   pub ends : IsProgramEnd program run
   pub values : AreHeld trial.wanted program (after program run).cells
+  pub there : trial.may_leave ≡ false → KeepsAll program run
   pub time : KeepsBar trial.time (time_to program run)
   pub operations : KeepsBar trial.operations (operations_to program run)
   pub lines : KeepsBar trial.lines (code_lines submission)
@@ -55,7 +62,7 @@ WhatPassedSolves = (trials : List TrialData) (submission : List ℕ) (said : Sai
     IsSaid trials submission said → said.passed ≡ true → SolvesAll trials submission
 
 -- The submission solves all trials before the one of this number, counted from 1, and not this one:
--- these words say what is wrong, if it is certain.
+-- these words say what is wrong, and it is wrong.
 pub record Fails (trials : List TrialData) (submission number what : List ℕ) : Type 0 where
   pub before : ℕ
   pub counts : number ≡ decimal (before + 1)
@@ -63,7 +70,8 @@ pub record Fails (trials : List TrialData) (submission number what : List ℕ) :
   pub is_there : slice_get trials before ≡ Some trial
   pub solves : SolvesAll (take before trials) submission
   pub wrong : Wrong
-  pub says : IsWhat wrong what
+  pub says : IsWhat trial.hidden wrong what
+  pub is_wrong : IsWrong trial submission wrong
   pub unsolved : IsCertain wrong → ¬ Solves trial submission
 
 -- What is said not to have passed fails so.

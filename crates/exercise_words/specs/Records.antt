@@ -31,14 +31,14 @@ HasNoTrials text (why.Unfit unfit) = (exercise : List EntryData)
 HasNoTrials text why.Memory = ⊤
 
 -- these words say what is wrong, which is not that memory ran out
-abbrev pub IsWhat : Wrong → List ℕ → Type 0
-IsWhat wrong what = (wrong ≢ Memory) × AddsWords [] what (IsWrongSaid wrong)
+abbrev pub IsWhat : Bool → Wrong → List ℕ → Type 0
+IsWhat hidden wrong what = (wrong ≢ Memory) × AddsWords [] what (IsWrongSaid hidden wrong)
 
 -- so a verdict is said
 abbrev pub SaysVerdict : Verdict → Said → Type 0
 SaysVerdict Passed said = (said.passed ≡ true) × (said.input.items ≡ []) × (said.what.items ≡ [])
-SaysVerdict (Failed input wrong) said = (said.passed ≡ false) × (said.input.items ≡ decimal input)
-    × IsWhat wrong said.what.items
+SaysVerdict (Failed input hidden wrong) said = (said.passed ≡ false)
+    × (said.input.items ≡ decimal input) × IsWhat hidden wrong said.what.items
 
 -- The submission was judged by these trials, and the verdict is said.
 pub record IsSaid (trials : List TrialData) (submission : List ℕ) (said : Said) : Type 0 where

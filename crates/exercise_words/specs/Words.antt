@@ -1,6 +1,6 @@
 -- What is said of a judged submission, and of an exercise that cannot be judged by.
 use Rattle.std.specs.Prelude.{◌≡◌, ◌≤◌, ◌==◌, ◌||◌, ◌&&◌, ℕ, List, [], ◌∷◌, ◌++◌, All, codes}
-use Rattle.std.specs.Prelude.{decimal, map}
+use Rattle.std.specs.Prelude.{Bool, MatchBool, decimal, map}
 use Rattle.std.specs.Prelude.{nat_le, take, if◌then◌else◌}
 use Rattle.std.specs.Str.{IsTrimAscii}
 use Rattle.pram_cost.specs.declared.meeting.Sharing.{Sharing}
@@ -96,6 +96,14 @@ around_number bar.Operations = (codes "it takes ", codes " operations")
 around_number bar.Steps = (codes "it takes ", codes " steps of the machine")
 around_number bar.Lines = (codes "it has ", codes " lines of code")
 
+abbrev pub gone_words : ℕ → ℕ → List ℕ
+gone_words processor line =
+    codes "processor " ++ decimal processor ++ codes " is gone in line " ++ decimal line
+
+abbrev pub places_words : List ℕ → ℕ → ℕ → List ℕ
+places_words name has wanted =
+    name ++ codes " has length " ++ decimal has ++ codes ", wanted " ++ decimal wanted
+
 abbrev pub allowed_words : ℕ → List ℕ
 allowed_words most = if most == 1 then codes " is allowed" else codes " are allowed"
 
@@ -113,16 +121,53 @@ abbrev pub model_words : Pram → Pram → List ℕ
 model_words needs allowed = codes "it needs " ++ name_of needs ++ codes ", " ++ name_of allowed
     ++ codes " is allowed: "
 
-abbrev pub IsWrongSaid : Wrong → List ℕ → Type 0
-IsWrongSaid (wrong.Missing line) words = IsMissingSaid line.items words
-IsWrongSaid (wrong.Program refusal) words = IsAtLine (refused_line refusal) words
-IsWrongSaid (wrong.Conflict line place first second) words =
+-- where the input is shown
+abbrev pub IsShownSaid : Wrong → List ℕ → Type 0
+IsShownSaid (wrong.Missing line) words = IsMissingSaid line.items words
+IsShownSaid (wrong.Program refusal) words = IsAtLine (refused_line refusal) words
+IsShownSaid (wrong.Conflict line place first second) words =
     words ≡ conflict_words place.items line first second
-IsWrongSaid (wrong.Value place held wanted) words = words ≡ value_words place.items held wanted
-IsWrongSaid (wrong.Bar bar took most) words = words ≡ bar_words bar took most
-IsWrongSaid (wrong.Model needs allowed sharing line place first second) words =
+IsShownSaid (wrong.Value place held wanted) words = words ≡ value_words place.items held wanted
+IsShownSaid (wrong.Bar bar took most) words = words ≡ bar_words bar took most
+IsShownSaid (wrong.Model needs allowed sharing line place first second) words =
     words ≡ model_words needs allowed ++ meeting (deed_of sharing) place.items line first second
-IsWrongSaid wrong.Memory words = words ≡ codes "out of memory"
+IsShownSaid (wrong.Gone processor line) words = words ≡ gone_words processor line
+IsShownSaid (wrong.Places name has wanted) words = words ≡ places_words name.items has wanted
+IsShownSaid wrong.Memory words = words ≡ codes "out of memory"
+
+-- ---- where it is hidden
+
+abbrev pub excess_words : Bar → List ℕ
+excess_words bar.Time = codes "it takes too much time"
+excess_words bar.Operations = codes "it takes too many operations"
+excess_words bar.Steps = codes "it takes too many steps of the machine"
+excess_words bar.Lines = codes "it has too many lines of code"
+
+abbrev pub pair_in : List ℕ → ℕ → List ℕ
+pair_in deed line =
+    codes "two processors" ++ deed ++ codes "one place in line " ++ decimal line
+
+-- Of a hidden input only the kind of what is wrong is told, and its line: no value, place,
+-- processor or number hangs on it.
+abbrev pub IsVeiledSaid : Wrong → List ℕ → Type 0
+IsVeiledSaid (wrong.Missing line) words = IsMissingSaid line.items words
+IsVeiledSaid (wrong.Program refusal) words = IsAtLine (refused_line refusal) words
+IsVeiledSaid (wrong.Conflict line place first second) words =
+    words ≡ pair_in (codes " write ") line ++ codes ", against the rule"
+IsVeiledSaid (wrong.Value place held wanted) words =
+    words ≡ codes "a value is not the one that is wanted"
+IsVeiledSaid (wrong.Bar bar took most) words = words ≡ excess_words bar
+IsVeiledSaid (wrong.Model needs allowed sharing line place first second) words =
+    words ≡ model_words needs allowed ++ pair_in (deed_of sharing) line
+IsVeiledSaid (wrong.Gone processor line) words =
+    words ≡ codes "a processor is gone in line " ++ decimal line
+IsVeiledSaid (wrong.Places name has wanted) words =
+    words ≡ codes "a length is not the one that is wanted"
+IsVeiledSaid wrong.Memory words = words ≡ codes "out of memory"
+
+abbrev pub IsWrongSaid : Bool → Wrong → List ℕ → Type 0
+IsWrongSaid hidden found words =
+    MatchBool hidden (IsVeiledSaid found words) (IsShownSaid found words)
 
 -- ---- what is wrong with an exercise
 
@@ -130,6 +175,8 @@ IsWrongSaid wrong.Memory words = words ≡ codes "out of memory"
 abbrev pub IsUnfitSaid : ℕ → UnfitKind → List ℕ → Type 0
 IsUnfitSaid line unfit.Conflict words =
     words ≡ at_line line ++ codes "the reference ends in a conflict"
+IsUnfitSaid line unfit.Contradiction words =
+    words ≡ at_line line ++ codes "the reference ends with other values than are wanted here"
 IsUnfitSaid line (unfit.Unknown word) words =
     words ≡ at_line line ++ codes "nothing is named " ++ sentence_front word.items
 IsUnfitSaid line unfit.Memory words = words ≡ codes "out of memory"

@@ -4,8 +4,8 @@ ghost use Rattle.exercise_words.specs.Laws.{DoneWhereAllSolve, WhatDidNotPassFai
 ghost use Rattle.exercise_words.specs.Laws.{WhatIsMetIsSolved, WhatIsSolvedIsMet, WhatPassedSolves};
 
 /// A submission that meets a trial has all given lines. With the header of the trial it is a
-/// program that ends with the wanted values by its meaning, in no more time and operations, steps
-/// and lines than the bars allow, under the model.
+/// program that ends with the wanted values by its meaning, and with all processors, unless they
+/// may leave; in no more time and operations, steps and lines than the bars allow, under the model.
 pub fn what_is_met_is_solved()
     ensures { WhatIsMetIsSolved }
 {}
@@ -21,7 +21,7 @@ pub fn what_passed_solves()
 {}
 
 /// What a record says failed under an input solves the trials before it, and not its trial, unless
-/// memory or steps ran out.
+/// memory or steps ran out; and what is said to be wrong is wrong.
 pub fn what_did_not_pass_fails()
     ensures { WhatDidNotPassFails }
 {}

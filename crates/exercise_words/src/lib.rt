@@ -9,6 +9,7 @@ mod said;
 mod shown;
 mod trials;
 mod unfit;
+mod veiled;
 mod wrong;
 
 pub use names::{fault_name, unfit_name};

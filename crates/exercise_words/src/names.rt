@@ -24,6 +24,7 @@ pub fn unfit_name(kind: &UnfitKind) -> &'static str {
         UnfitKind::Reference(_) => "Reference",
         UnfitKind::Conflict => "Conflict",
         UnfitKind::Unknown(_) => "Unknown",
+        UnfitKind::Contradiction => "Contradiction",
         UnfitKind::Memory => "Memory",
     }
 }

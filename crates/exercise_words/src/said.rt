@@ -37,7 +37,8 @@ impl Said {
     }
 }
 
-/// What is said of a submission that these trials judge. It is run once at most for each.
+/// What is said of a submission that these trials judge: of a hidden input the kind of what is
+/// wrong, and its line. It is run once at most for each.
 pub fn said_of(alloc: Global, trials: &[Trial], submission: &[u8]) -> Result<Said, AllocError>
     ensures { IfOk result (IsSaid trials.now submission.now) }
 {
@@ -47,36 +48,42 @@ pub fn said_of(alloc: Global, trials: &[Trial], submission: &[u8]) -> Result<Sai
             input: Vec::new(alloc),
             what: Vec::new(alloc),
         }),
-        Verdict::Failed { input, wrong } => {
+        Verdict::Failed {
+            input,
+            hidden,
+            wrong,
+        } => {
             let mut number = Vec::new(alloc);
             push_labelled(&mut number, b"", input as u64)?;
             Ok(Said {
                 passed: false,
                 input: number,
-                what: what_of(alloc, trials, input, &wrong, submission)?,
+                what: what_of(alloc, trials, (input, hidden), &wrong, submission)?,
             })
         }
     }
 }
 
-// What is wrong with a submission under the input of this number, unless memory ran out.
+// What is wrong with a submission under the input of this number, which may be hidden, unless
+// memory ran out.
 #[tactic(auto, using(std::proofs::lemmas::Option::slice_get_within))]
 fn what_of(
     alloc: Global,
     trials: &[Trial],
-    input: usize,
+    failed: (usize, bool),
     wrong: &Wrong,
     submission: &[u8],
 ) -> Result<Vec<u8>, AllocError>
-    requires { FailsAt trials.now submission.now input wrong.now }
-    ensures { IfOk result (λ what. IsWhat wrong.now what.items) }
+    requires { FailsAt trials.now submission.now failed.0 failed.1 wrong.now }
+    ensures { IfOk result (λ what. IsWhat failed.1 wrong.now what.items) }
 {
     match wrong {
         Wrong::Memory => Err(AllocError),
         _ => {
+            let (input, hidden) = failed;
             let before = input - 1;
             let mut what = Vec::new(alloc);
-            push_wrong(&mut what, wrong, &trials[before], submission)?;
+            push_wrong(&mut what, wrong, hidden, &trials[before], submission)?;
             Ok(what)
         }
     }

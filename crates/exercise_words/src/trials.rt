@@ -18,8 +18,8 @@ pub enum NoTrials {
     Memory,
 }
 
-/// The trials of the exercise that a text spells. Its reference is run once for each input that
-/// does not say what is wanted.
+/// The trials of the exercise that a text spells. Its reference, if it has one, is run once for
+/// each input.
 pub fn trials_in(alloc: Global, text: &[u8]) -> Result<Vec<Trial>, NoTrials>
     ensures trials { IfOk result (λ trials. HasTrials text.now trials.items) }
     ensures why { IfErr result (HasNoTrials text.now) }

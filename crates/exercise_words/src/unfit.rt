@@ -62,6 +62,10 @@ fn unfit_words(alloc: Global, unfit: &Unfit) -> Result<Vec<u8>, AllocError>
         UnfitKind::Unknown(word) => {
             words_at(alloc, line, b"nothing is named ", front_of(word.as_slice()))
         }
+        UnfitKind::Contradiction => {
+            let sentence = b"the reference ends with other values than are wanted here";
+            words_at(alloc, line, sentence, b"")
+        }
         UnfitKind::Memory => Vec::from_slice(alloc, b"out of memory"),
     }
 }

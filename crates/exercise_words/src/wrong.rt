@@ -1,12 +1,14 @@
 //! What is wrong with a submission, in words.
 ghost use Rattle.std.specs.Prelude.{◌≡◌, IfOk, OnErr, OnOk};
 ghost use Rattle.exercise_words.specs.Words.{AddsWords, AddsPrintable, IsAtLine, IsMissingSaid};
-ghost use Rattle.exercise_words.specs.Words.{IsWrongSaid, allowed_words, around_number, bar_words};
-ghost use Rattle.exercise_words.specs.Words.{conflict_words, deed_of, refused_line, model_words};
-ghost use Rattle.exercise_words.specs.Words.{value_words};
+ghost use Rattle.exercise_words.specs.Words.{IsShownSaid, IsWrongSaid, allowed_words};
+ghost use Rattle.exercise_words.specs.Words.{around_number, bar_words};
+ghost use Rattle.exercise_words.specs.Words.{conflict_words, deed_of, gone_words, refused_line};
+ghost use Rattle.exercise_words.specs.Words.{model_words, places_words, value_words};
 
 use crate::parts::{front_of, named, push_at_line, push_meeting};
 use crate::shown::push_shown;
+use crate::veiled::veiled_words;
 use exercise_judge::{Bar, Trial, Wrong};
 use exercise_text::judged_text;
 use pardo_job::Refusal;
@@ -16,31 +18,50 @@ use refusals::sentences::of_program;
 use refusals::{CommandFault, locate};
 use std::alloc::{AllocError, Global};
 
-/// Adds what is wrong with a submission by a trial: the part of a sentence, on one line, without a
-/// stop. A byte that cannot be printed is shown as `?`.
+/// Adds what is wrong with a submission by a trial, whose input may be hidden: the part of a
+/// sentence, on one line, without a stop. A byte that cannot be printed is shown as `?`.
 ///
 /// The time is that of reading the submission, and of what is said.
 pub fn push_wrong(
     text: &mut Vec<u8>,
     wrong: &Wrong,
+    hidden: bool,
     trial: &Trial,
     submission: &[u8],
 ) -> Result<(), AllocError>
-    ensures said { OnOk result (AddsWords text.old.items text.new.items (IsWrongSaid wrong.now)) }
+    ensures said { OnOk result (AddsWords text.old.items text.new.items
+        (IsWrongSaid hidden wrong.now)) }
     ensures printable { OnOk result (AddsPrintable text.old.items text.new.items) }
     ensures err { OnErr result (text.new.items ≡ text.old.items) }
 {
-    let words = wrong_words(*text.allocator(), wrong, trial, submission)?;
+    let words = wrong_words(*text.allocator(), wrong, hidden, trial, submission)?;
     push_shown(text, words.as_slice())
 }
 
 fn wrong_words(
     alloc: Global,
     wrong: &Wrong,
+    hidden: bool,
     trial: &Trial,
     submission: &[u8],
 ) -> Result<Vec<u8>, AllocError>
-    ensures { IfOk result (λ words. IsWrongSaid wrong.now words.items) }
+    ensures { IfOk result (λ words. IsWrongSaid hidden wrong.now words.items) }
+{
+    if hidden {
+        veiled_words(alloc, wrong)
+    } else {
+        shown_words(alloc, wrong, trial, submission)
+    }
+}
+
+// Where the input is shown.
+fn shown_words(
+    alloc: Global,
+    wrong: &Wrong,
+    trial: &Trial,
+    submission: &[u8],
+) -> Result<Vec<u8>, AllocError>
+    ensures { IfOk result (λ words. IsShownSaid wrong.now words.items) }
 {
     match wrong {
         Wrong::Missing(line) => missing_words(alloc, line.as_slice()),
@@ -71,12 +92,14 @@ fn wrong_words(
             push_meeting(&mut words, deed, place.as_slice(), *line, (*first, *second))?;
             Ok(words)
         }
+        Wrong::Gone { processor, line } => gone_words(alloc, *processor, *line),
+        Wrong::Places { name, has, wanted } => places_words(alloc, name.as_slice(), *has, *wanted),
         Wrong::Memory => Vec::from_slice(alloc, b"out of memory"),
     }
 }
 
-// The name that the line declares is told, or what else the line begins with.
-fn missing_words(alloc: Global, line: &[u8]) -> Result<Vec<u8>, AllocError>
+/// The name that the line declares is told, or what else the line begins with.
+pub(crate) fn missing_words(alloc: Global, line: &[u8]) -> Result<Vec<u8>, AllocError>
     ensures { IfOk result (λ words. IsMissingSaid line.now words.items) }
 {
     let mut words = Vec::from_slice(alloc, b"the line \"")?;
@@ -103,7 +126,8 @@ fn refusal_words(
     Ok(words)
 }
 
-fn line_of(refusal: Refusal) -> u64
+/// The line that is refused.
+pub(crate) fn line_of(refusal: Refusal) -> u64
     ensures { result ≡ refused_line refusal }
 {
     match refusal {
@@ -133,6 +157,24 @@ fn value_words(alloc: Global, place: &[u8], held: u32, wanted: u32) -> Result<Ve
     let mut words = Vec::from_slice(alloc, named(place))?;
     push_labelled(&mut words, b" holds ", u64::from(held))?;
     push_labelled(&mut words, b", wanted ", u64::from(wanted))?;
+    Ok(words)
+}
+
+fn gone_words(alloc: Global, processor: u32, line: u64) -> Result<Vec<u8>, AllocError>
+    ensures { IfOk result (λ words. words.items ≡ gone_words processor line) }
+{
+    let mut words = Vec::new(alloc);
+    push_labelled(&mut words, b"processor ", u64::from(processor))?;
+    push_labelled(&mut words, b" is gone in line ", line)?;
+    Ok(words)
+}
+
+fn places_words(alloc: Global, name: &[u8], has: u64, wanted: u64) -> Result<Vec<u8>, AllocError>
+    ensures { IfOk result (λ words. words.items ≡ places_words name.now has wanted) }
+{
+    let mut words = Vec::from_slice(alloc, name)?;
+    push_labelled(&mut words, b" has length ", has)?;
+    push_labelled(&mut words, b", wanted ", wanted)?;
     Ok(words)
 }
 
@@ -171,7 +213,8 @@ fn allowed_words(most: u64) -> &'static str
     }
 }
 
-fn model_words(alloc: Global, needs: Pram, allowed: Pram) -> Result<Vec<u8>, AllocError>
+/// Which model is needed, and which one is allowed.
+pub(crate) fn model_words(alloc: Global, needs: Pram, allowed: Pram) -> Result<Vec<u8>, AllocError>
     ensures { IfOk result (λ words. words.items ≡ model_words needs allowed) }
 {
     let mut words = Vec::from_slice(alloc, b"it needs ")?;
@@ -182,8 +225,8 @@ fn model_words(alloc: Global, needs: Pram, allowed: Pram) -> Result<Vec<u8>, All
     Ok(words)
 }
 
-// What two processors do with a place.
-fn deed_of(sharing: Sharing) -> &'static str
+/// What two processors do with a place.
+pub(crate) fn deed_of(sharing: Sharing) -> &'static str
     ensures { result.now ≡ deed_of sharing }
 {
     match sharing {

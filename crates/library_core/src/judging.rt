@@ -26,7 +26,7 @@ use std::io::Write;
 
 /// Puts the record of what is said of a submission to the front of the output, as much as there is
 /// room for, and gives the status. The submission is run once at most for each input of the
-/// exercise, whose reference is run for each that does not say what is wanted.
+/// exercise, and so is its reference, if it has one.
 pub fn tell_verdict(
     alloc: Global,
     exercise: &[u8],

@@ -7,4 +7,5 @@ mod Noting
 pub mod ReadCells
 mod Telling
 mod ExerciseTelling
+mod Failing
 pub mod Unset

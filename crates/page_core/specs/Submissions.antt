@@ -1,5 +1,5 @@
 -- What is found of a submission to an exercise.
-use Rattle.std.specs.Prelude.{◌≡◌, ℕ, ◌<◌, List, length, Ok}
+use Rattle.std.specs.Prelude.{◌≡◌, ℕ, ◌<◌, Bool, List, length, Ok}
 use Rattle.exercise_text.specs.Entries.{EntryData}
 use Rattle.exercise_text.specs.Reading.{exercise_of}
 use Rattle.exercise_judge.specs.declared.verdict.Verdict.{Verdict}
@@ -28,7 +28,7 @@ IsMet text submission = IsFound text submission Passed
 -- the input of this number is not met
 abbrev pub IsFailed : List ℕ → List ℕ → ℕ → Type 0
 IsFailed text submission input =
-    (wrong : Wrong) × IsFound text submission (Failed input wrong)
+    (hidden : Bool) × (wrong : Wrong) × IsFound text submission (Failed input hidden wrong)
 
 abbrev pub IsFinding : List ℕ → List ℕ → Finding → Type 0
 IsFinding text submission (NoExercise why) = TellsNoExercise text why

@@ -1,5 +1,5 @@
 -- What is said of a submission, in numbers and bytes.
-use Rattle.std.specs.Prelude.{◌≡◌, ◌⊎◌, ℕ, ◌<◌, ◌==◌, if◌then◌else◌, List, [], length, take}
+use Rattle.std.specs.Prelude.{◌≡◌, ◌⊎◌, ℕ, ◌<◌, ◌==◌, Bool, if◌then◌else◌, List, [], length, take}
 use Rattle.pram_cost.specs.declared.meeting.Sharing.{Sharing}
 use Rattle.pram_cost.specs.declared.meeting.Sharing.TheVariants as share
 use Rattle.pram_cost.specs.Models.{strength}
@@ -71,6 +71,7 @@ of_code code = record {
   needs = 0;
   allowed = 0;
   sharing = 0;
+  hidden = 0;
 }
 
 abbrev pub wrong_told : Wrong → VerdictTold
@@ -95,14 +96,19 @@ wrong_told (wrong.Model needs allowed sharing line place first second) = record 
   first = first;
   second = second;
 }
+wrong_told (wrong.Gone processor line) =
+    record (of_code FAILED) { kind = 7; first = processor; line = line }
+wrong_told (wrong.Places name has wanted) =
+    record (of_code FAILED) { kind = 8; took = has; most = wanted }
 wrong_told wrong.Memory = of_code MEMORY
 
--- the line that is missing, or a place
+-- the line that is missing, a place, or a name
 abbrev pub wrong_text : Wrong → List ℕ
 wrong_text (wrong.Missing line) = line.items
 wrong_text (wrong.Conflict line place first second) = place.items
 wrong_text (wrong.Value place held wanted) = place.items
 wrong_text (wrong.Model needs allowed sharing line place first second) = place.items
+wrong_text (wrong.Places name has wanted) = name.items
 wrong_text _ = []
 
 abbrev pub part_fault : ℕ → PardoFault → VerdictTold
@@ -125,6 +131,7 @@ unfit_told line (unfit.Reference refusal) = record (of_code UNFIT) {
 unfit_told line unfit.Conflict = record (of_code UNFIT) { kind = 5; line = line }
 unfit_told line (unfit.Unknown word) =
     record (of_code UNFIT) { kind = 6; line = line; bytes = length word.items }
+unfit_told line unfit.Contradiction = record (of_code UNFIT) { kind = 7; line = line }
 unfit_told line unfit.Memory = of_code MEMORY
 
 -- the word that sets nothing
@@ -136,17 +143,37 @@ abbrev pub code_of_fault : ExerciseKind → ℕ
 code_of_fault exercise_kind.Memory = MEMORY
 code_of_fault _ = NO_EXERCISE
 
+-- of a hidden input only the kind of what is wrong, and its line
+abbrev pub veiled : VerdictTold → VerdictTold
+veiled told = record told {
+  took = 0;
+  most = 0;
+  held = 0;
+  wanted = 0;
+  first = 0;
+  second = 0;
+  hidden = 1;
+}
+
+abbrev pub wrong_shown : Bool → Wrong → VerdictTold
+wrong_shown hidden found = if hidden then veiled (wrong_told found) else wrong_told found
+
+abbrev pub text_shown : Bool → Wrong → List ℕ
+text_shown hidden found = if hidden then [] else wrong_text found
+
 abbrev pub finding_told : Finding → VerdictTold
 finding_told (NoExercise none.TextTooLong) = of_code TEXT_TOO_LONG
 finding_told (NoExercise (none.Bad fault)) = of_code (code_of_fault fault.kind)
 finding_told TextTooLong = of_code TEXT_TOO_LONG
 finding_told (Unfit unfit) = unfit_told unfit.line unfit.kind
 finding_told (Judged Passed) = of_code PASSED
-finding_told (Judged (Failed input wrong)) =
-    record (wrong_told wrong) { input = input; bytes = length (wrong_text wrong) }
+finding_told (Judged (Failed input hidden wrong)) = record (wrong_shown hidden wrong) {
+  input = input;
+  bytes = length (text_shown hidden wrong);
+}
 
 abbrev pub finding_text : Finding → List ℕ
-finding_text (Judged (Failed input wrong)) = wrong_text wrong
+finding_text (Judged (Failed input hidden wrong)) = text_shown hidden wrong
 finding_text (Unfit unfit) = unfit_text unfit.kind
 finding_text _ = []
 

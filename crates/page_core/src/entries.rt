@@ -176,5 +176,6 @@ fn number_of_key(key: Key) -> u32
         Key::Reference => 11,
         Key::Input => 12,
         Key::Hidden => 13,
+        Key::Gone => 14,
     }
 }

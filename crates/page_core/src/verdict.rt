@@ -8,7 +8,8 @@ ghost use Rattle.page_core.specs.Verdicts.{IsFindingPut, IsVerdictTold, bar_code
 ghost use Rattle.page_core.specs.Verdicts.{finding_told, of_code, refusal_code, refusal_line};
 ghost use Rattle.page_core.specs.Verdicts.{unfit_told, verdict_bytes};
 ghost use Rattle.page_core.specs.Verdicts.{code_of_fault, part_fault, sharing_code};
-ghost use Rattle.page_core.specs.Verdicts.{unfit_text, wrong_text, wrong_told};
+ghost use Rattle.page_core.specs.Verdicts.{text_shown, unfit_text, wrong_shown, wrong_text};
+ghost use Rattle.page_core.specs.Verdicts.{wrong_told};
 
 use crate::codes::{MEMORY, NO_ROOM, TEXT_TOO_LONG};
 use crate::cost::number_of_model;
@@ -23,12 +24,13 @@ use pram_cost::Sharing;
 use std::alloc::Global;
 
 /// What is said of a submission. Where it fails, `input` is the number of the input, from 1, `kind`
-/// is what is wrong, 1 to 6 in the order of `Wrong`, and `bytes` is the length of its text: the
-/// line that is missing, or a place. A fault is that of a program, in line `line`; a bar is told by
-/// the number of its key, and models as `needs` of a cost; `sharing` is 0 to 2 in the order of
-/// `Sharing`. Where the exercise cannot be judged by, `kind` is 1 to 6 in the order of `UnfitKind`,
-/// `line` is that of the input, `within` that of the part with the fault, and the text is the
-/// unknown word.
+/// is what is wrong, 1 to 8 in the order of `Wrong`, and `bytes` is the length of its text: the
+/// line that is missing, a place, or a name. A fault is that of a program, in line `line`; a bar is
+/// told by the number of its key, and models as `needs` of a cost; `sharing` is 0 to 2 in the order
+/// of `Sharing`; `first` is a processor that is gone; a length is `took`, and `most` is wanted. Of
+/// a hidden input, where `hidden` is 1, only kind, line, fault, bar, models and `sharing` are told.
+/// Where the exercise cannot be judged by, `kind` is 1 to 7 in the order of `UnfitKind`, `line` is
+/// that of the input, `within` that of the part with the fault, and the text is the unknown word.
 #[repr(C)]
 #[derive(Clone, Copy)]
 pub struct VerdictTold {
@@ -49,6 +51,7 @@ pub struct VerdictTold {
     pub needs: u32,
     pub allowed: u32,
     pub sharing: u32,
+    pub hidden: u32,
 }
 
 /// Judges a submission to an exercise: passed only where it meets all inputs, failed only where it
@@ -84,7 +87,7 @@ fn finding_text(finding: &Finding) -> &[u8]
     ensures { result.now ≡ finding_text finding.now }
 {
     match finding {
-        Finding::Judged(Verdict::Failed { wrong, .. }) => wrong_text(wrong),
+        Finding::Judged(Verdict::Failed { hidden, wrong, .. }) => text_shown(*hidden, wrong),
         Finding::Unfit(unfit) => unfit_text(&unfit.kind),
         _ => b"",
     }
@@ -98,6 +101,7 @@ fn wrong_text(wrong: &Wrong) -> &[u8]
         Wrong::Conflict { place, .. } => place.as_slice(),
         Wrong::Value { place, .. } => place.as_slice(),
         Wrong::Model { place, .. } => place.as_slice(),
+        Wrong::Places { name, .. } => name.as_slice(),
         _ => b"",
     }
 }
@@ -132,6 +136,7 @@ fn of_code(code: u32) -> VerdictTold
         needs: 0,
         allowed: 0,
         sharing: 0,
+        hidden: 0,
     }
 }
 
@@ -144,12 +149,44 @@ fn tell_finding(finding: &Finding) -> VerdictTold
         Finding::TextTooLong => of_code(TEXT_TOO_LONG),
         Finding::Unfit(unfit) => tell_unfit(unfit),
         Finding::Judged(Verdict::Passed) => of_code(PASSED),
-        Finding::Judged(Verdict::Failed { input, wrong }) => VerdictTold {
+        Finding::Judged(
+            Verdict::Failed {
+                input,
+                hidden,
+                wrong,
+            },
+        ) => VerdictTold {
             input: *input as u64,
-            bytes: wrong_text(wrong).len() as u64,
-            ..tell_wrong(wrong)
+            bytes: text_shown(*hidden, wrong).len() as u64,
+            ..wrong_shown(*hidden, wrong)
         },
     }
+}
+
+// Under a hidden input only the kind of what is wrong, and its line.
+fn wrong_shown(hidden: bool, wrong: &Wrong) -> VerdictTold
+    ensures { result ≡ wrong_shown hidden wrong.now }
+{
+    let told = tell_wrong(wrong);
+    if !hidden {
+        return told;
+    }
+    VerdictTold {
+        took: 0,
+        most: 0,
+        held: 0,
+        wanted: 0,
+        first: 0,
+        second: 0,
+        hidden: 1,
+        ..told
+    }
+}
+
+fn text_shown(hidden: bool, wrong: &Wrong) -> &[u8]
+    ensures { result.now ≡ text_shown hidden wrong.now }
+{
+    if hidden { b"" } else { wrong_text(wrong) }
 }
 
 // What is wrong with a submission; out of memory is a code of its own.
@@ -210,6 +247,18 @@ fn tell_wrong(wrong: &Wrong) -> VerdictTold
             second: *second,
             ..of_code(FAILED)
         },
+        Wrong::Gone { processor, line } => VerdictTold {
+            kind: 7,
+            first: *processor,
+            line: *line,
+            ..of_code(FAILED)
+        },
+        Wrong::Places { has, wanted, .. } => VerdictTold {
+            kind: 8,
+            took: *has,
+            most: *wanted,
+            ..of_code(FAILED)
+        },
         Wrong::Memory => of_code(MEMORY),
     }
 }
@@ -258,6 +307,11 @@ fn tell_unfit(unfit: &Unfit) -> VerdictTold
             kind: 6,
             line,
             bytes: word.len() as u64,
+            ..of_code(UNFIT)
+        },
+        UnfitKind::Contradiction => VerdictTold {
+            kind: 7,
+            line,
             ..of_code(UNFIT)
         },
         UnfitKind::Memory => of_code(MEMORY),

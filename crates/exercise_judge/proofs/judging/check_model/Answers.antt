@@ -1,4 +1,4 @@
-use Rattle.std.proofs.Common.{ℕ, Option, arith, subst}
+use Rattle.std.proofs.Common.{ℕ, Option, arith, inr, rules, subst}
 use Rattle.std.specs.Prelude.{IfSome}
 use Rattle.pram_job.specs.Job.{JobData}
 use Rattle.pram_cost.specs.Beyond.{IsBeyond}
@@ -15,9 +15,18 @@ refuses pram job n beyond is accepts =
     beyond.meeting.first beyond.meeting.second is.first.least.meet in
     absurd (omega (arith, allowed, is.refused))
 
-pub returns-in_ok-model_needed-in-Some-beyond : goal.returns-in_ok-model_needed-in-Some-beyond
-returns-in_ok-model_needed-in-Some-beyond c = λ job is certain accepts.
+pub returns-in_ok-model_needed-in-Some-beyond-clause-judged : goal.returns-in_ok-model_needed-in-Some-beyond-clause-judged
+returns-in_ok-model_needed-in-Some-beyond-clause-judged c = λ job is certain accepts.
     let n = c.args.run.now.costs.cost.steps in
     refuses c.in-Some.allowed job n c.in-Some-beyond.beyond (c.in-Some-beyond.ensures job is)
     (subst (λ (m : Option Pram). IfSome m (λ allowed. AcceptsSteps allowed job n)) c.in-Some.is
     accepts)
+
+pub returns-in_ok-model_needed-in-Some-beyond-clause-wrong : goal.returns-in_ok-model_needed-in-Some-beyond-clause-wrong
+returns-in_ok-model_needed-in-Some-beyond-clause-wrong c = λ is.
+    inr (
+      c.in-Some.allowed,
+      c.in-Some.is,
+      c.in_ok-model_needed-in-Some-beyond.ensures is
+          (c.in-Some-beyond.ensures c.args.run.now.job is),
+    )
