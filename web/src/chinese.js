@@ -353,6 +353,10 @@ export const CHINESE = {
     '第 {1} 列编号为 {0} 的字符不允许出现，注释中也不行。',
   'The character “{0}” in column {1} is not allowed, in comments either.':
     '第 {1} 列的字符“{0}”不允许出现，注释中也不行。',
+  'The character of number {0} in column {1} is allowed in comments alone.':
+    '第 {1} 列编号为 {0} 的字符只允许出现在注释中。',
+  'The character “{0}” in column {1} is allowed in comments alone.':
+    '第 {1} 列的字符“{0}”只允许出现在注释中。',
   '“{0}” names an array already or can name none, or array does not stand here.':
     '“{0}”已经是一个数组的名字，或者不能作数组的名字，或者 array 不该在这里。',
   'Cell {0} was given a value before, or init does not stand here.': '单元 {0} 之前已有值，或者 init 不该在这里。',
@@ -392,6 +396,24 @@ export const CHINESE = {
   'line {0}: {1}': '第 {0} 行：{1}',
   'Processor {0} is gone since line {1}, where its array has no such place.':
     '处理器 {0} 从第 {1} 行起已退出，那里它的数组没有这个位置。',
+  'a line of the header is missing.': '头部缺少一行。',
+  'two processors write one place in line {0}, against the rule.': '两个处理器在第 {0} 行写同一个位置，违反规则。',
+  'a value is not the one that is wanted.': '有一个值不是所要的。',
+  'a processor is gone in line {0}.': '一个处理器在第 {0} 行退出。',
+  'a length is not the one that is wanted.': '有一个长度不是所要的。',
+  'it needs {1}: two processors read one place in line {0}.': '它需要 {1}：两个处理器在第 {0} 行读同一个位置。',
+  'it needs {1}: two processors write one place in line {0}.': '它需要 {1}：两个处理器在第 {0} 行写同一个位置。',
+  'it needs {1}: two processors write different values to one place in line {0}.':
+    '它需要 {1}：两个处理器在第 {0} 行向同一个位置写不同的值。',
+  'all is right, but it takes too much time.': '全部正确，但时间太多。',
+  'all is right, but it makes too many operations.': '全部正确，但操作太多。',
+  'all is right, but the machine makes too many steps.': '全部正确，但机器的步数太多。',
+  'all is right, but in too many lines of code.': '全部正确，但代码行太多。',
+  'Not yet, on input {0} of {1}, which is not shown: {2}': '还没有，在第 {0} 个输入（共 {1} 个，未显示）上：{2}',
+  'processor {0} is gone in line {1}.':
+    '处理器 {0} 在第 {1} 行退出。',
+  '{0} has length {1}, wanted {2}.':
+    '{0} 的长度是 {1}，应为 {2}。',
   '{0} holds {1}, wanted {2}.': '{0} 是 {1}，应为 {2}。',
   '{0} holds {1}, wanted {2}; no line wrote it.': '{0} 是 {1}，应为 {2}；没有哪一行写过它。',
   '{0} holds {1}, wanted {2}; line {3} wrote it last.': '{0} 是 {1}，应为 {2}；最后写它的是第 {3} 行。',
@@ -441,6 +463,8 @@ export const CHINESE = {
   'the input in its line {0} says badly what is wanted: {1}': '其第 {0} 行的输入对要求的值写得不对：{1}',
   'a bar has no value with the input in its line {0}: {1}': '对其第 {0} 行的输入，有一个界限没有值：{1}',
   'its reference fails with the input in its line {0}: {1}': '其参考程序在第 {0} 行的输入上失败：{1}',
+  'its reference ends with other values than the input in its line {0} wants':
+    '其参考解结束时的值与其第 {0} 行的输入所要的不同',
   'its reference ends in a conflict with the input in its line {0}': '其参考程序在第 {0} 行的输入上以冲突告终',
   'This exercise cannot be judged by: {0}': '无法按这道习题评判：{0}',
   'Right on all {0} inputs.': '在全部 {0} 个输入上都正确。',

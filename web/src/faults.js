@@ -45,15 +45,18 @@ function instructionOf(line) {
   return words[0]?.endsWith(':') ? words.slice(1) : words;
 }
 
-export function foreignCharacter(line) {
-  const at = [...line].findIndex((character) => !/[\t\r\x20-\x7e]/.test(character));
+const FOREIGN = {
+  number: english('The character of number {0} in column {1} is not allowed, in comments either.'),
+  sign: english('The character “{0}” in column {1} is not allowed, in comments either.'),
+};
+
+// What is said of the first character of a line that is not among the allowed ones.
+export function foreignCharacter(line, allowed = /[\t\r\x20-\x7e]/, said = FOREIGN) {
+  const at = [...line].findIndex((character) => !allowed.test(character));
   if (at < 0) return '';
   const character = [...line][at];
-  return /\p{C}|\s/u.test(character)
-    ? phrase('The character of number {0} in column {1} is not allowed, in comments either.',
-      character.codePointAt(0), at + 1)
-    : phrase('The character “{0}” in column {1} is not allowed, in comments either.',
-      character, at + 1);
+  return /\p{C}|\s/u.test(character) ? phrase(said.number, character.codePointAt(0), at + 1)
+    : phrase(said.sign, character, at + 1);
 }
 
 function whatIsWrongInHeader(words) {
@@ -118,7 +121,7 @@ function unknownLabel(line) {
 }
 
 const HELP = {
-  [TEXT_FAULT.NOT_ASCII]: foreignCharacter,
+  [TEXT_FAULT.NOT_ASCII]: (line) => foreignCharacter(line),
   [TEXT_FAULT.BAD_HEADER]: badHeader,
   [TEXT_FAULT.BAD_NUMBER]: badNumber,
   [TEXT_FAULT.OUT_OF_LIMITS]: (line) => phrase(LIMITS[wordsOf(line)[0]] ?? MOST),

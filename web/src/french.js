@@ -404,6 +404,10 @@ export const FRENCH = {
     'Le caractère de numéro {0} dans la colonne {1} n’est pas permis, même dans les commentaires.',
   'The character “{0}” in column {1} is not allowed, in comments either.':
     'Le caractère « {0} » dans la colonne {1} n’est pas permis, même dans les commentaires.',
+  'The character of number {0} in column {1} is allowed in comments alone.':
+    'Le caractère de numéro {0} dans la colonne {1} n’est permis que dans les commentaires.',
+  'The character “{0}” in column {1} is allowed in comments alone.':
+    'Le caractère « {0} » dans la colonne {1} n’est permis que dans les commentaires.',
   '“{0}” names an array already or can name none, or array does not stand here.':
     '« {0} » nomme déjà un tableau ou ne peut en nommer aucun, ou array n’a pas sa place ici.',
   'Cell {0} was given a value before, or init does not stand here.':
@@ -448,6 +452,30 @@ export const FRENCH = {
   'line {0}: {1}': 'ligne {0} : {1}',
   'Processor {0} is gone since line {1}, where its array has no such place.':
     'Le processeur {0} est parti depuis la ligne {1}, où son tableau n’a pas cette place.',
+  'a line of the header is missing.': 'une ligne de l’en-tête manque.',
+  'two processors write one place in line {0}, against the rule.':
+    'deux processeurs écrivent une même place à la ligne {0}, contre la règle.',
+  'a value is not the one that is wanted.': 'une valeur n’est pas celle qui est voulue.',
+  'a processor is gone in line {0}.': 'un processeur est parti à la ligne {0}.',
+  'a length is not the one that is wanted.': 'une longueur n’est pas celle qui est voulue.',
+  'it needs {1}: two processors read one place in line {0}.':
+    'il faut {1} : deux processeurs lisent une même place à la ligne {0}.',
+  'it needs {1}: two processors write one place in line {0}.':
+    'il faut {1} : deux processeurs écrivent une même place à la ligne {0}.',
+  'it needs {1}: two processors write different values to one place in line {0}.':
+    'il faut {1} : deux processeurs écrivent des valeurs différentes à une place, ligne {0}.',
+  'all is right, but it takes too much time.': 'tout est juste, mais il prend trop de temps.',
+  'all is right, but it makes too many operations.':
+    'tout est juste, mais il fait trop d’opérations.',
+  'all is right, but the machine makes too many steps.':
+    'tout est juste, mais la machine fait trop d’étapes.',
+  'all is right, but in too many lines of code.': 'tout est juste, mais en trop de lignes de code.',
+  'Not yet, on input {0} of {1}, which is not shown: {2}':
+    'Pas encore, sur l’entrée {0} de {1}, qui n’est pas montrée : {2}',
+  'processor {0} is gone in line {1}.':
+    'le processeur {0} est parti à la ligne {1}.',
+  '{0} has length {1}, wanted {2}.':
+    '{0} a la longueur {1}, voulu {2}.',
   '{0} holds {1}, wanted {2}.': '{0} contient {1}, voulu {2}.',
   '{0} holds {1}, wanted {2}; no line wrote it.':
     '{0} contient {1}, voulu {2} ; aucune ligne ne l’a écrit.',
@@ -512,6 +540,8 @@ export const FRENCH = {
     'une borne n’a pas de valeur avec l’entrée de sa ligne {0} : {1}',
   'its reference fails with the input in its line {0}: {1}':
     'sa référence échoue sur l’entrée de sa ligne {0} : {1}',
+  'its reference ends with other values than the input in its line {0} wants':
+    'sa référence finit par d’autres valeurs que ne veut l’entrée de sa ligne {0}',
   'its reference ends in a conflict with the input in its line {0}':
     'sa référence finit par un conflit sur l’entrée de sa ligne {0}',
   'This exercise cannot be judged by: {0}': 'On ne peut pas juger d’après cet exercice : {0}',

@@ -400,6 +400,10 @@ export const GERMAN = {
     'Das Zeichen mit der Nummer {0} in Spalte {1} ist nicht erlaubt, auch nicht in Kommentaren.',
   'The character “{0}” in column {1} is not allowed, in comments either.':
     'Das Zeichen „{0}“ in Spalte {1} ist nicht erlaubt, auch nicht in Kommentaren.',
+  'The character of number {0} in column {1} is allowed in comments alone.':
+    'Das Zeichen mit der Nummer {0} in Spalte {1} ist nur in Kommentaren erlaubt.',
+  'The character “{0}” in column {1} is allowed in comments alone.':
+    'Das Zeichen „{0}“ in Spalte {1} ist nur in Kommentaren erlaubt.',
   '“{0}” names an array already or can name none, or array does not stand here.':
     '„{0}“ nennt schon ein Feld oder kann keines nennen, oder array gehört nicht hierher.',
   'Cell {0} was given a value before, or init does not stand here.':
@@ -444,6 +448,30 @@ export const GERMAN = {
   'line {0}: {1}': 'Zeile {0}: {1}',
   'Processor {0} is gone since line {1}, where its array has no such place.':
     'Prozessor {0} ist seit Zeile {1} ausgefallen, wo sein Feld diese Stelle nicht hat.',
+  'a line of the header is missing.': 'eine Zeile des Kopfes fehlt.',
+  'two processors write one place in line {0}, against the rule.':
+    'zwei Prozessoren schreiben eine Stelle in Zeile {0}, gegen die Regel.',
+  'a value is not the one that is wanted.': 'ein Wert ist nicht der verlangte.',
+  'a processor is gone in line {0}.': 'ein Prozessor ist in Zeile {0} ausgefallen.',
+  'a length is not the one that is wanted.': 'eine Länge ist nicht die verlangte.',
+  'it needs {1}: two processors read one place in line {0}.':
+    'es braucht {1}: Zwei Prozessoren lesen eine Stelle in Zeile {0}.',
+  'it needs {1}: two processors write one place in line {0}.':
+    'es braucht {1}: Zwei Prozessoren schreiben eine Stelle in Zeile {0}.',
+  'it needs {1}: two processors write different values to one place in line {0}.':
+    'es braucht {1}: Zwei Prozessoren schreiben verschiedene Werte an eine Stelle in Zeile {0}.',
+  'all is right, but it takes too much time.': 'alles stimmt, aber es braucht zu viel Zeit.',
+  'all is right, but it makes too many operations.':
+    'alles stimmt, aber es macht zu viele Operationen.',
+  'all is right, but the machine makes too many steps.':
+    'alles stimmt, aber die Maschine macht zu viele Schritte.',
+  'all is right, but in too many lines of code.': 'alles stimmt, aber in zu vielen Codezeilen.',
+  'Not yet, on input {0} of {1}, which is not shown: {2}':
+    'Noch nicht, bei Eingabe {0} von {1}, die nicht gezeigt ist: {2}',
+  'processor {0} is gone in line {1}.':
+    'Prozessor {0} ist in Zeile {1} ausgefallen.',
+  '{0} has length {1}, wanted {2}.':
+    '{0} hat die Länge {1}, verlangt war {2}.',
   '{0} holds {1}, wanted {2}.': '{0} hat {1}, verlangt war {2}.',
   '{0} holds {1}, wanted {2}; no line wrote it.':
     '{0} hat {1}, verlangt war {2}; keine Zeile hat es geschrieben.',
@@ -507,6 +535,8 @@ export const GERMAN = {
     'eine Schranke hat mit der Eingabe in ihrer Zeile {0} keinen Wert: {1}',
   'its reference fails with the input in its line {0}: {1}':
     'ihre Musterlösung scheitert an der Eingabe in ihrer Zeile {0}: {1}',
+  'its reference ends with other values than the input in its line {0} wants':
+    'ihre Musterlösung endet mit anderen Werten, als die Eingabe in ihrer Zeile {0} verlangt',
   'its reference ends in a conflict with the input in its line {0}':
     'ihre Musterlösung endet mit der Eingabe in ihrer Zeile {0} in einem Konflikt',
   'This exercise cannot be judged by: {0}': 'Nach dieser Aufgabe lässt sich nicht prüfen: {0}',

@@ -90,7 +90,45 @@ function wrongInWords(ask, told, given) {
     case WRONG.CONFLICT: return conflictInWords(told, given);
     case WRONG.VALUE: return valueInWords(ask, told, given);
     case WRONG.BAR: return phrase(EXCESS[told.bar], grouped(told.took), grouped(told.most));
+    case WRONG.GONE:
+      return phrase('processor {0} is gone in line {1}.', told.first, grouped(told.line));
+    case WRONG.PLACES: return phrase('{0} has length {1}, wanted {2}.', told.text,
+      grouped(told.took), grouped(told.most));
     default: return phrase(MEETINGS[told.sharing], ...partsOf(told), MODELS[told.needs]);
+  }
+}
+
+// ---- what is wrong on an input that is not shown: what kind it is of, and the line
+
+const VEILED = {
+  [WRONG.MISSING]: english('a line of the header is missing.'),
+  [WRONG.CONFLICT]: english('two processors write one place in line {0}, against the rule.'),
+  [WRONG.VALUE]: english('a value is not the one that is wanted.'),
+  [WRONG.GONE]: english('a processor is gone in line {0}.'),
+  [WRONG.PLACES]: english('a length is not the one that is wanted.'),
+};
+
+const VEILED_MEETINGS = {
+  [SHARING.SAME_READ]: english('it needs {1}: two processors read one place in line {0}.'),
+  [SHARING.SAME_WRITE]: english('it needs {1}: two processors write one place in line {0}.'),
+  [SHARING.OTHER_VALUE]:
+    english('it needs {1}: two processors write different values to one place in line {0}.'),
+};
+
+const VEILED_EXCESS = {
+  [BAR.TIME]: english('all is right, but it takes too much time.'),
+  [BAR.OPERATIONS]: english('all is right, but it makes too many operations.'),
+  [BAR.STEPS]: english('all is right, but the machine makes too many steps.'),
+  [BAR.LINES]: english('all is right, but in too many lines of code.'),
+};
+
+function veiledInWords({ kind, line, fault, bar, sharing, needs }) {
+  switch (kind) {
+    case WRONG.PROGRAM:
+      return phrase('line {0}: {1}', grouped(line), phrase(PROGRAM_SENTENCES[fault]));
+    case WRONG.BAR: return phrase(VEILED_EXCESS[bar]);
+    case WRONG.MODEL: return phrase(VEILED_MEETINGS[sharing], grouped(line), MODELS[needs]);
+    default: return phrase(VEILED[kind], grouped(line));
   }
 }
 
@@ -108,6 +146,10 @@ function plain(given) {
 }
 
 async function failedInWords(ask, exercise, text, told) {
+  if (told.hidden === 1) {
+    return notYet(phrase('Not yet, on input {0} of {1}, which is not shown: {2}', told.input,
+      exercise.inputs.length, veiledInWords(told)));
+  }
   if (told.kind === WRONG.MISSING) {
     return notYet(phrase('Not yet: the line “{0}” is missing. “Begin anew” brings it back.',
       told.text.split(' =', 1)[0].trim()));
@@ -130,6 +172,8 @@ const UNFITS = {
   [UNFIT.BAR]: english('a bar has no value with the input in its line {0}: {1}'),
   [UNFIT.REFERENCE]: english('its reference fails with the input in its line {0}: {1}'),
   [UNFIT.CONFLICT]: english('its reference ends in a conflict with the input in its line {0}'),
+  [UNFIT.CONTRADICTION]:
+    english('its reference ends with other values than the input in its line {0} wants'),
   [UNFIT.UNKNOWN]: english('nothing is named “{1}”, with the input in its line {0}'),
 };
 

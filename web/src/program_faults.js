@@ -17,6 +17,16 @@ const saidIn = (line) => line.split(';', 1)[0];
 
 const wordsOf = (line) => saidIn(line).split(/[^A-Za-z0-9_]+/).filter((word) => word !== '');
 
+const OUTSIDE_COMMENTS = {
+  number: english('The character of number {0} in column {1} is allowed in comments alone.'),
+  sign: english('The character “{0}” in column {1} is allowed in comments alone.'),
+};
+
+// A comment has any characters but those that control; the rest of a line is ASCII.
+const foreignToProgram = (line) =>
+  foreignCharacter(line, /[\t\r\x20-\x7e\x80-\u{10ffff}]/u)
+  || foreignCharacter(saidIn(line), /[\t\r\x20-\x7e]/, OUTSIDE_COMMENTS);
+
 // The first character that begins no token.
 function badSymbol(line) {
   const rest = saidIn(line).replace(/:=|!=|[A-Za-z0-9_ \t\r+*/%&|<>=()[\],-]|\.\.\./g, '');
@@ -37,7 +47,7 @@ function duplicateName(line) {
 }
 
 const HELP = {
-  [PROGRAM_FAULT.NOT_ASCII]: foreignCharacter,
+  [PROGRAM_FAULT.NOT_ASCII]: foreignToProgram,
   [PROGRAM_FAULT.BAD_SYMBOL]: badSymbol,
   [PROGRAM_FAULT.BAD_HEADER]: () => phrase(HEADER),
   [PROGRAM_FAULT.BAD_LINE]: badLine,

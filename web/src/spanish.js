@@ -397,6 +397,10 @@ export const SPANISH = {
     'El carácter de número {0} en la columna {1} no está permitido, tampoco en comentarios.',
   'The character “{0}” in column {1} is not allowed, in comments either.':
     'El carácter «{0}» en la columna {1} no está permitido, tampoco en comentarios.',
+  'The character of number {0} in column {1} is allowed in comments alone.':
+    'El carácter de número {0} en la columna {1} solo está permitido en comentarios.',
+  'The character “{0}” in column {1} is allowed in comments alone.':
+    'El carácter «{0}» en la columna {1} solo está permitido en comentarios.',
   '“{0}” names an array already or can name none, or array does not stand here.':
     '«{0}» ya nombra un arreglo o no puede nombrar ninguno, o array no va aquí.',
   'Cell {0} was given a value before, or init does not stand here.':
@@ -440,6 +444,31 @@ export const SPANISH = {
   'line {0}: {1}': 'línea {0}: {1}',
   'Processor {0} is gone since line {1}, where its array has no such place.':
     'El procesador {0} está fuera desde la línea {1}, donde su arreglo no tiene tal lugar.',
+  'a line of the header is missing.': 'falta una línea de la cabecera.',
+  'two processors write one place in line {0}, against the rule.':
+    'dos procesadores escriben un mismo lugar en la línea {0}, contra la regla.',
+  'a value is not the one that is wanted.': 'un valor no es el que se quería.',
+  'a processor is gone in line {0}.': 'un procesador queda fuera en la línea {0}.',
+  'a length is not the one that is wanted.': 'una longitud no es la que se quería.',
+  'it needs {1}: two processors read one place in line {0}.':
+    'necesita {1}: dos procesadores leen un mismo lugar en la línea {0}.',
+  'it needs {1}: two processors write one place in line {0}.':
+    'necesita {1}: dos procesadores escriben un mismo lugar en la línea {0}.',
+  'it needs {1}: two processors write different values to one place in line {0}.':
+    'necesita {1}: dos procesadores escriben valores distintos en un lugar en la línea {0}.',
+  'all is right, but it takes too much time.': 'todo está bien, pero toma demasiado tiempo.',
+  'all is right, but it makes too many operations.':
+    'todo está bien, pero hace demasiadas operaciones.',
+  'all is right, but the machine makes too many steps.':
+    'todo está bien, pero la máquina hace demasiados pasos.',
+  'all is right, but in too many lines of code.':
+    'todo está bien, pero en demasiadas líneas de código.',
+  'Not yet, on input {0} of {1}, which is not shown: {2}':
+    'Todavía no, con la entrada {0} de {1}, que no se muestra: {2}',
+  'processor {0} is gone in line {1}.':
+    'el procesador {0} queda fuera en la línea {1}.',
+  '{0} has length {1}, wanted {2}.':
+    '{0} tiene la longitud {1}, se quería {2}.',
   '{0} holds {1}, wanted {2}.': '{0} contiene {1}, se quería {2}.',
   '{0} holds {1}, wanted {2}; no line wrote it.':
     '{0} contiene {1}, se quería {2}; ninguna línea lo escribió.',
@@ -503,6 +532,8 @@ export const SPANISH = {
     'una cota no tiene valor con la entrada de su línea {0}: {1}',
   'its reference fails with the input in its line {0}: {1}':
     'su referencia falla con la entrada de su línea {0}: {1}',
+  'its reference ends with other values than the input in its line {0} wants':
+    'su referencia acaba con otros valores que los que quiere la entrada de su línea {0}',
   'its reference ends in a conflict with the input in its line {0}':
     'su referencia acaba en un conflicto con la entrada de su línea {0}',
   'This exercise cannot be judged by: {0}': 'No se puede evaluar según este ejercicio: {0}',

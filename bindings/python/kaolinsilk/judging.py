@@ -52,7 +52,7 @@ def judge(
     ... '''
     >>> header = "pardo 1\\nrule crew\\nconst n = 4\\nprocs i < n\\nshared A[n]\\ncode\\n"
     >>> judge(exercise, header + "A[i] := i\\n")
-    Verdict(passed=False, input=2, what='A[2] holds 2, wanted 4')
+    Verdict(passed=False, input=2, what='a value is not the one that is wanted')
     >>> bool(judge(exercise, header + "A[i] := i * i\\n"))
     True
     """

@@ -53,7 +53,7 @@ impl Verdict {
 ///
 /// let verdict = kaolinsilk::judge(exercise, format!("{header}A[i] := i\n"))?;
 /// assert_eq!((verdict.passed, verdict.input), (false, Some(2)));
-/// assert_eq!(verdict.what, "A[2] holds 2, wanted 4");
+/// assert_eq!(verdict.what, "a value is not the one that is wanted");
 /// # Ok::<(), kaolinsilk::Error>(())
 /// ```
 ///
