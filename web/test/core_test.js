@@ -200,9 +200,9 @@ function costByNames(core, source, wanted) {
   return printedCost(core.cost(source.text), firstLineOf(wanted), whereOf);
 }
 
-// Costs of a program without its time and operations, which the page does not tell.
+// Costs of a program without its time, operations and rounds, which the page does not tell.
 function costOfJob(costs) {
-  return costs.slice(costs.indexOf('cost of this input'));
+  return costs.slice(costs.indexOf('cost of this input'), costs.indexOf('rounds '));
 }
 
 // A program that a text of the machine was made of.

@@ -38,18 +38,19 @@ use Rattle.pardo_job.specs.Runs.{IsProgramConflict, IsProgramEnd, line_number}
 use Rattle.pardo_job.specs.declared.times.CountedLine.{CountedLine}
 use Rattle.pardo_job.specs.Lines.{place_of}
 use Rattle.pardo_job.specs.Times.{AreAllLines, counted_from, counted_line, counted_place}
-use Rattle.pardo_job.specs.Times.{is_counted}
+use Rattle.pardo_job.specs.Times.{is_counted, rounds_to}
 use Rattle.pardo_law.specs.Between.{AreLinesMade, IsInLine}
 use Rattle.pardo_law.specs.Counted.{TellsLine}
 use Rattle.pardo_law.proofs.Summing.{lines_add_up}
 use Rattle.pardo_law.proofs.FlatTelling.{jobs_tell_lines}
+use Rattle.pardo_law.proofs.Rounds.{jobs_tell_rounds}
 use Rattle.pardo_answers.specs.Language.{is_program}
 use Rattle.pardo_answers.specs.Laws.{IsAnswerText, IsCarrying}
 use Rattle.pardo_answers.proofs.LawAnswers.{printed_answers_are_the_programs}
 use Rattle.pardo_answers.specs.declared.line_costs.LineCost.{LineCost}
 use Rattle.pram_commands.specs.Costs.{TellsCost}
-use Rattle.naming.specs.Costs.{cost_words, named_line_costs}
-use Rattle.pardo_answers.specs.Costs.{line_cost}
+use Rattle.naming.specs.Costs.{cost_words, named_line_costs, named_rounds, rounds_text}
+use Rattle.pardo_answers.specs.Costs.{line_cost, rounds_in}
 use Rattle.naming.specs.Costs.{place_or_cell}
 use Rattle.naming.specs.Names.{AreNames, IsNaming, NamingData}
 use Rattle.command_law.specs.Programs.{AreLineCosts, AreProgramsCosts}
@@ -311,6 +312,12 @@ module _ (text : List ℕ) (job : JobData) (naming : NamingData) (names : IsNami
             ∙ sum_of (λ cost. cost.operations) counted ∙ sums.0;
       }
 
+  rounds_by_meaning : rounds_in program job ≡ rounds_to program costs_by_meaning.n
+  rounds_by_meaning =
+      jobs_tell_rounds program job (slice_index naming.numbers) costs_by_meaning.n
+      (lawful text job naming names) (nested text job naming names) names.makes
+      costs_by_meaning.all
+
 by_names : (text : List ℕ) (job : JobData) (bytes : List ℕ) (answer : Option RunAnswer) →
     is_program text ≡ true → (names : Option NamingData) → AreNames text job names →
     (tells : TellsCost text job bytes answer) → tells.names ≡ names →
@@ -338,8 +345,11 @@ by_names text job bytes answer one (Some naming) names tells same =
           tells.costs.length_is;
       lines = named_line_costs (Some naming) job;
       lines_cost = costs_by_meaning text job naming names is;
+      rounds = rounds_in naming.program job;
+      rounds_are = rounds_by_meaning text job naming names is;
       prints = tells.prints ∙ ap (λ (n : Option NamingData).
-          cost_text (cost_words n (named_line_costs n job)) cost tells.pram) same;
+          cost_text (cost_words n (named_line_costs n job)) cost tells.pram
+          ++ rounds_text n (named_rounds n job)) same;
     }
 
 pub costs_tell : CostsTellTheProgramsLines

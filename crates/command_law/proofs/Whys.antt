@@ -14,8 +14,7 @@ use Rattle.pardo_law.specs.Between.{PutsTo}
 use Rattle.stop_plan.specs.Plan.{PlanData}
 use Rattle.pram_board.specs.Seats.{SeatData}
 use Rattle.pardo_answers.specs.Language.{is_program}
-use Rattle.naming.specs.Names.{AreNames, NamingData, line_at, printed_answer}
-use Rattle.naming.specs.RowNames.{row_words}
+use Rattle.naming.specs.Names.{AreNames, NamingData, printed_answer}
 use Rattle.pram_commands.specs.Threads.{EndsAt}
 use Rattle.pram_commands.specs.Why.{Follows}
 use Rattle.command_law.specs.Laws.{IsCutOff, IsProgramsAnswer}
@@ -89,7 +88,7 @@ module _ (text : List ℕ) (job : JobData) (bytes : List ℕ) (answer : Option R
     (one : is_program text ≡ true) (ended : RunAnswer) (back : List ℕ)
     (gives : answer ≡ Some ended) (Ends : List ℕ → Type 0) (known : IsKnown job ended) where
   by_names : (names : Option NamingData) → AreNames text job names →
-      Follows true (line_at text names) (row_words names).array job ended back →
+      Follows true text names job ended back →
       (front : List ℕ) → Ends front → bytes ≡ front ++ back →
       IsProgramsWhy text job bytes answer Ends
   by_names None is follows front ends prints = no_machines text job one is
@@ -107,7 +106,9 @@ module _ (text : List ℕ) (job : JobData) (bytes : List ℕ) (answer : Option R
         end = found.0;
         lost = found.1;
         values = values_are text job naming its ended why.values known follows.1.values;
-        prints = prints ∙ ap (λ (b : List ℕ). front ++ b) follows.2;
+        rounds = follows.2.0;
+        are_rounds = follows.2.1;
+        prints = prints ∙ ap (λ (b : List ℕ). front ++ b) follows.2.2;
       }
 
 pub plain_tells_why : PlainTellsWhy

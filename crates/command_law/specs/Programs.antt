@@ -49,13 +49,13 @@ use Rattle.pardo_job.specs.Printed.{IsConflictText, cell_text}
 use Rattle.pardo_job.specs.Runs.{IsProgramConflict, IsProgramEnd, IsProgramOver, line_number}
 use Rattle.pardo_job.specs.Runs as source
 use Rattle.pardo_job.specs.Times.{AreAllLines, counted_from, line_most, line_operations}
-use Rattle.pardo_job.specs.Times.{line_time, line_times, operations_to, time_to}
+use Rattle.pardo_job.specs.Times.{line_time, line_times, operations_to, rounds_to, time_to}
 use Rattle.pardo_job.specs.declared.times.CountedLine.{CountedLine}
 use Rattle.pardo_law.specs.Between.{AreLinesMade, GoesThrough, PutsTo}
 use Rattle.pardo_answers.specs.Language.{is_program}
 use Rattle.naming.specs.CellLists.{AreCellsOf}
 use Rattle.pardo_answers.specs.declared.line_costs.LineCost.{LineCost}
-use Rattle.naming.specs.Costs.{cost_words, place_or_cell, spot_in}
+use Rattle.naming.specs.Costs.{cost_words, place_or_cell, rounds_text, spot_in}
 use Rattle.pram_commands.specs.Costs.{costing}
 use Rattle.pram_commands.specs.LineRecords.{costing_by}
 use Rattle.naming.specs.LineRecords.{records_text}
@@ -63,6 +63,7 @@ use Rattle.naming.specs.Names.{Means, NamingData}
 use Rattle.pram_commands.specs.Plain.{checking, no_plan, plainly}
 use Rattle.pram_commands.specs.Replayed.{replaying}
 use Rattle.pram_commands.specs.Sweeps.{TellsRecord, end_word, fields_text}
+use Rattle.naming.specs.Rounds.{AreRounds}
 use Rattle.naming.specs.RowNames.{row_words}
 use Rattle.pram_commands.specs.Steps.{stepping}
 use Rattle.naming.specs.CellNames.{cell_words}
@@ -296,7 +297,7 @@ pub record AreLineCosts (program : ProgramData) (lines : List LineCost) : Type 0
   pub operations : sum_by (λ cost. cost.operations) lines ≡ operations_to program n
 
 -- The bytes are the program's time and operations, and the costs of its job, with meetings and a
--- conflict in the program's lines.
+-- conflict in the program's lines; and last the program's rounds, by the meaning.
 pub record AreProgramsCosts (text : List ℕ) (job : JobData) (bytes : List ℕ) : Type 0 where
   pub naming : NamingData
   pub is : IsProgramsJob text job naming
@@ -315,7 +316,10 @@ pub record AreProgramsCosts (text : List ℕ) (job : JobData) (bytes : List ℕ)
   pub lines_cost : AreLineCosts naming.program lines
   pub conflict : IfSome cost.conflict (λ fault.
       IsConflictText naming.program ((cost_words (Some naming) lines).conflict fault))
+  pub rounds : ℕ
+  pub rounds_are : rounds ≡ rounds_to naming.program lines_cost.n
   pub prints : bytes ≡ cost_text (cost_words (Some naming) lines) cost pram
+      ++ rounds_text (Some naming) rounds
 
 abbrev pub CostsTellTheProgramsLines : Type 0
 CostsTellTheProgramsLines = (text : List ℕ) (job : JobData) (bytes : List ℕ)
@@ -438,7 +442,8 @@ AreClashingValues naming time (Conflict fault) told = (values : Values) × (told
 AreClashingValues naming time (Final cells) told = told ≡ None
 AreClashingValues naming time (Unfinished step) told = told ≡ None
 
--- The bytes are the program's answer, and then what became of its processors, and why.
+-- The bytes are the program's answer, and then what became of its processors, why, and in which
+-- rounds of loops.
 pub record IsProgramsWhy (text : List ℕ) (job : JobData) (bytes : List ℕ)
     (answer : Option RunAnswer) (Ends : List ℕ → Type 0) : Type 0 where
   pub naming : NamingData
@@ -451,8 +456,10 @@ pub record IsProgramsWhy (text : List ℕ) (job : JobData) (bytes : List ℕ)
   pub end : IsEndOf naming is.goes.carries.time job ended why.fates.end
   pub lost : IsLostOf naming is.goes.carries.time ended why.fates.lost
   pub values : AreClashingValues naming is.goes.carries.time ended why.values
+  pub rounds : List ℕ
+  pub are_rounds : AreRounds (Some naming) job ended why.fates.lost rounds
   pub prints : bytes ≡ front
-      ++ why_text (slice_index naming.numbers) (row_words (Some naming)).array why
+      ++ (why_text (slice_index naming.numbers) (row_words (Some naming)).array why ++ rounds)
 
 abbrev pub PlainTellsWhy : Type 0
 PlainTellsWhy = (text : List ℕ) (job : JobData) (bytes : List ℕ) (answer : Option RunAnswer) →

@@ -72,7 +72,7 @@ pub fn replays_print_the_programs_answer()
 
 /// What `cost` prints of a program are the costs of its job; each meeting is told by the line of
 /// the program in which its step lies, two who write to one place do so in it, and a conflict is
-/// the program's.
+/// the program's; and last its rounds, by its meaning.
 pub fn costs_tell_the_programs_lines()
     ensures { CostsTellTheProgramsLines }
 {}

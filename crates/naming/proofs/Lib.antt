@@ -4,3 +4,4 @@ pub mod Rows
 pub mod LineFinding
 pub mod ArrayNames
 pub mod Stopping
+pub mod LoopRounds

@@ -6,7 +6,8 @@ use Rattle.pram_step.specs.declared.answer.RunAnswer.TheVariants.{Conflict}
 use Rattle.pram_cost.specs.Printed.{CostWords, by_cells}
 use Rattle.pram_cost.specs.declared.meeting.Meeting.{Meeting}
 use Rattle.pardo_job.specs.Printed.{cell_text}
-use Rattle.pardo_answers.specs.Costs.{line_costs as program_costs, operations_in, time_in}
+use Rattle.pardo_answers.specs.Costs.{line_costs as program_costs, operations_in, rounds_in}
+use Rattle.pardo_answers.specs.Costs.{time_in}
 use Rattle.pardo_answers.specs.declared.line_costs.LineCost.{LineCost}
 use Rattle.naming.specs.Names.{NamingData, printed_answer}
 
@@ -31,6 +32,16 @@ abbrev pub sums_text : List LineCost → List ℕ
 sums_text lines =
     codes "time " ++ decimal (time_in lines) ++ codes "\noperations "
     ++ decimal (operations_in lines) ++ codes "\n"
+
+-- how often the `end` of a loop is made; a text of the machine has none
+abbrev pub named_rounds : Option NamingData → JobData → ℕ
+named_rounds None job = 0
+named_rounds (Some naming) job = rounds_in naming.program job
+
+-- the line that tells it of a program, after the costs
+abbrev pub rounds_text : Option NamingData → ℕ → List ℕ
+rounds_text None rounds = []
+rounds_text (Some naming) rounds = codes "rounds " ++ decimal rounds ++ codes "\n"
 
 -- How costs tell meetings and conflicts: by cells, or by a program's lines and places, a conflict
 -- as the answer tells it. Of a program its time and operations stand before them.

@@ -2,3 +2,4 @@
 pub mod Refusals
 pub mod Places
 pub mod Finding
+pub mod Rounds

@@ -9,5 +9,6 @@ pub mod Inner
 pub mod LineRecords
 pub mod Names
 pub mod Puts
+pub mod Rounds
 pub mod RowNames
 pub mod Writing

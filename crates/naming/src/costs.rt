@@ -1,12 +1,13 @@
 //! Costs that are told by the lines of a program.
-ghost use Rattle.std.specs.Prelude.{◌≡◌, ◌++◌, OnOk};
-ghost use Rattle.naming.specs.Costs.{sums_text};
+ghost use Rattle.std.specs.Prelude.{◌≡◌, ◌++◌, IfOk, OnOk};
+ghost use Rattle.naming.specs.Costs.{rounds_text, sums_text};
 ghost use Rattle.pardo_answers.specs.Costs.{AreSmall};
 
+use crate::names::Naming;
 use crate::texts::Spelled;
 use pardo_answers::{LineCost, total_operations, total_time};
 use pram_streams::push_labelled;
-use std::alloc::AllocError;
+use std::alloc::{AllocError, Global};
 
 /// A text with its job, and what its counted lines cost: costs are told by them.
 #[derive(Drop)]
@@ -25,4 +26,20 @@ pub(crate) fn push_sums(text: &mut Vec<u8>, lines: &[LineCost]) -> Result<(), Al
     push_labelled(text, b"\noperations ", total_operations(lines))?;
     text.push(b'\n')?;
     Ok(())
+}
+
+/// The line that tells the rounds of a program after its costs; nothing of a text of the machine.
+pub fn rounds_line(
+    alloc: Global,
+    names: &Option<Naming>,
+    rounds: u64,
+) -> Result<Vec<u8>, AllocError>
+    ensures { IfOk result (λ line. line.items ≡ rounds_text names.now rounds) }
+{
+    let mut line = Vec::new(alloc);
+    if names.is_some() {
+        push_labelled(&mut line, b"rounds ", rounds)?;
+        line.push(b'\n')?;
+    }
+    Ok(line)
 }

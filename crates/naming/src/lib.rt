@@ -8,11 +8,13 @@ mod drafts;
 mod line_records;
 mod names;
 mod places;
+mod rounds;
 mod texts;
 
 pub use cell_list::cells_in;
-pub use costs::Costed;
+pub use costs::{Costed, rounds_line};
 pub use drafts::{Stop, counted, drafted, stopped};
 pub use line_records::records_of;
 pub use names::{Naming, origin_of, print_styled, print_told, read_costed, read_text};
+pub use rounds::rounds_text;
 pub use texts::Spelled;

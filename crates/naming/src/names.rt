@@ -280,8 +280,12 @@ pub fn read_costed(alloc: Global, text: &[u8]) -> Result<(Job, Option<Naming>, C
     } else {
         let job = read_machine(alloc, text)?;
         let cost = cost_of(alloc, &job)?;
-        let lines = Vec::new(alloc);
-        Ok((job, None, Costs { cost, lines }))
+        let costs = Costs {
+            cost,
+            lines: Vec::new(alloc),
+            rounds: 0,
+        };
+        Ok((job, None, costs))
     }
 }
 

@@ -6,7 +6,8 @@ use Rattle.std.proofs.Math.Nat.{mul-le-mul_left}
 use Rattle.std.specs.Prelude.{All, slice_get}
 use Rattle.std.proofs.lemmas.List.{length-map}
 use Rattle.std.proofs.lemmas.List.Elements.{All-append, All-cons, All-map, All-nil}
-use Rattle.std.proofs.lemmas.List.Sums.{sum_by-le}
+use Rattle.std.specs.Prelude.{sum_by}
+use Rattle.std.proofs.lemmas.List.Sums.{sum_by-append, sum_by-cons, sum_by-le}
 use Rattle.pram_job.specs.Job.{IsJob, JobData}
 use Rattle.pram_cost.specs.declared.profile.Tallied.{Tallied}
 use Rattle.pram_cost.specs.Profiled.{HasProfiled, IsExecuted, tally_at}
@@ -19,12 +20,14 @@ use Rattle.pardo_job.specs.declared.times.CountedLine.{CountedLine}
 use Rattle.pardo_job.specs.Compiled.{CompiledData}
 use Rattle.pardo_job.specs.Drafts.{IsComplete}
 use Rattle.pardo_job.specs.Lines.{code_of, job_of, place_of}
-use Rattle.pardo_job.specs.Times.{counted_from, counted_line, counted_place, is_counted}
+use Rattle.pardo_job.specs.Times.{counted_from, counted_line, counted_place, ends_loop}
+use Rattle.pardo_job.specs.Times.{place_of_line, is_counted, loop_end_at, loop_ends, loop_ends_from}
 use Rattle.pardo_job.proofs.Counted.{counted_within}
+use Rattle.pardo_job.proofs.JobFits.{code_length}
+use Rattle.pardo_job.proofs.Placed.{place_below}
 use Rattle.pardo_answers.specs.declared.line_costs.LineCost.{LineCost}
-use Rattle.pardo_answers.specs.Costs.{line_cost}
-use Rattle.pardo_answers.specs.Costs.{AreSmall}
-use Rattle.pardo_answers.specs.Inner.Lines.{line_by}
+use Rattle.pardo_answers.specs.Costs.{AreSmall, line_cost, rounds_in}
+use Rattle.pardo_answers.specs.Inner.Lines.{line_by, steps_by}
 
 -- its instructions are there
 record IsInCode (job : JobData) (counted : CountedLine) : Type 0 where
@@ -35,6 +38,12 @@ module _ (program : ProgramData) (job : JobData) (made : job ≡ job_of (flat pr
   code_is : job.code ≡ code_of (flat program)
   unfolding job_of
   code_is = ap (λ (j : JobData). j.code) made
+
+  first_in_code : (j : ℕ) → place_of_line program j < length job.code
+  first_in_code j =
+      let low = place_below (flat program) (first_flat_of program j) in
+      let long = code_length (flat program) in
+      let same = ap (λ (code : List _). length code) code_is in omega arith
 
   abbrev listed : ℕ → Line → Bool → List CountedLine
   listed j line b = if b
@@ -149,6 +158,35 @@ lines_told program job rows made profiled =
     let e : k ≡ 0 + k = omega arith in
     subst (λ m. slice_get program.lines m ≡ Some line) e is))
 
+-- ---- the ends of loops
+
+module _ (program : ProgramData) (job : JobData) (rows : List Tallied)
+    (made : job ≡ job_of (flat program) job.steps)
+    (profiled : HasProfiled (record job { steps = 0 }) job.steps rows) where
+  abbrev steps : ℕ → ℕ
+  steps first = instruction_steps job first job.steps
+
+  ends_told : (j : ℕ) (lines : List Line) →
+      sum_by (steps_by rows) (loop_ends_from program j lines)
+      ≡ sum_by steps (loop_ends_from program j lines)
+  ends_told j [] = refl
+  ends_told j (line ∷ lines) =
+      let one = loop_end_at (place_of_line program j) line.statement in
+      let front = by_test (ends_loop line.statement) in
+      let rest = ends_told (j + 1) lines in
+      let both = sum_by-append (steps_by rows) one (loop_ends_from program (j + 1) lines) in
+      let both_too = sum_by-append steps one (loop_ends_from program (j + 1) lines) in
+      omega (arith, front, rest, both, both_too)
+    where
+      by_test : (b : Bool) → sum_by (steps_by rows) (if b then place_of_line program j ∷ [] else [])
+          ≡ sum_by steps (if b then place_of_line program j ∷ [] else [])
+      by_test true =
+          sum_by-cons (steps_by rows) (place_of_line program j) []
+          ∙ ap (λ (m : ℕ). m + 0) (found job rows profiled (place_of_line program j)
+          (first_in_code program job made j)).steps_are
+          ∙ sym (sum_by-cons steps (place_of_line program j) [])
+      by_test false = refl
+
 -- ---- of a program that was compiled
 
 module _ (program : ProgramData) (compiled : CompiledData) (job : JobData) (rows : List Tallied)
@@ -172,3 +210,10 @@ module _ (program : ProgramData) (compiled : CompiledData) (job : JobData) (rows
   pub made_small : length counted < 2 ^ 12 → AreSmall lines
   made_small few = subst AreSmall (sym told)
       (lines_small compiled.job made.job.job_is counted few)
+
+  pub made_rounds : (ends : List ℕ) (rounds : ℕ) → ends ≡ loop_ends program →
+      rounds ≡ sum_by (steps_by rows) ends → rounds ≡ rounds_in program job
+  made_rounds ends rounds ends_are rounds_are =
+      rounds_are ∙ ap (sum_by (steps_by rows)) ends_are
+      ∙ ends_told program compiled.job rows made.job.made profiled 0 program.lines
+      ∙ ap (rounds_in program) (sym job_is)

@@ -1,7 +1,7 @@
-//! What the counted lines of a program cost in its run.
-ghost use Rattle.std.specs.Prelude.{◌≡◌, IfOk, map};
+//! What the counted lines of a program cost in its run, and how many rounds its loops have.
+ghost use Rattle.std.specs.Prelude.{◌≡◌, IfOk, map, sum_by};
 ghost use Rattle.pardo_answers.specs.Costs.{AreSmall, operations_in, time_in};
-ghost use Rattle.pardo_answers.specs.Inner.Lines.{line_by};
+ghost use Rattle.pardo_answers.specs.Inner.Lines.{line_by, steps_by};
 
 use pardo_job::CountedLine;
 use pram_cost::{Cost, Profile};
@@ -22,11 +22,13 @@ pub struct LineCost {
     pub most: u32,
 }
 
-/// What the run of a program costs, and what each of its counted lines does.
+/// What the run of a program costs, what each of its counted lines does, and how often the `end` of
+/// a loop is made.
 #[derive(Drop)]
 pub struct Costs {
     pub cost: Cost,
     pub lines: Vec<LineCost>,
+    pub rounds: u64,
     pub ghost small: { AreSmall lines.items },
 }
 
@@ -68,6 +70,23 @@ pub(crate) fn costs_of(
         lines.push(cost_by(line, profile))?;
     }
     Ok(lines)
+}
+
+/// How often the `end` of a loop was made, by how often the first instructions of these were
+/// executed. A number beyond 64 bits would take more lines than there is memory for.
+pub(crate) fn rounds_of(ends: &[u32], profile: &Profile) -> Result<u64, AllocError>
+    ensures { IfOk result (λ rounds.
+        rounds ≡ sum_by (steps_by profile.now.rows.items) ends.now) }
+{
+    let mut rounds: u64 = 0;
+    for first in ends {
+        let steps = profile.at(*first as usize).steps;
+        rounds = match rounds.checked_add(u64::from(steps)) {
+            Some(sum) => sum,
+            None => return Err(AllocError),
+        };
+    }
+    Ok(rounds)
 }
 
 fn cost_by(counted: &CountedLine, profile: &Profile) -> LineCost

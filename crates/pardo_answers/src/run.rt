@@ -8,8 +8,8 @@ ghost use Rattle.pardo_job.specs.Drafts.{ArePlacesOf, IsDraft};
 ghost use Rattle.pardo_job.specs.Refusals.{IsProgramFault, IsProgramRefusal};
 ghost use Rattle.pardo_answers.specs.Runs.{IsTextRun, IsRunOf};
 
-use crate::line_costs::{Costs, costs_of};
-use pardo_job::{Draft, Ended, JobFault, Refusal, counted_lines, draft_in, finish};
+use crate::line_costs::{Costs, costs_of, rounds_of};
+use pardo_job::{Draft, Ended, JobFault, Refusal, counted_lines, draft_in, finish, loop_ends};
 use pardo_text::Program;
 use pram_cost::Measure;
 use pram_job::Job;
@@ -44,18 +44,25 @@ pub fn finish_costed(alloc: Global, draft: Draft) -> Result<Run, JobFault>
     ensures run { IfOk result (IsRunOf draft.program) }
     ensures refused { IfErr result (λ fault. IsProgramFault draft.program fault.line fault.kind) }
 {
-    let counted = counted_lines(alloc, &draft.program, draft.places.as_slice())?;
+    let places = draft.places.as_slice();
+    let counted = counted_lines(alloc, &draft.program, places)?;
+    let ends = loop_ends(alloc, &draft.program, places)?;
     let measure = Measure::new(alloc, &draft.job)?;
     let (program, compiled, measure) = finish(alloc, draft, measure)?;
     let (job, numbers, ended) = compiled.into_parts();
     let cost = measure.tally.into_cost(conflict_of(&ended.answer));
     let lines = costs_of(alloc, counted.as_slice(), &measure.profile)?;
+    let rounds = rounds_of(ends.as_slice(), &measure.profile)?;
     Ok(Run {
         program,
         job,
         numbers,
         ended,
-        costs: Costs { cost, lines },
+        costs: Costs {
+            cost,
+            lines,
+            rounds,
+        },
     })
 }
 

@@ -11,7 +11,6 @@ use Rattle.pram_job.specs.declared.instr.Instr.{Instr}
 use Rattle.pram_job.specs.declared.instr.Instr.TheVariants.{Jmp, Jz, St}
 use Rattle.pram_job.specs.declared.instr.Place.TheVariants.{Named}
 use Rattle.pardo_program.specs.declared.statement.Line.{Line}
-use Rattle.pardo_program.specs.declared.statement.Statement.{Statement}
 use Rattle.pardo_program.specs.declared.statement.Statement.TheVariants.{Assign, If, Else, EndIf}
 use Rattle.pardo_program.specs.declared.statement.Statement.TheVariants.{While, EndWhile, For}
 use Rattle.pardo_program.specs.declared.statement.Statement.TheVariants.{EndFor}
@@ -28,7 +27,9 @@ use Rattle.pardo_job.specs.declared.times.CountedLine.{CountedLine}
 use Rattle.pardo_job.specs.Lines.{assignment_code, choosing, code_of, condition_code, no_code}
 use Rattle.pardo_job.specs.Lines.{length_of_line, line_code, masked, own_store, place_of}
 use Rattle.pardo_job.specs.Times.{behind_mask, counted_from, counted_line, counted_place}
-use Rattle.pardo_job.specs.Times.{is_counted, is_place, reads_shared}
+use Rattle.pardo_job.specs.Times.{place_of_line, is_counted, is_place, loop_end_at, loop_ends}
+use Rattle.pardo_job.specs.Times.{loop_ends_from, reads_shared}
+use Rattle.pardo_program.specs.declared.statement.Statement.{Statement}
 use Rattle.pardo_job.specs.Values.{own_load, takes, value_code, value_operand}
 use Rattle.pardo_job.proofs.JobFits.{code_length}
 use Rattle.pardo_job.proofs.FlatFirsts.{first_line, place_some, places_rise}
@@ -139,12 +140,9 @@ unfolding length_of_line
 some_code program line counted =
     let long = counted_long program (λ k. 0) 0 line.depth line.statement counted in omega arith
 
-abbrev first_place : ProgramData → ℕ → ℕ
-first_place program j = place_of (flat program) (first_flat_of program j)
-
 one_counted : (program : ProgramData) (j : ℕ) (line : Line) → slice_get program.lines j ≡ Some line →
-    first_place program j + length (counted_line (first_place program j) j line)
-    ≤ first_place program (j + 1)
+    place_of_line program j + length (counted_line (place_of_line program j) j line)
+    ≤ place_of_line program (j + 1)
 one_counted program j line is = by_counted (is_counted line.statement) refl
   where
     listed : Bool → List CountedLine
@@ -152,8 +150,8 @@ one_counted program j line is = by_counted (is_counted line.statement) refl
         then record {
           at = j;
           number = line.number;
-          first = first_place program j;
-          own = first_place program j + behind_mask line.depth;
+          first = place_of_line program j;
+          own = place_of_line program j + behind_mask line.depth;
         } ∷ []
         else []
 
@@ -161,8 +159,8 @@ one_counted program j line is = by_counted (is_counted line.statement) refl
     next = first_next program j line is
 
     by_counted : (b : Bool) → is_counted line.statement ≡ b →
-        first_place program j + length (listed (is_counted line.statement))
-        ≤ first_place program (j + 1)
+        place_of_line program j + length (listed (is_counted line.statement))
+        ≤ place_of_line program (j + 1)
     by_counted true e =
         let its = first_line program j line is e in
         let some = some_code (flat program) its.line_is its.counts in
@@ -179,7 +177,7 @@ one_counted program j line is = by_counted (is_counted line.statement) refl
 
 -- each has an instruction of its own
 counted_few : (program : ProgramData) (k j : ℕ) → j + k ≡ length program.lines →
-    first_place program j + length (counted_from program j (drop j program.lines))
+    place_of_line program j + length (counted_from program j (drop j program.lines))
     ≤ place_of (flat program) (length (flat program).lines)
 counted_few program zero j all =
     let none = at_drop_all (λ (l : List Line). length (counted_from program j l)) program.lines j
@@ -196,7 +194,7 @@ counted_few program (suc k) j all =
     let count = ap (λ (l : List Line). length (counted_from program j l)) left in
     let one = one_counted program j line found.1 in
     let rest = counted_few program k (j + 1) (omega (arith, all)) in
-    let both = length-append (counted_line (first_place program j) j line)
+    let both = length-append (counted_line (place_of_line program j) j line)
     (counted_from program (j + 1) (drop (j + 1) program.lines)) in
     omega (arith, count, one, rest, both)
 
@@ -272,3 +270,35 @@ reads_nodes (apply op first second) =
     ∙ or_false (has_place (postfix second)))
     ∙ ap (λ b. b || has_place (postfix second)) (reads_nodes first)
     ∙ ap (λ b. reads_shared first || b) (reads_nodes second)
+
+-- ---- the ends of loops, one after another
+
+pub record AreEndsSoFar (program : ProgramData) (j : ℕ) (ends : List ℕ) : Type 0 where
+  pub whole : ends ++ loop_ends_from program j (drop j program.lines) ≡ loop_ends program
+
+pub no_ends : (program : ProgramData) (ends : List ℕ) → ends ≡ [] → AreEndsSoFar program 0 ends
+no_ends program ends e =
+    record { whole = ap (λ (l : List ℕ). l ++ loop_ends_from program 0 program.lines) e }
+
+pub one_more_end : (program : ProgramData) (j : ℕ) (line : Line) (ends new : List ℕ) →
+    slice_get program.lines j ≡ Some line →
+    new ≡ ends ++ loop_end_at (place_of_line program j) line.statement →
+    AreEndsSoFar program j ends → AreEndsSoFar program (j + 1) new
+one_more_end program j line ends new is more so_far =
+    let lt : j < length program.lines = slice_get_within program.lines j line is in
+    let there : get_or program.lines j line ≡ line =
+    get_or_from_slice_get program.lines j line line is in
+    let left : drop j program.lines ≡ line ∷ drop (j + 1) program.lines =
+    drop_more program.lines j line lt ∙ ap (λ (x : Line). x ∷ drop (j + 1) program.lines) there in
+    let one : List ℕ = loop_end_at (place_of_line program j) line.statement in
+    let rest : List ℕ = loop_ends_from program (j + 1) (drop (j + 1) program.lines) in record {
+      whole = ap (λ (l : List ℕ). l ++ rest) more ∙ append_assoc ends one rest
+          ∙ sym (ap (λ (l : List Line). ends ++ loop_ends_from program j l) left) ∙ so_far.whole;
+    }
+
+pub all_ends : (program : ProgramData) (j : ℕ) (ends : List ℕ) → length program.lines ≤ j →
+    AreEndsSoFar program j ends → ends ≡ loop_ends program
+all_ends program j ends le so_far =
+    sym (append-nil ends)
+    ∙ sym (at_drop_all (λ (l : List Line). ends ++ loop_ends_from program j l) program.lines j le)
+    ∙ so_far.whole

@@ -1,5 +1,6 @@
--- Time and operations of a program's run, and how they fall to its lines. Counted are assignments,
--- and an `if` whose condition reads shared memory; the other lines say who takes part.
+-- Time, operations and rounds of a program's run, and how the first two fall to its lines. Counted
+-- are assignments, and an `if` whose condition reads shared memory; the other lines say who takes
+-- part.
 use Rattle.std.specs.Prelude.{◌≡◌, ◌⊎◌, ℕ, zero, suc, ◌+◌, Bool, true, false, ◌||◌, ◌==◌}
 use Rattle.std.specs.Prelude.{nat_lt, if◌then◌else◌, max, count_by, slice_get, None, Some}
 use Rattle.std.specs.Prelude.{List, [], ◌∷◌, ◌++◌}
@@ -8,12 +9,14 @@ use Rattle.pram_step.specs.declared.answer.Dispute.{Dispute}
 use Rattle.pardo_program.specs.declared.statement.Line.{Line}
 use Rattle.pardo_program.specs.declared.statement.Statement.{Statement}
 use Rattle.pardo_program.specs.declared.statement.Statement.TheVariants.{Assign, If}
+use Rattle.pardo_program.specs.declared.statement.Statement.TheVariants.{EndFor, EndWhile}
 use Rattle.pardo_program.specs.declared.expression.Node.{Node}
 use Rattle.pardo_program.specs.declared.expression.Node.TheVariants.{Place}
 use Rattle.pardo_program.specs.Expression.{Tree, place, apply}
 use Rattle.pardo_program.specs.Operations.{bit}
 use Rattle.pardo_program.specs.Program.{ProgramData}
 use Rattle.pardo_flat.specs.Flat.{first_flat_of, flat}
+use Rattle.pardo_flat.specs.Statements.{statement_at}
 use Rattle.pardo_job.specs.declared.times.CountedLine.{CountedLine}
 use Rattle.pardo_job.specs.Lines.{place_of}
 use Rattle.pardo_job.specs.Meaning.{Source, after, is_active}
@@ -33,6 +36,12 @@ abbrev pub is_counted : Statement → Bool
 is_counted (Assign target tree) = true
 is_counted (If tree) = reads_shared tree
 is_counted _ = false
+
+-- whether it is the `end` of a loop
+abbrev pub ends_loop : Statement → Bool
+ends_loop (EndWhile begin) = true
+ends_loop (EndFor begin) = true
+ends_loop _ = false
 
 -- how many processors take part in the line that is next: the active ones, if it is counted
 unfoldable pub taking_part : ProgramData → Source → ℕ
@@ -55,6 +64,12 @@ unfoldable pub time_to : ProgramData → ℕ → ℕ
 time_to program zero = 0
 time_to program (suc n) =
     time_to program n + bit (nat_lt 0 (taking_part program (after program n)))
+
+-- rounds: how many of the lines are the `end` of a loop
+unfoldable pub rounds_to : ProgramData → ℕ → ℕ
+rounds_to program zero = 0
+rounds_to program (suc n) =
+    rounds_to program n + bit (ends_loop (statement_at program (after program n).at))
 
 -- The lines of a run are those before its end, or up to the one in conflict, which counts too.
 abbrev pub AreAllLines : ProgramData → ℕ → Type 0
@@ -117,3 +132,23 @@ counted_from program j [] = []
 counted_from program j (line ∷ lines) =
     counted_line (place_of (flat program) (first_flat_of program j)) j line
     ++ counted_from program (j + 1) lines
+
+-- ---- the ends of loops
+
+-- where the code of the line j begins, or that of the hidden lines before it
+abbrev pub place_of_line : ProgramData → ℕ → ℕ
+place_of_line program j = place_of (flat program) (first_flat_of program j)
+
+-- this first instruction of a line, if that is the `end` of a loop
+abbrev pub loop_end_at : ℕ → Statement → List ℕ
+loop_end_at first statement = if ends_loop statement then first ∷ [] else []
+
+-- the first instructions of those among these lines, the first of which is the line j
+abbrev pub loop_ends_from : ProgramData → ℕ → List Line → List ℕ
+loop_ends_from program j [] = []
+loop_ends_from program j (line ∷ lines) =
+    loop_end_at (place_of_line program j) line.statement ++ loop_ends_from program (j + 1) lines
+
+-- of all of them
+abbrev pub loop_ends : ProgramData → List ℕ
+loop_ends program = loop_ends_from program 0 program.lines

@@ -21,4 +21,4 @@ pub use compiler::{Compiled, Draft, compile, draft_in, finish};
 pub use ended::{Ended, Lines};
 pub use fault::{JobFault, JobKind, Refusal};
 pub use flat::flat_program;
-pub use times::{CountedLine, counted_lines};
+pub use times::{CountedLine, counted_lines, loop_ends};

@@ -1,10 +1,11 @@
-//! The counted lines of a program, and which instructions of its job tell of them.
+//! The counted lines of a program and the ends of its loops, and which instructions of its job tell
+//! of them.
 ghost use Rattle.std.specs.Prelude.{◌≡◌, ◌<◌, ◌++◌, IfOk, OnOk, slice_index, vec_len};
 ghost use Rattle.std.specs.List.{list_any};
 ghost use Rattle.pram_job.specs.declared.limits.TheConstants.{MAX_CODE as MOST};
 ghost use Rattle.pardo_job.specs.Drafts.{ArePlacesOf};
-ghost use Rattle.pardo_job.specs.Times.{counted_from, counted_line, is_counted, is_place};
-ghost use Rattle.pardo_job.specs.Times.{reads_shared};
+ghost use Rattle.pardo_job.specs.Times.{counted_from, counted_line, ends_loop, is_counted};
+ghost use Rattle.pardo_job.specs.Times.{is_place, loop_end_at, loop_ends, reads_shared};
 
 use pardo_text::{Expr, Line, Node, Program, Statement};
 use std::alloc::{AllocError, Global};
@@ -70,6 +71,35 @@ fn push_counted(
         own,
     })?;
     Ok(())
+}
+
+/// The first instruction of each line that is the `end` of a loop, in order: it is executed once
+/// where that line is.
+pub fn loop_ends(alloc: Global, program: &Program, places: &[u32]) -> Result<Vec<u32>, AllocError>
+    requires { ArePlacesOf program.now places.now }
+    ensures { IfOk result (λ ends. ends.items ≡ loop_ends program.now) }
+{
+    let mut ends = Vec::new(alloc);
+    for (at, line) in program.lines().iter().enumerate() {
+        push_end(&mut ends, &line.statement, place_at(places, at))?;
+    }
+    Ok(ends)
+}
+
+// Adds this first instruction of a line, if that is the `end` of a loop.
+fn push_end(ends: &mut Vec<u32>, statement: &Statement, first: u32) -> Result<(), AllocError>
+    ensures { OnOk result (ends.new.items ≡ ends.old.items ++ loop_end_at first statement.now) }
+{
+    if ends_loop(statement) {
+        ends.push(first)?;
+    }
+    Ok(())
+}
+
+fn ends_loop(statement: &Statement) -> bool
+    ensures { result ≡ ends_loop statement.now }
+{
+    matches!(statement, Statement::EndWhile(_) | Statement::EndFor(_))
 }
 
 fn is_counted(statement: &Statement) -> bool

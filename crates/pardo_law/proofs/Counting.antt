@@ -8,9 +8,8 @@ use Rattle.std.proofs.lemmas.Bool.{cases_eq, cases_lt, eq-eqb, eqb-true, ne_eqb}
 use Rattle.pram_job.specs.declared.instr.Instr.{Instr}
 use Rattle.pram_job.specs.declared.instr.Instr.TheVariants.{Jmp, Jz}
 use Rattle.pram_job.specs.Job.{JobData}
-use Rattle.pram_machine.specs.Machine.{IsStopped, counter, out_of_range}
+use Rattle.pram_machine.specs.Machine.{counter, out_of_range}
 use Rattle.pram_step.specs.Runs.{state_after}
-use Rattle.pram_step.proofs.LawCounters.{stopped_processor}
 use Rattle.pram_cost.specs.Profiles.{standing_at_index}
 use Rattle.pardo_program.specs.declared.statement.Line.{Line}
 use Rattle.pardo_program.specs.declared.statement.Statement.{Statement}
@@ -37,7 +36,7 @@ use Rattle.pardo_law.proofs.Carrying.{ends_here, line_is, stands_here}
 use Rattle.pardo_law.proofs.Cutting.{StaysIn, inside_back, is_inside}
 use Rattle.pardo_law.proofs.Gathering.{count_none, count_same, count_some}
 use Rattle.pardo_law.proofs.Leading.{LeadingAt, counted_leads, goes_on, leading_at}
-use Rattle.pardo_law.proofs.Leading.{next_is}
+use Rattle.pardo_law.proofs.Leading.{next_is, stays_out}
 use Rattle.pardo_law.proofs.Masks.{active_is, gone_inactive, mask_at}
 use Rattle.pardo_law.proofs.Picturing.{IsHere, IsOf, choice_count, layout_procs, memory_fits}
 use Rattle.pardo_law.proofs.Picturing.{procs_are}
@@ -116,7 +115,7 @@ module _ (program : ProgramData) (job : JobData) (of : IsOf program job) (source
   low : (i : ℕ) → i < program.procs → i < job.procs
   low i lt = let e = procs_are program job of in omega arith
 
-  back : (i : ℕ) → i < job.procs → i < program.procs
+  pub back : (i : ℕ) → i < job.procs → i < program.procs
   back i lt = let e = procs_are program job of in omega arith
 
   -- ---- elsewhere
@@ -142,11 +141,7 @@ module _ (program : ProgramData) (job : JobData) (of : IsOf program job) (source
 
   out_next : (u i : ℕ) → i < job.procs → counter job (state_after job u) i ≡ out_of_range job →
       counter job (state_after job (suc u)) i ≡ out_of_range job
-  out_next u i lt out =
-      let past : IsStopped job (state_after job u) i = omega (arith, out) in
-      let e : u + 1 ≡ suc u = omega arith in
-      subst (λ (n : ℕ). counter job (state_after job n) i ≡ out_of_range job) e
-      ((stopped_processor job u 1 i of.job_is lt past).0 ∙ out)
+  out_next u i lt out = stays_out job of.job_is u i lt out
 
   out_later : (k i : ℕ) → i < job.procs → counter job (state_after job t) i ≡ out_of_range job →
       stand k i ≡ out_of_range job
@@ -160,15 +155,24 @@ module _ (program : ProgramData) (job : JobData) (of : IsOf program job) (source
 
   -- ---- before the line
 
-  there : (i : ℕ) → i < program.procs → source.gone i ≡ None →
+  pub there : (i : ℕ) → i < program.procs → source.gone i ≡ None →
       counter job (state_after job t) i ≡ lo
   there i lt e = (here_shows job (state_after job t) i (source.gone i) lo (carried.locals i) e
       (carried.pictured.here i lt) (carried.standing.locals_are i (low i lt))).0
 
-  away : (i number : ℕ) → i < program.procs → source.gone i ≡ Some number →
+  pub away : (i number : ℕ) → i < program.procs → source.gone i ≡ Some number →
       counter job (state_after job t) i ≡ out_of_range job
   away i number lt e = out_shows job (state_after job t) i (source.gone i) lo number
       (carried.locals i) e (carried.pictured.here i lt) (carried.standing.locals_are i (low i lt))
+
+  -- somebody begins each line
+  pub first_executed : (i : ℕ) → i < program.procs → source.gone i ≡ None →
+      0 < standing_at_index job lo (state_after job (t + 0))
+  first_executed i lt e =
+      let same : t ≡ t + 0 = omega arith in
+      count_some (λ j. stand 0 j == lo) job.procs i (low i lt)
+      (subst (λ (u : ℕ). (counter job (state_after job u) i == lo) ≡ true) same
+      (eq-eqb _ lo (there i lt e)))
 
   -- ---- a counted line
 
@@ -259,14 +263,6 @@ module _ (program : ProgramData) (job : JobData) (of : IsOf program job) (source
       least = begins;
       before = λ k i lt less. absurd (omega arith);
     }
-
-    pub first_executed : (i : ℕ) → i < program.procs → source.gone i ≡ None →
-        0 < standing_at_index job lo (state_after job (t + 0))
-    first_executed i lt e =
-        let same : t ≡ t + 0 = omega arith in
-        count_some (λ j. stand 0 j == lo) job.procs i (low i lt)
-        (subst (λ (u : ℕ). (counter job (state_after job u) i == lo) ≡ true) same
-        (eq-eqb _ lo (there i lt e)))
 
     -- ---- the mask
 

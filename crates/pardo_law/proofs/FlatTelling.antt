@@ -1,4 +1,4 @@
--- What the run of the job of a flat program tells of the counted lines of the program.
+-- What the run of the job of a flat program tells of the lines of the program.
 use Rattle.std.proofs.Common.{◌≡◌, ◌≢◌, ℕ, zero, suc, ◌+◌, ◌<◌, ◌≤◌, ◌==◌, Bool, true}
 use Rattle.std.proofs.Common.{false, List, [], ◌∷◌, Some, length, if◌then◌else◌}
 use Rattle.std.proofs.Common.{◌++◌, ◌&&◌, length-append}
@@ -40,11 +40,11 @@ use Rattle.pardo_law.proofs.Counting.{taking_by}
 use Rattle.pardo_law.proofs.FlatCarrying.{all_back, count_next, ends_flat, in_line, keeps_line}
 use Rattle.pardo_law.proofs.FlatCarrying.{left_none, line_next_in}
 use Rattle.pardo_law.proofs.FlatCarrying.{made_flat, made_on, of_flat, over_to, stands}
-use Rattle.pardo_job.proofs.FlatFirsts.{FirstLine, first_line, first_only}
+use Rattle.pardo_job.proofs.FlatFirsts.{first_line, first_only}
 use Rattle.pardo_law.proofs.Picturing.{IsOf}
-use Rattle.pardo_law.proofs.Telling.{CarriedAt, add_zero, all_told, at_end, at_start, begun, first}
-use Rattle.pardo_law.proofs.Telling.{first_inside, first_is_turn, in_it, in_other, max_zero, own}
-use Rattle.pardo_law.proofs.Telling.{own_from, own_inside, own_is_turn, own_share, share}
+use Rattle.pardo_law.proofs.Telling.{CarriedAt, IsOnceAt, add_zero, all_told, at_end, at_start}
+use Rattle.pardo_law.proofs.Telling.{begun, first, first_inside, first_once, in_it, in_other}
+use Rattle.pardo_law.proofs.Telling.{max_zero, own, own_from, own_inside, own_once, own_share, share}
 use Rattle.pardo_law.proofs.Telling.{share_none, share_some, some_bit}
 
 -- ---- the run
@@ -52,7 +52,8 @@ use Rattle.pardo_law.proofs.Telling.{share_none, share_some, some_bit}
 module _ (program : ProgramData) (lawful : IsProgram program) (job : JobData) (line_of : ℕ → ℕ)
     (the : IsOf (flat program) job) (whole : IsWhole job)
     (numbers : AreLineNumbers (flat program) line_of) (j : ℕ) (line : Line)
-    (is : slice_get program.lines j ≡ Some line) (counted : is_counted line.statement ≡ true)
+    (is : slice_get program.lines j ≡ Some line) (its_line : Line)
+    (its_is : slice_get (flat program).lines (first_flat_of program j) ≡ Some its_line)
   where
     abbrev other : ProgramData
     other = flat program
@@ -63,30 +64,12 @@ module _ (program : ProgramData) (lawful : IsProgram program) (job : JobData) (l
     abbrev time : ℕ → ℕ
     time n = time_of other (count n)
 
-    abbrev its : FirstLine program j line is counted
-    its = first_line program j line is counted
-
     abbrev place_in : ℕ
     place_in = first_flat_of program j
 
-    abbrev its_line : Line
-    its_line = its.line_is
-
     carried : (n : ℕ) → IsLineReached program n →
-        CarriedAt other job the place_in its_line its.found its.counts (count n)
+        CarriedAt other job the place_in its_line its_is (count n)
     carried n reached = carried_made other job the (count n) (made_flat program lawful n reached)
-
-    -- who takes part in the first line for it takes part in the line
-    flat_taking : (n : ℕ) → (after program n).at ≡ j →
-        taking_part other (after other (count n)) ≡ taking_part program (after program n)
-    flat_taking n here =
-        let s = stands program lawful n in
-        taking_by other (after other (count n)) its_line
-        (ap (slice_get other.lines) (s.at ∙ ap (first_flat_of program) here) ∙ its.found) its.counts
-        ∙ (λ k. count_by (λ i. s.shares.masks k (its.depth k) i && is_none (s.gone k i))
-        (range_with_len 0 program.procs))
-        ∙ sym (taking_by program (after program n) line (ap (slice_get program.lines) here ∙ is)
-        counted)
 
     at_first : (n : ℕ) → (after program n).at ≡ j → (after other (count n)).at ≡ place_in
     at_first n here = (stands program lawful n).at ∙ ap (first_flat_of program) here
@@ -94,7 +77,7 @@ module _ (program : ProgramData) (lawful : IsProgram program) (job : JobData) (l
     not_over : (n : ℕ) → (IsProgramOver program (after program n) → ⊥) →
         (after program n).at ≡ j → IsProgramOver other (after other (count n)) → ⊥
     not_over n goes_on here (inl ends) =
-        let lt = slice_get_within other.lines place_in its_line its.found in
+        let lt = slice_get_within other.lines place_in its_line its_is in
         let e = at_first n here in omega (arith, ends, lt, e)
     not_over n goes_on here (inr all) = goes_on (inr (all_back program lawful n all))
 
@@ -129,7 +112,7 @@ module _ (program : ProgramData) (lawful : IsProgram program) (job : JobData) (l
           (λ (here : (after other (count n + suc k)).at
           ≡ first_flat_of program (after program n).at + suc k).
           let line_there = flat_at program (after program n).at found at (suc k) le in
-          in_other other job the place_in its_line its.found its.counts p from to combine part
+          in_other other job the place_in its_line its_is p from to combine part
           empty gathered grows (count n + suc k)
           (carried_made other job the (count n + suc k)
           (made_on program lawful n (suc k) found at le (made_flat program lawful n reached)))
@@ -166,7 +149,7 @@ module _ (program : ProgramData) (lawful : IsProgram program) (job : JobData) (l
           s.at ∙ (let f : first_flat_of program (after program n).at
           ≡ first_flat_of program (after program n).at + 0 = omega arith in f) in
           after_first n found reached at
-          ∙ in_other other job the place_in its_line its.found its.counts p from to combine part
+          ∙ in_other other job the place_in its_line its_is p from to combine part
           empty gathered grows (count n) (carried n reached) line_there.0
           (ap (slice_get other.lines) e ∙ line_there.1)
           (λ same. apart (first_only program (after program n).at j 0 found line at is (omega arith)
@@ -191,104 +174,126 @@ module _ (program : ProgramData) (lawful : IsProgram program) (job : JobData) (l
 
         told_by : (n : ℕ) → AreAllLines program n → gathered job.steps ≡ told n
         told_by = all_told program j combine gathered time added told
-            (starts ∙ sym (at_start other job the place_in its_line its.found its.counts p from to
+            (starts ∙ sym (at_start other job the place_in its_line its_is p from to
             combine part empty gathered grows)) rises each job.steps
             (λ n end. let ending = (ends_flat program lawful job line_of the whole numbers n end).0 in
-            at_end other job the place_in its_line its.found its.counts p from to combine part empty
+            at_end other job the place_in its_line its_is p from to combine part empty
             gathered grows (count n) (carried n end.reached)
             (over_to program lawful n end.over) ending.stopped ending.reached)
             last_step
 
-    -- ---- the instructions of the line
-
-    abbrev own_p : ℕ
-    own_p = own other job the place_in its_line its.found its.counts
+    -- ---- the first instruction of the line
 
     abbrev first_p : ℕ
-    first_p = first other job the place_in its_line its.found its.counts
+    first_p = first other job the place_in its_line its_is
 
-    low_p : first_p ≤ own_p
-    low_p = own_from other job the place_in its_line its.found its.counts
-
-    high_p : own_p < place_of other (place_in + 1)
-    high_p = own_inside other job the place_in its_line its.found its.counts
-
-    high_first : first_p < place_of other (place_in + 1)
-    high_first = first_inside other job the place_in its_line its.found its.counts
-
-    taken : (combine : ℕ → ℕ → ℕ) (part : ℕ → ℕ) (empty : (a : ℕ) → combine a (part 0) ≡ a)
-        (gathered : ℕ → ℕ) (grows : (n : ℕ) → gathered (suc n)
-        ≡ combine (gathered n) (part (standing_at_index job own_p (state_after job n))))
-        (n : ℕ) → IsLineReached program n → (after program n).at ≡ j →
-        gathered (time_of other (suc (count n)))
-        ≡ combine (gathered (time n)) (part (share program j n))
-    taken combine part empty gathered grows n reached here =
-        let c = carried n reached in
-        let there = at_first n here in
-        in_it other job the place_in its_line its.found its.counts own_p low_p high_p combine part
-        empty gathered grows (count n) (behind_mask its_line.depth) (share program j n) c there
-        (own_is_turn other job the place_in its_line its.found its.counts (count n) c there)
-        (own_share other job the place_in its_line its.found its.counts (count n) c there
-        ∙ flat_taking n here ∙ share_some program j n here)
-
-    operations_told : (n : ℕ) → AreAllLines program n →
-        executed_at job own_p job.steps ≡ line_operations program j n
-    unfolding executed_at line_operations
-    operations_told = told_by own_p low_p high_p (λ a b. a + b) (λ v. v) add_zero
-        (executed_at job own_p) (λ n. refl) (share program j) (line_operations program j) refl
-        (λ n. refl)
-        (λ n a apart. ap (λ v. a + v) (share_none program j n apart) ∙ add_zero a)
-        (λ n reached goes_on here. taken (λ a b. a + b) (λ v. v) add_zero (executed_at job own_p)
-        (λ m. refl) n reached here)
-
-    time_told : (n : ℕ) → AreAllLines program n →
-        instruction_steps job own_p job.steps ≡ line_time program j n
-    unfolding instruction_steps line_time
-    time_told = told_by own_p low_p high_p (λ a b. a + b) some_bit add_zero
-        (instruction_steps job own_p) (λ n. refl) (λ n. some_bit (share program j n)) (line_time program j)
-        refl (λ n. refl)
-        (λ n a apart. ap (λ v. a + some_bit v) (share_none program j n apart) ∙ add_zero a)
-        (λ n reached goes_on here. taken (λ a b. a + b) some_bit add_zero (instruction_steps job own_p)
-        (λ m. refl) n reached here)
-
-    most_told : (n : ℕ) → AreAllLines program n →
-        most_at job own_p job.steps ≡ line_most program j n
-    unfolding most_at line_most
-    most_told = told_by own_p low_p high_p max (λ v. v) max_zero
-        (most_at job own_p) (λ n. refl) (share program j) (line_most program j) refl (λ n. refl)
-        (λ n a apart. ap (max a) (share_none program j n apart) ∙ max_zero a)
-        (λ n reached goes_on here. taken max (λ v. v) max_zero (most_at job own_p)
-        (λ m. refl) n reached here)
-
-    times_told : (n : ℕ) → AreAllLines program n →
+    -- it is executed as often as the line, where it is once in each
+    pub times_told : first_p < place_of other (place_in + 1) →
+        ((m : ℕ) → CarriedAt other job the place_in its_line its_is m →
+        (after other m).at ≡ place_in → IsOnceAt other job the place_in its_line its_is first_p m 0) →
+        (n : ℕ) → AreAllLines program n →
         instruction_steps job first_p job.steps ≡ line_times program j n
     unfolding instruction_steps line_times
-    times_told = told_by first_p (omega arith) high_first (λ a b. a + b) some_bit add_zero
+    times_told high once = told_by first_p (omega arith) high (λ a b. a + b) some_bit add_zero
         (instruction_steps job first_p) (λ n. refl) (λ n. bit ((after program n).at == j))
         (line_times program j) refl (λ n. refl)
         (λ n a apart. ap (λ b. a + bit b) (ne_eqb (after program n).at j apart) ∙ add_zero a)
         (λ n reached goes_on here.
         let c = carried n reached in
         let there = at_first n here in
-        in_it other job the place_in its_line its.found its.counts first_p (omega arith)
-        high_first (λ a b. a + b) some_bit add_zero (instruction_steps job first_p) (λ m. refl) (count n) 0 _
-        c there (first_is_turn other job the place_in its_line its.found its.counts (count n) c
-        there) refl
+        in_it other job the place_in its_line its_is first_p (omega arith)
+        high (λ a b. a + b) some_bit add_zero (instruction_steps job first_p) (λ m. refl) (count n)
+        0 _ there (once (count n) c there) refl
         ∙ ap (λ v. instruction_steps job first_p (time n) + v)
-        (begun other job the place_in its_line its.found its.counts (count n) c
+        (begun other job the place_in its_line its_is (count n) c
         (not_over n goes_on here) there
         ∙ sym (ap bit (eq-eqb (after program n).at j here))))
 
-    pub tells_flat : (n : ℕ) → AreAllLines program n → TellsLine program job n j its_line.depth
-    tells_flat n lines = record {
-      times = times_told n lines;
-      time = time_told n lines;
-      operations = operations_told n lines;
-      most = most_told n lines;
-    }
+    -- ---- the instructions of a counted line
+
+    module _ (counted : is_counted line.statement ≡ true) (depth : its_line.depth ≡ line.depth)
+        (counts : is_counted its_line.statement ≡ true) where
+      -- who takes part in the first line for it takes part in the line
+      flat_taking : (n : ℕ) → (after program n).at ≡ j →
+          taking_part other (after other (count n)) ≡ taking_part program (after program n)
+      flat_taking n here =
+          let s = stands program lawful n in
+          taking_by other (after other (count n)) its_line
+          (ap (slice_get other.lines) (s.at ∙ ap (first_flat_of program) here) ∙ its_is) counts
+          ∙ (λ k. count_by (λ i. s.shares.masks k (depth k) i && is_none (s.gone k i))
+          (range_with_len 0 program.procs))
+          ∙ sym (taking_by program (after program n) line (ap (slice_get program.lines) here ∙ is)
+          counted)
+
+      abbrev own_p : ℕ
+      own_p = own other job the place_in its_line its_is counts
+
+      low_p : first_p ≤ own_p
+      low_p = own_from other job the place_in its_line its_is counts
+
+      high_p : own_p < place_of other (place_in + 1)
+      high_p = own_inside other job the place_in its_line its_is counts
+
+      high_first : first_p < place_of other (place_in + 1)
+      high_first = first_inside other job the place_in its_line its_is counts
+
+      taken : (combine : ℕ → ℕ → ℕ) (part : ℕ → ℕ) (empty : (a : ℕ) → combine a (part 0) ≡ a)
+          (gathered : ℕ → ℕ) (grows : (n : ℕ) → gathered (suc n)
+          ≡ combine (gathered n) (part (standing_at_index job own_p (state_after job n))))
+          (n : ℕ) → IsLineReached program n → (after program n).at ≡ j →
+          gathered (time_of other (suc (count n)))
+          ≡ combine (gathered (time n)) (part (share program j n))
+      taken combine part empty gathered grows n reached here =
+          let c = carried n reached in
+          let there = at_first n here in
+          in_it other job the place_in its_line its_is own_p low_p high_p combine part
+          empty gathered grows (count n) (behind_mask its_line.depth) (share program j n) there
+          (own_once other job the place_in its_line its_is counts (count n) c there)
+          (own_share other job the place_in its_line its_is counts (count n) c there
+          ∙ flat_taking n here ∙ share_some program j n here)
+
+      operations_told : (n : ℕ) → AreAllLines program n →
+          executed_at job own_p job.steps ≡ line_operations program j n
+      unfolding executed_at line_operations
+      operations_told = told_by own_p low_p high_p (λ a b. a + b) (λ v. v) add_zero
+          (executed_at job own_p) (λ n. refl) (share program j) (line_operations program j) refl
+          (λ n. refl)
+          (λ n a apart. ap (λ v. a + v) (share_none program j n apart) ∙ add_zero a)
+          (λ n reached goes_on here. taken (λ a b. a + b) (λ v. v) add_zero (executed_at job own_p)
+          (λ m. refl) n reached here)
+
+      time_told : (n : ℕ) → AreAllLines program n →
+          instruction_steps job own_p job.steps ≡ line_time program j n
+      unfolding instruction_steps line_time
+      time_told = told_by own_p low_p high_p (λ a b. a + b) some_bit add_zero
+          (instruction_steps job own_p) (λ n. refl) (λ n. some_bit (share program j n)) (line_time program j)
+          refl (λ n. refl)
+          (λ n a apart. ap (λ v. a + some_bit v) (share_none program j n apart) ∙ add_zero a)
+          (λ n reached goes_on here. taken (λ a b. a + b) some_bit add_zero (instruction_steps job own_p)
+          (λ m. refl) n reached here)
+
+      most_told : (n : ℕ) → AreAllLines program n →
+          most_at job own_p job.steps ≡ line_most program j n
+      unfolding most_at line_most
+      most_told = told_by own_p low_p high_p max (λ v. v) max_zero
+          (most_at job own_p) (λ n. refl) (share program j) (line_most program j) refl (λ n. refl)
+          (λ n a apart. ap (max a) (share_none program j n apart) ∙ max_zero a)
+          (λ n reached goes_on here. taken max (λ v. v) max_zero (most_at job own_p)
+          (λ m. refl) n reached here)
+
+      pub tells_flat : (n : ℕ) → AreAllLines program n → TellsLine program job n j its_line.depth
+      tells_flat n lines = record {
+        times = times_told high_first
+            (first_once other job the place_in its_line its_is counts) n lines;
+        time = time_told n lines;
+        operations = operations_told n lines;
+        most = most_told n lines;
+      }
 
 pub jobs_tell_lines : JobsTellLines
 jobs_tell_lines program job line_of n j line lawful nested compiled lines is counted =
-    subst (TellsLine program job n j) (first_line program j line is counted).depth
+    let its = first_line program j line is counted in
+    subst (TellsLine program job n j) its.depth
     (tells_flat program lawful job line_of (of_flat program job line_of lawful nested compiled)
-    compiled.whole compiled.numbers j line is counted n lines)
+    compiled.whole compiled.numbers j line is its.line_is its.found counted its.depth its.counts n
+    lines)

@@ -12,8 +12,9 @@ use Rattle.pram_job.specs.declared.instr.Operands.TheVariants.{RegisterIndex, In
 use Rattle.pram_job.specs.declared.instr.Place.TheVariants.{Cell, Named}
 use Rattle.pram_job.specs.Instructions.{row_of}
 use Rattle.pram_job.specs.Job.{JobData, IsJob}
-use Rattle.pram_machine.specs.Machine.{counter, out_of_range}
+use Rattle.pram_machine.specs.Machine.{IsStopped, counter, out_of_range}
 use Rattle.pram_step.specs.Runs.{state_after}
+use Rattle.pram_step.proofs.LawCounters.{stopped_processor}
 use Rattle.pram_step.proofs.LawFixed.{length-state_after}
 use Rattle.pardo_program.specs.declared.statement.Statement.{Statement}
 use Rattle.pardo_program.specs.declared.statement.Statement.TheVariants.{Assign, If, Else, EndIf}
@@ -126,6 +127,15 @@ same_instr : (a b : Instr) → Some a ≡ Some b → a ≡ b
 same_instr a b e = cc
 
 module _ (job : JobData) (is_job : IsJob job) (t i : ℕ) (lt : i < job.procs) where
+  -- one that is out of range stays so
+  pub stays_out : counter job (state_after job t) i ≡ out_of_range job →
+      counter job (state_after job (suc t)) i ≡ out_of_range job
+  stays_out out =
+      let past : IsStopped job (state_after job t) i = omega (arith, out) in
+      let e : t + 1 ≡ suc t = omega arith in
+      subst (λ (n : ℕ). counter job (state_after job n) i ≡ out_of_range job) e
+      ((stopped_processor job t 1 i is_job lt past).0 ∙ out)
+
   -- where a processor goes that stands at such an instruction
   pub next_is : (at : ℕ) (held : Registers) (one : Instr) → slice_get job.code at ≡ Some one →
       NamesByArray one → IsLocal job (state_after job t) i (Some (at, held)) →

@@ -44,6 +44,8 @@ pub mod FlatLevel
 pub mod FlatLineLevels
 pub mod Summing
 pub mod FlatTelling
+pub mod Walking
+pub mod Rounds
 pub mod UntestedLines
 pub mod UntestedValues
 pub mod UntestedLoops

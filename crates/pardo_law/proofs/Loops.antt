@@ -70,6 +70,11 @@ unfolding operation_value
 next_goes job memory i at held true = refl
 next_goes job memory i at held false = refl
 
+-- where it does not jump
+at_other : (out place : ℕ) (held : Registers) (t : Bool) (l : Local) → t ≡ false →
+    l ≡ Some (if t then out else place, held) → l ≡ Some (place, held)
+at_other out place held t l e same = same ∙ ap (λ (b : Bool). Some (if b then out else place, held)) e
+
 -- a jump alone
 pub jump_goes : (job : JobData) (memory : ℕ → ℕ) (i place target : ℕ) (rest : List Instr) →
     HasCodeAt job place (Jmp target ∷ rest) → (g : Option ℕ) (l : Local) → IsHere g place i l →
@@ -301,6 +306,29 @@ module _ (program : ProgramData) (job : JobData) (of : IsProgram program) (sourc
         (value_operand 0 first) (Some a)
         (value_straight (program_layout program) 0 first) first_stands low leaves)))
 
+    -- after the test, which tells of a turn
+    turns_by : none ≡ false → (g : Option ℕ) → source.gone i ≡ g → IsHere g at i (locals i) →
+        Goes job memory i (length asks_none + 1) (locals i) (IsHere (source.gone i) turns_at i)
+    turns_by e (Some line) gone here =
+        goes_as job memory i (length asks_none + 1) turns_at (locals i) None (source.gone i)
+        (Some line) here gone
+        (goes_out job memory i (length asks_none + 1) (IsHere (Some line) turns_at i) refl)
+    turns_by e None gone here =
+        let found : HasIn memory i here.held asks_none 0 (bit none) =
+        tested here.held here.own gone in
+        let own_now : found.now 3 ≡ i = found.keeps ∙ here.own in
+        goes_as job memory i (length asks_none + 1) turns_at (locals i) (Some (at, here.held))
+        (source.gone i) None here.is gone
+        (goes_map job memory i (length asks_none + 1) (Some (at, here.held)) _ _
+        (λ l same. subst (IsThere turns_at i) (sym same) (there_at turns_at i found.now own_now))
+        (jumps at turns_at 0 0 here.held found.now asks_none (Jmp target ∷ begins)
+        (none_straight (program_layout program) up first last)
+        stands found.runs (found.gives ∙ ap bit e) own_now))
+
+    pub turns_goes : none ≡ false →
+        Goes job memory i (length asks_none + 1) (locals i) (IsHere (source.gone i) turns_at i)
+    turns_goes e = turns_by e (source.gone i) refl (pictured.here i lt)
+
     pub turn_makes : none ≡ false →
         Makes job memory i ((length asks_none + 1) + length first_front) (locals i)
         (loop_stored first_value)
@@ -361,6 +389,34 @@ module _ (program : ProgramData) (job : JobData) (of : IsProgram program) (sourc
     pub last_goes : (a == b) ≡ true →
         Goes job memory i (length turn + 1) (locals i) (IsHere (source.gone i) out i)
     last_goes e = last_by e (source.gone i) refl (pictured.here i lt)
+
+    -- where there is a turn more
+    more_by : (a == b) ≡ false → (g : Option ℕ) → source.gone i ≡ g → IsHere g at i (locals i) →
+        Goes job memory i (length turn + 1) (locals i)
+        (IsHere (source.gone i) (at + length turn + 1) i)
+    more_by e (Some line) gone here =
+        goes_as job memory i (length turn + 1) (at + length turn + 1) (locals i) None
+        (source.gone i) (Some line) here gone
+        (goes_out job memory i (length turn + 1) (IsHere (Some line) (at + length turn + 1) i) refl)
+    more_by e None gone here =
+        let found = turned_to here.held here.own gone in
+        let place : ℕ = at + length turn + 1 in
+        let apart : a ≢ b = λ same. let f : true ≡ false = sym (eq-eqb a b same) ∙ e in
+        absurd (cc) in
+        let more : (found.now 1 == 0) ≡ false = ne_eqb (found.now 1) 0
+        (λ zero_is. rest_more a b found.low found.last_low apart (sym found.rest ∙ zero_is)) in
+        goes_as job memory i (length turn + 1) place (locals i) (Some (at, here.held))
+        (source.gone i) None here.is gone
+        (goes_map job memory i (length turn + 1) (Some (at, here.held)) _ _
+        (λ l same. subst (IsThere place i)
+        (sym (at_other out place found.now (found.now 1 == 0) l more same))
+        (there_at place i found.now found.own))
+        (jumps at out 1 (found.now 1) here.held found.now turn tail
+        (turn_straight (program_layout program) nest last) stands found.runs refl found.own))
+
+    pub more_goes : (a == b) ≡ false → Goes job memory i (length turn + 1) (locals i)
+        (IsHere (source.gone i) (at + length turn + 1) i)
+    more_goes e = more_by e (source.gone i) refl (pictured.here i lt)
 
     abbrev next_variable : Option ℕ
     next_variable = if is_none (source.gone i) then Some (next_turn up a) else None

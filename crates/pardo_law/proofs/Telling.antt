@@ -1,4 +1,5 @@
--- What the run of a job tells of the counted lines of its program.
+-- What the run of a job tells of a line of its program, by an instruction that is executed once
+-- where the line is; a counted line has two.
 use Rattle.std.proofs.Common.{◌≡◌, ◌≢◌, ℕ, zero, suc, ◌+◌, ◌<◌, ◌≤◌, ◌⊎◌, ◌==◌, Bool, true}
 use Rattle.std.proofs.Common.{false, List, [], ◌∷◌, Option, Some, None, length, if◌then◌else◌}
 use Rattle.std.proofs.Common.{refl, sym, ap, ◌∙◌, subst, inl, inr, ⊎_elim, arith}
@@ -23,7 +24,7 @@ use Rattle.pardo_job.specs.Runs.{IsLineReached, IsProgramConflict, IsProgramEnd,
 use Rattle.pardo_job.specs.Times.{AreAllLines, is_counted, line_most, line_operations, line_time}
 use Rattle.pardo_job.specs.Times.{line_times, taking_part, taking_part_in}
 use Rattle.pardo_job.proofs.FlatFirsts.{place_some, places_rise, sum_rises}
-use Rattle.pardo_law.proofs.Carried.{Carried, place_low}
+use Rattle.pardo_law.proofs.Carried.{Carried, cost, place_low}
 use Rattle.pardo_law.proofs.Carrying.{carried_after, line_next, time_next, time_of}
 use Rattle.pardo_job.specs.Times.{behind_mask}
 use Rattle.pardo_job.proofs.Counted.{counted_long}
@@ -39,10 +40,10 @@ use Rattle.pardo_law.proofs.Starting.{first_standing}
 
 -- ---- places rise with the lines
 
--- ---- one instruction of a counted line
+-- ---- one instruction of a line
 
 module _ (program : ProgramData) (job : JobData) (the : IsOf program job) (j : ℕ) (line : Line)
-    (is : slice_get program.lines j ≡ Some line) (counted : is_counted line.statement ≡ true) where
+    (is : slice_get program.lines j ≡ Some line) where
   -- after n lines the job shows their state
   abbrev pub CarriedAt : ℕ → Type 0
   CarriedAt n = Carried program job (after program n) (time_of program n)
@@ -51,10 +52,14 @@ module _ (program : ProgramData) (job : JobData) (the : IsOf program job) (j : �
       slice_get program.lines (after program n).at ≡ Some line
   here_is n e = ap (slice_get program.lines) e ∙ is
 
-  -- in the line all are at an instruction or past it after so many steps, and before nobody is
-  abbrev pub IsTurnAt : (n : ℕ) → CarriedAt n → (after program n).at ≡ j → ℕ → ℕ → Type 0
-  IsTurnAt n c here = IsTurn program job the (after program n) (time_of program n) c line
-      (here_is n here) counted
+  -- how many steps it takes after n lines
+  abbrev pub cost_at : ℕ → ℕ
+  cost_at n = cost program (after program n) line.depth line.statement
+
+  -- in the line nobody is at an instruction but after so many steps
+  abbrev pub IsOnceAt : ℕ → ℕ → ℕ → Type 0
+  IsOnceAt p n at = (at < cost_at n) × ((k : ℕ) → k < cost_at n → k ≢ at →
+      standing_at_index job p (state_after job (time_of program n + k)) ≡ 0)
 
   module _ (p : ℕ) (from : place_of program j ≤ p) (to : p < place_of program (j + 1)) where
     abbrev step : ℕ → ℕ
@@ -156,61 +161,18 @@ module _ (program : ProgramData) (job : JobData) (the : IsOf program job) (j : �
           c found at p k lt p_low (apart (after program n).at other))
 
       -- in the line it is executed in one step, by so many
-      pub in_it : (n at v : ℕ) (c : CarriedAt n) (here : (after program n).at ≡ j) →
-          IsTurnAt n c here p at → step (time_of program n + at) ≡ v →
+      pub in_it : (n at v : ℕ) → (after program n).at ≡ j → IsOnceAt p n at →
+          step (time_of program n + at) ≡ v →
           gathered (time_of program (suc n)) ≡ combine (gathered (time_of program n)) (part v)
-      in_it n at v c here turn so_many =
+      in_it n at v here once so_many =
           ap gathered (time_next program n line (here_is n here))
           ∙ added_once combine part empty step gathered grows (time_of program n) _ at v
-          turn.within so_many
-          (no_other_turn program job the (after program n) (time_of program n) c line
-          (here_is n here) counted p at turn)
+          once.0 so_many once.1
 
-  -- ---- the instructions of the line
+  -- ---- the first instruction of the line
 
   abbrev pub first : ℕ
   first = place_of program j
-
-  abbrev pub own : ℕ
-  own = place_of program j + behind_mask line.depth
-
-  pub own_inside : own < place_of program (j + 1)
-  own_inside =
-      let e = length_is program (place_of program) (place_of program j) line in
-      let f = place_next program j line is in
-      let g = counted_long program (place_of program) (place_of program j) line.depth
-      line.statement counted in omega arith
-
-  pub first_inside : first < place_of program (j + 1)
-  first_inside = let e = own_inside in omega arith
-
-  pub own_from : first ≤ own
-  own_from = omega arith
-
-  pub own_share : (n : ℕ) (c : CarriedAt n) (here : (after program n).at ≡ j) →
-      standing_at_index job own
-      (state_after job (time_of program n + behind_mask line.depth))
-      ≡ taking_part program (after program n)
-  own_share n c here =
-      ap (λ (k : ℕ). standing_at_index job (place_of program k + behind_mask line.depth)
-      (state_after job (time_of program n + behind_mask line.depth))) (sym here)
-      ∙ own_executed program job the (after program n) (time_of program n) c line
-      (here_is n here) counted
-
-  pub own_is_turn : (n : ℕ) (c : CarriedAt n) (here : (after program n).at ≡ j) →
-      IsTurnAt n c here own (behind_mask line.depth)
-  own_is_turn n c here =
-      subst (λ (k : ℕ). IsTurnAt n c here (place_of program k + behind_mask line.depth)
-      (behind_mask line.depth)) here
-      (own_turn program job the (after program n) (time_of program n) c line
-      (here_is n here) counted)
-
-  pub first_is_turn : (n : ℕ) (c : CarriedAt n) (here : (after program n).at ≡ j) →
-      IsTurnAt n c here first 0
-  first_is_turn n c here =
-      subst (λ (k : ℕ). IsTurnAt n c here (place_of program k) 0) here
-      (first_turn program job the (after program n) (time_of program n) c line
-      (here_is n here) counted)
 
   -- somebody begins each line
   pub begun : (n : ℕ) (c : CarriedAt n) → (IsProgramOver program (after program n) → ⊥) →
@@ -221,8 +183,63 @@ module _ (program : ProgramData) (job : JobData) (the : IsOf program job) (j : �
       (λ (k : ℕ). 0 < standing_at_index job (place_of program k)
       (state_after job (time_of program n + 0))) here
       (first_executed program job the (after program n) (time_of program n) c
-      line (here_is n here) counted on.1.0 on.1.1 on.1.2))))
+      line (here_is n here) on.1.0 on.1.1 on.1.2))))
       (decide_over program (after program n))
+
+  -- ---- the instructions of a counted line
+
+  module _ (counted : is_counted line.statement ≡ true) where
+    abbrev pub own : ℕ
+    own = place_of program j + behind_mask line.depth
+
+    pub own_inside : own < place_of program (j + 1)
+    own_inside =
+        let e = length_is program (place_of program) (place_of program j) line in
+        let f = place_next program j line is in
+        let g = counted_long program (place_of program) (place_of program j) line.depth
+        line.statement counted in omega arith
+
+    pub first_inside : first < place_of program (j + 1)
+    first_inside = let e = own_inside in omega arith
+
+    pub own_from : first ≤ own
+    own_from = omega arith
+
+    pub own_share : (n : ℕ) (c : CarriedAt n) (here : (after program n).at ≡ j) →
+        standing_at_index job own
+        (state_after job (time_of program n + behind_mask line.depth))
+        ≡ taking_part program (after program n)
+    own_share n c here =
+        ap (λ (k : ℕ). standing_at_index job (place_of program k + behind_mask line.depth)
+        (state_after job (time_of program n + behind_mask line.depth))) (sym here)
+        ∙ own_executed program job the (after program n) (time_of program n) c line
+        (here_is n here) counted
+
+    turn_once : (n p at : ℕ) (c : CarriedAt n) (here : (after program n).at ≡ j) →
+        IsTurn program job the (after program n) (time_of program n) c line (here_is n here)
+        counted p at → IsOnceAt p n at
+    turn_once n p at c here turn = (
+      turn.within,
+      no_other_turn program job the (after program n) (time_of program n) c line
+          (here_is n here) counted p at turn,
+    )
+
+    pub own_once : (n : ℕ) (c : CarriedAt n) (here : (after program n).at ≡ j) →
+        IsOnceAt own n (behind_mask line.depth)
+    own_once n c here =
+        subst (λ (k : ℕ). IsOnceAt (place_of program k + behind_mask line.depth) n
+        (behind_mask line.depth)) here
+        (turn_once n _ (behind_mask line.depth) c here
+        (own_turn program job the (after program n) (time_of program n) c line
+        (here_is n here) counted))
+
+    pub first_once : (n : ℕ) (c : CarriedAt n) (here : (after program n).at ≡ j) →
+        IsOnceAt first n 0
+    first_once n c here =
+        subst (λ (k : ℕ). IsOnceAt (place_of program k) n 0) here
+        (turn_once n _ 0 c here
+        (first_turn program job the (after program n) (time_of program n) c line
+        (here_is n here) counted))
 
 -- ---- the run of a program
 

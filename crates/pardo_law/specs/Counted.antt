@@ -1,4 +1,4 @@
--- Time and operations of a program, told by the run of its job.
+-- Time, operations and rounds of a program, told by the run of its job.
 use Rattle.std.specs.Prelude.{◌≡◌, ℕ, true, slice_get, sum_by, Some}
 use Rattle.pram_job.specs.Job.{JobData}
 use Rattle.pram_cost.specs.Profiles.{executed_at, most_at, instruction_steps}
@@ -11,7 +11,7 @@ use Rattle.pardo_job.specs.Compiled.{IsCompiled}
 use Rattle.pardo_job.specs.Lines.{place_of}
 use Rattle.pardo_job.specs.Times.{AreAllLines, counted_from, counted_place, is_counted}
 use Rattle.pardo_job.specs.Times.{line_most, line_operations, line_time, line_times}
-use Rattle.pardo_job.specs.Times.{operations_to, time_to}
+use Rattle.pardo_job.specs.Times.{loop_ends, operations_to, rounds_to, time_to}
 
 -- The job tells of the line j what is so of it in the n lines of the run: the first instruction of
 -- the lines made for it is executed as often as the line, and the one at their counted place by
@@ -41,3 +41,12 @@ LinesAddUp = (program : ProgramData) (n : ℕ) →
     (counted_from program 0 program.lines) ≡ operations_to program n)
     × (sum_by (λ counted. line_time program counted.at n)
     (counted_from program 0 program.lines) ≡ time_to program n)
+
+-- The first instructions of the `end`s of its loops are executed together as often as it has
+-- rounds.
+abbrev pub JobsTellRounds : Type 0
+JobsTellRounds = (program : ProgramData) (job : JobData) (line_of : ℕ → ℕ) (n : ℕ) →
+    IsProgram program → IsNested program.lines → IsCompiled program job line_of →
+    AreAllLines program n →
+    sum_by (λ first. instruction_steps job first job.steps) (loop_ends program)
+    ≡ rounds_to program n

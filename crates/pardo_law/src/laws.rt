@@ -3,7 +3,7 @@
 ghost use Rattle.pardo_job.specs.Laws.{AnyWriterCounts, CrewIsAccepted, OneLineDispute};
 ghost use Rattle.pardo_job.specs.Laws.{RuleChangesNoState, UnwrittenIsKept};
 ghost use Rattle.pardo_law.specs.Between.{JobsGoThrough, LinesNeverFall};
-ghost use Rattle.pardo_law.specs.Counted.{JobsTellLines, LinesAddUp};
+ghost use Rattle.pardo_law.specs.Counted.{JobsTellLines, JobsTellRounds, LinesAddUp};
 ghost use Rattle.pardo_law.specs.FlatLevels.{FittingIsFlat, FlatLinesAreLevel, PiecesAreSmall};
 ghost use Rattle.pardo_law.specs.FlatLevels.{RoomIsEnough, SmallIsWhole};
 ghost use Rattle.pardo_law.specs.Flattening.{FlatteningKeepsRuns};
@@ -35,6 +35,12 @@ pub fn jobs_tell_lines()
 /// The operations of the counted lines are together those of the program, and so is their time.
 pub fn lines_add_up()
     ensures { LinesAddUp }
+{}
+
+/// The run of the job that the compiler makes of a program tells how often the `end` of a loop of
+/// the program is made.
+pub fn jobs_tell_rounds()
+    ensures { JobsTellRounds }
 {}
 
 /// With the steps of a job the number of lines that are made never falls.

@@ -9,8 +9,7 @@ use Rattle.command_data.specs.declared.line.Style.{Style}
 use Rattle.naming.specs.Writing.{Writing}
 use Rattle.pram_commands.specs.Did.{tells}
 use Rattle.pram_commands.specs.Inner.Puts.{HasAnswered, PutBeginning, PutsAnswer, outcome}
-use Rattle.naming.specs.Names.{AreNames, NamingData, line_at, styled}
-use Rattle.naming.specs.RowNames.{row_words}
+use Rattle.naming.specs.Names.{AreNames, NamingData, styled}
 use Rattle.pram_commands.specs.Why.{Explaining, Follows}
 use Rattle.pram_commands.proofs.Doing.{ok_not_err, other_fault}
 
@@ -21,7 +20,7 @@ Told style job_text job answer = Explaining style (λ ended. ended ≡ answer) j
 pub tells_all : (style : Style) (job_text : List ℕ) (job : JobData) (names : Option NamingData)
     (answer : RunAnswer) (steps : ℕ) (back bytes : List ℕ) → AreNames job_text job names →
     steps ≡ job.steps → bytes ≡ back →
-    Follows style.why (line_at job_text names) (row_words names).array job answer back →
+    Follows style.why job_text names job answer back →
     Told style job_text job answer (styled style.csv names answer steps ++ bytes) (Some answer)
 tells_all style job_text job names answer steps back bytes are_names same is follows = record {
   ended = answer;

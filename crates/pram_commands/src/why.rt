@@ -1,17 +1,17 @@
 //! An answer, and what became of the processors.
-ghost use Rattle.std.specs.Prelude.{◌≡◌, false, true, string_bytes, IfOk};
+ghost use Rattle.std.specs.Prelude.{◌≡◌, ℕ, false, true, string_bytes, IfOk};
 ghost use Rattle.pram_commands.specs.Did.{tells};
 ghost use Rattle.naming.specs.Writing.{writing};
 ghost use Rattle.pram_commands.specs.Inner.Puts.{HasAnswered, PutsAnswer};
-ghost use Rattle.naming.specs.Names.{AreNames, line_at};
-ghost use Rattle.naming.specs.RowNames.{row_words};
-ghost use Rattle.pram_commands.specs.Why.{Explaining, Follows, told_steps};
+ghost use Rattle.naming.specs.Names.{AreNames};
+ghost use Rattle.pram_commands.specs.Why.{Explaining, Follows, IsExplained, told_steps};
+ghost use Rattle.pram_rows.specs.Causes.{AreReasons};
 ghost use Rattle.pram_step.specs.Runs.{IsAnswer};
 
 use command_data::Style;
-use naming::{Spelled, origin_of, print_styled};
+use naming::{Spelled, origin_of, print_styled, rounds_text};
 use pram_job::Job;
-use pram_rows::{answer_with_why, why_after, why_text};
+use pram_rows::{Why, answer_with_why, why_after, why_text};
 use pram_step::RunAnswer;
 use pram_streams::{PrintFault, Sink, put};
 use std::alloc::{AllocError, Global};
@@ -60,8 +60,7 @@ pub(crate) fn put_explained<O: Sink>(
         (writing O.Sink out.old out.new) tells result }
 {
     let (answer, why) = answer_with_why(alloc, &spelled.job)?;
-    let origin = origin_of(spelled.text.as_slice(), &spelled.names);
-    let back = why_text(alloc, origin, spelled, &why)?;
+    let back = explained(alloc, spelled, &answer, &why)?;
     put_both(
         alloc,
         out,
@@ -89,8 +88,8 @@ fn put_both<O: Sink>(alloc: Global, out: &mut O, told: &Told<'_>) -> Result<(), 
     requires names { let read = told.now.spelled.now in
         AreNames read.text.items read.job read.names }
     requires follows { let read = told.now.spelled.now in
-        Follows told.now.style.why (line_at read.text.items read.names) (row_words read.names).array
-        read.job told.now.answer.now told.now.back.now }
+        Follows told.now.style.why read.text.items read.names read.job told.now.answer.now
+        told.now.back.now }
     ensures { let read = told.now.spelled.now in
         HasAnswered told.now.style read.text.items read.job (writing O.Sink out.old out.new)
         told.now.answer.now result }
@@ -107,16 +106,35 @@ fn following(
     spelled: &Spelled,
     answer: &RunAnswer,
 ) -> Result<String, AllocError>
-    ensures { IfOk result (λ back. Follows why (line_at spelled.now.text.items spelled.now.names)
-        (row_words spelled.now.names).array spelled.now.job answer.now (string_bytes back)) }
+    requires { AreNames spelled.now.text.items spelled.now.job spelled.now.names }
+    ensures { IfOk result (λ back. Follows why spelled.now.text.items spelled.now.names
+        spelled.now.job answer.now (string_bytes back)) }
 {
     if !why {
         return Ok(String::new(alloc));
     }
     let steps = told_steps(&spelled.job, answer);
     let told = why_after(alloc, &spelled.job, steps, answer)?;
+    explained(alloc, spelled, answer, &told)
+}
+
+// What became of the processors, and why, and in which rounds.
+fn explained(
+    alloc: Global,
+    spelled: &Spelled,
+    answer: &RunAnswer,
+    why: &Why,
+) -> Result<String, AllocError>
+    requires names { AreNames spelled.now.text.items spelled.now.job spelled.now.names }
+    requires why { (steps : ℕ) × AreReasons spelled.now.job steps answer.now why.now }
+    ensures { IfOk result (λ back. IsExplained spelled.now.text.items spelled.now.names
+        spelled.now.job answer.now why.now (string_bytes back)) }
+{
     let origin = origin_of(spelled.text.as_slice(), &spelled.names);
-    why_text(alloc, origin, spelled, &told)
+    let mut back = why_text(alloc, origin, spelled, why)?;
+    let rounds = rounds_text(alloc, spelled, answer, why)?;
+    back.push_str(rounds.as_str())?;
+    Ok(back)
 }
 
 // The steps that an answer speaks of.

@@ -1,5 +1,5 @@
 -- What was counted of the lines of a program.
-use Rattle.std.specs.Prelude.{List}
+use Rattle.std.specs.Prelude.{ℕ, List}
 use Rattle.pram_cost.specs.Profiled.{tally_at}
 use Rattle.pram_cost.specs.declared.profile.Tallied.{Tallied}
 use Rattle.pardo_job.specs.declared.times.CountedLine.{CountedLine}
@@ -14,3 +14,7 @@ line_by rows counted = record {
   operations = (tally_at rows counted.own).executed.times;
   most = (tally_at rows counted.own).executed.most;
 }
+
+-- in how many steps some processor executed an instruction
+abbrev pub steps_by : List Tallied → ℕ → ℕ
+steps_by rows index = (tally_at rows index).executed.steps

@@ -29,7 +29,7 @@ use crate::traces::Traces;
 use crate::why::{put_explained, put_told};
 use command_data::{Style, Workers};
 use job_text::print_text;
-use naming::{Costed, Spelled, records_of};
+use naming::{Costed, Spelled, records_of, rounds_line};
 use pardo_answers::Costs;
 use pram_cost::{Cost, print_cost};
 use pram_job::Job;
@@ -152,8 +152,9 @@ fn answer_of(alloc: Global, spelled: &Spelled) -> Result<RunAnswer, AllocError>
     }
 }
 
-/// Reads a job, and prints what its run costs and which model of the PRAM it needs. The time is
-/// that of reading the text and of `cost_of`; a program is run once for both.
+/// Reads a job, and prints what its run costs and which model of the PRAM it needs, and of a
+/// program its rounds. The time is that of reading the text and of `cost_of`; a program is run once
+/// for both.
 pub fn cost<J: Source, P: Source, O: Sink>(
     alloc: Global,
     sources: &mut Sources<J, P>,
@@ -183,7 +184,9 @@ pub(super) fn put_cost<O: Sink>(
         spelled,
         lines: costs.lines.as_slice(),
     };
+    let rounds = rounds_line(alloc, &spelled.names, costs.rounds)?;
     print_cost(alloc, out, &costs.cost, pram, &names)?;
+    put(out, rounds.as_slice())?;
     Ok(costs.cost)
 }
 

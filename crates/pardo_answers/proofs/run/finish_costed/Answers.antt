@@ -1,12 +1,12 @@
 use Rattle.std.proofs.Common.{◌≡◌, ◌∙◌, ◌<◌, ◌^◌, ℕ, List, ap, arith, length, map, refl, subst, sym}
 use Rattle.std.proofs.Common.{vec_len}
-use Rattle.std.specs.Prelude.{slice_index}
+use Rattle.std.specs.Prelude.{slice_index, sum_by}
 use Rattle.pram_job.specs.Job.{JobData}
 use Rattle.pardo_job.specs.Compiled.{IsCompiled}
 use Rattle.pardo_job.specs.Ends.{HasEnded}
 use Rattle.pardo_job.specs.declared.ended.Ended.{Ended}
 use Rattle.pardo_answers.proofs.CostsMade.{made_costs}
-use Rattle.pardo_answers.proofs.Lined.{made_lines, made_small}
+use Rattle.pardo_answers.proofs.Lined.{made_lines, made_rounds, made_small}
 use Rattle.pardo_answers.proofs.run.finish_costed.Goals as goal
 
 pub invariant_of-result : goal.invariant_of-result
@@ -20,7 +20,7 @@ invariant_of-result c =
           c.in_ok-program.measure.profile.rows.items c.in_ok-counted.counted.items
           c.in_ok-lines.lines.items c.in_ok-program.ensures.made c.into_parts-job.ensures.job
           c.in_ok-program.ensures.seen.1 c.in_ok-counted.ensures.counted
-          (c.in_ok-lines.ensures ∙ ap (map _) c.as_slice-2.ensures.value)
+          (c.in_ok-lines.ensures ∙ ap (map _) c.as_slice.ensures.value)
           few;
     }
 
@@ -49,5 +49,11 @@ returns-clause-run c =
       lines = made_lines program given parts.0 c.in_ok-program.measure.profile.rows.items
           c.in_ok-counted.counted.items c.in_ok-lines.lines.items made job_is
           c.in_ok-program.ensures.seen.1 c.in_ok-counted.ensures.counted
-          (c.in_ok-lines.ensures ∙ ap (map _) c.as_slice-2.ensures.value) program refl;
+          (c.in_ok-lines.ensures ∙ ap (map _) c.as_slice.ensures.value) program refl;
+      rounds = made_rounds program given parts.0 c.in_ok-program.measure.profile.rows.items
+          c.in_ok-counted.counted.items c.in_ok-lines.lines.items made job_is
+          c.in_ok-program.ensures.seen.1 c.in_ok-counted.ensures.counted
+          (c.in_ok-lines.ensures ∙ ap (map _) c.as_slice.ensures.value) c.in_ok-ends.ends.items _
+          c.in_ok-ends.ensures
+          (c.in_ok-rounds.ensures ∙ ap (sum_by _) c.as_slice-2.ensures.value);
     }
