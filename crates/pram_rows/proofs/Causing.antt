@@ -12,7 +12,7 @@ use Rattle.pram_step.specs.declared.answer.Fault.{Fault}
 use Rattle.pram_step.specs.Runs.{IsFault, IsReached, state_after}
 use Rattle.pram_step.proofs.LawFixed.{reached_down}
 use Rattle.pram_step.proofs.LawPlaces.{writer_is}
-use Rattle.pram_rows.specs.Fates.{AreFates, IsFirstLost, IsFirstLostOrNone}
+use Rattle.pram_rows.specs.Fates.{AreFates, IsFirstLost, IsFirstLostOrNone, IsLostIn}
 use Rattle.pram_rows.specs.declared.fates.Fates.{Fates}
 use Rattle.pram_rows.specs.declared.fates.Lost.{Lost}
 
@@ -35,6 +35,15 @@ module _ (job : JobData) (n : ℕ) (fates : Fates) (lost : Lost) (are : AreFates
 
   pub lost_within : lost.processor < job.procs
   lost_within = first.first_is.names_none.within
+
+-- the steps before that in which one is lost are reached
+pub before_reached : (job : JobData) (n : ℕ) (lost : Lost) → IsReached job n →
+    IsLostIn job n lost → IsReached job (lost.step - 1)
+before_reached job n lost reached is =
+    let step = is.step_is in
+    let within = is.within in
+    let e : is.before ≡ lost.step - 1 = omega arith in
+    subst (IsReached job) e (reached_down job is.before n (omega arith) reached)
 
 -- they are processors of the job
 pub fault_known : (job : JobData) (fault : Fault) → IsFault job fault →

@@ -2,6 +2,7 @@
 use Rattle.std.proofs.Common.{◌≡◌, ◌∙◌, ℕ, ◌+◌, ◌-◌, ◌<◌, ◌≤◌, Bool, true, false, List}
 use Rattle.std.proofs.Common.{◌++◌, Option, Some, None, ap, sym, subst, refl, arith, length}
 use Rattle.std.specs.Prelude.{nat_le, nat_lt, if◌then◌else◌, slice_get, slice_index, map, ◌==◌}
+use Rattle.std.specs.Prelude.{MatchOption}
 use Rattle.std.proofs.lemmas.Bool.{leb-true, ltb-false}
 use Rattle.std.proofs.lemmas.List.Elements.{All-get_or}
 use Rattle.std.proofs.lemmas.Option.{get_or_from_slice_get, none-some, slice_get-get_or}
@@ -29,8 +30,9 @@ use Rattle.pram_step.proofs.RequestList.{put_of_written}
 use Rattle.pram_rows.specs.declared.causes.Cause.{Cause}
 use Rattle.pram_rows.specs.declared.causes.Cause.TheVariants.{AboveBound, Divided}
 use Rattle.pram_rows.specs.Causes.{bound_of, cause_by, cause_in, cause_of, division}
-use Rattle.pram_rows.specs.Causes.{indexed_cells, operand_value}
-use Rattle.pram_rows.specs.Fates.{NamesNone}
+use Rattle.pram_rows.specs.Causes.{IsWhyLost, indexed_cells, operand_value}
+use Rattle.pram_rows.specs.Fates.{IsLostIn, NamesNone}
+use Rattle.pram_rows.specs.declared.fates.Lost.{Lost}
 use Rattle.pram_rows.specs.FateLaws.{ClashValuesAreWritten, IsSo, LostHaveCauses}
 
 -- ---- what two that clash write
@@ -191,10 +193,20 @@ module _ (job : JobData) (s : State) (i : ℕ) where
       (by_code is_job names (slice_get job.code (counter job s i)) refl)
 
 pub lost_causes : LostHaveCauses
-lost_causes job n lost is_job first =
-    let step = first.step_is in
-    let e : first.before ≡ lost.step - 1 = omega arith in
+lost_causes job n lost is_job is =
+    let step = is.step_is in
+    let e : is.before ≡ lost.step - 1 = omega arith in
     told_cause (cause_of job (Some lost))
     (subst (λ (t : ℕ). IsTold (cause_in job (state_after job t) lost.processor lost.index)) e
-    (at_index job (state_after job first.before) lost.processor is_job lost.index
-    first.first_is.names_none first.index_is))
+    (at_index job (state_after job is.before) lost.processor is_job lost.index is.names_none
+    is.index_is))
+
+-- so that is why it is
+pub told_why : (job : JobData) (n i : ℕ) (lost : Lost) (none : Type 0) → IsJob job →
+    lost.processor ≡ i → IsLostIn job n lost → (found : Option Cause) →
+    found ≡ cause_of job (Some lost) → MatchOption found none (IsWhyLost job n i)
+told_why job n i lost none is_job who is found found_is =
+    let told = lost_causes job n lost is_job is in
+    subst (λ (o : Option Cause). MatchOption o none (IsWhyLost job n i))
+    (sym (found_is ∙ told.1))
+    (record { lost = lost; who = who; is_lost = is; cause_is = told.1 })

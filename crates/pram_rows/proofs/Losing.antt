@@ -5,13 +5,14 @@ use Rattle.std.specs.Prelude.{nat_le, nat_lt}
 use Rattle.std.proofs.lemmas.Bool.{cases_eq, cases_lt, leb-false, leb-true, ltb-false, ltb-true}
 use Rattle.pram_job.specs.Job.{JobData, IsJob}
 use Rattle.pram_machine.specs.Machine.{counter, out_of_range, AllStopped, IsStopped}
+use Rattle.pram_step.specs.declared.last.LastRow.{LastRow}
 use Rattle.pram_step.specs.Last.{last_row}
 use Rattle.pram_step.specs.Running.{IsStop}
 use Rattle.pram_step.specs.Runs.{state_after}
 use Rattle.pram_step.proofs.Lasts.{after_run, gone_ran, last_cases}
 use Rattle.pram_step.proofs.LawCounters.{counter_next, stopped_processor}
 use Rattle.pram_rows.specs.declared.fates.Lost.{Lost}
-use Rattle.pram_rows.specs.Fates.{IsFirstLostOrNone, NamesNone}
+use Rattle.pram_rows.specs.Fates.{IsFirstLostOrNone, IsLostIn, NamesNone}
 use Rattle.pram_rows.specs.Inner.Losses.{earlier, if_before}
 use Rattle.pram_rows.specs.FateLaws.{LostStaysLost}
 
@@ -76,6 +77,21 @@ lost_names job n i is_job low out =
             ∙ after_run job n i (last_row job n i) is_job low ran ∙ out;
       },
     )
+
+-- and its last row says in which step, and by which instruction
+pub lost_in : (job : JobData) (n i : ℕ) (row : LastRow) → IsJob job → i < job.procs →
+    counter job (state_after job n) i ≡ out_of_range job → row ≡ last_row job n i →
+    IsLostIn job n (record { step = row.step; processor = i; index = row.index })
+lost_in job n i row is_job low out row_is =
+    let names = lost_names job n i is_job low out in
+    let step : row.step ≡ suc names.0 = ap (λ (r : LastRow). r.step) row_is ∙ names.2 in
+    record {
+      before = names.0;
+      within = names.1;
+      step_is = omega arith;
+      names_none = names.4;
+      index_is = ap (λ (r : LastRow). r.index) row_is ∙ names.3;
+    }
 
 -- ---- the first of them
 

@@ -24,7 +24,7 @@ use Rattle.pram_rows.specs.declared.causes.Cause.TheVariants.{Outside, AboveBoun
 use Rattle.pram_rows.specs.declared.causes.Values.{Values}
 use Rattle.pram_rows.specs.declared.causes.Why.{Why}
 use Rattle.pram_rows.specs.declared.fates.Lost.{Lost}
-use Rattle.pram_rows.specs.Fates.{AreFates}
+use Rattle.pram_rows.specs.Fates.{AreFates, IsLostIn}
 
 -- the state before a step, which counts from 1
 abbrev pub state_before : JobData → ℕ → State
@@ -76,6 +76,13 @@ cause_in job state i index = elim (slice_get job.code index) [
 abbrev pub cause_of : JobData → Option Lost → Option Cause
 cause_of job None = None
 cause_of job (Some lost) = cause_in job (state_before job lost.step) lost.processor lost.index
+
+-- Why processor i is lost in n steps: it is in one of them, and this is the cause.
+pub record IsWhyLost (job : JobData) (n i : ℕ) (cause : Cause) : Type 0 where
+  pub lost : Lost
+  pub who : lost.processor ≡ i
+  pub is_lost : IsLostIn job n lost
+  pub cause_is : cause_of job (Some lost) ≡ Some cause
 
 -- ---- what two that clash write
 

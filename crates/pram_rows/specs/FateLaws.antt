@@ -10,7 +10,7 @@ use Rattle.pram_rows.specs.declared.causes.Cause.TheVariants.{Outside, AboveBoun
 use Rattle.pram_rows.specs.declared.fates.Fates.{Fates}
 use Rattle.pram_rows.specs.declared.fates.Lost.{Lost}
 use Rattle.pram_rows.specs.Causes.{cause_of, clash_values, state_before}
-use Rattle.pram_rows.specs.Fates.{AreFates, IsFirstLost, NamesNone}
+use Rattle.pram_rows.specs.Fates.{AreFates, IsLostIn, NamesNone}
 
 -- what becomes of the processors in a number of steps is one thing
 abbrev pub OneFates : Type 0
@@ -32,7 +32,7 @@ IsSo (Divided value) = ⊤
 
 -- one who is lost is so by a cause, and what that says is so
 abbrev pub LostHaveCauses : Type 0
-LostHaveCauses = (job : JobData) (n : ℕ) (lost : Lost) → IsJob job → IsFirstLost job n lost →
+LostHaveCauses = (job : JobData) (n : ℕ) (lost : Lost) → IsJob job → IsLostIn job n lost →
     (cause : Cause) × (cause_of job (Some lost) ≡ Some cause) × IsSo cause
 
 -- what two are told to write against the rule they ask for in that step

@@ -59,6 +59,14 @@ pub record IsFirstLost (job : JobData) (n : ℕ) (lost : Lost) : Type 0 where
   pub index_is : lost.index ≡ counter job (state_after job before) lost.processor
   pub none_before : (t : ℕ) → t < before → AllName job (state_after job t)
 
+-- A processor is lost in one of n steps: in this one, by this instruction.
+pub record IsLostIn (job : JobData) (n : ℕ) (lost : Lost) : Type 0 where
+  pub before : ℕ
+  pub within : before < n
+  pub step_is : lost.step ≡ before + 1
+  pub names_none : NamesNone job (state_after job before) lost.processor
+  pub index_is : lost.index ≡ counter job (state_after job before) lost.processor
+
 -- in n steps none does, or this is the first one
 abbrev pub IsFirstLostOrNone : JobData → ℕ → Option Lost → Type 0
 IsFirstLostOrNone job n lost =

@@ -1,16 +1,18 @@
 //! Why a processor is lost, and what two that clash write.
-ghost use Rattle.std.specs.Prelude.{◌≡◌, ◌<◌, ◌≤◌, ◌-◌, Some, IfOk, MatchOption, length, slice_get};
+ghost use Rattle.std.specs.Prelude.{◌≡◌, ◌≢◌, ◌<◌, ◌≤◌, ◌-◌, Some, IfOk, MatchOption, length};
+ghost use Rattle.std.specs.Prelude.{slice_get};
 ghost use Rattle.pram_rows.specs.Causes.{AreValuesOf, AreReasons, bound_in, bound_of, cause_by};
-ghost use Rattle.pram_rows.specs.Causes.{cause_in, cause_of, division, indexed_cells};
+ghost use Rattle.pram_rows.specs.Causes.{IsWhyLost, cause_in, cause_of, division, indexed_cells};
 ghost use Rattle.pram_rows.specs.Causes.{operand_value};
 ghost use Rattle.pram_rows.specs.Causes.{clash_values};
 ghost use Rattle.pram_rows.specs.Fates.{AreFates};
 ghost use Rattle.pram_job.specs.Instructions.{AreOperands, IsOperand, IsPlace};
 ghost use Rattle.pram_machine.specs.Instructions.{index_of};
-ghost use Rattle.pram_machine.specs.Machine.{place_count};
-ghost use Rattle.pram_step.specs.Runs.{IsAnswer, IsFault, IsReached, IsStateAfter};
+ghost use Rattle.pram_machine.specs.Machine.{counter, out_of_range, place_count};
+ghost use Rattle.pram_step.specs.Runs.{IsAnswer, IsFault, IsReached, IsStateAfter, state_after};
 
 use crate::fates::{Fates, Lost, answer_with_fates, fates_after};
+use crate::losses::lost_by;
 use pram_job::{Array, Instr, Job, Operand, Operands, Place};
 use pram_step::{Arrival, Fault, RunAnswer, State, go_to, laws, request, value_part};
 use std::alloc::{AllocError, Global};
@@ -102,6 +104,26 @@ pub fn cause_of(
     ensures { IfOk result (λ cause. cause ≡ cause_of job.now fates.lost) }
 {
     match fates.lost {
+        Some(lost) => lost_cause(alloc, job, lost),
+        None => Ok(None),
+    }
+}
+
+/// Why this processor is lost in so many steps, if it is, and none of them is against the rule. The
+/// steps are made, and those before it is lost once more.
+pub fn why_lost(
+    alloc: Global,
+    job: &Job,
+    steps: u32,
+    processor: u32,
+) -> Result<Option<Cause>, AllocError>
+    requires { processor < job.now.procs }
+    ensures { IfOk result (λ cause. MatchOption cause (IsReached job.now steps
+        → counter job.now (state_after job.now steps) processor ≢ out_of_range job.now)
+        (IsWhyLost job.now steps processor)) }
+{
+    job.limits_hold();
+    match lost_by(alloc, job, steps, processor)? {
         Some(lost) => lost_cause(alloc, job, lost),
         None => Ok(None),
     }

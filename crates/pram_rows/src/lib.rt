@@ -8,6 +8,7 @@ mod fates;
 mod instruction;
 pub mod laws;
 mod looks;
+mod losses;
 mod print;
 mod row;
 mod row_names;
@@ -15,7 +16,9 @@ mod rows;
 mod told;
 mod window;
 
-pub use causes::{Cause, Values, Why, answer_with_why, cause_of, clash_values, why_after};
+pub use causes::{
+    Cause, Values, Why, answer_with_why, cause_of, clash_values, why_after, why_lost,
+};
 pub use cells::print_cells;
 pub use fates::{End, Fates, Lost, answer_with_fates, fates_after};
 pub use instruction::instruction_text;
