@@ -176,9 +176,26 @@ module _ (Holds : List ℕ → Option (List ℕ) → Type 0) (file : List ℕ) (
         swept = swept;
         others = others;
         names = names;
-        refuses = subst (λ (t : List ℕ). RefusesSizes (swept ∷ others) t swept.values) same_text
-            (subst (λ (l : List ℕ). RefusesSizes (swept ∷ others) shown l) whole refuses);
+        refuses = inr (subst (λ (t : List ℕ). RefusesSizes (swept ∷ others) t swept.values)
+            same_text
+            (subst (λ (l : List ℕ). RefusesSizes (swept ∷ others) shown l) whole refuses));
       })
+
+-- no value is listed for the first name
+pub none_refused : (Holds : List ℕ → Option (List ℕ) → Type 0) (file : List ℕ) (words : List Text)
+    (text name values : List ℕ) → FileGives Holds file text → (settings : List SettingData) →
+    SetNames Holds [] words settings → Some (name, values) ≡ first_in settings → values ≡ [] →
+    IsRefusedSweep Holds file words
+none_refused Holds file words text name values gives [] names is none = cc is
+none_refused Holds file words text name values gives (swept ∷ others) names is none =
+    let parts = some_pair_parts name swept.name values swept.values is in inr (record {
+      text = text;
+      gives = gives;
+      swept = swept;
+      others = others;
+      names = names;
+      refuses = inl (sym parts.1 ∙ none);
+    })
 
 -- a line that asks for no sweep
 pub served_so : (S L : Type 0) (b : Bool) → b ≡ false → L → MatchBool b S L

@@ -82,7 +82,8 @@ pub record RefusesSizes (settings : List SettingData) (text values : List ℕ) :
   pub before : AreSizes settings text (take at values) records ends
   pub refuses : RefusesSize settings text value
 
--- The file gave a text, and of the values of the first name that the words set one is refused.
+-- The file gave a text, and of the values of the first name that the words set one is refused; or
+-- there is none, since they are thrown.
 pub record HasBadSize (Holds : List ℕ → Option (List ℕ) → Type 0) (file : List ℕ)
     (words : List Text) : Type 0 where
   pub text : List ℕ
@@ -90,7 +91,7 @@ pub record HasBadSize (Holds : List ℕ → Option (List ℕ) → Type 0) (file 
   pub swept : SettingData
   pub others : List SettingData
   pub names : SetNames Holds [] words (swept ∷ others)
-  pub refuses : RefusesSizes (swept ∷ others) text swept.values
+  pub refuses : (swept.values ≡ []) ⊎ RefusesSizes (swept ∷ others) text swept.values
 
 -- a word is refused, or a size is
 abbrev pub IsRefusedSweep : (List ℕ → Option (List ℕ) → Type 0) → List ℕ → List Text → Type 0

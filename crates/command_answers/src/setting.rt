@@ -131,8 +131,8 @@ fn set_name<'a>(name: &'a str, text: &[u8], settings: &mut Settings) -> Result<(
     }
 }
 
-// The name that a word sets.
-fn name_in(word: &str) -> &str {
+/// The name that a word sets.
+pub(crate) fn name_in(word: &str) -> &str {
     match word.split_once('=') {
         Some((name, _)) => name,
         None => word,

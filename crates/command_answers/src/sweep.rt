@@ -8,11 +8,12 @@ ghost use Rattle.pram_streams.specs.Transfer.{AppendsBeginning};
 ghost use Rattle.command_answers.specs.Answering.{RefusesSet, is_sweep};
 ghost use Rattle.refusals.specs.Faults.{fault_status};
 ghost use Rattle.refusals.specs.declared.refusal.TheConstants.{REFUSED};
+ghost use Rattle.command_answers.specs.Setting.{BySetting};
 ghost use Rattle.command_answers.specs.Sweeping.{AreSizes, ByRefusal, IsRefusedSweep, IsSizeOf};
 ghost use Rattle.command_answers.specs.Sweeping.{IsSweep, RefusesSize, RefusesSizes, ServesSweep};
 
-use crate::setting::{fitted, settings_of, taken, unset};
-use pardo_text::Settings;
+use crate::setting::{fitted, name_in, settings_of, taken, unset};
+use pardo_text::{SetKind, Settings};
 use pram_commands::{
     Ask, AskAlone, CommandFault, Console, DONE, Explanation, FAILED, Folder, Line, MEMORY, Reasons,
     Refusal, Unset, run_record, tell, tell_unset,
@@ -164,6 +165,9 @@ fn sweep_of<'a, F: Folder>(
     let Some((name, values)) = settings.first() else {
         return Err(Unswept::Unset(unset(Refusal::Memory)));
     };
+    if values.is_empty() {
+        return Err(Unswept::Unset(without_sizes(words)));
+    }
     let mut bytes = Vec::from_slice(alloc, name)?;
     let values = Vec::from_slice(alloc, values)?;
     bytes.extend_from_slice(b",steps,time,operations,processors,needs,end\n")?;
@@ -179,6 +183,15 @@ fn sweep_of<'a, F: Folder>(
         bytes,
         status: sizes.status,
     })
+}
+
+// What is told where no number is listed for the first name.
+fn without_sizes<'a>(words: &[&'a str]) -> Unset<'a>
+    ensures { BySetting (λ kind. kind ≡ SetKind.BadNumber) result.refusal }
+{
+    let name = name_in(words.first().copied().unwrap_or(""));
+    let kind = SetKind::BadNumber;
+    unset(Refusal::Setting { name, kind })
 }
 
 // The records of these values of the first name.

@@ -162,7 +162,10 @@ always true : if x >= 0 and i = 1~end -> 7:6
 never true : x := min(1, (0 > x) + 2) -> 7:16
 always true : while 0 <= 2~end -> 7:9
 if x < 0 + 1~end~x := A[0] > 0~x := 10 > x -> nothing
-for k = lg(2) - 1 to 3~end -> nothing
+a bound of this loop is 4294967295 : for k = 3 to lg(1) - 1~end -> 7:1
+is 4294967294 : for j = 0 to 3~  for k = 0 - 2 to j~  end~end -> 8:3
+is 4294967295 : for k = lg(1) - 1 downto 0~end -> 7:1
+for k = lg(2) - 1 to 3~end~for k = 0 - 2 to 0 - 1~end -> nothing
 ";
 
 #[test]

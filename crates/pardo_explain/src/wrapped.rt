@@ -1,93 +1,52 @@
 //! Bounds of loops that wrap.
 use crate::diagnosis::Diagnosis;
 use crate::second_look::{line_at, pointing};
-use pardo_text::{Expr, Node, Op, Program, Statement, read_program, said};
+use pardo_text::{Program, Statement, read_program, said};
 use std::alloc::{AllocError, Global};
 use text_lines::is_blank;
 
-/// A difference of two numbers in the bounds of a loop that is less than 0.
+/// A bound of a loop that is less than 0, as it is meant: `lg(1) - 1` is 4,294,967,295.
 #[derive(Clone, Copy, Debug)]
 pub struct Wrapped {
     /// The number of the loop's first line.
     pub line: u64,
-    pub first: u32,
-    pub second: u32,
+    pub value: u32,
 }
 
 /// The first bound of a loop that wraps, if the text is a program that has one.
-pub fn wrapped_bound(alloc: Global, text: &[u8]) -> Result<Option<Wrapped>, AllocError> {
-    let Ok(program) = read_program(alloc, text) else {
-        return Ok(None);
-    };
-    first_wrapped(alloc, &program)
+pub fn wrapped_bound(alloc: Global, text: &[u8]) -> Option<Wrapped> {
+    match read_program(alloc, text) {
+        Ok(program) => first_wrapped(&program),
+        Err(_) => None,
+    }
 }
 
-fn first_wrapped(alloc: Global, program: &Program) -> Result<Option<Wrapped>, AllocError> {
+fn first_wrapped(program: &Program) -> Option<Wrapped> {
     for line in program.lines() {
-        if let Statement::For(_, from, to, _, _) = &line.statement {
-            let found = match difference_in(alloc, from)? {
-                None => difference_in(alloc, to)?,
-                found => found,
-            };
-            if let Some((first, second)) = found {
-                return Ok(Some(Wrapped {
-                    line: line.number,
-                    first,
-                    second,
-                }));
-            }
+        if let Statement::For(_, from, to, _, _) = &line.statement
+            && let Some(value) = lone_great(from.constant(), to.constant())
+        {
+            return Some(Wrapped {
+                line: line.number,
+                value,
+            });
         }
     }
-    Ok(None)
+    None
 }
 
-// The first difference of an expression's numbers that is less than 0.
-fn difference_in(alloc: Global, expr: &Expr) -> Result<Option<(u32, u32)>, AllocError> {
-    let mut values: Vec<Option<u32>> = Vec::new(alloc);
-    for &node in expr.nodes() {
-        let value = match node {
-            Node::Number(value) => Some(value),
-            Node::Place(_) => {
-                values.pop();
-                None
-            }
-            Node::Apply(op) => {
-                let second = values.pop().unwrap_or(None);
-                let first = values.pop().unwrap_or(None);
-                let found = negative(op, first, second);
-                if found.is_some() {
-                    return Ok(found);
-                }
-                value_of(op, first, second)
-            }
-            _ => None,
-        };
-        values.push(value)?;
-    }
-    Ok(None)
-}
-
-// Two numbers, if the operation takes the greater one from the other.
-fn negative(op: Op, first: Option<u32>, second: Option<u32>) -> Option<(u32, u32)> {
-    let (first, second) = (first?, second?);
-    if op == Op::Sub && first < second {
-        Some((first, second))
-    } else {
-        None
+// The bound that is great, if the other is not: between two that wrap a loop goes as it is meant.
+fn lone_great(from: Option<u32>, to: Option<u32>) -> Option<u32> {
+    match (great(from), great(to)) {
+        (Some(value), None) | (None, Some(value)) => Some(value),
+        _ => None,
     }
 }
 
-// What the usual operations give.
-fn value_of(op: Op, first: Option<u32>, second: Option<u32>) -> Option<u32> {
-    let (first, second) = (first?, second?);
-    match op {
-        Op::Add => Some(first.wrapping_add(second)),
-        Op::Sub => Some(first.wrapping_sub(second)),
-        Op::Mul => Some(first.wrapping_mul(second)),
-        Op::Div => first.checked_div(second),
-        Op::Rem => first.checked_rem(second),
-        Op::Min => Some(first.min(second)),
-        Op::Max => Some(first.max(second)),
+// A number that is less than 0 with a sign.
+fn great(bound: Option<u32>) -> Option<u32> {
+    match bound {
+        Some(value) if value >= 1 << 31 => Some(value),
         _ => None,
     }
 }
@@ -98,21 +57,22 @@ pub(crate) fn push_wrapped(
     text: &[u8],
     notes: &mut Vec<Diagnosis>,
 ) -> Result<(), AllocError> {
-    let Some(wrapped) = wrapped_bound(alloc, text)? else {
+    let Some(
+        Wrapped {
+            line: number,
+            value,
+        },
+    ) = wrapped_bound(alloc, text)
+    else {
         return Ok(());
     };
-    let Wrapped {
-        line: number,
-        first,
-        second,
-    } = wrapped;
     let line = line_at(text, number);
     let start = said(line)
         .iter()
         .position(|&byte| !is_blank(byte))
         .unwrap_or(0);
     let sentence = format!(in alloc;
-        "note: a bound of this loop wraps: {first} - {second} is less than 0"
+        "note: a bound of this loop is {value}: no value is less than 0, and 0 - 1 is 4294967295"
     )?;
     let sentence = Vec::from_slice(alloc, sentence.as_bytes())?;
     notes.push(pointing(alloc, number, line, start, sentence)?)?;

@@ -8,8 +8,10 @@ use crate::fault::CommandFault;
 use crate::sentences;
 use crate::words::{begins_as_machine, start_of};
 use command_data::Line;
-use pardo_explain::{Diagnosis, Look, diagnose, line_at, point_at, push_diagnosis};
-use pardo_job::Refusal;
+use pardo_explain::{
+    Diagnosis, Look, Wrapped, diagnose, line_at, point_at, push_diagnosis, wrapped_bound,
+};
+use pardo_job::{JobFault, JobKind, Refusal};
 use pram_streams::{Reason, Sink, put};
 use pram_text::TextKind;
 use std::alloc::{AllocError, Global};
@@ -35,85 +37,66 @@ pub struct Explanation<'a> {
 }
 
 impl<'a> Explanation<'a> {
+    // The file that the fault is of, if it is one's.
+    fn file(&self) -> Option<&'a str> {
+        match self.fault {
+            CommandFault::Plan { .. } | CommandFault::PlanDevice | CommandFault::PlanTooLarge => {
+                Some(shown(self.line.plan.unwrap_or("")))
+            }
+            CommandFault::OutDevice | CommandFault::Memory => None,
+            _ => Some(self.job()),
+        }
+    }
+
     fn job(&self) -> &'a str {
         shown(self.line.file)
     }
 
-    fn plan(&self) -> &'a str {
-        shown(self.line.plan.unwrap_or(""))
+    // What part of the file it is of, if it is of one, and the number of that.
+    fn place(&self) -> Option<(&'static str, u64)> {
+        match self.fault {
+            CommandFault::Text { line, .. } => Some(("line", line)),
+            CommandFault::Program(refusal) => Some(("line", sentences::of_program(refusal).0)),
+            CommandFault::Plan { row, .. } => Some(("row", row)),
+            _ => None,
+        }
+    }
+
+    // What is wrong; the name of what is not there follows it.
+    fn sentence(&self) -> &'static str {
+        match self.fault {
+            CommandFault::Text { kind, .. } => sentences::of_text(kind),
+            CommandFault::Program(refusal) => sentences::of_program(refusal).1,
+            CommandFault::Plan { row, kind } => sentences::of_plan(row, kind),
+            CommandFault::OutsideCell { .. } => "the job has no cell ",
+            CommandFault::OutsidePlace { .. } => "it has no place ",
+            CommandFault::OutsideStep { .. } => "the job has no step ",
+            CommandFault::JobDevice => sentences::of_file(self.reasons.job),
+            CommandFault::PlanDevice => sentences::of_file(self.reasons.plan),
+            CommandFault::JobTooLarge | CommandFault::PlanTooLarge => sentences::TOO_LARGE,
+            CommandFault::OutDevice => "standard output takes no more",
+            CommandFault::Memory => "out of memory, or the system refused a thread",
+        }
     }
 }
 
 impl fmt::Display for Explanation<'_> {
     fn fmt<W: fmt::Write>(&self, f: &mut fmt::Formatter<W>) -> fmt::Result {
+        if let Some(file) = self.file() {
+            f.write_str(file)?;
+            if let Some((part, number)) = self.place() {
+                write!(f, ", {part} {number}")?;
+            }
+            f.write_str(": ")?;
+        }
+        f.write_str(self.sentence())?;
         match self.fault {
-            CommandFault::Text { line, kind } => {
-                on_line(f, self.job(), line, sentences::of_text(kind))
-            }
-            CommandFault::Program(refusal) => {
-                let (line, sentence) = sentences::of_program(refusal);
-                on_line(f, self.job(), line, sentence)
-            }
-            CommandFault::Plan { row, kind } => {
-                on_row(f, self.plan(), row, sentences::of_plan(row, kind))
-            }
-            CommandFault::OutsideCell { cell } => without(f, self.job(), "cell", cell),
-            CommandFault::OutsidePlace { at } => without_place(
-                f,
-                self.job(),
-                self.line.ask.place(at),
-            ),
-            CommandFault::OutsideStep { step } => without(f, self.job(), "step", step),
-            CommandFault::JobDevice => on_file(f, self.job(), sentences::of_file(self.reasons.job)),
-            CommandFault::PlanDevice => {
-                on_file(f, self.plan(), sentences::of_file(self.reasons.plan))
-            }
-            CommandFault::OutDevice => f.write_str("standard output takes no more\n"),
-            CommandFault::JobTooLarge => on_file(f, self.job(), sentences::TOO_LARGE),
-            CommandFault::PlanTooLarge => on_file(f, self.plan(), sentences::TOO_LARGE),
-            CommandFault::Memory => f.write_str(MEMORY_SENTENCE),
+            CommandFault::OutsideCell { cell: number }
+            | CommandFault::OutsideStep { step: number } => { writeln!(f, "{number}") }
+            CommandFault::OutsidePlace { at } => writeln!(f, "{}", self.line.ask.place(at)),
+            _ => f.write_str("\n"),
         }
     }
-}
-
-pub(crate) fn on_file<W: fmt::Write>(
-    f: &mut fmt::Formatter<W>,
-    file: &str,
-    sentence: &str,
-) -> fmt::Result {
-    writeln!(f, "{file}: {sentence}")
-}
-
-fn on_line<W: fmt::Write>(
-    f: &mut fmt::Formatter<W>,
-    file: &str,
-    line: u64,
-    sentence: &str,
-) -> fmt::Result {
-    writeln!(f, "{file}, line {line}: {sentence}")
-}
-
-fn on_row<W: fmt::Write>(
-    f: &mut fmt::Formatter<W>,
-    file: &str,
-    row: u64,
-    sentence: &str,
-) -> fmt::Result {
-    writeln!(f, "{file}, row {row}: {sentence}")
-}
-
-// The job of the file has no such cell or step.
-fn without<W: fmt::Write>(
-    f: &mut fmt::Formatter<W>,
-    file: &str,
-    what: &str,
-    number: u32,
-) -> fmt::Result {
-    writeln!(f, "{file}: the job has no {what} {number}")
-}
-
-fn without_place<W: fmt::Write>(f: &mut fmt::Formatter<W>, file: &str, place: &str) -> fmt::Result {
-    writeln!(f, "{file}: it has no place {place}")
 }
 
 /// The name of a file, as people are told it.
@@ -186,6 +169,26 @@ fn diagnosis_of(
     locate(alloc, explanation.fault, explanation.text)
 }
 
+// The sentence on a program that is refused; of one without an end with the bound that wraps.
+fn with_cause(
+    alloc: Global,
+    sentence: &str,
+    refusal: Refusal,
+    text: &[u8],
+) -> Result<String, AllocError> {
+    if let Refusal::Job(
+        JobFault {
+            kind: JobKind::Endless,
+            ..
+        },
+    ) = refusal
+        && let Some(Wrapped { line, value }) = wrapped_bound(alloc, text)
+    {
+        return format!(in alloc; "{sentence}: in line {line} a bound is {value}");
+    }
+    String::from_str(alloc, sentence)
+}
+
 /// Where a text is wrong, if that is the fault. A text that begins neither as one of the machine
 /// nor as a program is looked at as a program.
 pub fn locate(
@@ -202,7 +205,8 @@ pub fn locate(
             let (number, sentence) = sentences::of_program(refusal);
             let line = line_at(text, number);
             let start = start_of(TextKind::BadHeader, line, text);
-            Ok(Some(point_at(alloc, number, line, start, sentence)?))
+            let told = with_cause(alloc, sentence, refusal, text)?;
+            Ok(Some(point_at(alloc, number, line, start, told.as_str())?))
         }
         CommandFault::Text { line: number, kind } => {
             if !begins_as_machine(text)

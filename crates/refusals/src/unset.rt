@@ -2,7 +2,7 @@
 ghost use Rattle.std.specs.Prelude.{◌≡◌, ◌⊎◌, false};
 ghost use Rattle.refusals.specs.Refusals.{refusal_status};
 
-use crate::explanation::{MEMORY_SENTENCE, on_file, shown};
+use crate::explanation::{MEMORY_SENTENCE, shown};
 use crate::refusal::{MEMORY, Refusal, tell_first};
 use crate::sentences;
 use pram_streams::{Reason, Sink, put};
@@ -22,8 +22,10 @@ impl fmt::Display for Unset<'_> {
             Refusal::Setting { name, kind } => {
                 writeln!(f, "--set {name}: {}", sentences::of_setting(kind))
             }
-            Refusal::File(name) => on_file(f, shown(name), sentences::of_file(self.reason)),
-            Refusal::Size(name) => on_file(f, shown(name), sentences::TOO_LARGE),
+            Refusal::File(name) => {
+                writeln!(f, "{}: {}", shown(name), sentences::of_file(self.reason))
+            }
+            Refusal::Size(name) => writeln!(f, "{}: {}", shown(name), sentences::TOO_LARGE),
             _ => f.write_str(MEMORY_SENTENCE),
         }
     }

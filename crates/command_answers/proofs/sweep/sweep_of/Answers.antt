@@ -1,6 +1,10 @@
-use Rattle.std.proofs.Common.{◌≡◌, ◌∙◌, ◌++◌, List, ℕ, Err, ap, ap₂, codes, rules}
+use Rattle.std.proofs.Common.{◌≡◌, ◌∙◌, ◌++◌, List, [], ℕ, Err, ap, ap₂, codes, length, rules, sym}
+use Rattle.std.proofs.lemmas.Bool.{eqb-true}
+use Rattle.std.proofs.lemmas.List.{nil_from_length}
+use Rattle.pardo_text.specs.declared.settings.SetKind.TheVariants.{BadNumber}
 use Rattle.command_answers.specs.Sweeping.{IsRefusedSweep}
-use Rattle.command_answers.proofs.Sweeps.{by_so, sweep_made, sweep_refused}
+use Rattle.command_answers.proofs.Refused.{by_weaker}
+use Rattle.command_answers.proofs.Sweeps.{by_so, none_refused, sweep_made, sweep_refused}
 use Rattle.command_answers.proofs.Texts.{texts_of}
 use Rattle.command_answers.proofs.sweep.sweep_of.Goals as goal
 
@@ -16,6 +20,18 @@ returns-in_err-sizes-clause-refused g c =
     (c.as_slice-2.ensures.value ∙ c.in_ok-values.ensures.items) c.in_ok-settings.settings
     c.in_ok-settings.ensures.names c.in-Some.ensures refuses) failed
     c.in_err-sizes.ensures.refused)
+
+pub returns-then-is_empty-clause-refused : goal.returns-then-is_empty-clause-refused
+returns-then-is_empty-clause-refused g c =
+    let holds = g.F.Folder.holds c.args.folder.now in
+    let given = texts_of c.args.words.now in
+    let none : c.in-Some.values.now ≡ [] = nil_from_length c.in-Some.values.now
+    (eqb-true (length c.in-Some.values.now) 0 (sym c.is_empty.ensures ∙ c.if-is_empty.true)) in
+    by_weaker {P = λ kind. kind ≡ BadNumber} {Q = λ kind. IsRefusedSweep holds c.args.file.now given}
+    (λ kind is. none_refused holds c.args.file.now given c.in_ok-text.text.items
+    c.in-Some.name.now c.in-Some.values.now c.in_ok-text.ensures.gives c.in_ok-settings.settings
+    c.in_ok-settings.ensures.names c.in-Some.ensures none) c.without_sizes.result.refusal
+    c.without_sizes.ensures
 
 pub returns-clause-sweep : goal.returns-clause-sweep
 returns-clause-sweep g c =
