@@ -1,3 +1,4 @@
 pub mod Trials
 pub mod Verdicts
 pub mod Wrongs
+pub mod Tries

@@ -11,6 +11,7 @@ ghost use Rattle.pardo_answers.specs.Costs.{operations_in, time_in};
 ghost use Rattle.pardo_answers.specs.Runs.{IsTextRun};
 ghost use Rattle.exercise_text.specs.Submissions.{judged_text, missing_line};
 ghost use Rattle.exercise_judge.specs.Trials.{KeepsBar, Meets};
+ghost use Rattle.exercise_judge.specs.Tries.{IsRunless};
 ghost use Rattle.exercise_judge.specs.Verdicts.{IsCertain, IsVerdictOn, Judges};
 ghost use Rattle.exercise_judge.specs.Wrongs.{AllowsLess, IsBeyondIn, IsConflictIn, IsLeastGone};
 ghost use Rattle.exercise_judge.specs.Wrongs.{IsWrong, IsWrongIn};
@@ -53,14 +54,41 @@ pub fn judge_trial(alloc: Global, trial: &Trial, submission: &[u8]) -> Result<()
     ensures judged { Judges result (Meets trial.now submission.now) }
     ensures wrong { IfErr result (IsWrong trial.now submission.now) }
 {
+    let run = submitted_run(alloc, trial, submission)?;
+    judge_run(alloc, trial, &run, submission)
+}
+
+/// The run of a submission under a trial, or why there is none.
+pub(crate) fn submitted_run(alloc: Global, trial: &Trial, submission: &[u8]) -> Result<Run, Wrong>
+    ensures given { IfOk result (λ run. missing_line trial.now.header submission.now ≡ None) }
+    ensures run { IfOk result (IsTextRun (judged_text trial.now.header submission.now)) }
+    ensures unmet { IfErr result (λ wrong. IsCertain wrong → ¬ Meets trial.now submission.now) }
+    ensures wrong { IfErr result (IsWrong trial.now submission.now) }
+    ensures runless { IfErr result IsRunless }
+{
     if let Some(line) = missing_line(trial.header.as_slice(), submission) {
         return Err(Wrong::Missing(Vec::from_slice(alloc, line)?));
     }
     let text = judged_text(alloc, trial.header.as_slice(), submission)?;
     match run_program(alloc, text.as_slice()) {
-        Ok(run) => check_run(alloc, trial, &run, submission),
+        Ok(run) => Ok(run),
         Err(refusal) => Err(wrong_of(refusal)),
     }
+}
+
+/// Judges a run of the submission by a trial.
+pub(crate) fn judge_run(
+    alloc: Global,
+    trial: &Trial,
+    run: &Run,
+    submission: &[u8],
+) -> Result<(), Wrong>
+    requires given { missing_line trial.now.header submission.now ≡ None }
+    requires run { IsTextRun (judged_text trial.now.header submission.now) run.now }
+    ensures judged { Judges result (Meets trial.now submission.now) }
+    ensures wrong { IfErr result (IsWrong trial.now submission.now) }
+{
+    check_run(alloc, trial, run, submission)
 }
 
 // Whether a run of the submission meets the trial.
@@ -131,8 +159,8 @@ fn first_gone(lines: &Lines, procs: u32) -> Option<(u32, u64)>
     None
 }
 
-// The line in which a processor left, if it did.
-fn gone_in(lines: &Lines, processor: u32) -> Option<u64>
+/// The line in which a processor left, if it did.
+pub(crate) fn gone_in(lines: &Lines, processor: u32) -> Option<u64>
     ensures { result ≡ gone_in lines.now.gone.items processor }
 {
     lines.gone.get(processor as usize).copied().unwrap_or(None)
