@@ -6,6 +6,7 @@
 uint32_t proved_ks_seat_of(ks_board *board, ks_seat *seat);
 uint32_t proved_ks_worker_of(ks_board *board, uint32_t number, ks_worker *worker);
 uint32_t proved_ks_work(ks_worker *worker, uint64_t limit);
+uint32_t proved_ks_turns(ks_worker *worker, uint64_t least);
 uint32_t proved_ks_back(ks_worker *worker);
 uint32_t proved_ks_progress(ks_seat *seat, struct ks_progress *progress);
 uint32_t proved_ks_read(ks_seat *seat, uint32_t cell, struct ks_reading *reading);
@@ -26,6 +27,10 @@ uint32_t ks_worker_of(ks_board *board, uint32_t number, ks_worker *worker) {
 
 uint32_t ks_work(ks_worker *worker, uint64_t limit) {
   return worker->at ? proved_ks_work(worker, limit) : KS_FAILED;
+}
+
+uint32_t ks_turns(ks_worker *worker, uint64_t least) {
+  return worker->at ? proved_ks_turns(worker, least) : KS_FAILED;
 }
 
 uint32_t ks_back(ks_worker *worker) {

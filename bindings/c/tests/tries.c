@@ -101,6 +101,13 @@ static const char exercise[] = "exercise 1\ntitle squares\nwant A\ngiven\n pardo
                                "input n=2 -> A=0,1\ninput n=4 -> A=0,1,4,9\n";
 static const char submission[] =
     "pardo 1\nrule crew\nconst n = 4\nprocs i < n\nshared A[n]\ncode\nA[i] := i\n";
+/* Its answer is 13, 11, 14 and 11 where A and add are given so. */
+static const char adding[] = "pardo 1\nrule crew\nconst n = 4\nprocs i < n\nprivate twice = i * 2\n"
+                             "shared T[2, n]\nshared A[n] = 1, 2, 3, 4\nshared add = 1\ncode\n"
+                             "A[i] := A[i] + add\n";
+static const uint32_t numbers[] = {3, 1, 4, 1, 10};
+static const struct ks_given given[] = {{(const uint8_t *)"add", 3, numbers + 4, 1},
+                                        {(const uint8_t *)"A", 1, numbers, 4}};
 static const char said[] = "no,2,\"A[2] holds 2, wanted 4\"\n";
 
 static struct ks_request request(uint32_t flags) {
@@ -238,6 +245,26 @@ static void board_uncounted(const struct text *text, struct told *told) {
   board_by(ks_open_uncounted, text, told);
 }
 
+/* One that starts with what is given, and the place of what may be given. */
+static uint32_t open_given(const uint8_t *text, size_t length, uint32_t workers, uint32_t grain,
+                           ks_board *board) {
+  return ks_open_with(text, length, workers, grain, given, 2, board);
+}
+
+static void board_with(const struct text *text, struct told *told) {
+  const struct text own = {text->name, (uint8_t *)(uintptr_t)adding, sizeof adding - 1};
+  board_by(open_given, &own, told);
+}
+
+static uint32_t place_of(const char *text, const char *name, struct ks_place *place) {
+  return ks_place_of((const void *)text, strlen(text), (const void *)name, strlen(name), place);
+}
+
+static void place(const struct text *text, struct told *told) {
+  struct ks_place *found = (struct ks_place *)(void *)told->out;
+  told->status = ks_place_of(text->bytes, text->length, (const void *)"A", 1, found);
+}
+
 typedef void call(const struct text *, struct told *);
 static const struct {
   const char *name;
@@ -258,7 +285,9 @@ static const struct {
              {"judge text", judge_text},
              {"judge by", judge_by_text},
              {"board", board},
-             {"board uncounted", board_uncounted}};
+             {"board uncounted", board_uncounted},
+             {"board with", board_with},
+             {"place", place}};
 enum { CALLS = sizeof calls / sizeof *calls };
 
 static void make(int which, const struct text *text, struct told *told) {
@@ -499,6 +528,7 @@ static void try_blank(void) {
   expect("a seat of nothing", ks_seat_of(&board, &seat) == KS_FAILED && !seat.at);
   expect("a worker of nothing", ks_worker_of(&board, 0, &worker) == KS_FAILED && !worker.at);
   expect("work of nobody", ks_work(&worker, 1) == KS_FAILED && ks_back(&worker) == KS_FAILED);
+  expect("turns of nobody", ks_turns(&worker, 1) == KS_FAILED);
   expect("progress of nothing", ks_progress(&seat, &progress) == KS_FAILED);
   expect("a read of nothing", ks_read(&seat, 0, &reading) == KS_FAILED);
   expect("memory of nothing", ks_memory(&seat, &cell, 1) == KS_FAILED);
@@ -524,6 +554,27 @@ static void try_memory(int is_back, const char *what) {
   if (ks_worker_of(&board, 0, &worker) || (is_back && ks_back(&worker))) exit(5);
   if (ks_work(&worker, 12 + is_back) == KS_FAILED || ks_progress(&seat, &progress)) exit(5);
   expect(what, progress.step == 3);
+  ks_close(&board);
+  ks_close_seat(&seat);
+  ks_close_worker(&worker);
+}
+
+/* A worker goes on where it stopped, by a phase or two at a time, and ends the job. */
+static void try_turns(void) {
+  static char job[] = "pram 1\ncells 1\nprocs 1\nsteps 3\ncode\nset r1 1\nsub r2 r0 r1\nst r0 r2\n";
+  const struct text text = {"", (void *)job, sizeof job - 1};
+  ks_board board = {NULL};
+  ks_seat seat = {NULL};
+  ks_worker worker = {NULL};
+  struct ks_progress progress;
+  unsigned calls = 1;
+  if (ks_open(text.bytes, text.length, 1, 0, &board) || ks_seat_of(&board, &seat)) exit(5);
+  if (ks_worker_of(&board, 0, &worker)) exit(5);
+  expect("no turns", ks_turns(&worker, 0) == KS_UNFINISHED);
+  expect("nothing done", !ks_progress(&seat, &progress) && progress.step == 0);
+  while (calls < 100 && ks_turns(&worker, 1) == KS_UNFINISHED) calls++;
+  expect("turns to the end", 3 < calls && calls < 100 && ks_turns(&worker, 1) == KS_DONE);
+  expect("all done", !ks_progress(&seat, &progress) && progress.step == 3);
   ks_close(&board);
   ks_close_seat(&seat);
   ks_close_worker(&worker);
@@ -565,9 +616,61 @@ static void try_stops(void) {
   try_uncounted(job, 9, 3);
 }
 
+/* The status of opening a board for this text with so much of this. */
+static uint32_t opened_with(const char *text, const struct ks_given *of, size_t count) {
+  ks_board board = {NULL};
+  uint32_t status = ks_open_with((const void *)text, strlen(text), 1, 0, of, count, &board);
+  int has_board = board.at != NULL;
+  ks_close(&board);
+  return has_board == (status == KS_DONE) ? status : 6;
+}
+
+static int is_place(const char *name, uint32_t first, uint32_t length, uint32_t columns,
+                    uint32_t is_array) {
+  struct ks_place place;
+  return place_of(adding, name, &place) == KS_DONE && place.first == first &&
+         place.length == length && place.columns == columns && place.is_array == is_array;
+}
+
+static void try_places(void) {
+  struct ks_place place = {NOTHING, 0, 0, 0};
+  expect("the place of a table", is_place("T", 0, 8, 4, 1));
+  expect("the place of an array", is_place("A", 8, 4, 0, 1));
+  expect("the place of a scalar", is_place("add", 12, 1, 0, 0));
+  expect("no array of this name", place_of(adding, "B", &place) == KS_FAILED);
+  expect("no array but a constant", place_of(adding, "n", &place) == KS_FAILED);
+  expect("no array but a private one", place_of(adding, "twice", &place) == KS_FAILED);
+  expect("a text without names", place_of("pram 1\n", "A", &place) == KS_FAILED);
+  expect("a refused text", place_of("pardo 1\nrule\n", "A", &place) == KS_REFUSED);
+  expect("no place is told", place.first == NOTHING);
+}
+
+/* What starts with what is given ends with what follows from that. */
+static void try_given(void) {
+  static const char job[] = "pram 1\ncells 1\nprocs 1\nsteps 1\ncode\nhalt\n";
+  static const uint32_t wanted[] = {13, 11, 14, 11, 10};
+  static struct told told;
+  struct ks_given unknown = {(const void *)"B", 1, numbers, 4}, few = given[1], twice[3];
+  few.values_length = 3;
+  memcpy(twice + 1, given, sizeof given);
+  twice[0] = given[1], twice[0].values = numbers + 1;
+  expect("nothing is given", opened_with(adding, given, 0) == KS_DONE);
+  expect("an unknown name", opened_with(adding, &unknown, 1) == KS_REFUSED);
+  expect("too few values", opened_with(adding, &few, 1) == KS_REFUSED);
+  expect("what is given twice", opened_with(adding, twice, 3) == KS_DONE);
+  expect("a text that is refused", opened_with("pardo 1\n", given, 2) == KS_REFUSED);
+  expect("a name for a text of the machine", opened_with(job, given, 1) == KS_REFUSED);
+  expect("a text of the machine", opened_with(job, given, 0) == KS_DONE);
+  clear(&told);
+  board_with(&(struct text){"", NULL, 0}, &told);
+  const uint32_t *cells = (const uint32_t *)(const void *)(told.out + sizeof(struct seen));
+  expect("the answer of what is given", !told.status && !memcmp(cells + 8, wanted, sizeof wanted));
+}
+
 static void try_memories(void) {
   try_memory(0, "a worker's memory");
   try_memory(1, "the memory of one that came back");
+  try_turns();
 }
 
 static int try_wrong(const struct text *texts, int count) {
@@ -581,6 +684,8 @@ static int try_wrong(const struct text *texts, int count) {
   try_blank();
   try_memories();
   try_stops();
+  try_places();
+  try_given();
   printf("%d of %d wrong calls as promised, %ld blocks left\n", made_wrong - faults, made_wrong,
          living);
   return faults + (living != 0);

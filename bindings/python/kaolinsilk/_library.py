@@ -8,9 +8,10 @@ import ctypes
 import operator
 import os
 import struct
+from array import array
 from ctypes import POINTER, c_char_p, c_size_t, c_uint32, c_uint64, c_void_p
 from pathlib import Path
-from typing import Any, Callable, Dict, List, NamedTuple, NoReturn, Tuple
+from typing import Any, Callable, Dict, List, Mapping, NamedTuple, NoReturn, Optional, Tuple
 
 from . import callers, calling, processes
 from .calling import Answer, Asked
@@ -63,6 +64,23 @@ class Fault(ctypes.Structure):
     _fields_ = [(name, c_uint32) for name in ("step", "cell", "first", "second")]
 
 
+class Place(ctypes.Structure):
+    """Where a shared array or scalar lies in the cells of a job."""
+
+    _fields_ = [(name, c_uint32) for name in ("first", "length", "columns", "is_array")]
+
+
+class Given(ctypes.Structure):
+    """The values that a shared array or scalar starts with."""
+
+    _fields_ = [
+        ("name", c_char_p),
+        ("name_length", c_size_t),
+        ("values", c_void_p),
+        ("values_length", c_size_t),
+    ]
+
+
 HANDLE = POINTER(Handle)
 # The calls of boards; calling.py makes the others.
 CALLS = {
@@ -73,6 +91,8 @@ CALLS = {
     "ks_turns": [HANDLE, c_uint64],
     "ks_open_uncounted": [c_char_p, c_size_t, c_uint32, c_uint32, HANDLE],
     "ks_stop": [HANDLE, POINTER(c_uint32)],
+    "ks_open_with": [c_char_p, c_size_t, c_uint32, c_uint32, POINTER(Given), c_size_t, HANDLE],
+    "ks_place_of": [c_char_p, c_size_t, c_char_p, c_size_t, POINTER(Place)],
     "ks_back": [HANDLE],
     "ks_progress": [HANDLE, POINTER(Progress)],
     "ks_read": [HANDLE, c_uint32, POINTER(Reading)],
@@ -80,7 +100,7 @@ CALLS = {
     "ks_fault": [HANDLE, POINTER(Fault)],
 }
 # Those that libraries before 0.9 do not have.
-LATER = ("ks_turns", "ks_open_uncounted", "ks_stop")
+LATER = ("ks_turns", "ks_open_uncounted", "ks_stop", "ks_open_with", "ks_place_of")
 CLOSES = ("ks_close", "ks_close_seat", "ks_close_worker")
 
 
@@ -113,6 +133,31 @@ def version() -> str:
     """The library's version, as "0.2.0"."""
     number = library.ks_version()
     return f"{number >> 16}.{number >> 8 & 255}.{number & 255}"
+
+
+def has(name: str) -> bool:
+    """Whether the library has a call."""
+    return hasattr(library, name)
+
+
+def place_of(text: bytes, name: str) -> Optional[Place]:
+    """Where the shared array or scalar of a name lies, if a text that is not refused has one."""
+    asked, found = name.encode(), Place()
+    status = library.ks_place_of(text, len(text), asked, len(asked), found)
+    if status == MEMORY:
+        raise OutOfMemory("out of memory")
+    return found if status == DONE else None
+
+
+def givens_of(values: Mapping[str, "array[int]"]) -> "ctypes.Array[Given]":
+    """Values of arrays by their names, as a call takes them."""
+    rows = []
+    for name, numbers in values.items():
+        asked, (at, count) = name.encode(), numbers.buffer_info()
+        rows.append(Given(asked, len(asked), at, count))
+    given = (Given * len(rows))(*rows)
+    given.kept = values  # type: ignore[attr-defined] # as long as it is there itself
+    return given
 
 
 class Told(NamedTuple):

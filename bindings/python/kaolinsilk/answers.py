@@ -3,7 +3,8 @@ from __future__ import annotations
 
 import re
 from html import escape
-from typing import Any, Dict, ItemsView, Iterator, KeysView, List, NamedTuple, Optional, Union
+from typing import Any, Dict, ItemsView, Iterator, KeysView, List, NamedTuple, Optional
+from typing import Sequence, Union
 
 from . import _library, texts
 from .errors import Conflict, KaolinsilkError, Unfinished
@@ -12,7 +13,7 @@ from .texts import Value
 
 
 # The first words of the lines of `--why`.
-WHYS = "running|stopped|lost|outside|divided|wrote"
+WHYS = "running|stopped|lost|outside|divided|wrote|round"
 
 
 class Gone(NamedTuple):
@@ -48,7 +49,7 @@ class Answer:
         failure: Optional[KaolinsilkError] = None,
         *,
         said: Optional[bytes] = None,
-        program: bytes = b"",
+        program: Optional[texts.Program] = None,
     ) -> None:
         self.status, self.step, self.failure = status, step, failure
         # Where nothing is said yet, the plain machine says it of the program.
@@ -70,7 +71,8 @@ class Answer:
     def text(self) -> str:
         """The answer as the program pramx prints it. Of a run, the plain machine is asked."""
         if self._said is None:
-            self._said = bytes(_library.told("ks_plain", self._program).output)
+            program = self._program.text() if self._program else b""
+            self._said = bytes(_library.told("ks_plain", program).output)
         return self._said.decode("ascii")
 
     @property
@@ -182,10 +184,10 @@ def _conflict_of(line: str, said: bytes) -> Conflict:
     return Conflict(**facts, values=(int(wrote[1]), int(wrote[2])) if wrote else None)
 
 
-def values_of(text: bytes, cells: List[int]) -> Dict[str, Value]:
+def values_of(text: bytes, cells: Sequence[int]) -> Dict[str, Value]:
     """The cells of the job of a text by its names."""
     if not texts.is_program(text):
-        return {"cells": cells}
+        return {"cells": list(cells)}
     return {it.name: it.value(cells) for it in texts.shared_of(text)}
 
 

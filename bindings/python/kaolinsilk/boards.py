@@ -13,7 +13,7 @@ from __future__ import annotations
 
 import threading
 from ctypes import c_uint32
-from typing import Any, List, NamedTuple, NoReturn, Optional, Union
+from typing import Any, List, NamedTuple, NoReturn, Optional, Tuple, Union
 
 from . import _library, calls, texts
 from ._library import library
@@ -21,11 +21,11 @@ from .answers import Answer, values_of
 from .calling import Answer as ToldAnswer
 from .errors import Conflict, Unfinished
 from .limits import NONE, Limit, limit_of
-from .texts import Settings, Source, bytes_of
+from .texts import Program, Settings, Source, bytes_of, program_of
 
-# How many atomic steps or whole turns are made in one call of the library, so that a thread can be
-# stopped soon: they take some milliseconds.
-STRIDE, TURNS = 50_000, 500
+# How many atomic steps are made in one call of the library, one by one and by whole turns, so that
+# a thread can be stopped soon: they take some milliseconds.
+STRIDE, TURNS = 50_000, 1_000_000
 HAS_TURNS = hasattr(library, "ks_turns")
 HAS_UNCOUNTED = HAS_TURNS and hasattr(library, "ks_open_uncounted") and hasattr(library, "ks_stop")
 # The greatest limit.
@@ -106,8 +106,14 @@ class Board(_Staying):
         timeout: Optional[float] = None,
         cancel: Optional[threading.Event] = None,
     ) -> None:
-        limit, self.text = limit_of(timeout, cancel), bytes_of(text, settings)
-        self.is_counted = counted or not HAS_UNCOUNTED or not texts.is_program(self.text)
+        limit = limit_of(timeout, cancel)
+        uncounted = not counted and HAS_UNCOUNTED
+        # Where nobody counts steps before, values of arrays go to the library as numbers.
+        as_numbers = uncounted and _library.has("ks_open_with")
+        self._program = (
+            program_of(text, settings) if as_numbers else Program(bytes_of(text, settings))
+        )
+        self.is_counted = not uncounted or not texts.is_program(self._program.start)
         self.workers = _library.number_of(workers, "workers")
         self._shared: Optional[List[texts.Shared]] = None
         self._member = self._opened(self.workers, _library.number_of(grain, "grain"), limit)
@@ -115,14 +121,22 @@ class Board(_Staying):
         Seat(self)._member.ask(library.ks_progress, found)
         self.cells, self.steps = found.cells, found.steps
 
+    @property
+    def text(self) -> bytes:
+        """The text of the job, as all is set."""
+        return self._program.text()
+
     def _opened(self, workers: int, grain: int, limit: Limit) -> _Member:
-        text, member = self.text, _Member(library.ks_close)
+        program, member = self._program, _Member(library.ks_close)
+        given = _library.givens_of(program.numbers)
         call = library.ks_open if self.is_counted else library.ks_open_uncounted
-        words = text, len(text), workers, grain, member.handle
-        # Who leaves this call leaves the board to it, which closes it then.
-        status = _library.made(lambda: int(call(*words)), limit)
+        words: Tuple[Any, ...] = (program.start, len(program.start), workers, grain)
+        if program.numbers:
+            call, words = library.ks_open_with, (*words, given, len(given))
+        # Who leaves this call leaves the board to it, which closes it then, and what is given.
+        status = _library.made(lambda: int(call(*words, member.handle)), limit)
         if status == _library.REFUSED:
-            calls.check(text, timeout=limit.rest(), cancel=limit.cancel)
+            calls.check(self.text, timeout=limit.rest(), cancel=limit.cancel)
         if status != _library.DONE:
             said = b"there are from 1 to 64 workers, and a grain is a power of two up to 64"
             _library.refuse(status, ToldAnswer(sentence=said))
@@ -131,7 +145,7 @@ class Board(_Staying):
     @property
     def procs(self) -> int:
         """How many processors the job has."""
-        facts = calls.check(texts.without_code(self.text))
+        facts = calls.check(texts.without_code(self._program.start))
         return int(facts["procs"])
 
     def __repr__(self) -> str:
@@ -140,8 +154,8 @@ class Board(_Staying):
     def cell(self, place: str) -> int:
         """The cell of a place of the program, as "A[3]" or "sum"."""
         if self._shared is None:
-            is_program = texts.is_program(self.text)
-            self._shared = texts.shared_of(self.text) if is_program else []
+            is_program = texts.is_program(self._program.start)
+            self._shared = texts.shared_of(self._program.start) if is_program else []
         return texts.cell_of(self._shared, place)
 
     def worker(self, number: int) -> "Worker":
@@ -177,19 +191,19 @@ class Worker(_Staying):
         left = MOST_STEPS if limit is None else _library.number_of(limit, "the limit", MOST_STEPS)
         return self._work_on(library.ks_work, left, STRIDE)
 
-    def turns(self, count: Optional[int] = None) -> str:
-        """Works at full speed until the job is over, or for so many turns: "done", "conflict",
-        "unfinished". A turn is a visit of a node of the tree, and takes well under 0.1 ms."""
-        left = MOST_STEPS if count is None else _library.number_of(count, "the turns", MOST_STEPS)
+    def turns(self, least: Optional[int] = None) -> str:
+        """Works at full speed until the job is over, or by at least so many atomic steps: "done",
+        "conflict", "unfinished". It stops at the end of a phase, of which a step has three."""
+        left = MOST_STEPS if least is None else _library.number_of(least, "the steps", MOST_STEPS)
         return self._work_on(library.ks_turns, left, TURNS)
 
     def _work_on(self, call: Any, left: int, stride: int) -> str:
-        status = _library.UNFINISHED
-        while status == _library.UNFINISHED and left:
+        while True:
             most = min(left, stride)
             status = self._member.ask(call, most)
             left -= most
-        return _library.WORDS[status]
+            if status != _library.UNFINISHED or not left:
+                return _library.WORDS[status]
 
     def __repr__(self) -> str:
         return f"<worker {self.number} of {self.board.workers}>"
@@ -228,10 +242,13 @@ class Seat(_Staying):
 
     def memory(self) -> List[int]:
         """The final cells; `Unfinished` or `Conflict` where there are none."""
+        return self._cells().tolist()
+
+    def _cells(self) -> memoryview:
         cells = (c_uint32 * self.board.cells)()
         if self._member.ask(library.ks_memory, cells, len(cells)) != _library.DONE:
             raise self.fault() or Unfinished(self.progress().step)
-        return memoryview(cells).cast("B").cast("I").tolist()
+        return memoryview(cells).cast("B").cast("I")
 
     def fault(self) -> Optional[Conflict]:
         """The conflict, if one is known."""
@@ -247,14 +264,14 @@ class Seat(_Staying):
 
     def answer_within(self, limit: Limit) -> Answer:
         """The answer, or `TimedOut` or `Cancelled`."""
-        text, (step, steps, conflict) = self.board.text, self.progress()
+        program, (step, steps, conflict) = self.board._program, self.progress()
         if conflict:
-            return Answer("conflict", conflict, failure=self._named_fault(limit), program=text)
+            return Answer("conflict", conflict, failure=self._named_fault(limit), program=program)
         if step < steps:
             said = f"unfinished step={step}\n".encode()
             return Answer("unfinished", step, failure=Unfinished(step), said=said)
-        values = values_of(text, self.memory())
-        return Answer("done", self._last_step(steps, limit), values, program=text)
+        values = values_of(program.start, self._cells())
+        return Answer("done", self._last_step(steps, limit), values, program=program)
 
     def _last_step(self, steps: int, limit: Limit) -> int:
         """The last step of a job that is done. Where nobody counted them the board tells it, but

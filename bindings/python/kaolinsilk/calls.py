@@ -89,7 +89,7 @@ def cells(
 class Cost(Dict[str, Any]):
     """What a run costs: the lines of docs/FORMATS.md by their names, with `_` for a blank.
 
-    Of a program `time` and `operations` come first.
+    Of a program `time` and `operations` come first, and `rounds` last.
     `same_read`, `same_write` and `other_value` are None or a dictionary that says where two
     processors first meet. `cost.status` is "done" or "conflict".
     """
@@ -151,8 +151,8 @@ def cost(
     names = ("same read", "same write", "other value")
     found = Cost()
     found.status = _library.WORDS[told.status]
-    for line in lines[:-1]:
-        if line == "cost of this input":
+    for line in lines:
+        if line.startswith(("cost of this input", "done ", "conflict ")):
             continue
         name = next((it for it in names if line.startswith(it)), line.partition(" ")[0])
         key = name.replace(" ", "_")

@@ -6,7 +6,8 @@ import os
 import re
 from array import array
 from pathlib import Path
-from typing import Any, Iterable, List, Mapping, NamedTuple, Optional, Sequence, Set, Tuple, Union
+from typing import Any, Dict, Iterable, List, Mapping, NamedTuple, Optional, Sequence, Set, Tuple
+from typing import Union
 
 from . import _library
 from .errors import BadRequest, Refused
@@ -46,40 +47,89 @@ def text_as_set(text: Source, settings: Settings) -> bytes:
     return bytes_of(text, settings)
 
 
+class Program:
+    """A text, and the values of shared arrays that are not written into it yet."""
+
+    def __init__(self, text: bytes, numbers: Optional[Dict[str, "array[int]"]] = None) -> None:
+        self.start, self.numbers = text, numbers or {}
+        self._text = None if self.numbers else text
+
+    def text(self) -> bytes:
+        """The text as all is set."""
+        if self._text is None:
+            self._text = bytes_of(self.start, self.numbers)
+        return self._text
+
+
+def program_of(source: Source, settings: Optional[Settings]) -> Program:
+    """A text as it is set, the values of its shared arrays as numbers."""
+    text = bytes_of(source)
+    arrays = arrays_of(text) if settings and is_program(text) else set()
+    given = {name: _given(name, it) for name, it in (settings or {}).items()}
+    apart = {name: it for name, it in given.items() if name in arrays and it.is_array()}
+    others = {name: it for name, it in given.items() if name not in apart}
+    start = _set_to(text, others)
+    _check_shapes(start, apart)
+    return Program(start, {name: it.numbers for name, it in apart.items()})
+
+
 def _set(text: bytes, settings: Settings) -> bytes:
-    names, given = list(settings), {name: _given(name, it) for name, it in settings.items()}
+    given = {name: _given(name, it) for name, it in settings.items()}
+    as_set = _set_to(text, given)
+    _check_shapes(as_set, given)
+    return as_set
+
+
+def _set_to(text: bytes, given: Mapping[str, "_Given"]) -> bytes:
+    """A text with settings written into it."""
+    if not given:
+        return text
+    names = list(given)
     try:
-        as_set = _library.text_as_set(text, b"".join(_line(*it) for it in given.items()))
+        return _library.text_as_set(text, b"".join(_line(*it) for it in given.items()))
     except Refused as refused:
         if refused.subject == "set" and refused.line:
             raise Refused("set", refused.kind, refused.sentence, name=names[refused.line - 1])
         raise
+
+
+def _check_shapes(text: bytes, given: Mapping[str, "_Given"]) -> None:
+    """Refuses rows that arrays of a text do not have."""
     by_rows = [name for name, it in given.items() if it.shape]
-    declared = {it.name: it for it in shared_of(as_set)} if by_rows else {}
+    declared = {it.name: it for it in shared_of(text)} if by_rows else {}
     for name in by_rows:
         _check_rows(declared.get(name), given[name])
-    return as_set
 
 
 class _Given(NamedTuple):
     """The values of a setting, and how many rows and columns they were given by, if by rows."""
 
-    numbers: Union[str, Sequence[int]]
+    numbers: Any
     shape: Optional[Tuple[int, int]] = None
+
+    def is_array(self) -> bool:
+        """Whether these are numbers as the library takes them, one at least."""
+        return isinstance(self.numbers, array) and len(self.numbers) > 0
 
 
 def _given(name: str, values: Any) -> _Given:
-    """What a setting is given by. A numpy array, or what makes itself one, becomes lists first."""
+    """What a setting is given by. An array of numbers that the library takes is copied, also of
+    numpy; else what makes itself an array of numpy becomes lists first."""
     if "=" in name or "\n" in name:
         raise BadRequest(f"{name!r} is no name")
     if isinstance(values, str):
         if not values.isascii() or "\n" in values:
             raise BadRequest(f"{values!r} is no setting")
         return _Given(values)
+    if isinstance(values, array) and values.typecode == "I":
+        return _Given(values[:])
     if hasattr(values, "__array__"):
         import numpy
 
-        values = numpy.asarray(values).tolist()
+        held = numpy.asarray(values)
+        if held.dtype.kind in "ui" and held.ndim in (1, 2) and _are_numbers(held):
+            return _Given(_copied(held), held.shape if held.ndim == 2 else None)
+        values = held.tolist()
     if not isinstance(values, Iterable):
         return _Given(_numbers([values]))
     listed = list(values)
@@ -91,17 +141,27 @@ def _given(name: str, values: Any) -> _Given:
     return _Given(_numbers([it for row in rows for it in row]), (len(rows), len(rows[0])))
 
 
+def _are_numbers(held: Any) -> bool:
+    return bool(held.size and held.min() >= 0 and held.max() <= _library.MOST)
+
+
+def _copied(held: Any) -> "array[int]":
+    numbers = array("I")
+    numbers.frombytes(held.astype("=u4", order="C").tobytes())
+    return numbers
+
+
 def _numbers(listed: List[Any]) -> Sequence[int]:
     """These numbers, or a `TypeError` where one is none."""
     try:
-        return array("I", listed).tolist()
+        return array("I", listed)
     except OverflowError:  # the library says which one is too great
         return list(map(operator.index, listed))
 
 
 def _check_rows(declared: Optional["Shared"], given: _Given) -> None:
-    """Refuses rows that an array does not have."""
-    if not declared:
+    """Refuses rows that an array does not have. Of too many values the library says so."""
+    if not declared or len(given.numbers) != declared.length:
         return
     wide = declared.width
     has = (declared.length // wide, wide) if wide else (declared.length,)
@@ -114,7 +174,7 @@ def _check_rows(declared: Optional["Shared"], given: _Given) -> None:
 def _line(name: str, given: _Given) -> bytes:
     """A setting as the library reads it."""
     numbers = given.numbers
-    values = numbers if isinstance(numbers, str) else str(numbers)[1:-1].replace(" ", "")
+    values = numbers if isinstance(numbers, str) else str(list(numbers))[1:-1].replace(" ", "")
     return f"{name}={values}\n".encode()
 
 
@@ -159,9 +219,9 @@ class Shared(NamedTuple):
         at = f"{row},{column}" if self.width else f"{index}"
         return f"{self.name}[{at}]" if self.is_array else self.name
 
-    def value(self, cells: List[int]) -> Value:
+    def value(self, cells: Sequence[int]) -> Value:
         """What it holds, of all cells: of two indices a list for each row."""
-        values = cells[self.first : self.first + self.length]
+        values = list(cells[self.first : self.first + self.length])
         if self.width:
             return [values[k : k + self.width] for k in range(0, self.length, self.width)]
         return values if self.is_array else values[0]
@@ -177,8 +237,10 @@ def arrays_of(text: bytes) -> Set[str]:
 def shared_of(text: bytes) -> List[Shared]:
     """The shared arrays and scalars of a program, in the order of their cells.
 
-    The library tells them: it answers a program of this header whose code does nothing.
+    The library tells them. One before 0.9 answers a program of this header whose code does nothing.
     """
+    if _library.has("ks_place_of"):
+        return _places_of(without_code(text))
     rows = _library.told("ks_plain", without_code(text)).output.decode("ascii").splitlines()[1:]
     arrays, found, first = arrays_of(text), {}, 0
     for told, _, values in (row.partition(" = ") for row in rows):
@@ -188,6 +250,17 @@ def shared_of(text: bytes) -> List[Shared]:
         found[name] = it._replace(length=it.length + length)
         first += length
     return list(found.values())
+
+
+def _places_of(text: bytes) -> List[Shared]:
+    header = b"\n".join(header_of(text))
+    found = []
+    for name in re.findall(rb"(?m)^[ \t\r]*shared[ \t\r]+(\w+)", header):
+        place = _library.place_of(text, name.decode("ascii"))
+        if place:
+            it = Shared(name.decode("ascii"), place.first, place.length, bool(place.is_array))
+            found.append(it._replace(width=place.columns))
+    return sorted(found, key=lambda it: it.first)
 
 
 def cell_of(shared: List[Shared], place: str) -> int:

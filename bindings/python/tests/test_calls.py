@@ -152,9 +152,9 @@ class Calls(unittest.TestCase):
         self.assertEqual((told.conflict.values, told.why), ((4, 10), ["wrote values=4,10"]))
         self.assertIn("write 4 and 10 to sum in line 12", str(told.conflict))
         said = b"done steps=2\nlost = 6\nlost processor=2 step=1 line=6\n"
-        said += b"outside array=A index=2 length=2\n"
+        said += b"outside array=A index=2 length=2\nround step=2 line=5 value=1\n"
         told = answers.answer_of(text.encode(), _library.Told(_library.DONE, said))
-        self.assertEqual((told["lost"], len(told.why)), (6, 2))
+        self.assertEqual((told["lost"], len(told.why)), (6, 3))
 
     def test_gone(self):
         text = "pardo 1\nrule crew\nprocs i < 3\nshared A[2]\ncode\nA[i] := 1\n"
@@ -164,12 +164,14 @@ class Calls(unittest.TestCase):
         cost = kaolinsilk.cost(EXAMPLES / "maximum.pram")
         self.assertEqual([cost[it] for it in ("steps", "work", "needs")], [20, 312, "CRCW common"])
         self.assertEqual(cost["same_read"], {"step": 4, "cell": 0, "processors": (0, 1)})
+        self.assertEqual(list(cost)[-1], "other_value")
         self.assertIsNone(cost["other_value"])
 
     def test_cost_by_lines(self):
         rows, cost = kaolinsilk.cost_by_lines(PREFIX), kaolinsilk.cost(PREFIX)
         self.assertEqual((sum(rows["time"]), sum(rows["operations"])), (3, 17))
-        self.assertEqual((cost["time"], cost["operations"]), (3, 17))
+        self.assertEqual((cost["time"], cost["operations"], cost["rounds"]), (3, 17, 3))
+        self.assertEqual(list(cost)[-1], "rounds")
         row = {"line": 12, "times": 3, "time": 3, "operations": 17, "most": 7}
         self.assertEqual(rows[-1], {**row, "text": "      A[i] := A[i] + A[i - 1 << h]"})
         quoted = PREFIX.replace("1 << h]", '1 << h] ; a "comment", and more\r')

@@ -203,7 +203,7 @@ class Turns(unittest.TestCase):
     def test_at_full_speed(self):
         text = "pram 1\ncells 64\nprocs 256\nsteps 20000\ncode\na: add r0 r0 r1\njmp a\n"
         times = {}
-        for name, most in (("whole", 2**64 - 1), ("turns", 500)):
+        for name, most in (("whole", 2**64 - 1), ("turns", 10_000)):
             best = 60.0
             for _ in range(5):
                 worker = kaolinsilk.Board(text, 1).worker(0)
@@ -212,7 +212,7 @@ class Turns(unittest.TestCase):
                     pass
                 best = min(best, time.process_time() - began)
             times[name] = best
-        self.assertLess(times["turns"], 1.5 * times["whole"])
+        self.assertLess(times["turns"], 1.3 * times["whole"])
 
 
 if __name__ == "__main__":

@@ -17,7 +17,8 @@ use Rattle.library_boards.specs.Calls.{IsPut, TellsFault, TellsMemory, TellsMemb
 use Rattle.library_boards.specs.Calls.{TellsReading, TellsStop, WasReadTold}
 use Rattle.library_boards.specs.declared.told.StopTold.{StopTold}
 use Rattle.library_boards.specs.Members.{MemberGoesOn, IsBack, IsMember, IsOpenedFor, IsMembersWork}
-use Rattle.library_boards.specs.Members.{NoStopIsKnown, NoneIsKnown, StepsAreLeft, job_at, shared_at}
+use Rattle.library_boards.specs.Members.{NoStopIsKnown, NoneIsKnown, StepsAreLeft, WorkSaid, job_at}
+use Rattle.library_boards.specs.Members.{shared_at}
 
 pub opened : (Holds : JobData → Type 0) (workers grain : ℕ) (handle : Option Member)
     (member : Member) → handle ≡ Some member → IsOpenedFor Holds workers grain member →
@@ -34,21 +35,21 @@ pub no_worker : (board : Option Member) (number status : ℕ) (at : Member) → 
     IsNoWorkerStatus (shared_at at).workers number status → IsNoWorkerFor board number status
 no_worker board number status at was is = record { at = at; was = was; is = is }
 
-is_member_worked : (limit : ℕ) (before later : Member) (stay : Option Stay) → IsMember before →
-    IsMembersWork before limit later stay → IsMember later
-is_member_worked limit before later None is work = subst IsMember (sym work.1) is
-is_member_worked limit before later (Some stay) is work = work.is_member
+is_member_worked : (IsWork : WorkSaid) (before later : Member) (stay : Option Stay) →
+    IsMember before → IsMembersWork IsWork before later stay → IsMember later
+is_member_worked IsWork before later None is work = subst IsMember (sym work.1) is
+is_member_worked IsWork before later (Some stay) is work = work.is_member
 
-pub worked : (old new : Option Member) (before later : Member) (limit status : ℕ) → IsHeld old →
-    old ≡ Some before → new ≡ Some later → HasWorked limit status before later →
-    Between old new (HasWorked limit status)
-worked old new before later limit status held was is work = record {
+pub worked : (old new : Option Member) (before later : Member) (IsWork : WorkSaid) (status : ℕ) →
+    IsHeld old → old ≡ Some before → new ≡ Some later → HasWorked IsWork status before later →
+    Between old new (HasWorked IsWork status)
+worked old new before later IsWork status held was is work = record {
   before = before;
   was = was;
   now = later;
   is = is;
   passed = work;
-  is_member = is_member_worked limit before later work.stay (held.is_member before was) work.works;
+  is_member = is_member_worked IsWork before later work.stay (held.is_member before was) work.works;
 }
 
 is_member_back : (before later : Member) (found : Bool) → IsMember before →

@@ -5,12 +5,15 @@ ghost use Rattle.library_boards.specs.Calls.{IsHeld, IsNoWorkerFor, IsOpenStatus
 ghost use Rattle.library_boards.specs.Calls.{TellsFault, TellsMemory, TellsMemberProgress};
 ghost use Rattle.library_boards.specs.Calls.{TellsReading};
 ghost use Rattle.library_boards.specs.Calls.{TellsStop};
+ghost use Rattle.library_boards.specs.Givens.{IsGivenJob, IsGivenStatus};
 ghost use Rattle.library_boards.specs.Jobs.{IsJobOf, IsUncountedJobOf};
-ghost use Rattle.library_boards.specs.Members.{IsReaderAt, IsWorkerAt};
+ghost use Rattle.library_boards.specs.Members.{IsReaderAt, IsWorkerAt, by_limit, by_turns};
 ghost use Rattle.library_boards.specs.declared.status.TheConstants.{DONE, MEMORY};
 
 use library_boards::status::DONE;
-use library_boards::{FaultTold, Handle, ProgressTold, ReadingTold, StopTold, calls};
+use library_boards::{
+    FaultTold, Given, Handle, ProgressTold, ReadingTold, StopTold, calls, open_with,
+};
 use std::alloc::Global;
 
 /// Opens a board for the job of a text, and gives the handle of it.
@@ -56,6 +59,33 @@ pub extern "C" fn ks_open_uncounted(
     ensures kept { result ≢ DONE → board.new ≡ board.old }
 {
     match calls::open_uncounted(alloc, text, workers, grain) {
+        Ok(member) => {
+            *board = Handle::of(member);
+            DONE
+        }
+        Err(status) => status,
+    }
+}
+
+/// Opens a board as `ks_open_uncounted` does, for the job of a text in which shared arrays and
+/// scalars start with the values that are given, each by its name. Of a name that is given twice
+/// the last counts. Neither the values nor what is given are kept.
+#[unsafe(no_mangle)]
+#[tactic(auto, using(crate::proofs::Passing::opened))]
+pub extern "C" fn ks_open_with(
+    alloc: Global,
+    text: &[u8],
+    workers: u32,
+    grain: u32,
+    given: &[Given<'_>],
+    board: &mut Handle,
+) -> u32
+    ensures opened { result ≡ DONE →
+        HasOpened (IsGivenJob text.now given.now) workers grain board.new.member }
+    ensures undone { result ≢ DONE → IsGivenStatus text.now given.now workers grain result }
+    ensures kept { result ≢ DONE → board.new ≡ board.old }
+{
+    match open_with(alloc, text, workers, grain, given) {
         Ok(member) => {
             *board = Handle::of(member);
             DONE
@@ -112,15 +142,29 @@ pub extern "C" fn ks_worker_of(
     }
 }
 
-/// Makes at most so many atomic steps of a worker. With the greatest number as limit, UINT64_MAX,
-/// it makes all that are left, in a tenth of the time.
+/// Makes at most so many atomic steps of a worker, one by one. With the greatest number as limit,
+/// UINT64_MAX, it makes all that are left, at full speed: in a twentieth of the time.
 #[unsafe(no_mangle)]
 pub extern "C" fn ks_work(alloc: Global, worker: &mut Handle, limit: u64) -> u32
     requires { IsHeld worker.old.member }
-    ensures { Between worker.old.member worker.new.member (HasWorked limit result) }
+    ensures { Between worker.old.member worker.new.member (HasWorked (by_limit limit) result) }
 {
     let mut member = worker.take(alloc);
     let status = calls::work(&mut member, limit);
+    *worker = Handle::of(member);
+    status
+}
+
+/// Makes at least so many atomic steps of a worker, at full speed, unless it is over before, and
+/// stops at the end of a phase, of which each step of the job has three. A million take some
+/// milliseconds, so who may have to stop calls it again and again.
+#[unsafe(no_mangle)]
+pub extern "C" fn ks_turns(alloc: Global, worker: &mut Handle, least: u64) -> u32
+    requires { IsHeld worker.old.member }
+    ensures { Between worker.old.member worker.new.member (HasWorked (by_turns least) result) }
+{
+    let mut member = worker.take(alloc);
+    let status = calls::turns(&mut member, least);
     *worker = Handle::of(member);
     status
 }

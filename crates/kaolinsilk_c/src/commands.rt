@@ -21,13 +21,13 @@ use library_core::request::{Call, Request};
 use library_core::setting::tell_set;
 use std::alloc::Global;
 
-/// The version of the library, 0.8.13: 65536 times the first number, 256 times the second, and the
+/// The version of the library, 0.9.0: 65536 times the first number, 256 times the second, and the
 /// third.
 #[unsafe(no_mangle)]
 pub extern "C" fn ks_version() -> u32
-    ensures { result ≡ 65536 * 0 + 256 * 8 + 13 }
+    ensures { result ≡ 65536 * 0 + 256 * 9 + 0 }
 {
-    (8 << 8) + 13
+    9 << 8
 }
 
 /// The version of these calls, which grows where a program that calls them has to change.

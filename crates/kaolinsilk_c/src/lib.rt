@@ -3,3 +3,4 @@
 
 mod boards;
 mod commands;
+mod places;

@@ -31,7 +31,7 @@ use Rattle.library_boards.specs.declared.shared.Shared.{Shared}
 use Rattle.library_boards.specs.Members.{MemberGoesOn, IsBack, IsKnownFault, IsLastMemory, IsMember}
 use Rattle.library_boards.specs.Members.{IsOpenedFor, IsMembersWork}
 use Rattle.library_boards.specs.Members.{NoStopIsKnown, NoneIsKnown, StepsAreLeft, job_at}
-use Rattle.library_boards.specs.Members.{shared_at, member_task}
+use Rattle.library_boards.specs.Members.{WorkSaid, shared_at, member_task}
 
 -- ---- handles
 
@@ -108,9 +108,9 @@ status_of_stay (Some (Ended ended.Done)) = DONE
 status_of_stay (Some (Ended (ended.Conflict step))) = CONFLICT
 status_of_stay (Some Stopped) = UNFINISHED
 
-pub record HasWorked (limit status : ℕ) (before later : Member) : Type 0 where
+pub record HasWorked (IsWork : WorkSaid) (status : ℕ) (before later : Member) : Type 0 where
   pub stay : Option Stay
-  pub works : IsMembersWork before limit later stay
+  pub works : IsMembersWork IsWork before later stay
   pub is : status ≡ status_of_stay stay
 
 pub record HasComeBack (status : ℕ) (before later : Member) : Type 0 where

@@ -1,4 +1,5 @@
 pub mod Calls
+pub mod Givens
 pub mod Grains
 pub mod Handles
 pub mod Jobs

@@ -10,15 +10,15 @@ use Rattle.pram_words.specs.declared.layout.Form.TheVariants.{Wide}
 use Rattle.walkx.specs.Inner.Workers.{WorkerData}
 use Rattle.walkx.specs.Records.{empty}
 use Rattle.walkx.specs.Serving.{IsNewWorker}
-use Rattle.walkx.specs.Walk.{come_back, remembering, started}
+use Rattle.walkx.specs.Walk.{Walking, come_back, remembering, started}
 use Rattle.pram_board.specs.declared.task.Task.{Task}
 use Rattle.pram_board.specs.declared.look.Progress.{Progress}
 use Rattle.pram_board.specs.declared.work.Stay.{Stay}
 use Rattle.pram_board.specs.Seats.{Desk, HasLoaded, HasSeen, IsLater, IsOpened, KnowsConflict}
-use Rattle.pram_board.specs.Seats.{Progressed}
+use Rattle.pram_board.specs.Seats.{Progressed, SeatData}
 use Rattle.pram_board.specs.Stops.{EndsApart}
 use Rattle.walk_memory.specs.Blocks.{IsWide}
-use Rattle.pram_board.specs.Worked.{Worked, Works}
+use Rattle.pram_board.specs.Worked.{Worked, WorkedTurns, Works}
 use Rattle.library_boards.specs.declared.member.Member.{Member}
 use Rattle.library_boards.specs.declared.shared.Shared.{Shared}
 use Rattle.library_boards.specs.Grains.{grain_or_default}
@@ -80,21 +80,34 @@ pub record IsWorkerAt (shared : Shared) (number : ℕ) (member : Member) : Type 
 abbrev pub limit_of : ℕ → Option ℕ
 limit_of limit = if limit == 18446744073709551615 then None else Some limit
 
+-- what is said of a worker's ticks: of a task, the seat and the worker before and after, and how
+-- they ended
+abbrev pub WorkSaid : Type 1
+WorkSaid = Task → SeatData → Walking → SeatData → Walking → Stay → Type 0
+
+-- by a limit, and by whole turns
+abbrev pub by_limit : ℕ → WorkSaid
+by_limit limit task before walking later now stay =
+    Worked task before walking (limit_of limit) later now stay
+
+abbrev pub by_turns : ℕ → WorkSaid
+by_turns least task before walking later now stay =
+    WorkedTurns task before walking least later now stay
+
 -- the worker's ticks, all in the record of its seat
-pub record WorkedOn (before : Member) (limit : ℕ) (later : Member) (stay : Stay) : Type 0 where
+pub record WorkedOn (IsWork : WorkSaid) (before later : Member) (stay : Stay) : Type 0 where
   pub worker : WorkerData
   pub was : before.worker ≡ Some worker
   pub now : WorkerData
   pub is : later.worker ≡ Some now
-  pub worked : Worked (member_task before) before.seat worker.walking (limit_of limit) later.seat
-      now.walking stay
+  pub worked : IsWork (member_task before) before.seat worker.walking later.seat now.walking stay
   pub goes : IsLater (board_at before) before.seat later.seat
   pub same : later.shared ≡ before.shared
   pub is_member : IsMember later
 
-abbrev pub IsMembersWork : Member → ℕ → Member → Option Stay → Type 0
-IsMembersWork before limit later None = (before.worker ≡ None) × (later ≡ before)
-IsMembersWork before limit later (Some stay) = WorkedOn before limit later stay
+abbrev pub IsMembersWork : WorkSaid → Member → Member → Option Stay → Type 0
+IsMembersWork IsWork before later None = (before.worker ≡ None) × (later ≡ before)
+IsMembersWork IsWork before later (Some stay) = WorkedOn IsWork before later stay
 
 -- the worker comes back with its number, by the same seat
 pub record CameBack (before later : Member) : Type 0 where

@@ -9,7 +9,7 @@ ghost use Rattle.library_boards.specs.Grains.{IsGrainAsked};
 ghost use Rattle.library_boards.specs.Jobs.{IsJobOf, IsUncountedJobOf};
 ghost use Rattle.library_boards.specs.Members.{MemberGoesOn, IsMember, IsOpenedFor, IsReaderAt};
 ghost use Rattle.library_boards.specs.Members.{IsWorkerAt, NoStopIsKnown, NoneIsKnown};
-ghost use Rattle.library_boards.specs.Members.{StepsAreLeft, job_at, shared_at};
+ghost use Rattle.library_boards.specs.Members.{StepsAreLeft, by_limit, by_turns, job_at, shared_at};
 ghost use Rattle.pram_board.specs.Stops.{StopsThere};
 ghost use Rattle.library_boards.specs.declared.status.TheConstants.{CONFLICT, DONE, FAILED};
 ghost use Rattle.library_boards.specs.declared.status.TheConstants.{MEMORY, UNFINISHED};
@@ -69,7 +69,7 @@ pub fn open_uncounted(
 }
 
 // Whether a leaf may stand for so many processors, or the board is to choose.
-fn is_grain(grain: u32) -> bool
+pub(crate) fn is_grain(grain: u32) -> bool
     ensures yes { IsTrue result → IsGrainAsked grain }
     ensures no { IsGrainAsked grain → IsTrue result }
 {
@@ -82,7 +82,7 @@ fn is_grain(grain: u32) -> bool
     }
 }
 
-fn fault_status(fault: OpenFault) -> u32
+pub(crate) fn fault_status(fault: OpenFault) -> u32
     ensures status { result ≡ status_of_fault fault }
     ensures undone { result ≢ DONE }
 {
@@ -141,7 +141,7 @@ pub fn worker(member: &Member, alloc: Global, number: u32) -> Result<Box<Member,
     }
 }
 
-fn put_on_heap(alloc: Global, member: Member) -> Result<Box<Member, Global>, u32>
+pub(crate) fn put_on_heap(alloc: Global, member: Member) -> Result<Box<Member, Global>, u32>
     ensures put { IfOk result (λ boxed. boxed.value ≡ member) }
     ensures memory { IfErr result (λ status. status ≡ MEMORY) }
 {
@@ -154,9 +154,17 @@ fn put_on_heap(alloc: Global, member: Member) -> Result<Box<Member, Global>, u32
 /// At most so many atomic steps of the member's worker.
 pub fn work(member: &mut Member, limit: u64) -> u32
     requires { IsMember member.old }
-    ensures { HasWorked limit result member.old member.new }
+    ensures { HasWorked (by_limit limit) result member.old member.new }
 {
     stay_status(member.work(limit))
+}
+
+/// At least so many, by whole turns.
+pub fn turns(member: &mut Member, least: u64) -> u32
+    requires { IsMember member.old }
+    ensures { HasWorked (by_turns least) result member.old member.new }
+{
+    stay_status(member.turns(least))
 }
 
 fn stay_status(stay: Option<Stay>) -> u32

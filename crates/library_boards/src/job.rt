@@ -60,7 +60,7 @@ fn program_job(alloc: Global, text: &[u8]) -> Result<Job, OpenFault>
     }
 }
 
-fn machine_job(alloc: Global, text: &[u8]) -> Result<Job, OpenFault>
+pub(crate) fn machine_job(alloc: Global, text: &[u8]) -> Result<Job, OpenFault>
     requires { is_program text.now ≡ false }
     ensures job { IfOk result (IsMachineJob text.now) }
     ensures none { IfErr result (IsNoJob text.now) }
@@ -97,7 +97,7 @@ fn drafted_job(alloc: Global, text: &[u8]) -> Result<Job, OpenFault>
 
 // The job with as many steps as a program may take.
 #[tactic(auto, unfolding(pardo_job::specs::Refusals::most_steps))]
-fn longest(job: Job) -> Job
+pub(crate) fn longest(job: Job) -> Job
     ensures { result ≡ record job { steps = most_steps job } }
 {
     job.limits_hold();

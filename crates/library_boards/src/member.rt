@@ -29,7 +29,7 @@ impl Member {
     ghost use Rattle.library_boards.specs.Members.{MemberGoesOn, IsBack, IsKnownFault};
     ghost use Rattle.library_boards.specs.Members.{IsLastMemory};
     ghost use Rattle.library_boards.specs.Members.{IsMember, IsOpenedAt, IsOpenedFor, IsReaderAt};
-    ghost use Rattle.library_boards.specs.Members.{IsMembersWork};
+    ghost use Rattle.library_boards.specs.Members.{IsMembersWork, by_limit, by_turns};
     ghost use Rattle.library_boards.specs.Members.{IsWorkerAt, NoStopIsKnown, NoneIsKnown};
     ghost use Rattle.library_boards.specs.Members.{StepsAreLeft, job_at, shared_at, member_task};
 
@@ -67,7 +67,12 @@ impl Member {
     }
 
     // A reader at a new board for a job.
-    fn of_job(alloc: Global, job: &Job, workers: u32, grain: u32) -> Result<Member, AllocError>
+    pub(crate) fn of_job(
+        alloc: Global,
+        job: &Job,
+        workers: u32,
+        grain: u32,
+    ) -> Result<Member, AllocError>
         requires some { 1 ≤ workers }
         requires most { workers ≤ 64 }
         requires grain { IsGrainAsked grain }
@@ -121,13 +126,28 @@ impl Member {
     /// greatest number, and says how that ended; nothing where there is no worker.
     pub fn work(&mut self, limit: u64) -> Option<Stay>
         requires { IsMember self.old }
-        ensures { IsMembersWork self.old limit self.new result }
+        ensures { IsMembersWork (by_limit limit) self.old self.new result }
     {
         match &mut self.worker {
             None => None,
             Some(worker) => {
                 let board = &self.shared.board;
                 Some(board.work(&mut self.seat, worker, &Open, limit_of(limit)))
+            }
+        }
+    }
+
+    /// Goes on by whole turns, at full speed, until the worker is over or has made at least so many
+    /// atomic steps, and says how that ended; nothing where there is no worker.
+    pub fn turns(&mut self, least: u64) -> Option<Stay>
+        requires { IsMember self.old }
+        ensures { IsMembersWork (by_turns least) self.old self.new result }
+    {
+        match &mut self.worker {
+            None => None,
+            Some(worker) => {
+                let board = &self.shared.board;
+                Some(board.work_turns(&mut self.seat, worker, &Open, least))
             }
         }
     }

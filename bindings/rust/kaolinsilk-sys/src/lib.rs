@@ -162,6 +162,34 @@ pub struct ks_plan_row {
     pub ticks: u32,
 }
 
+/// What a caller gives of a shared array or scalar of a program.
+#[repr(C)]
+#[derive(Clone, Copy, Debug)]
+pub struct ks_given {
+    /// Its name.
+    pub name: *const u8,
+    /// How long the name is.
+    pub name_length: usize,
+    /// A value for each of its places, which it starts with.
+    pub values: *const u32,
+    /// How many values there are.
+    pub values_length: usize,
+}
+
+/// Where a shared array or scalar of a program lies in the cells of its job.
+#[repr(C)]
+#[derive(Clone, Copy, Debug, Default, PartialEq, Eq)]
+pub struct ks_place {
+    /// The first of its cells.
+    pub first: u32,
+    /// How many cells it has.
+    pub length: u32,
+    /// How many columns each row has, if its places have two indices, else 0.
+    pub columns: u32,
+    /// 1 of an array, and 0 of a scalar.
+    pub is_array: u32,
+}
+
 /// How far the steps of a board are finished.
 #[repr(C)]
 #[derive(Clone, Copy, Debug, Default, PartialEq, Eq)]
@@ -352,6 +380,14 @@ unsafe extern "C" {
         room: usize,
         answer: *mut ks_answer,
     ) -> u32;
+    /// Where a shared array or scalar of a program lies.
+    pub fn ks_place_of(
+        text: *const u8,
+        text_length: usize,
+        name: *const u8,
+        name_length: usize,
+        place: *mut ks_place,
+    ) -> u32;
 
     /// Opens a board for a job and so many workers.
     pub fn ks_open(
@@ -369,12 +405,24 @@ unsafe extern "C" {
         grain: u32,
         board: *mut ks_board,
     ) -> u32;
+    /// The same, where shared arrays and scalars start with what is given.
+    pub fn ks_open_with(
+        text: *const u8,
+        text_length: usize,
+        workers: u32,
+        grain: u32,
+        given: *const ks_given,
+        given_length: usize,
+        board: *mut ks_board,
+    ) -> u32;
     /// A new seat of a board.
     pub fn ks_seat_of(board: *mut ks_board, seat: *mut ks_seat) -> u32;
     /// A new worker of a board.
     pub fn ks_worker_of(board: *mut ks_board, number: u32, worker: *mut ks_worker) -> u32;
     /// Makes at most so many atomic steps.
     pub fn ks_work(worker: *mut ks_worker, limit: u64) -> u32;
+    /// Makes at least so many atomic steps, at full speed, up to the end of a phase.
+    pub fn ks_turns(worker: *mut ks_worker, least: u64) -> u32;
     /// Has the worker lose all that it knew, and come back from its position word.
     pub fn ks_back(worker: *mut ks_worker) -> u32;
     /// How far the steps are finished.
@@ -401,6 +449,7 @@ const _: () = {
     assert!(size_of::<ks_answer>() == 224 && align_of::<ks_answer>() == 8);
     assert!(size_of::<ks_plan_row>() == 12 && size_of::<ks_progress>() == 16);
     assert!(size_of::<ks_reading>() == 8 && size_of::<ks_fault>() == 16);
-    assert!(size_of::<ks_stop>() == 4);
+    assert!(size_of::<ks_stop>() == 4 && size_of::<ks_place>() == 16);
+    assert!(size_of::<ks_given>() == 32 && align_of::<ks_given>() == 8);
     assert!(size_of::<ks_board>() == 8 && size_of::<ks_seat>() == 8);
 };

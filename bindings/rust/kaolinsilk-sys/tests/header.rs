@@ -101,6 +101,9 @@ fn field_of_c(text: &str) -> String {
     if let ("void", Some(name)) = (kind, name.strip_prefix('*')) {
         return format!("{name}: *mut c_void");
     }
+    if name.starts_with('*') {
+        return parameter_of_c(text);
+    }
     match name.strip_suffix(']').and_then(|it| it.split_once('[')) {
         None => format!("{name}: {}", base_of_c(kind)),
         Some((name, count)) => format!("{name}: [{}; {count}]", base_of_c(kind)),

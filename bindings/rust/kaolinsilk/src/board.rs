@@ -1,6 +1,8 @@
 //! Boards that threads share, their workers and their readers.
+use std::sync::atomic::{AtomicBool, Ordering};
 use std::sync::{Mutex, MutexGuard, PoisonError};
 
+use crate::arrays::{given, unfit};
 use crate::error::{Error, Result};
 use crate::job::{Check, Job};
 use crate::outcome::{Ended, Fault, Outcome};
@@ -91,6 +93,62 @@ impl Board {
         }
     }
 
+    /// The same for the program of the job, where shared arrays and scalars start with values that
+    /// are given by their names, as numbers all the way. Nothing is run, and nothing counted: the
+    /// board has as many steps as a program may take, and its workers are done once all processors
+    /// have stopped.
+    ///
+    /// ```
+    /// use kaolinsilk::{Board, Ended, Job};
+    ///
+    /// let text = "pardo 1\nrule crew\nprocs i < 3\nshared A[3]\ncode\nA[i] := A[i] + i\n";
+    /// let job = Job::parse(text)?;
+    /// let board = Board::open_with(&job, 1, &[("A", &[5, 5, 5])])?;
+    /// assert_eq!(board.worker(0)?.finish(), Ended::Done);
+    /// let cells = board.seat()?.memory()?.expect("the job is over");
+    /// assert_eq!(job.extent("A")?.expect("an array").of(&cells), [5, 6, 7]);
+    /// # Ok::<(), kaolinsilk::Error>(())
+    /// ```
+    ///
+    /// # Errors
+    ///
+    /// [`Subject::Setting`](crate::Subject::Setting) with the number of the first that the program
+    /// has not, or not with so many places; those of [`Board::open`].
+    pub fn open_with(job: &Job, workers: u32, values: &[(&str, &[u32])]) -> Result<Board> {
+        let (text, mut handle) = (job.text(), sys::ks_board::none());
+        let given = given(values)?;
+        // SAFETY: the text, what is given and the place for the handle are borrowed for the call.
+        let status = unsafe {
+            sys::ks_open_with(
+                text.as_ptr(),
+                text.len(),
+                workers,
+                0,
+                given.as_ptr(),
+                given.len(),
+                &mut handle,
+            )
+        };
+        let handle = BoardHandle(handle);
+        match status {
+            sys::KS_DONE => Board::uncounted(handle, workers, job.check()),
+            sys::KS_FAILED => Err(NO_BOARD),
+            sys::KS_REFUSED => Err(unfit(job, values)?),
+            _ => Err(Error::MEMORY),
+        }
+    }
+
+    // That of an open handle, whose job is this one with other steps.
+    fn uncounted(handle: BoardHandle, workers: u32, check: Check) -> Result<Board> {
+        let mut board = Board {
+            handle: Mutex::new(handle),
+            workers,
+            check,
+        };
+        board.check.steps = board.seat()?.told().steps;
+        Ok(board)
+    }
+
     /// How many workers the board is for.
     pub fn workers(&self) -> u32 {
         self.workers
@@ -160,6 +218,17 @@ pub enum Stay {
     Stopped,
 }
 
+fn stay_of(status: u32) -> Stay {
+    match Status::of(status).expect(KEPT) {
+        Status::Done => Stay::Ended(Ended::Done),
+        Status::Conflict => Stay::Ended(Ended::Conflict),
+        Status::Unfinished => Stay::Stopped,
+    }
+}
+
+/// How many atomic steps there are between two looks at a flag: some milliseconds of work.
+const TURNS: u64 = 1_000_000;
+
 /// A worker of a board, and where it stands. It may be dropped after any atomic step; the others
 /// then do its part.
 #[derive(Debug)]
@@ -190,15 +259,29 @@ impl Worker {
         self.number
     }
 
-    /// Makes at most so many atomic steps.
+    /// Makes at most so many atomic steps, one by one: that takes some twenty times as long as by
+    /// [`Worker::turns`].
     pub fn work(&mut self, limit: u64) -> Stay {
         // SAFETY: the worker is open, and it is borrowed mutably.
-        let status = unsafe { sys::ks_work(&mut self.handle.0, limit) };
-        match Status::of(status).expect(KEPT) {
-            Status::Done => Stay::Ended(Ended::Done),
-            Status::Conflict => Stay::Ended(Ended::Conflict),
-            Status::Unfinished => Stay::Stopped,
+        stay_of(unsafe { sys::ks_work(&mut self.handle.0, limit) })
+    }
+
+    /// Makes at least so many atomic steps, as quickly as [`Worker::finish`], unless it is over
+    /// before, and stops at the end of a phase, of which each step of the job has three.
+    pub fn turns(&mut self, least: u64) -> Stay {
+        // SAFETY: the worker is open, and it is borrowed mutably.
+        stay_of(unsafe { sys::ks_turns(&mut self.handle.0, least) })
+    }
+
+    /// Works to the end of the job, or until another thread sets the flag: then it stops within some
+    /// milliseconds, and may go on later. It is as quick as [`Worker::finish`].
+    pub fn work_until(&mut self, stop: &AtomicBool) -> Stay {
+        while !stop.load(Ordering::Relaxed) {
+            if let Stay::Ended(ended) = self.turns(TURNS) {
+                return Stay::Ended(ended);
+            }
         }
+        Stay::Stopped
     }
 
     /// Works to the end of the job: at most 600 L T + 16 atomic steps, T being the steps of the job
@@ -268,14 +351,20 @@ impl Seat {
 
     /// The last finished step, and the step of a conflict that is known. Two loads.
     pub fn progress(&mut self) -> Progress {
-        let mut told = sys::ks_progress::default();
-        // SAFETY: the seat is open, and it and the place for what is told are borrowed mutably.
-        let status = unsafe { sys::ks_progress(&mut self.handle.0, &mut told) };
-        assert_eq!(status, sys::KS_DONE, "{KEPT}");
+        let told = self.told();
         Progress {
             step: told.step,
             conflict: (told.conflict > 0).then_some(told.conflict),
         }
+    }
+
+    // What the library tells of progress.
+    fn told(&mut self) -> sys::ks_progress {
+        let mut told = sys::ks_progress::default();
+        // SAFETY: the seat is open, and it and the place for what is told are borrowed mutably.
+        let status = unsafe { sys::ks_progress(&mut self.handle.0, &mut told) };
+        assert_eq!(status, sys::KS_DONE, "{KEPT}");
+        told
     }
 
     /// What a cell held after a finished step, if the job has such a cell. At most five loads.

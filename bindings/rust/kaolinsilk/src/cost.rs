@@ -60,6 +60,8 @@ pub struct Cost {
     pub time: Option<u64>,
     /// Of a program its operations: how often a processor is active in a counted line.
     pub operations: Option<u64>,
+    /// Of a program its rounds: how often the `end` of a loop is made.
+    pub rounds: Option<u64>,
     /// The steps of the run: all of the job's, or those up to its conflict, which counts too.
     pub steps: u32,
     /// The processors.
@@ -108,6 +110,7 @@ impl Cost {
         Some(Cost {
             time: count(&text, "time "),
             operations: count(&text, "operations "),
+            rounds: count(&text, "rounds "),
             steps: count(&text, "steps ")?,
             processors: count(&text, "processors ")?,
             product: count(&text, "product ")?,
@@ -187,12 +190,13 @@ mod tests {
         product 20\nwork 19\nmost 4\nreading 2\nwriting 1\nneeds CRCW priority\n\
         same read step=2 line=12 place=A[3] processors=0,1\n\
         same write none\nother value step=5 line=12 cell=7 processors=0,3\n\
-        conflict line=12 place=sum processors=0,1\n";
+        conflict line=12 place=sum processors=0,1\nrounds 0\n";
 
     #[test]
     fn a_cost_is_its_lines() {
         let cost = Cost::of_text(OF_PROGRAM.to_owned()).unwrap();
         assert_eq!((cost.time, cost.operations), (Some(1), Some(4)));
+        assert_eq!(cost.rounds, Some(0));
         assert_eq!((cost.steps, cost.processors, cost.product), (5, 4, 20));
         assert_eq!(
             (cost.work, cost.most, cost.reading, cost.writing),

@@ -108,6 +108,13 @@ impl Error {
         Error::new(Subject::Request, "", sentence)
     }
 
+    /// Of the setting of this number, from 1.
+    pub(crate) const fn setting(number: u64, kind: &'static str, said: &'static str) -> Error {
+        let mut error = Error::new(Subject::Setting, kind, said);
+        error.line = number;
+        error
+    }
+
     /// What a call told that did not do what it was asked for.
     pub(crate) fn told(status: u32, answer: &sys::ks_answer) -> Error {
         let subject = Subject::of(status, answer.subject);

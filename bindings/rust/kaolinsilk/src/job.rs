@@ -3,6 +3,7 @@ use std::fmt;
 use std::ops::{Bound, RangeBounds};
 use std::str::FromStr;
 
+use crate::arrays::{Extent, extent_in};
 use crate::call::{Command, serve};
 use crate::cost::Cost;
 use crate::error::{Error, Result};
@@ -277,6 +278,15 @@ impl Job {
                 Ok(Values::of_text(&text).expect(FORM).with(cells))
             }
         }
+    }
+
+    /// Where the shared array or scalar of this name lies in the cells of the job, if there is one.
+    ///
+    /// # Errors
+    ///
+    /// [`Subject::Memory`](crate::Subject::Memory).
+    pub fn extent(&self, name: &str) -> Result<Option<Extent>> {
+        extent_in(&self.text, name)
     }
 
     fn told(&self, why: u32) -> Result<(Status, String)> {

@@ -37,7 +37,7 @@
 //! | [`Settings`] | what constants and shared arrays of a program are set to |
 //! | [`sweep`] | what a program costs with each value of a constant |
 //! | [`judge`] | a submission, judged by an exercise |
-//! | [`run`] | a job on threads, by a [`Plan`] |
+//! | [`run`] | a job on threads, by a [`Plan`]; [`run_until`] is stopped, [`run_within`] ends in time |
 //! | [`Board`] | for threads of your own: each has a [`Worker`], or reads by a [`Seat`] |
 //! | [`Error`] | what was refused, where and why |
 //!
@@ -50,6 +50,7 @@
 //!
 //! No call is to be made from a signal handler, or from the forked child of a process with threads.
 
+mod arrays;
 mod board;
 mod call;
 mod cost;
@@ -68,6 +69,7 @@ mod sweep;
 mod told;
 mod values;
 
+pub use arrays::Extent;
 pub use board::{Board, Progress, Reading, Seat, Stay, Worker};
 pub use cost::{Cost, Meeting, Place, Pram};
 pub use error::{Error, Result, Subject};
@@ -77,7 +79,7 @@ pub use line_costs::{LineCost, LineCosts};
 pub use outcome::{Ended, Fault, Outcome};
 pub use plan::{Act, Plan, Row};
 pub use replay::{Replay, StepKind, TraceRow};
-pub use run::{RunAnswer, run};
+pub use run::{RunAnswer, run, run_until, run_within};
 pub use settings::Settings;
 pub use steps::{StepRow, Steps, Target};
 pub use sweep::{Sweep, SweepEnd, SweepRow, sweep};

@@ -2,6 +2,7 @@
 use std::sync::Arc;
 use std::sync::atomic::{AtomicBool, AtomicU32, Ordering};
 use std::thread::{self, Thread};
+use std::time::{Duration, Instant};
 
 use crate::board::{Board, Stay, Worker};
 use crate::error::{Error, Result};
@@ -54,13 +55,57 @@ impl RunAnswer {
 /// [`Subject::Memory`](crate::Subject::Memory), also where so many threads are refused that the
 /// others do not come to the end.
 pub fn run(job: &Job, workers: u32, plan: &Plan) -> Result<RunAnswer> {
+    run_asking(job, workers, plan, None)
+}
+
+/// As [`run`], but that it stops where it is told to: the calling thread asks every few
+/// milliseconds. Then the answer is `Unfinished`, unless the end is known already, and the workers
+/// leave within some tens of milliseconds. Nothing is slower by that.
+///
+/// ```
+/// use kaolinsilk::{Job, Plan, RunAnswer, run_until};
+/// use std::time::{Duration, Instant};
+///
+/// let text = "pram 1\ncells 1\nprocs 1\nsteps 400000000\ncode\nagain: jmp again\n";
+/// let late = Instant::now() + Duration::from_millis(30);
+/// let answer = run_until(&Job::parse(text)?, 2, &Plan::new(), || Instant::now() >= late)?;
+/// assert!(matches!(answer, RunAnswer::Unfinished { .. }));
+/// # Ok::<(), kaolinsilk::Error>(())
+/// ```
+///
+/// # Errors
+///
+/// Those of [`run`].
+pub fn run_until(
+    job: &Job,
+    workers: u32,
+    plan: &Plan,
+    mut stop: impl FnMut() -> bool,
+) -> Result<RunAnswer> {
+    run_asking(job, workers, plan, Some(&mut stop))
+}
+
+/// As [`run`], for so long at most, once the board is open.
+///
+/// # Errors
+///
+/// Those of [`run`].
+pub fn run_within(job: &Job, workers: u32, plan: &Plan, most: Duration) -> Result<RunAnswer> {
+    let began = Instant::now();
+    run_until(job, workers, plan, || began.elapsed() >= most)
+}
+
+// Who says whether to stop, if anybody does.
+type Stop<'a> = Option<&'a mut dyn FnMut() -> bool>;
+
+fn run_asking(job: &Job, workers: u32, plan: &Plan, stop: Stop<'_>) -> Result<RunAnswer> {
     let board = Board::open(job, workers)?;
     plan.check(workers)?;
     let mut seat = board.seat()?;
-    let is_refused = !start_and_hear(&board, plan)?;
+    let heard = start_and_hear(&board, plan, stop)?;
     match seat.outcome()? {
         Some(outcome) => Ok(RunAnswer::Ended(outcome)),
-        None if is_refused => Err(NO_THREADS),
+        None if heard.is_refused && !heard.is_stopped => Err(NO_THREADS),
         None => Ok(RunAnswer::Unfinished {
             step: seat.progress().step,
         }),
@@ -73,10 +118,14 @@ const NO_THREADS: Error = Error::new(
     "the system refused threads that were needed",
 );
 
+/// How long the calling thread waits before it asks again whether to stop.
+const BETWEEN: Duration = Duration::from_millis(5);
+
 // What workers that leave tell the calling thread. It takes no lock: a thread that is frozen in the
 // midst of this holds nobody up.
 struct Bell {
     is_over: AtomicBool,
+    is_stopped: AtomicBool,
     left: AtomicU32,
     hearer: Thread,
 }
@@ -85,6 +134,7 @@ impl Bell {
     fn new() -> Bell {
         Bell {
             is_over: AtomicBool::new(false),
+            is_stopped: AtomicBool::new(false),
             left: AtomicU32::new(0),
             hearer: thread::current(),
         }
@@ -94,10 +144,17 @@ impl Bell {
         self.is_over.load(Ordering::Acquire)
     }
 
-    // Waits until a worker knows the end, or so many have left.
-    fn hear(&self, workers: u32) {
+    // Waits until a worker knows the end, or so many have left, or it is told to stop.
+    fn hear(&self, workers: u32, mut stop: Stop<'_>) {
         while !self.is_over() && self.left.load(Ordering::Acquire) < workers {
-            thread::park();
+            let Some(is_to_stop) = &mut stop else {
+                thread::park();
+                continue;
+            };
+            if is_to_stop() {
+                return self.is_stopped.store(true, Ordering::Relaxed);
+            }
+            thread::park_timeout(BETWEEN);
         }
     }
 }
@@ -112,16 +169,21 @@ impl Drop for Leaving {
     }
 }
 
-// Starts the workers, and waits until one knows the end or all have left. Whether a thread was not
-// refused to any.
-fn start_and_hear(board: &Board, plan: &Plan) -> Result<bool> {
+// Whether a thread was refused, and whether the run was told to stop.
+struct Heard {
+    is_refused: bool,
+    is_stopped: bool,
+}
+
+// Starts the workers, and waits until one knows the end or all have left, or it is told to stop.
+fn start_and_hear(board: &Board, plan: &Plan, stop: Stop<'_>) -> Result<Heard> {
     let bell = Arc::new(Bell::new());
     let mut all_started = true;
     for number in 0..board.workers() {
         let (worker, acts) = (board.worker(number)?, acts_of(plan, number)?);
         let leaving = Leaving(Arc::clone(&bell));
         let life = move || {
-            if obey(worker, &acts) {
+            if obey(worker, &acts, &leaving.0.is_stopped) {
                 leaving.0.is_over.store(true, Ordering::Release);
             }
         };
@@ -130,8 +192,11 @@ fn start_and_hear(board: &Board, plan: &Plan) -> Result<bool> {
             break;
         }
     }
-    bell.hear(board.workers());
-    Ok(all_started)
+    bell.hear(board.workers(), stop);
+    Ok(Heard {
+        is_refused: !all_started,
+        is_stopped: bell.is_stopped.load(Ordering::Relaxed),
+    })
 }
 
 // What a plan asks of one worker.
@@ -149,11 +214,11 @@ fn acts_of(plan: &Plan, number: u32) -> Result<Vec<Act>> {
 }
 
 // Whether the worker came to the end: it did not where it was stopped before.
-fn obey(mut worker: Worker, acts: &[Act]) -> bool {
+fn obey(mut worker: Worker, acts: &[Act], stop: &AtomicBool) -> bool {
     for act in acts {
         match *act {
             Act::Go(steps) => {
-                if let Stay::Ended(_) = worker.work(steps.into()) {
+                if go(&mut worker, steps, stop) {
                     return true;
                 }
             }
@@ -162,6 +227,18 @@ fn obey(mut worker: Worker, acts: &[Act]) -> bool {
             Act::Stop => return false,
         }
     }
-    worker.finish();
-    true
+    matches!(worker.work_until(stop), Stay::Ended(_))
+}
+
+// The atomic steps of a row. Whether the worker came to the end in them.
+fn go(worker: &mut Worker, steps: u32, stop: &AtomicBool) -> bool {
+    let mut left = steps;
+    while left > 0 && !stop.load(Ordering::Relaxed) {
+        let some = left.min(1 << 16);
+        if let Stay::Ended(_) = worker.work(some.into()) {
+            return true;
+        }
+        left -= some;
+    }
+    false
 }

@@ -1,5 +1,5 @@
 use Rattle.std.proofs.lemmas.Option.{same_Some}
-use Rattle.std.proofs.Common.{◌≡◌, length, refl, subst}
+use Rattle.std.proofs.Common.{length, refl, subst}
 use Rattle.walkx.specs.Serving.{IsNewWorker}
 use Rattle.walkx.specs.Walk.{come_back, remembering}
 use Rattle.pram_board.specs.Worked.{Works}
