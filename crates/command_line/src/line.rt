@@ -175,7 +175,7 @@ fn bare_command<'a>(alloc: Global) -> Command<'a>
     ensures { app_of result ≡ bare }
 {
     Command::new(alloc, "pramx")
-        .version("0.8.13")
+        .version("0.9.0")
         .about("Runs programs of a synchronous parallel machine with shared memory.")
         .after_help(EXAMPLES)
         .subcommand_required(true)

@@ -155,6 +155,28 @@ pardo 1~rule crew~procs i < 2~private x~code~x := 7 / i~ \
     divided value=7 by=0~
 pardo 1~rule common~procs i < 2~shared s~code~s := i + 4~ \
     | 1 conflict line=6 place=s processors=0,1~wrote values=4,5~
+-- in which rounds of the loops around: of a loss, in a hidden line too, in a loop's own line of \
+    those around that, of a conflict, and of both
+pardo 1~rule common~procs i < 2~shared A[3]~code~for j = 5 to 6~for k = 0 to 3~\
+    A[i + k * (j - 5)] := 7~end~end~ | 0 done steps=106~A = 7 7 7~gone processor=0 line=8~\
+    gone processor=1 line=8~stopped step=106~lost processor=1 step=94 line=8~\
+    outside array=A index=3 length=3~round step=94 line=6 value=6~round step=94 line=7 value=2~
+pardo 1~rule common~procs i < 2~shared A[2]~private x~code~for k = 1 to 3~\
+    x := (i + k) * (i + k) - (k + 1) * (k + i) / ((i + 3) - (k + 1) * (k + i) / (k + i))~end~\
+    A[i + 2] := x~ | 0 done steps=89~A = 0 0~gone processor=0 line=8~gone processor=1 line=8~\
+    stopped step=89~lost processor=0 step=56 line=8~divided value=6 by=0~\
+    round step=56 line=7 value=2~
+pardo 1~rule common~procs i < 2~shared A[2]~code~for j = 2 to 3~for k = 0 to 2 / (3 - j)~\
+    A[i] := k~end~end~ | 0 done steps=60~A = 2 2~gone processor=0 line=7~\
+    gone processor=1 line=7~stopped step=60~lost processor=0 step=60 line=7~\
+    divided value=2 by=0~round step=60 line=6 value=3~
+pardo 1~rule common~procs i < 2~shared s~code~for k = 4 to 6~s := i * (k - 4)~end~ \
+    | 1 conflict line=7 place=s processors=0,1~wrote values=0,1~round step=19 line=6 value=5~
+pardo 1~rule common~procs i < 4~shared A[3]~shared s~code~for k = 8 downto 6~if i < 2~\
+    A[i + (8 - k) * 2] := 1~end~end~for m = 1 to 3~s := (m - 1) * i~end~ \
+    | 1 conflict line=13 place=s processors=2,3~wrote values=2,3~\
+    lost processor=1 step=33 line=9~outside array=A index=3 length=3~\
+    round step=71 line=12 value=2~round step=33 line=7 value=7~
 -- the cells as records
 $ pramx plain job --csv & pramx run job --workers 2 --csv
 pram 1~cells 3~procs 2~steps 3~init 2 8~code~pid r0~set r1 6~st r0 r1~ \
@@ -215,6 +237,7 @@ n=1,0 --set k=1 : same | 2 text line=5 kind=OutOfLimits~
 n=1,x : same | 2 set name=n kind=BadNumber~
 m=1,2 : same | 2 set name=m kind=UnknownName~
 A=1,2 : same | 2 set name=A kind=WrongLength~
+A=any:7:100 : same | 2 set name=A kind=BadNumber~
 n=1,2 : pram 1~cells 1~procs 1~steps 0~code~halt~ | 2 set name=n kind=UnknownName~
 -- the rows of two steps
 $ pramx steps job --from 2 --to 3

@@ -147,7 +147,7 @@ fn words_make_a_line(rt: HostRuntime) -> Result<(), Fail> {
 // What is printed where words make no line. The program's files are not read.
 const TEXTS: &str = "\
 $ pramx --version
- | 0 pramx 0.8.13~
+ | 0 pramx 0.9.0~
 -- the help up to its examples
 $ pramx --help
  | 0 Runs programs of a synchronous parallel machine with shared memory.~\

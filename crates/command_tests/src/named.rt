@@ -200,6 +200,10 @@ pardo 1~rule crew~procs i < 1~code~while 1~end~ \
     | 2 text line=5 kind=Endless~\
     job:5:1: the program is still here after 1,048,576 steps, or 2^30 in all~    \
     while 1~    ^~
+pardo 1~rule crew~procs i < 1~code~for k = 0 to lg(1) - 1~end~ \
+    | 2 text line=6 kind=Endless~\
+    job:6:1: the program is still here after 1,048,576 steps, or 2^30 in all: in line 5 a bound \
+    is 4294967295~    end~    ^~
 pardo 1~rule crew~shared A[1048000]~shared B[600]~ \
     | 2 text line=4 kind=TooManyCells~\
     job:4:1: more than 1,048,576 cells: an array takes one for each place; a private variable, a \
@@ -220,4 +224,35 @@ fn refused_programs_are_explained(rt: HostRuntime) -> Result<(), Fail> {
     let table = REFUSED.replace(alloc, "MANY", many.as_str())?;
     let table = table.replace(alloc, "@", HEADER)?;
     expect(&rt, alloc, table.as_str())
+}
+
+// Rounds of loops without a counted line; in one another; up to a conflict in the second round; and
+// with an `end` that takes hidden lines.
+const ROUNDS: &str = "\
+$ pramx cost job
+pardo 1~rule crew~procs i < 2~shared A[2]~code~for k = 1 to 10~end~ \
+    | 0 time 0~operations 0~cost of this input~steps 63~processors 2~product 126~work 126~most 2~\
+    reading 10~writing 10~needs EREW~same read none~same write none~other value none~\
+    done steps=63~rounds 10~
+pardo 1~rule crew~procs i < 2~shared n = 3~shared A[2]~code~while n > 0~for k = 1 to 2~\
+A[i] := k~end~if i = 0~n := n - 1~end~end~ \
+    | 0 time 9~operations 15~cost of this input~steps 96~processors 2~product 192~work 192~most 2~\
+    reading 22~writing 18~needs CREW~same read step=2 line=7 place=n processors=0,1~\
+    same write none~other value none~done steps=96~rounds 9~
+pardo 1~rule common~procs i < 2~shared s~code~for k = 1 to 3~if k = 2~s := i~end~end~ \
+    | 1 time 1~operations 2~cost of this input~steps 25~processors 2~product 50~work 50~most 2~\
+    reading 5~writing 5~needs CRCW priority~same read none~\
+    same write step=25 line=8 place=s processors=0,1~\
+    other value step=25 line=8 place=s processors=0,1~\
+    conflict line=8 place=s processors=0,1~rounds 1~
+pardo 1~rule crew~procs i < 2~shared A[2]~code~for j = 1 to 2~for k = 0 to (((j + 1) * \
+(j + 2) + (j + 3) * (j + 4)) * ((j + 5) * (j + 6) + (j + 7) * (j + 8))) % 4~end~end~A[i] := 1~ \
+    | 0 time 1~operations 2~cost of this input~steps 256~processors 2~product 512~work 512~\
+    most 2~reading 80~writing 13~needs EREW~same read none~same write none~other value none~\
+    done steps=256~rounds 4~
+";
+
+#[test]
+fn costs_tell_rounds(rt: HostRuntime) -> Result<(), Fail> {
+    expect(&rt, rt.alloc(), ROUNDS)
 }

@@ -3,6 +3,9 @@
 
 ghost use Rattle.std.specs.Prelude.{◌≡◌, ◌≤◌, false, IfOk, OnErr};
 
+mod late;
+
+use crate::late::{Begins, Late};
 use command_answers::{RealFiles, Waiting, answer_alone, serve_waiting};
 use pram_commands::{Console, Folder, Look, MEMORY, Refusal, tell};
 use pram_streams::{IntoWrite, Sink};
@@ -10,26 +13,52 @@ use std::alloc::{AllocError, Global};
 use std::env::{self, Env, FillError};
 use std::io::{self, IsTerminal};
 use std::process::ExitCode;
+use std::thread;
 
-// Of all that it calls only `serve_waiting` may wait, which is for a line that starts threads.
+// Of all that it calls only `serve_waiting` may wait, which is for a line that starts threads, and
+// on a terminal who tells that an answer takes long.
 fn main(rt: HostRuntime) -> ExitCode {
     let is_terminal = rt.stderr().is_terminal();
-    let mut console = Console {
-        out: IntoWrite::new(io::writer(&rt)),
-        err: IntoWrite::new(rt.stderr()),
-        is_terminal,
-        explains: is_terminal,
-        look: look_on(&rt, is_terminal),
-        notes: false,
-    };
-    let folder = RealFiles::new(&rt, rt.stdin());
     let words = words_of(&rt);
     let texts = texts_of(rt.alloc(), &words);
-    let status = match status(rt.alloc(), &folder, &texts, &mut console) {
-        Ok(status) => status,
-        Err(waiting) => serve_waiting(&rt, rt.alloc(), &folder, &waiting, &mut console),
-    };
+    let late = Late::new();
+    let status = thread::scope(thread::scope_env(), &rt, |scope| -> u8 {
+        if is_terminal && !is_told_otherwise(&texts) {
+            let _ = scope.spawn(|| late.tell(&rt));
+        }
+        let mut console = Console {
+            out: Begins {
+                sink: IntoWrite::new(io::writer(&rt)),
+                late: &late,
+            },
+            err: Begins {
+                sink: IntoWrite::new(rt.stderr()),
+                late: &late,
+            },
+            is_terminal,
+            explains: is_terminal,
+            look: look_on(&rt, is_terminal),
+            notes: false,
+        };
+        let folder = RealFiles::new(&rt, rt.stdin());
+        let status = match status(rt.alloc(), &folder, &texts, &mut console) {
+            Ok(status) => status,
+            Err(waiting) => serve_waiting(&rt, rt.alloc(), &folder, &waiting, &mut console),
+        };
+        late.stop();
+        status
+    });
     ExitCode::from(status)
+}
+
+/// Whether words ask for progress, or for standard input, which may be waited for.
+fn is_told_otherwise<'w>(texts: &Result<Vec<&'w str>, Refusal<'w>>) -> bool {
+    match texts {
+        Ok(texts) => texts
+            .iter()
+            .any(|&text| text == "-" || text == "--progress"),
+        Err(_) => false,
+    }
 }
 
 /// A terminal has colours, unless the environment says that there are to be none.
@@ -62,7 +91,7 @@ fn is_dumb<R: Env>(rt: &R) -> bool {
 fn status<'a, 'w: 'a, F: Folder, O: Sink, E: Sink>(
     alloc: Global,
     folder: &F,
-    texts: &'a Result<Vec<&'w str>, Refusal<'static>>,
+    texts: &'a Result<Vec<&'w str>, Refusal<'w>>,
     console: &mut Console<O, E>,
 ) -> Result<u8, Waiting<'a>>
     requires out { O.has_failed console.old.out ≡ false }
@@ -85,7 +114,7 @@ fn words_of<R: AllocGlobal + Env>(rt: &R) -> io::Result<Vec<String>> {
 fn texts_of<'a>(
     alloc: Global,
     words: &'a io::Result<Vec<String>>,
-) -> Result<Vec<&'a str>, Refusal<'static>> {
+) -> Result<Vec<&'a str>, Refusal<'a>> {
     let words = match words {
         Ok(words) => words,
         Err(error) if error.kind() == io::ErrorKind::OutOfMemory => return Err(Refusal::Memory),
